@@ -1,0 +1,2 @@
+//! CRUSH: where a rule places the replicas of a group in a forest of buckets.
+#![tactic(auto)]

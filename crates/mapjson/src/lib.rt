@@ -1,0 +1,2 @@
+//! Maps and changes as JSON text.
+#![tactic(auto)]

@@ -1,0 +1,2 @@
+//! The state of a monitor: the first map, the journal of its changes, and the map that these make.
+#![tactic(auto)]
