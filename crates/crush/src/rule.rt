@@ -1,0 +1,31 @@
+/// What a rule serves: copies, which may change their places, or coded parts, which keep them.
+#[derive(Clone, Copy, Debug, PartialEq, Eq)]
+pub enum RuleKind {
+    Replicated,
+    Erasure,
+}
+
+/// Whether the items chosen are packed, or keep their positions.
+#[derive(Clone, Copy, Debug, PartialEq, Eq)]
+pub enum Mode {
+    Firstn,
+    Indep,
+}
+
+/// One choose step of a rule: how many items of type `level`, where a count of 0 is the size of the pool.
+/// With `to_leaf` a device is taken below each.
+#[derive(Clone, Copy, Debug, PartialEq, Eq)]
+pub struct Choose {
+    pub mode: Mode,
+    pub to_leaf: bool,
+    pub count: u8,
+    pub level: u8,
+}
+
+/// A step of a rule.
+#[derive(Clone, Copy, Debug, PartialEq, Eq)]
+pub enum Step {
+    Take(i32),
+    Choose(Choose),
+    Emit,
+}
