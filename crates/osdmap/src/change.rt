@@ -1,4 +1,6 @@
-use crush::Entries;
+use crush::{Entries, Memory};
+use std::alloc::Global;
+use std::marker::Model;
 
 /// The parts of a change, each list in any order.
 #[derive(Debug, Drop)]
@@ -16,4 +18,71 @@ pub struct ChangeParts {
 pub struct Reweight {
     pub osd: u32,
     pub weight: u32,
+}
+
+/// A change, each part in ascending order of its keys.
+#[derive(Debug, Drop)]
+pub struct Change {
+    parts: ChangeParts,
+}
+
+impl Model for Change {
+    ghost use Rattle.osdmap.specs.declared.change.ChangeParts.{ChangeParts};
+
+    ghost Value = { ChangeParts };
+
+    ghost view = { λ c. c.parts };
+}
+
+impl Change {
+    ghost use Rattle.std.specs.Prelude.{IfOk};
+    ghost use Rattle.osdmap.specs.Ordered.{IsOrdered};
+
+    /// The change of these parts, each put into ascending order of its keys, doubles in their order; or `Memory` (30).
+    pub fn new(_alloc: Global, _parts: ChangeParts) -> Result<Change, Memory>
+        ensures { IfOk result (IsOrdered _parts) }
+    {
+        Err(Memory)
+    }
+}
+
+/// A change with the epoch of the map after it.
+#[derive(Debug, Drop)]
+pub struct Incremental {
+    epoch: u64,
+    change: Change,
+}
+
+impl Model for Incremental {
+    ghost use Rattle.osdmap.specs.Changes.{Step};
+
+    ghost Value = { Step };
+
+    ghost view = { λ i. record { epoch = i.epoch; change = i.change } };
+}
+
+impl Incremental {
+    ghost use Rattle.std.specs.Prelude.{◌≡◌};
+
+    /// The incremental of a change to the map of this epoch.
+    pub fn new(epoch: u64, change: Change) -> Incremental
+        ensures epoch { result.epoch ≡ epoch }
+        ensures change { result.change ≡ change }
+    {
+        Incremental { epoch, change }
+    }
+
+    /// The epoch of the map after it.
+    pub fn epoch(&self) -> u64
+        ensures { result ≡ self.now.epoch }
+    {
+        self.epoch
+    }
+
+    /// The change.
+    pub fn change(&self) -> &Change
+        ensures { result.now ≡ self.now.change }
+    {
+        &self.change
+    }
 }

@@ -3,17 +3,19 @@
 
 pub mod change;
 pub mod limits;
+pub mod map;
 pub mod osd;
 pub mod parts;
 pub mod pg;
 pub mod pool;
 pub mod refusal;
+pub mod up_set;
 
-pub use change::{ChangeParts, Reweight};
+pub use change::{Change, ChangeParts, Incremental, Reweight};
+pub use map::OsdMap;
 pub use osd::{OsdState, Presence};
-pub use parts::{
-    BucketPart, ChoosePart, ItemPart, MapParts, OsdPart, PoolPart, RulePart, StepPart,
-};
+pub use parts::{BucketPart, ChoosePart, ItemPart, MapParts, OsdPart, PoolPart, RulePart, StepPart};
 pub use pg::Pg;
 pub use pool::Pool;
 pub use refusal::Refusal;
+pub use up_set::UpSet;

@@ -1,10 +1,8 @@
-use Rattle.std.proofs.Common.{◌≡◌, ◌≤◌, ℤ, pos, true, not, IsTrue, refl, arith, rules, lit≤}
+use Rattle.std.proofs.Common.{arith, rules}
 use Rattle.std.proofs.lemmas.Int.{to_z-of_z, ints}
 use mir.Syntax.{w128}
 use mir.Val.{SFits}
-use Rattle.osdmap.specs.Pools.{IsWithinLimits}
-use Rattle.osdmap.specs.Parts.{is_between, pool_fits}
-use Rattle.osdmap.proofs.Fits.{word_between, natural_between, pool_fits_each, pool_within, PoolFits}
+use Rattle.osdmap.proofs.Fits.{word_between, pool_fits_each, pool_within, PoolFits}
 use Rattle.osdmap.proofs.pool.Pool.new.Goals as goal
 
 pub word-requires : goal.word-requires
