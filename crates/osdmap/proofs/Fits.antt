@@ -1,7 +1,6 @@
 -- What numbers within their limits come to as words.
-use Rattle.std.proofs.Common.{◌≡◌, ℕ, ◌≤◌, ◌<◌, ◌≤ℤ◌, ℤ, pos, negsuc, nat_abs, Bool, true, false, ◌&&◌, IsTrue, refl, arith, nat_lt, nat_le}
+use Rattle.std.proofs.Common.{◌≡◌, ℕ, ◌≤◌, ◌≤ℤ◌, ℤ, pos, negsuc, nat_abs, true, IsTrue, refl, arith}
 use mathlib.Core.Bool.{false≢true}
-use Rattle.std.proofs.lemmas.Bool.{leb-true}
 use Rattle.std.proofs.lemmas.Int.{ints}
 use Rattle.std.proofs.lemmas.Bool.Decides.{nat_tests}
 use Rattle.osdmap.specs.declared.parts.PoolPart.{PoolPart}

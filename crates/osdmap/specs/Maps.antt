@@ -1,6 +1,6 @@
 -- The map of a cluster as callers see it, and the look-ups in it. A map is finite: rules and pools by id, OSDs by number.
-use Rattle.std.specs.Prelude.{◌≡◌, ℕ, ◌+◌, ◌<◌, ◌≤◌, ◌==◌, Bool, true, false, not, ◌&&◌, List, [], ◌∷◌, length, Option, Some, None, slice_get, slice_index, IsTrue, nat_lt, if◌then◌else◌}
-use Rattle.std.specs.List.{find, list_any, list_all, All}
+use Rattle.std.specs.Prelude.{ℕ, ◌==◌, Bool, true, false, List, Option, slice_get, slice_index}
+use Rattle.std.specs.List.{find}
 use Rattle.std.specs.Option.{option_map, option_map_or}
 use Rattle.crush.specs.declared.bucket.Bucket.{Bucket}
 use Rattle.crush.specs.declared.rule.RuleKind.{RuleKind}
@@ -8,7 +8,7 @@ use Rattle.crush.specs.declared.rule.RuleKind.TheVariants.{Replicated, Erasure}
 use Rattle.crush.specs.Rules.{Recipe}
 use Rattle.osdmap.specs.declared.osd.Presence.{Presence}
 use Rattle.osdmap.specs.declared.osd.OsdState.{OsdState}
-use Rattle.osdmap.specs.Pools.{PoolFacts, IsWithinLimits}
+use Rattle.osdmap.specs.Pools.{PoolFacts}
 
 -- a rule under its id
 pub record NumberedRule : Type 0 where

@@ -1,12 +1,8 @@
 -- The parts of a map as a text states them: their limits, what is wrong with them, and the values that they stand for.
-use Rattle.std.specs.Prelude.{◌≡◌, ℕ, ◌+◌, ◌≤◌, Result, MatchResult, ℤ, pos, negsuc, nat_abs, int_le, nat_lt, nat_le, ◌==◌, Bool, true, false, not, ◌&&◌, ◌||◌, List, [], ◌∷◌, length, map, Option, Some, None, if◌then◌else◌}
-use Rattle.std.specs.List.{list_all, list_any, find}
-use Rattle.std.specs.Option.{option_map_or, is_some}
+use Rattle.std.specs.Prelude.{◌≡◌, ℕ, Result, MatchResult, ℤ, pos, negsuc, nat_abs, int_le, nat_le, Bool, true, not, ◌&&◌, List, length, map, Option, Some, None, if◌then◌else◌}
+use Rattle.std.specs.List.{list_all}
 use Rattle.crush.specs.declared.bucket.Item.{Item}
 use Rattle.crush.specs.declared.bucket.Bucket.{Bucket}
-use Rattle.crush.specs.declared.rule.RuleKind.{RuleKind}
-use Rattle.crush.specs.declared.rule.RuleKind.TheVariants.{Replicated, Erasure}
-use Rattle.crush.specs.declared.rule.Choose.{Choose}
 use Rattle.crush.specs.declared.rule.Step.{Step}
 use Rattle.crush.specs.declared.rule.Step.TheVariants.{Take as TakeBucket, Choose as ChooseBy, Emit as EmitAll}
 use Rattle.crush.specs.Rules.{Recipe}
@@ -16,7 +12,6 @@ use Rattle.osdmap.specs.declared.parts.ItemPart.{ItemPart}
 use Rattle.osdmap.specs.declared.parts.RulePart.{RulePart}
 use Rattle.osdmap.specs.declared.parts.StepPart.{StepPart}
 use Rattle.osdmap.specs.declared.parts.StepPart.TheVariants.{Take, Choose as Chooses, Emit}
-use Rattle.osdmap.specs.declared.parts.ChoosePart.{ChoosePart}
 use Rattle.osdmap.specs.declared.parts.PoolPart.{PoolPart}
 use Rattle.osdmap.specs.declared.parts.OsdPart.{OsdPart}
 use Rattle.osdmap.specs.declared.refusal.Refusal.{Refusal}

@@ -1,5 +1,5 @@
 -- Where the groups of a map are placed (Ceph, OSDMap.cc: _pg_to_raw_osds, _raw_to_up_osds; osd_types.h: raw_pg_to_pps).
-use Rattle.std.specs.Prelude.{◌≡◌, ℕ, ◌+◌, ◌-◌, ◌*◌, ◌/◌, ◌^◌, ◌==◌, ℤ, pos, negsuc, Bool, true, false, List, [], ◌∷◌, map, filter, is_some, nat_lt, nat_le, bit_and, Option, Some, None, option_and_then, unwrap_or, IfSome, if◌then◌else◌}
+use Rattle.std.specs.Prelude.{◌≡◌, ℕ, ◌+◌, ◌-◌, ◌/◌, ◌^◌, ℤ, pos, negsuc, List, [], ◌∷◌, map, filter, is_some, nat_lt, nat_le, bit_and, Option, Some, None, option_and_then, unwrap_or, IfSome, if◌then◌else◌}
 use Rattle.std.specs.List.{find, range_with_len}
 use Rattle.rjenkins.specs.Jenkins.{hash2_of}
 use Rattle.crush.specs.declared.rule.RuleKind.{RuleKind}

@@ -1,5 +1,5 @@
 -- The map that parts state, or what is wrong with them.
-use Rattle.std.specs.Prelude.{◌≡◌, ℕ, not, nat_abs, Option, Some, None, Result, MatchResult, ◌⊎◌, if◌then◌else◌}
+use Rattle.std.specs.Prelude.{◌≡◌, not, nat_abs, Option, Some, None, Result, MatchResult, ◌⊎◌, if◌then◌else◌}
 use Rattle.osdmap.specs.declared.parts.MapParts.{MapParts}
 use Rattle.osdmap.specs.declared.refusal.Refusal.{Refusal}
 use Rattle.osdmap.specs.declared.refusal.Refusal.TheVariants.{BadLimit, Memory as OutOfMemory}

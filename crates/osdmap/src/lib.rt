@@ -14,7 +14,9 @@ pub mod up_set;
 pub use change::{Change, ChangeParts, Incremental, Reweight};
 pub use map::OsdMap;
 pub use osd::{OsdState, Presence};
-pub use parts::{BucketPart, ChoosePart, ItemPart, MapParts, OsdPart, PoolPart, RulePart, StepPart};
+pub use parts::{
+    BucketPart, ChoosePart, ItemPart, MapParts, OsdPart, PoolPart, RulePart, StepPart,
+};
 pub use pg::Pg;
 pub use pool::Pool;
 pub use refusal::Refusal;
