@@ -1,0 +1,9 @@
+pub mod Drawn
+pub mod Words
+pub mod Trees
+pub mod Winners
+pub mod Descents
+pub mod Leaves
+pub mod Replicas
+pub mod Segments
+pub mod Rounds

@@ -1,2 +1,13 @@
 pub mod Forest
 pub mod Rules
+pub mod Items
+pub mod Uniform
+pub mod Listed
+pub mod Tree
+pub mod Pick
+pub mod World
+pub mod Placed
+pub mod Descent
+pub mod Firstn
+pub mod Indep
+pub mod Run

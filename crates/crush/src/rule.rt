@@ -1,3 +1,5 @@
+use std::marker::Model;
+
 /// What a rule serves: copies, which may change their places, or coded parts, which keep them.
 #[derive(Clone, Copy, Debug, PartialEq, Eq)]
 pub enum RuleKind {
@@ -28,4 +30,38 @@ pub enum Step {
     Take(i32),
     Choose(Choose),
     Emit,
+}
+
+/// A rule.
+#[derive(Debug, Drop)]
+pub struct Rule {
+    kind: RuleKind,
+    steps: Vec<Step>,
+}
+
+impl Model for Rule {
+    ghost use Rattle.crush.specs.Rules.{Recipe};
+
+    ghost Value = { Recipe };
+
+    ghost view = { λ r. record { kind = r.kind; steps = r.steps.items } };
+}
+
+impl Rule {
+    ghost use Rattle.std.specs.Prelude.{◌≡◌};
+
+    /// A rule of these steps.
+    pub fn of(kind: RuleKind, steps: Vec<Step>) -> Self
+        ensures kind { result.kind ≡ kind }
+        ensures steps { result.steps ≡ steps.items }
+    {
+        Rule { kind, steps }
+    }
+
+    /// Its steps, in order.
+    pub fn steps(&self) -> &[Step]
+        ensures { result.now ≡ self.now.steps }
+    {
+        &self.steps
+    }
 }
