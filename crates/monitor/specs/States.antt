@@ -57,5 +57,5 @@ evals_of m change = 0
 abbrev pub Commits : History → History → ℕ → ChangeParts → Result (ℕ × ℕ) Refusal → Type 0
 Commits old new base change r =
     MatchResult r
-        (λ ok. (commit_fault old base change ≡ None) × (new ≡ committed old change) × (ok.0 ≡ base + 1) × (ok.1 ≡ evals_of new.map change))
-        (λ e. ((e ≡ OutOfMemory) ⊎ (commit_fault old base change ≡ Some e)) × (new ≡ old))
+    (λ ok. (commit_fault old base change ≡ None) × (new ≡ committed old change) × (ok.0 ≡ base + 1) × (ok.1 ≡ evals_of new.map change))
+    (λ e. ((e ≡ OutOfMemory) ⊎ (commit_fault old base change ≡ Some e)) × (new ≡ old))

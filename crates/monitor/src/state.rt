@@ -49,7 +49,12 @@ impl State {
     /// Applies a change to the present map, whose epoch `base` must be, and journals it: the new epoch, and the number of
     /// groups whose placement it can alter. `StaleEpoch` (20) with the present epoch where `base` is another; else
     /// `UnknownOsd` (21), `BadWeight` (22) or `DuplicatePart` (27) as `OsdMap::check`; else `JournalFull` (28); or `Memory` (30).
-    pub fn commit(&mut self, _alloc: Global, _base: u64, _change: Change) -> Result<(u64, usize), Refusal>
+    pub fn commit(
+        &mut self,
+        _alloc: Global,
+        _base: u64,
+        _change: Change,
+    ) -> Result<(u64, usize), Refusal>
         ensures { Commits self.old self.new _base _change result }
     {
         Err(Refusal::Memory)
