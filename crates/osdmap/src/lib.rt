@@ -9,6 +9,7 @@ pub mod parts;
 pub mod pg;
 pub mod pool;
 pub mod refusal;
+pub mod rules;
 pub mod up_set;
 
 pub use change::{Change, ChangeParts, Incremental, Reweight};
@@ -20,4 +21,5 @@ pub use parts::{
 pub use pg::Pg;
 pub use pool::Pool;
 pub use refusal::Refusal;
+pub use rules::NumberedRule;
 pub use up_set::UpSet;
