@@ -1,0 +1,4 @@
+pub mod Pickable
+pub mod Places
+pub mod RuleLemmas
+pub mod Tests

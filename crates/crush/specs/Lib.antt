@@ -1,2 +1,5 @@
+pub mod Fault
 pub mod Forest
+pub mod Grammar
 pub mod Rules
+pub mod WellFormed
