@@ -1,1 +1,5 @@
+pub mod Tests
 pub mod Fits
+pub mod MarksLemmas
+pub mod Named
+pub mod ApplyLemmas

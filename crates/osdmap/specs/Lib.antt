@@ -2,6 +2,7 @@ pub mod Refusals
 pub mod Pools
 pub mod Parts
 pub mod Maps
+pub mod Marks
 pub mod Changes
 pub mod Ordered
 pub mod Placement

@@ -1,9 +1,12 @@
 //! The map of a cluster: its forest, rules, pools and OSDs, and the changes that make the next map of it.
 #![tactic(auto)]
 
+mod apply;
 pub mod change;
+mod check;
 pub mod limits;
 pub mod map;
+mod marks;
 pub mod osd;
 pub mod parts;
 pub mod pg;
