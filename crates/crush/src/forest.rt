@@ -1,4 +1,5 @@
 use crate::bucket::Bucket;
+use crate::memory::Memory;
 use std::marker::Model;
 
 /// A forest of buckets.
@@ -20,16 +21,16 @@ impl Model for Forest {
 }
 
 impl Forest {
-    ghost use Rattle.std.specs.Prelude.{◌≡◌, IfSome, All};
+    ghost use Rattle.std.specs.Prelude.{◌≡◌, IfSome, IfOk, All};
     ghost use Rattle.std.specs.Option.{option_copied};
     ghost use Rattle.crush.specs.Forest.{bucket_at, level_of, IsPickable};
 
     /// A forest of these buckets.
-    pub fn of(buckets: Vec<Bucket>) -> Self
+    pub fn new(buckets: Vec<Bucket>, _max_osd: u32) -> Result<Self, Memory>
         requires { All IsPickable buckets.items }
-        ensures { result ≡ buckets.items }
+        ensures { IfOk result (λ f. f ≡ buckets.items) }
     {
-        Forest { buckets }
+        Ok(Forest { buckets })
     }
 
     /// The bucket of an id.

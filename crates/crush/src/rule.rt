@@ -1,3 +1,5 @@
+use crate::forest::Forest;
+use crate::memory::Memory;
 use std::marker::Model;
 
 /// What a rule serves: copies, which may change their places, or coded parts, which keep them.
@@ -48,14 +50,13 @@ impl Model for Rule {
 }
 
 impl Rule {
-    ghost use Rattle.std.specs.Prelude.{◌≡◌};
+    ghost use Rattle.std.specs.Prelude.{◌≡◌, IfOk};
 
     /// A rule of these steps.
-    pub fn of(kind: RuleKind, steps: Vec<Step>) -> Self
-        ensures kind { result.kind ≡ kind }
-        ensures steps { result.steps ≡ steps.items }
+    pub fn new(kind: RuleKind, steps: Vec<Step>, _forest: &Forest) -> Result<Self, Memory>
+        ensures { IfOk result (λ r. r ≡ record { kind = kind; steps = steps.items }) }
     {
-        Rule { kind, steps }
+        Ok(Rule { kind, steps })
     }
 
     /// Its steps, in order.
