@@ -37,4 +37,11 @@ impl<T> Entries<T> {
     {
         &self.list
     }
+
+    /// The vector itself.
+    pub fn into_vec(self) -> Vec<T>
+        ensures { result.items ≡ self }
+    {
+        self.list
+    }
 }

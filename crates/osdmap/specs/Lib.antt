@@ -1,0 +1,9 @@
+pub mod Refusals
+pub mod Pools
+pub mod Parts
+pub mod Maps
+pub mod Changes
+pub mod Ordered
+pub mod Placement
+pub mod Sets
+pub mod Stated
