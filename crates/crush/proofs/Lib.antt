@@ -11,3 +11,6 @@ pub mod Pickable
 pub mod Places
 pub mod RuleLemmas
 pub mod Tests
+pub mod Sought
+pub mod Packed
+pub mod Positions
