@@ -14,3 +14,4 @@ pub mod Tests
 pub mod Sought
 pub mod Packed
 pub mod Positions
+pub mod Picked

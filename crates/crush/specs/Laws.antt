@@ -1,15 +1,41 @@
 -- What follows from the definitions of placement.
-use Rattle.std.specs.Prelude.{◌≡◌, ◌≢◌, ℕ, ◌+◌, Bool, true, false, ◌||◌, List, length, slice_index_or, ◌==◌}
-use Rattle.std.specs.List.{All, AllPairs}
+use Rattle.std.specs.Prelude.{◌<◌, ◌≡◌, ◌≢◌, ℕ, ◌+◌, Bool, true, false, ◌||◌, List, length, slice_index_or, ◌==◌}
+use Rattle.std.specs.List.{All, AllPairs, range_with_len}
+use Rattle.std.specs.List.Sorted.{IsPermutation}
+use Rattle.crush.specs.declared.bucket.Item.{Item}
 use Rattle.crush.specs.declared.bucket.Bucket.{Bucket}
+use Rattle.crush.specs.declared.bucket.BucketKind.TheVariants.{List as InList, Tree as InTree}
 use Rattle.crush.specs.declared.choose.Choice.{Choice}
 use Rattle.crush.specs.declared.choose.Position.{Position}
 use Rattle.crush.specs.declared.choose.Position.TheVariants.{Hole, Filled}
 use Rattle.crush.specs.declared.choose.Tries.{Tries}
 use Rattle.crush.specs.declared.rule.Choose.{Choose}
+use Rattle.crush.specs.Forest.{word, IsPickable}
+use Rattle.crush.specs.Items.{item_at}
+use Rattle.crush.specs.Uniform.{draw_order}
+use Rattle.crush.specs.Listed.{wins_at}
+use Rattle.crush.specs.Pick.{place_of}
 use Rattle.crush.specs.World.{World, is_out}
 use Rattle.crush.specs.Firstn.{firstn}
 use Rattle.crush.specs.Indep.{is_open, indep}
+
+-- the greatest place that wins its draw
+pub record IsGreatestWinner (x id r : ℕ) (items : List Item) (place : ℕ) : Type 0 where
+  pub within : place < length items
+  pub wins : wins_at x id r items place ≡ true
+  pub none_later : (later : ℕ) → place < later → later < length items → wins_at x id r items later ≡ false
+
+-- a uniform bucket draws each of its places once, so it picks each item at one of any n replica numbers in a row
+abbrev pub DrawsEachPlaceOnce : Type 0
+DrawsEachPlaceOnce = (x id n : ℕ) → IsPermutation (draw_order x id n) (range_with_len 0 n)
+
+-- a list bucket picks the greatest place that wins its draw
+abbrev pub ListPicksGreatestWinner : Type 0
+ListPicksGreatestWinner = (b : Bucket) (x r : ℕ) → b.kind ≡ InList → IsPickable b → IsGreatestWinner x (word b.id) r b.items (place_of b x r)
+
+-- a tree bucket picks an item that weighs something
+abbrev pub TreePicksWeight : Type 0
+TreePicksWeight = (b : Bucket) (x r : ℕ) → b.kind ≡ InTree → IsPickable b → 0 < (item_at b.items (place_of b x r)).weight
 
 -- a step that takes devices: leaves, or items of type 0
 abbrev pub takes_devices : Choose → Bool
