@@ -11,3 +11,7 @@ pub mod Pickable
 pub mod Places
 pub mod RuleLemmas
 pub mod Tests
+pub mod Sought
+pub mod Packed
+pub mod Positions
+pub mod Picked

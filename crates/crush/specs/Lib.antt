@@ -13,4 +13,5 @@ pub mod Descent
 pub mod Firstn
 pub mod Indep
 pub mod Run
+pub mod Laws
 pub mod WellFormed

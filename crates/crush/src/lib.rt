@@ -9,6 +9,7 @@ mod firstn;
 pub mod forest;
 mod grammar;
 mod indep;
+pub mod laws;
 pub mod limits;
 pub mod memory;
 pub mod pick;
