@@ -3,3 +3,4 @@ pub mod Fits
 pub mod MarksLemmas
 pub mod Named
 pub mod ApplyLemmas
+pub mod PlacementLemmas

@@ -1,5 +1,5 @@
 -- The OSDs that a change names.
-use Rattle.std.proofs.Common.{◌≡◌, ℕ, ◌+◌, ◌<◌, ◌≤◌, Bool, true, false, not, ◌&&◌, List, [], ◌∷◌, ◌++◌, map, length, refl, arith, nat_lt, IsTrue, slice_get, None, Some}
+use Rattle.std.proofs.Common.{◌≡◌, ℕ, ◌≤◌, Bool, true, false, ◌&&◌, List, [], ◌∷◌, length, refl, arith, nat_lt, slice_get, None, Some}
 use mathlib.Core.Bool.{false≢true}
 use Rattle.std.specs.List.{list_all}
 use Rattle.std.specs.Option.{option_map_or}
@@ -7,8 +7,6 @@ use Rattle.std.proofs.lemmas.Option.{slice_get_within}
 use Rattle.osdmap.specs.Marks.{are_below}
 use Rattle.osdmap.proofs.Tests.{and_first, and_second}
 use Rattle.std.proofs.lemmas.Bool.Decides.{nat_tests}
-use Rattle.std.proofs.lemmas.Grind.{common_steps}
-use Rattle.osdmap.specs.declared.osd.Presence.{Presence}
 use Rattle.osdmap.specs.declared.change.ChangeParts.{ChangeParts}
 use Rattle.osdmap.specs.declared.refusal.Refusal.TheVariants.{UnknownOsd}
 use Rattle.osdmap.specs.Maps.{ClusterMap, osd_exists}
@@ -17,7 +15,7 @@ use Rattle.osdmap.specs.Changes.{names_osds, change_fault}
 -- an OSD that exists is below max_osd
 below_max : (m : ClusterMap) (osd n : ℕ) → length m.presences ≤ n → osd_exists m osd ≡ true → nat_lt osd n ≡ true
 below_max m osd n most = elim (slice_get m.presences osd) as (λ p. slice_get m.presences osd ≡ p → option_map_or (λ q. q.exists) p false ≡ true → nat_lt osd n ≡ true) [
-    None ↦ λ is h. absurd (false≢true h)
+  | None ↦ λ is h. absurd (false≢true h)
   | Some p ↦ λ is h. grind (arith, nat_tests, slice_get_within m.presences osd p is)
 ] refl
 
@@ -45,6 +43,6 @@ all_below m c n most h =
 -- a change that nothing refuses names only OSDs that exist
 pub accepted_names : (m : ClusterMap) (c : ChangeParts) → change_fault m c ≡ None → names_osds m c ≡ true
 accepted_names m c h = elim (names_osds m c) as (λ b. names_osds m c ≡ b → names_osds m c ≡ true) [
-    true ↦ λ is. is
+  | true ↦ λ is. is
   | false ↦ λ is. let wrong : Some UnknownOsd ≡ None = rw is at h in cc
 ] refl

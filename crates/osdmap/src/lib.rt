@@ -10,6 +10,7 @@ mod marks;
 pub mod osd;
 pub mod parts;
 pub mod pg;
+mod placement;
 pub mod pool;
 pub mod refusal;
 pub mod rules;
@@ -22,6 +23,7 @@ pub use parts::{
     BucketPart, ChoosePart, ItemPart, MapParts, OsdPart, PoolPart, RulePart, StepPart,
 };
 pub use pg::Pg;
+pub use placement::stable_mod;
 pub use pool::Pool;
 pub use refusal::Refusal;
 pub use rules::NumberedRule;
