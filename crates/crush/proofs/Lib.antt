@@ -1,4 +1,11 @@
+pub mod Bounds
+pub mod Counts
+pub mod Ids
+pub mod Made
+pub mod Marks
 pub mod Pickable
 pub mod Places
 pub mod RuleLemmas
+pub mod Sorted
 pub mod Tests
+pub mod Weights

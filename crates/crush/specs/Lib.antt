@@ -2,4 +2,5 @@ pub mod Fault
 pub mod Forest
 pub mod Grammar
 pub mod Rules
+pub mod Slots
 pub mod WellFormed

@@ -1,5 +1,8 @@
 use crate::bucket::Bucket;
-use crate::search::place_of;
+use crate::fault::ForestError;
+use crate::search::{bucket_of, level_of};
+use crate::well_formed::{is_well_formed, is_within_limits};
+use std::cmp::Reverse;
 use std::marker::Model;
 
 /// A forest of buckets, well formed.
@@ -21,10 +24,34 @@ impl Model for Forest {
 }
 
 impl Forest {
-    ghost use Rattle.std.specs.Prelude.{◌≡◌, IfSome};
+    ghost use Rattle.std.specs.Prelude.{◌≡◌, ℤ, IfSome, IfOk, IsPermutation};
     ghost use Rattle.std.specs.Option.{option_copied};
+    ghost use Rattle.std.specs.Result.{result_err};
     ghost use Rattle.crush.specs.Forest.{bucket_at, level_of, IsPickable};
-    ghost use Rattle.crush.specs.WellFormed.{IsForest};
+    ghost use Rattle.crush.specs.WellFormed.{forest_fault, IsForest, IsDescending};
+
+    /// The forest of these buckets over the devices from 0 up to below `max_osd`. It is refused with 12 (BadLimit) where
+    /// it has no bucket or more than 512, `max_osd` is not in 1 to 1,024, or a bucket has an id outside -1 to -65,536,
+    /// a type outside 1 to 15, no item or more than 64, or an item outside -65,536 to 1,023 or of weight 0; else with
+    /// 13 (BadForest) where two buckets have one id, an item is no bucket of the forest and no device below `max_osd`,
+    /// an item's type is not below its bucket's, an item stands in the forest twice, or the weights of a bucket come to
+    /// more than 4,294,967,295 or differ in a uniform bucket.
+    pub fn new(buckets: Vec<Bucket>, max_osd: u32) -> Result<Self, ForestError>
+        ensures fault { result_err result ≡ forest_fault buckets.items max_osd }
+        ensures same { IfOk result (IsPermutation buckets.items) }
+        ensures descending { IfOk result IsDescending }
+        ensures buckets { IfOk result (λ f. (id : ℤ) → bucket_at f id ≡ bucket_at buckets.items id) }
+    {
+        let mut buckets = buckets;
+        if !is_within_limits(&buckets, max_osd) {
+            return Err(ForestError::BadLimit);
+        }
+        buckets.sort_unstable_by_key(|bucket| Reverse(bucket.id));
+        if !is_well_formed(&buckets, max_osd) {
+            return Err(ForestError::BadForest);
+        }
+        Ok(Forest { buckets })
+    }
 
     /// The buckets, by id from -1 downwards.
     pub fn buckets(&self) -> &[Bucket]
@@ -39,17 +66,13 @@ impl Forest {
         ensures value { option_copied result ≡ bucket_at self.now id }
         ensures within { IfSome result (λ b. IsPickable b.now) }
     {
-        let place = place_of(&self.buckets, id)?;
-        Some(&self.buckets[place])
+        bucket_of(&self.buckets, id)
     }
 
     /// The type of an item: that of its bucket, and 0 for a device.
     pub fn level(&self, item: i32) -> u8
         ensures { result ≡ level_of self.now item }
     {
-        match self.bucket(item) {
-            Some(bucket) => bucket.level,
-            None => 0,
-        }
+        level_of(&self.buckets, item)
     }
 }

@@ -8,6 +8,7 @@ pub mod forest;
 mod grammar;
 pub mod limits;
 pub mod memory;
+mod met;
 pub mod rule;
 mod search;
 mod well_formed;
