@@ -1,7 +1,12 @@
+ghost use Rattle.std.specs.Prelude.{◌≡◌, IfOk};
+
 use crate::bucket::Bucket;
+use crate::entries::Entries;
 use crate::fault::ForestError;
+use crate::memory::Memory;
 use crate::search::{bucket_of, level_of};
 use crate::well_formed::{is_well_formed, is_within_limits};
+use std::alloc::{AllocError, Global};
 use std::cmp::Reverse;
 use std::marker::Model;
 
@@ -75,4 +80,36 @@ impl Forest {
     {
         level_of(&self.buckets, item)
     }
+
+    /// The same forest once more, or 30 (Memory).
+    pub fn copy(&self, alloc: Global) -> Result<Self, Memory>
+        ensures { IfOk result (λ f. f ≡ self.now) }
+    {
+        Ok(Forest {
+            buckets: copies_of(alloc, &self.buckets)?,
+        })
+    }
+}
+
+/// The same bucket once more.
+fn copy_of(alloc: Global, bucket: &Bucket) -> Result<Bucket, AllocError>
+    ensures { IfOk result (λ b. b ≡ bucket.now) }
+{
+    Ok(Bucket {
+        id: bucket.id,
+        level: bucket.level,
+        kind: bucket.kind,
+        items: Entries::new(Vec::from_slice(alloc, bucket.items.as_slice())?),
+    })
+}
+
+/// The same buckets once more.
+fn copies_of(alloc: Global, buckets: &[Bucket]) -> Result<Vec<Bucket>, AllocError>
+    ensures { IfOk result (λ v. v.items ≡ buckets.now) }
+{
+    let mut copies = Vec::with_capacity(alloc, buckets.len())?;
+    for bucket in buckets {
+        copies.push(copy_of(alloc, bucket)?)?;
+    }
+    Ok(copies)
 }
