@@ -48,3 +48,6 @@ limits-most buckets max_osd ok =
     let each = list_all bucket_limits_ok buckets in
     let outer = and_parts (count && devices) each ok in
     and_from (count && true) each (and_from count true (and_parts count devices outer.0).0 refl) outer.1
+
+pub limits-level : (b : Bucket) → bucket_limits_ok b ≡ true → b.level ≤ 15
+limits-level b ok = (within 1 15 b.level (and_parts _ _ (and_parts _ _ (and_parts _ _ ok).0).0).1).1

@@ -1,4 +1,5 @@
 pub mod Bounds
+pub mod Chains
 pub mod Counts
 pub mod Ids
 pub mod Made

@@ -1,4 +1,5 @@
 ghost use Rattle.std.specs.Prelude.{◌≡◌, IfOk};
+ghost use Rattle.crush.specs.Paths.{has_item};
 
 use crate::bucket::Bucket;
 use crate::entries::Entries;
@@ -29,10 +30,12 @@ impl Model for Forest {
 }
 
 impl Forest {
-    ghost use Rattle.std.specs.Prelude.{◌≡◌, ℤ, IfSome, IfOk, IsPermutation};
+    ghost use Rattle.std.specs.Prelude.{◌≡◌, ◌↔◌, ℤ, IfSome, IfOk, IsTrue, IsPermutation};
+    ghost use Rattle.std.specs.List.{find};
     ghost use Rattle.std.specs.Option.{option_copied};
     ghost use Rattle.std.specs.Result.{result_err};
     ghost use Rattle.crush.specs.Forest.{bucket_at, level_of, IsPickable};
+    ghost use Rattle.crush.specs.Paths.{has_item, IsAbove, IsAncestor};
     ghost use Rattle.crush.specs.WellFormed.{forest_fault, IsForest, IsDescending};
 
     /// The forest of these buckets over the devices from 0 up to below `max_osd`. It is refused with 12 (BadLimit) where
@@ -81,6 +84,42 @@ impl Forest {
         level_of(&self.buckets, item)
     }
 
+    /// The bucket of type `level` above an item, a device as a rule. There is no more than one.
+    pub fn ancestor(&self, item: i32, level: u8) -> Option<i32>
+        ensures { (a : ℤ) → (result ≡ Some a) ↔ IsAncestor self.now item level a }
+    {
+        let mut below = item;
+        while let Some(bucket) = self.parent(below) {
+            if bucket.level == level {
+                return Some(bucket.id);
+            }
+            below = bucket.id;
+        }
+        None
+    }
+
+    /// Whether a bucket stands above an item.
+    pub fn is_above(&self, bucket: i32, item: i32) -> bool
+        ensures { IsTrue result ↔ IsAbove self.now bucket item }
+    {
+        let mut below = item;
+        while let Some(parent) = self.parent(below) {
+            if parent.id == bucket {
+                return true;
+            }
+            below = parent.id;
+        }
+        false
+    }
+
+    // The bucket that has an item.
+    fn parent(&self, item: i32) -> Option<&Bucket>
+        ensures value { option_copied result ≡ find (has_item item) self.now }
+        ensures forest { IsForest self.now }
+    {
+        self.buckets.iter().find(|bucket| has_item(item, bucket))
+    }
+
     /// The same forest once more, or 30 (Memory).
     pub fn copy(&self, alloc: Global) -> Result<Self, Memory>
         ensures { IfOk result (λ f. f ≡ self.now) }
@@ -89,6 +128,13 @@ impl Forest {
             buckets: copies_of(alloc, &self.buckets)?,
         })
     }
+}
+
+/// Whether a bucket has an item.
+fn has_item(item: i32, bucket: &Bucket) -> bool
+    ensures { result ≡ has_item item bucket.now }
+{
+    bucket.items.as_slice().iter().any(|i| i.id == item)
 }
 
 /// The same bucket once more.
