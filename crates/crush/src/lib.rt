@@ -14,6 +14,7 @@ pub mod limits;
 pub mod memory;
 pub mod pick;
 pub mod placement;
+mod met;
 pub mod rule;
 mod run;
 mod search;
