@@ -15,3 +15,6 @@ pub mod Sought
 pub mod Packed
 pub mod Positions
 pub mod Picked
+pub mod Within
+pub mod Alike
+pub mod Runs
