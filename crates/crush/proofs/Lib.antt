@@ -7,9 +7,16 @@ pub mod Leaves
 pub mod Replicas
 pub mod Segments
 pub mod Rounds
+pub mod Bounds
+pub mod Chains
+pub mod Counts
+pub mod Ids
+pub mod Made
+pub mod Marks
 pub mod Pickable
 pub mod Places
 pub mod RuleLemmas
+pub mod Sorted
 pub mod Tests
 pub mod Sought
 pub mod Packed
@@ -18,3 +25,4 @@ pub mod Picked
 pub mod Within
 pub mod Alike
 pub mod Runs
+pub mod Weighing
