@@ -24,3 +24,7 @@ pub mod Packed
 pub mod Positions
 pub mod Picked
 pub mod Weights
+pub mod Within
+pub mod Alike
+pub mod Runs
+pub mod Weighing
