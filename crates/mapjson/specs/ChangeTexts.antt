@@ -1,5 +1,5 @@
 -- The change that a JSON text states, and the limits of its numbers.
-use Rattle.std.specs.Prelude.{◌≡◌, ℕ, ℤ, pos, nat_abs, ◌&&◌, Bool, List, [], ◌∷◌, map, codes, Option, Some, None, Result, Ok, Err, IfOk, if◌then◌else◌}
+use Rattle.std.specs.Prelude.{◌≡◌, ℕ, ℤ, pos, nat_abs, int_le, nat_le, ◌&&◌, Bool, List, [], ◌∷◌, length, map, codes, Option, Some, None, Result, Ok, Err, IfOk, if◌then◌else◌}
 use Rattle.std.specs.List.{list_all}
 use Rattle.serde_json.specs.Data.{Data}
 use Rattle.osdmap.specs.declared.change.ChangeParts.{ChangeParts}
@@ -7,7 +7,6 @@ use Rattle.osdmap.specs.declared.change.Reweight.{Reweight}
 use Rattle.osdmap.specs.declared.refusal.Refusal.{Refusal}
 use Rattle.osdmap.specs.declared.refusal.Refusal.TheVariants.{BadLimit}
 use Rattle.osdmap.specs.Ordered.{IsOrdered}
-use Rattle.osdmap.specs.Parts.{is_between, has_between}
 use Rattle.mapjson.specs.declared.change.RawChange.{RawChange}
 use Rattle.mapjson.specs.declared.change.RawReweight.{RawReweight}
 use Rattle.mapjson.specs.Json.{◌>>=◌, number_of, has_count, place, has_only, field, optional_list, stated_by}
@@ -32,26 +31,30 @@ stated_change d = if has_only (codes "base" ∷ codes "down" ∷ codes "up" ∷ 
 
 -- ---- limits
 
+-- from 0 to `most`
+unfoldable pub is_upto : ℤ → ℤ → Bool
+is_upto most z = int_le (pos 0) z && int_le z most
+
 -- an OSD's id
 unfoldable pub is_osd : ℤ → Bool
-is_osd z = is_between (pos 0) (pos 1023) z
+is_osd z = is_upto (pos 1023) z
 
 -- an OSD's id and a reweight of 32 bits
 unfoldable pub reweight_fits : RawReweight → Bool
-reweight_fits w = is_osd w.osd && is_between (pos 0) (pos 4294967295) w.weight
+reweight_fits w = is_osd w.osd && is_upto (pos 4294967295) w.weight
 
 -- at most 131,072 OSDs
 unfoldable pub osds_fit : List ℤ → Bool
-osds_fit osds = has_between 0 131072 osds && list_all is_osd osds
+osds_fit osds = nat_le (length osds) 131072 && list_all is_osd osds
 
 -- at most 131,072 reweights
 unfoldable pub reweights_fit : List RawReweight → Bool
-reweights_fit weights = has_between 0 131072 weights && list_all reweight_fits weights
+reweights_fit weights = nat_le (length weights) 131072 && list_all reweight_fits weights
 
 -- every number and every length of the change
 unfoldable pub change_fits : RawChange → Bool
 change_fits c =
-    is_between (pos 0) (pos 18446744073709551615) c.base && osds_fit c.down && osds_fit c.up && reweights_fit c.weight
+    is_upto (pos 18446744073709551615) c.base && osds_fit c.down && osds_fit c.up && reweights_fit c.weight
 
 -- ---- the change
 
