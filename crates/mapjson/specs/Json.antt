@@ -81,6 +81,16 @@ stated_by stated bytes =
 
 -- ---- outcomes
 
+-- what follows from a value that is there
+abbrev pub and_then : {X Y : Type 0} → (X → Result Y Refusal) → Result X Refusal → Result Y Refusal
+and_then next (Ok x) = next x
+and_then next (Err refusal) = Err refusal
+
+-- the refusal, where it is one
+abbrev pub fault_in : {X : Type 0} → Result X Refusal → Option Refusal
+fault_in (Ok x) = None
+fault_in (Err refusal) = Some refusal
+
 -- a reader answers exactly what a value states, or that a growth was refused
 abbrev pub Reads : {X : Type 0} → Result X Fault → Option X → Type 0
 Reads (Ok x) o = o ≡ Some x

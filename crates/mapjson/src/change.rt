@@ -1,12 +1,13 @@
 ghost use Rattle.std.specs.Prelude.{◌≡◌, All, IsTrue, IfOk, map, pos, nat_abs};
 ghost use Rattle.std.specs.List.{list_all};
 ghost use Rattle.serde_json.specs.View.{view};
-ghost use Rattle.mapjson.specs.ChangeTexts.{reweight_of, stated_change, is_upto, is_osd, reweight_fits, osds_fit, reweights_fit, reweight_within, change_fits, parts_within};
+ghost use Rattle.mapjson.specs.Json.{Answers};
+ghost use Rattle.mapjson.specs.ChangeTexts.{change_of, reweight_of, stated_change, is_up_to, is_osd, reweight_fits, osds_fit, reweights_fit, reweight_within, change_fits, parts_within};
 
 use crate::fault::Fault;
-use crate::json::{FromJson, field, has_count, has_only, optional_list, place};
-use crush::Entries;
-use osdmap::{ChangeParts, Reweight};
+use crate::json::{FromJson, field, has_count, has_only, optional_list, place, stated_by};
+use crush::{Entries, Memory};
+use osdmap::{ChangeParts, Refusal, Reweight};
 use serde_json::Value;
 use std::alloc::{AllocError, Global};
 
@@ -75,9 +76,9 @@ impl FromJson for RawChange {
 }
 
 /// Whether a number is among 0 to `most`.
-#[tactic(auto, unfolding(crate::specs::ChangeTexts::is_upto))]
-fn is_upto(most: i128, number: i128) -> bool
-    ensures { result ≡ is_upto most number }
+#[tactic(auto, unfolding(crate::specs::ChangeTexts::is_up_to))]
+fn is_up_to(most: i128, number: i128) -> bool
+    ensures { result ≡ is_up_to most number }
 {
     0 <= number && number <= most
 }
@@ -87,14 +88,14 @@ fn is_upto(most: i128, number: i128) -> bool
 fn is_osd(number: i128) -> bool
     ensures { result ≡ is_osd number }
 {
-    is_upto(MAX_OSD, number)
+    is_up_to(MAX_OSD, number)
 }
 
 #[tactic(auto, unfolding(crate::specs::ChangeTexts::reweight_fits))]
 fn reweight_fits(reweight: &RawReweight) -> bool
     ensures { result ≡ reweight_fits reweight.now }
 {
-    is_osd(reweight.osd) && is_upto(MAX_WEIGHT, reweight.weight)
+    is_osd(reweight.osd) && is_up_to(MAX_WEIGHT, reweight.weight)
 }
 
 fn all_are_osds(osds: &[i128]) -> bool
@@ -127,26 +128,26 @@ fn reweights_fit(reweights: &[RawReweight]) -> bool
 
 /// Whether every number and every length of a change is within its limits.
 #[tactic(auto, unfolding(crate::specs::ChangeTexts::change_fits))]
-pub(crate) fn change_fits(change: &RawChange) -> bool
+fn change_fits(change: &RawChange) -> bool
     ensures { result ≡ change_fits change.now }
 {
-    is_upto(MAX_EPOCH, change.base)
+    is_up_to(MAX_EPOCH, change.base)
         && osds_fit(change.down.as_slice())
         && osds_fit(change.up.as_slice())
         && reweights_fit(change.weight.as_slice())
 }
 
 /// A number within a word, as a word.
-#[tactic(auto, unfolding(crate::specs::ChangeTexts::is_upto))]
+#[tactic(auto, unfolding(crate::specs::ChangeTexts::is_up_to))]
 fn word(number: i128) -> u32
-    requires { IsTrue (is_upto (pos 4294967295) number) }
+    requires { IsTrue (is_up_to (pos 4294967295) number) }
     ensures { result ≡ nat_abs number }
 {
     number as u32
 }
 
 /// An OSD's id, as a word.
-#[tactic(auto, unfolding(crate::specs::ChangeTexts::is_osd, crate::specs::ChangeTexts::is_upto))]
+#[tactic(auto, unfolding(crate::specs::ChangeTexts::is_osd, crate::specs::ChangeTexts::is_up_to))]
 fn osd(number: i128) -> u32
     requires { IsTrue (is_osd number) }
     ensures { result ≡ nat_abs number }
@@ -184,25 +185,35 @@ fn reweights(alloc: Global, stated: &[RawReweight]) -> Result<Vec<Reweight>, All
 
 /// The parts of a change that is within the limits.
 #[tactic(auto, using(crate::proofs::Lists::all_from_test), unfolding(crate::specs::ChangeTexts::change_fits, crate::specs::ChangeTexts::osds_fit, crate::specs::ChangeTexts::reweights_fit))]
-pub(crate) fn parts_within(alloc: Global, change: &RawChange) -> Result<ChangeParts, AllocError>
+fn parts_within(alloc: Global, change: &RawChange) -> Result<ChangeParts, Memory>
     requires { IsTrue (change_fits change.now) }
     ensures { IfOk result (λ parts. parts ≡ parts_within change.now) }
 {
-    let down = osds(alloc, change.down.as_slice())?;
-    let up = osds(alloc, change.up.as_slice())?;
-    let weight = reweights(alloc, change.weight.as_slice())?;
     Ok(ChangeParts {
-        down: Entries::new(down),
-        up: Entries::new(up),
-        weight: Entries::new(weight),
+        down: Entries::new(osds(alloc, change.down.as_slice())?),
+        up: Entries::new(osds(alloc, change.up.as_slice())?),
+        weight: Entries::new(reweights(alloc, change.weight.as_slice())?),
     })
 }
 
 /// The base of a change that is within the limits.
-#[tactic(auto, unfolding(crate::specs::ChangeTexts::change_fits, crate::specs::ChangeTexts::is_upto))]
-pub(crate) fn base_within(change: &RawChange) -> u64
+#[tactic(auto, unfolding(crate::specs::ChangeTexts::change_fits, crate::specs::ChangeTexts::is_up_to))]
+fn base_within(change: &RawChange) -> u64
     requires { IsTrue (change_fits change.now) }
     ensures { result ≡ nat_abs change.now.base }
 {
     change.base as u64
+}
+
+/// The base and the parts of the change that a text states: `BadJson` (10) where it is no JSON, `BadField` (11) where
+/// it states no change, `BadLimit` (12) where a number or a length is outside its limits; `Memory` (30).
+pub(crate) fn change_of(alloc: Global, bytes: &[u8]) -> Result<(u64, ChangeParts), Refusal>
+    ensures { Answers result (change_of bytes.now) }
+{
+    let stated: RawChange = stated_by(alloc, bytes)?;
+    if !change_fits(&stated) {
+        return Err(Refusal::BadLimit);
+    }
+    let parts = parts_within(alloc, &stated)?;
+    Ok((base_within(&stated), parts))
 }

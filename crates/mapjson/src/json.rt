@@ -158,9 +158,5 @@ pub(crate) fn stated_by<T: FromJson>(alloc: Global, bytes: &[u8]) -> Result<T, R
     ensures { Answers result (stated_by T.stated bytes.now) }
 {
     let value = value_of(alloc, bytes)?;
-    match T::from_json(alloc, &value) {
-        Ok(stated) => Ok(stated),
-        Err(Fault::Field) => Err(Refusal::BadField),
-        Err(Fault::Memory) => Err(Refusal::Memory),
-    }
+    Ok(T::from_json(alloc, &value)?)
 }

@@ -10,7 +10,7 @@ mod fault;
 mod json;
 mod map;
 
-use crate::change::{RawChange, base_within, change_fits, parts_within};
+use crate::change::change_of;
 use crate::json::stated_by;
 use osdmap::{Change, MapParts, OsdMap, Refusal};
 use std::alloc::Global;
@@ -32,13 +32,7 @@ pub fn read_map(alloc: Global, bytes: &[u8]) -> Result<OsdMap, Refusal>
 pub fn read_change(alloc: Global, bytes: &[u8]) -> Result<(u64, Change), Refusal>
     ensures { Makes result (change_text_fault bytes.now) (StatesChange bytes.now) }
 {
-    let stated: RawChange = stated_by(alloc, bytes)?;
-    if !change_fits(&stated) {
-        return Err(Refusal::BadLimit);
-    }
-    let Ok(parts) = parts_within(alloc, &stated) else {
-        return Err(Refusal::Memory);
-    };
+    let (base, parts) = change_of(alloc, bytes)?;
     let change = Change::new(alloc, parts)?;
-    Ok((base_within(&stated), change))
+    Ok((base, change))
 }
