@@ -36,3 +36,6 @@ pub fn read_change(alloc: Global, bytes: &[u8]) -> Result<(u64, Change), Refusal
     let change = Change::new(alloc, parts)?;
     Ok((base, change))
 }
+
+#[cfg(test)]
+mod tests;
