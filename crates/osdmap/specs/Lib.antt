@@ -7,3 +7,4 @@ pub mod Ordered
 pub mod Placement
 pub mod Sets
 pub mod Stated
+pub mod PgText

@@ -7,6 +7,7 @@ pub mod map;
 pub mod osd;
 pub mod parts;
 pub mod pg;
+pub mod pg_text;
 pub mod pool;
 pub mod refusal;
 pub mod up_set;
@@ -18,6 +19,7 @@ pub use parts::{
     BucketPart, ChoosePart, ItemPart, MapParts, OsdPart, PoolPart, RulePart, StepPart,
 };
 pub use pg::Pg;
+pub use pg_text::PgParts;
 pub use pool::Pool;
 pub use refusal::Refusal;
 pub use up_set::UpSet;

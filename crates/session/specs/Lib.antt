@@ -1,0 +1,5 @@
+pub mod Sinks
+pub mod Commands
+pub mod Texts
+pub mod Answers
+pub mod Transcripts
