@@ -7,3 +7,7 @@ pub mod Leaves
 pub mod Replicas
 pub mod Segments
 pub mod Rounds
+pub mod Pickable
+pub mod Places
+pub mod RuleLemmas
+pub mod Tests

@@ -1,4 +1,6 @@
+pub mod Fault
 pub mod Forest
+pub mod Grammar
 pub mod Rules
 pub mod Items
 pub mod Uniform
@@ -11,3 +13,4 @@ pub mod Descent
 pub mod Firstn
 pub mod Indep
 pub mod Run
+pub mod WellFormed

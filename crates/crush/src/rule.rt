@@ -1,3 +1,8 @@
+use crate::fault::RuleError;
+use crate::forest::Forest;
+use crate::grammar::{is_rule, is_within_limits, takes_known};
+use crate::memory::Memory;
+use std::alloc::Global;
 use std::marker::Model;
 
 /// What a rule serves: copies, which may change their places, or coded parts, which keep them.
@@ -32,7 +37,8 @@ pub enum Step {
     Emit,
 }
 
-/// A rule.
+/// A rule: what it serves, and steps that are one or more blocks. Each block takes a bucket, chooses below it one to
+/// three times, of types that fall, and emits what it chose.
 #[derive(Debug, Drop)]
 pub struct Rule {
     kind: RuleKind,
@@ -40,28 +46,60 @@ pub struct Rule {
 }
 
 impl Model for Rule {
+    ghost use Rattle.std.specs.Prelude.{◌≡◌, true};
     ghost use Rattle.crush.specs.Rules.{Recipe};
+    ghost use Rattle.crush.specs.Grammar.{IsLawful};
 
     ghost Value = { Recipe };
 
     ghost view = { λ r. record { kind = r.kind; steps = r.steps.items } };
+
+    ghost invariant = { λ r. IsLawful r.kind r.steps.items };
 }
 
 impl Rule {
-    ghost use Rattle.std.specs.Prelude.{◌≡◌};
+    ghost use Rattle.std.specs.Prelude.{◌≡◌, IfOk};
+    ghost use Rattle.std.specs.Result.{result_err};
+    ghost use Rattle.crush.specs.Grammar.{IsLawful, rule_fault};
 
-    /// A rule of these steps.
-    pub fn of(kind: RuleKind, steps: Vec<Step>) -> Self
-        ensures kind { result.kind ≡ kind }
-        ensures steps { result.steps ≡ steps.items }
+    /// The rule of these steps over a forest. It is refused with 12 (BadLimit) where it has no step or more than 16,
+    /// takes a bucket outside -1 to -65,536, or chooses a type above 15 or more than 10 items; else with 14 (BadRule)
+    /// where the steps are not in the grammar, or take a bucket that the forest has not.
+    pub fn new(kind: RuleKind, steps: Vec<Step>, forest: &Forest) -> Result<Self, RuleError>
+        ensures value { IfOk result (λ r. r ≡ record { kind = kind; steps = steps.items }) }
+        ensures fault { result_err result ≡ rule_fault kind steps.items forest.now }
     {
-        Rule { kind, steps }
+        if !is_within_limits(&steps) {
+            return Err(RuleError::BadLimit);
+        }
+        if !is_rule(kind, &steps) || !takes_known(&steps, forest) {
+            return Err(RuleError::BadRule);
+        }
+        Ok(Rule { kind, steps })
     }
 
-    /// Its steps, in order.
+    /// What it serves.
+    pub fn kind(&self) -> RuleKind
+        ensures value { result ≡ self.now.kind }
+    {
+        self.kind
+    }
+
+    /// Its steps, in order: one or more blocks.
     pub fn steps(&self) -> &[Step]
-        ensures { result.now ≡ self.now.steps }
+        ensures value { result.now ≡ self.now.steps }
+        ensures lawful { IsLawful self.now.kind self.now.steps }
     {
         &self.steps
+    }
+
+    /// The same rule once more.
+    pub fn copy(&self, alloc: Global) -> Result<Self, Memory>
+        ensures { IfOk result (λ r. r ≡ self.now) }
+    {
+        Ok(Rule {
+            kind: self.kind,
+            steps: Vec::from_slice(alloc, &self.steps)?,
+        })
     }
 }

@@ -1,5 +1,5 @@
 -- The map of a cluster as callers see it, and the look-ups in it. A map is finite: rules and pools by id, OSDs by number.
-use Rattle.std.specs.Prelude.{ℕ, ◌==◌, Bool, true, false, List, Option, slice_get, slice_index}
+use Rattle.std.specs.Prelude.{◌≡◌, length, ℕ, ◌==◌, Bool, true, false, List, Option, slice_get, slice_index, ◌≤◌, IsTrue}
 use Rattle.std.specs.List.{find}
 use Rattle.std.specs.Option.{option_map, option_map_or}
 use Rattle.crush.specs.declared.bucket.Bucket.{Bucket}
@@ -8,12 +8,8 @@ use Rattle.crush.specs.declared.rule.RuleKind.TheVariants.{Replicated, Erasure}
 use Rattle.crush.specs.Rules.{Recipe}
 use Rattle.osdmap.specs.declared.osd.Presence.{Presence}
 use Rattle.osdmap.specs.declared.osd.OsdState.{OsdState}
+use Rattle.osdmap.specs.declared.rules.NumberedRule.{NumberedRule}
 use Rattle.osdmap.specs.Pools.{PoolFacts}
-
--- a rule under its id
-pub record NumberedRule : Type 0 where
-  pub id : ℕ
-  pub rule : Recipe
 
 -- what callers see of a map: its epoch, the buckets of its forest by id downwards, its rules and pools by id upwards, and
 -- by number whether each OSD exists and is up, and its reweight
@@ -56,3 +52,9 @@ is_kind Erasure Erasure = true
 -- whether the pool's rule is there, and of its kind
 abbrev pub has_rule : List NumberedRule → PoolFacts → Bool
 has_rule rules p = option_map_or (λ r. is_kind r.kind p.kind) (rule_at rules p.rule) false
+
+-- what holds in every map: each OSD has a reweight, there are few, and each pool has a rule of its kind
+pub record HoldsTogether (m : ClusterMap) : Type 0 where
+  pub weighed : length m.weights ≡ length m.presences
+  pub few : length m.presences ≤ 1024
+  pub ruled : list_all (has_rule m.rules) m.pools ≡ true

@@ -1,5 +1,4 @@
 use crush::{Entries, Memory};
-use std::alloc::Global;
 use std::marker::Model;
 
 /// The parts of a change, each list in any order.
@@ -35,14 +34,47 @@ impl Model for Change {
 }
 
 impl Change {
-    ghost use Rattle.std.specs.Prelude.{IfOk};
+    ghost use Rattle.std.specs.Prelude.{◌≡◌, IfOk};
     ghost use Rattle.osdmap.specs.Ordered.{IsOrdered};
 
     /// The change of these parts, each put into ascending order of its keys, doubles in their order; or `Memory` (30).
-    pub fn new(_alloc: Global, _parts: ChangeParts) -> Result<Change, Memory>
-        ensures { IfOk result (IsOrdered _parts) }
+    pub fn new(parts: ChangeParts) -> Result<Change, Memory>
+        ensures { IfOk result (IsOrdered parts) }
     {
-        Err(Memory)
+        let mut down = parts.down.into_vec();
+        down.sort_unstable();
+        let mut up = parts.up.into_vec();
+        up.sort_unstable();
+        let mut weight = parts.weight.into_vec();
+        weight.sort_by_key(|w| w.osd)?;
+        Ok(Change {
+            parts: ChangeParts {
+                down: Entries::new(down),
+                up: Entries::new(up),
+                weight: Entries::new(weight),
+            },
+        })
+    }
+
+    /// The OSDs that go down, ascending.
+    pub fn down(&self) -> &[u32]
+        ensures { result.now ≡ self.now.down }
+    {
+        self.parts.down.as_slice()
+    }
+
+    /// The OSDs that come up, ascending.
+    pub fn up(&self) -> &[u32]
+        ensures { result.now ≡ self.now.up }
+    {
+        self.parts.up.as_slice()
+    }
+
+    /// The OSDs that get another reweight, ascending.
+    pub fn weight(&self) -> &[Reweight]
+        ensures { result.now ≡ self.now.weight }
+    {
+        self.parts.weight.as_slice()
     }
 }
 

@@ -10,6 +10,7 @@ pub mod pg;
 pub mod pg_text;
 pub mod pool;
 pub mod refusal;
+pub mod rules;
 pub mod up_set;
 
 pub use change::{Change, ChangeParts, Incremental, Reweight};
@@ -22,4 +23,5 @@ pub use pg::Pg;
 pub use pg_text::PgParts;
 pub use pool::Pool;
 pub use refusal::Refusal;
+pub use rules::NumberedRule;
 pub use up_set::UpSet;

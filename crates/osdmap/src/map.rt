@@ -1,28 +1,38 @@
-use crate::change::{Change, ChangeParts, Incremental};
-use crate::osd::Presence;
+use crate::osd::{OsdState, Presence};
 use crate::parts::MapParts;
+use crate::pool::Pool;
 use crate::refusal::Refusal;
-use crush::Memory;
+use crate::rules::NumberedRule;
+use crush::{Forest, Memory, Rule, Weights};
 use std::alloc::Global;
 use std::marker::Model;
 
-/// The map of a cluster.
-#[derive(Debug, Drop)]
+/// The map of a cluster at an epoch: a forest of buckets, rules, pools, and for each OSD whether it exists, whether it is
+/// up, and its reweight (Ceph, OSDMap.h).
+#[derive(Drop)]
 pub struct OsdMap {
-    epoch: u64,
+    pub(crate) epoch: u64,
+    pub(crate) forest: Forest,
+    pub(crate) rules: Vec<NumberedRule>,
+    pub(crate) pools: Vec<Pool>,
+    pub(crate) presences: Vec<Presence>,
+    pub(crate) weights: Weights,
 }
 
 impl Model for OsdMap {
-    ghost use Rattle.std.specs.Prelude.{[]};
-    ghost use Rattle.osdmap.specs.Maps.{ClusterMap};
+    ghost use Rattle.osdmap.specs.Maps.{ClusterMap, HoldsTogether};
 
     ghost Value = { ClusterMap };
 
-    ghost view = { λ m. record { epoch = m.epoch; buckets = []; rules = []; pools = []; presences = []; weights = [] } };
+    ghost view = { λ m. record { epoch = m.epoch; buckets = m.forest; rules = m.rules.items; pools = m.pools.items; presences = m.presences.items; weights = m.weights } };
+
+    ghost invariant = { λ m. HoldsTogether (record { epoch = m.epoch; buckets = m.forest; rules = m.rules.items; pools = m.pools.items; presences = m.presences.items; weights = m.weights }) };
 }
 
 impl OsdMap {
-    ghost use Rattle.std.specs.Prelude.{◌≡◌, IfOk};
+    ghost use Rattle.std.specs.Prelude.{◌≡◌, IfOk, length};
+    ghost use Rattle.std.specs.Option.{option_copied};
+    ghost use Rattle.osdmap.specs.Maps.{rule_at, pool_at, osd_at};
     ghost use Rattle.osdmap.specs.Stated.{Makes, map_fault, IsStated};
 
     /// The map that parts state: `BadLimit` (12), `BadForest` (13), `BadRule` (14), `BadPool` (15) or `BadOsd` (16) where
@@ -40,10 +50,51 @@ impl OsdMap {
         self.epoch
     }
 
-    /// The same map, or `Memory` (30).
-    pub fn copy(&self, _alloc: Global) -> Result<OsdMap, Memory>
-        ensures { IfOk result (λ m. m ≡ self.now) }
+    /// OSDs have ids below this.
+    pub fn max_osd(&self) -> u32
+        ensures { result ≡ length self.now.presences }
     {
-        Err(Memory)
+        self.presences.len() as u32
+    }
+
+    /// The forest.
+    pub fn forest(&self) -> &Forest
+        ensures { result.now ≡ self.now.buckets }
+    {
+        &self.forest
+    }
+
+    /// The rule of an id.
+    pub fn rule(&self, id: u32) -> Option<&Rule>
+        ensures { option_copied result ≡ rule_at self.now.rules id }
+    {
+        self.rules.iter().find(|rule| rule.id == id).map(|rule| &rule.rule)
+    }
+
+    /// The pools, by id upwards.
+    pub fn pools(&self) -> &[Pool]
+        ensures { result.now ≡ self.now.pools }
+    {
+        &self.pools
+    }
+
+    /// The pool of an id.
+    pub fn pool(&self, id: u32) -> Option<Pool>
+        ensures { result ≡ pool_at self.now.pools id }
+    {
+        self.pools.iter().copied().find(|pool| pool.id() == id)
+    }
+
+    /// What the map has of an OSD below `max_osd`.
+    pub fn osd(&self, id: u32) -> Option<OsdState>
+        ensures { result ≡ osd_at self.now id }
+    {
+        let presence = self.presences.get(id as usize)?;
+        let weight = self.weights.get(id as usize)?;
+        Some(OsdState {
+            exists: presence.exists,
+            up: presence.up,
+            weight,
+        })
     }
 }

@@ -1,0 +1,89 @@
+-- Which lists of buckets are forests: the limits, and when a forest is well formed (CRUSH paper, SC 2006, section 3.3;
+-- Ceph, crush.h and builder.c).
+use Rattle.std.specs.Prelude.{ℕ, ◌^◌, Bool, IsTrue, ◌&&◌, ◌<ℤ◌, ◌≤ℤ◌, ℤ, pos, negsuc, neg_ℤ, int_le, int_lt, nat_le, nat_lt, ◌==◌, List, length, count_by, if◌then◌else◌, Option, Some, None, is_some}
+use Rattle.std.specs.Ordering.{int_eq}
+use Rattle.std.specs.List.{sum_by, list_all, AllPairs}
+use Rattle.crush.specs.declared.bucket.Item.{Item}
+use Rattle.crush.specs.declared.bucket.Bucket.{Bucket}
+use Rattle.crush.specs.declared.bucket.BucketKind.{BucketKind}
+use Rattle.crush.specs.declared.bucket.BucketKind.TheVariants.{Uniform, List as InList, Tree}
+use Rattle.crush.specs.declared.fault.ForestError.{ForestError}
+use Rattle.crush.specs.declared.fault.ForestError.TheVariants.{BadLimit, BadForest}
+use Rattle.crush.specs.Forest.{bucket_at, level_of, weight_of}
+
+-- a number from low to high
+abbrev pub is_within : ℕ → ℕ → ℕ → Bool
+is_within low high n = nat_le low n && nat_le n high
+
+-- an id that a bucket may have: -1 down to -65,536
+abbrev pub is_bucket_id : ℤ → Bool
+is_bucket_id id = int_le (neg_ℤ (pos 65536)) id && int_lt id (pos 0)
+
+-- an item within the limits: an id that a bucket may have or a device up to 1,023, of a weight from 1 on (its type ends it)
+abbrev pub item_limits_ok : Item → Bool
+item_limits_ok i = int_le (neg_ℤ (pos 65536)) i.id && int_le i.id (pos 1023) && nat_lt 0 i.weight
+
+-- a bucket within the limits: of type 1 to 15, with 1 to 64 items
+abbrev pub bucket_limits_ok : Bucket → Bool
+bucket_limits_ok b = is_bucket_id b.id && is_within 1 15 b.level && is_within 1 64 (length b.items) && list_all item_limits_ok b.items
+
+-- a forest within the limits: 1 to 512 buckets, over 1 to 1,024 devices
+abbrev pub forest_limits_ok : List Bucket → ℕ → Bool
+forest_limits_ok buckets max_osd = is_within 1 512 (length buckets) && is_within 1 1024 max_osd && list_all bucket_limits_ok buckets
+
+-- how many buckets have an id
+abbrev pub buckets_with : List Bucket → ℤ → ℕ
+buckets_with buckets id = count_by (λ b. int_eq b.id id) buckets
+
+-- how many times an item stands in the forest
+abbrev pub times_in : List Bucket → ℤ → ℕ
+times_in buckets id = sum_by (λ b. count_by (λ i. int_eq i.id id) b.items) buckets
+
+-- no two buckets have the same id
+abbrev pub has_own_ids : List Bucket → Bool
+has_own_ids buckets = list_all (λ b. buckets_with buckets b.id == 1) buckets
+
+-- a device below max_osd, or a bucket of the forest
+abbrev pub is_known : List Bucket → ℕ → ℤ → Bool
+is_known buckets max_osd (pos n) = nat_lt n max_osd
+is_known buckets max_osd (negsuc n) = is_some (bucket_at buckets (negsuc n))
+
+-- each item is known, and its type is below that of its bucket
+abbrev pub has_items_below : List Bucket → ℕ → Bool
+has_items_below buckets max_osd = list_all (λ b. list_all (λ i. is_known buckets max_osd i.id && nat_lt (level_of buckets i.id) b.level) b.items) buckets
+
+-- no item stands in the forest twice
+abbrev pub has_items_once : List Bucket → Bool
+has_items_once buckets = list_all (λ b. list_all (λ i. times_in buckets i.id == 1) b.items) buckets
+
+-- no two items weigh differently
+abbrev pub is_even : List Item → Bool
+is_even items = list_all (λ i. list_all (λ j. i.weight == j.weight) items) items
+
+-- weights that add up to a word, in a uniform bucket all the same
+abbrev pub weights_ok : BucketKind → List Item → Bool
+weights_ok Uniform items = nat_lt (weight_of items) (2 ^ 32) && is_even items
+weights_ok InList items = nat_lt (weight_of items) (2 ^ 32)
+weights_ok Tree items = nat_lt (weight_of items) (2 ^ 32)
+
+-- a well-formed forest
+abbrev pub forest_ok : List Bucket → ℕ → Bool
+forest_ok buckets max_osd = has_own_ids buckets && has_items_below buckets max_osd && has_items_once buckets && list_all (λ b. weights_ok b.kind b.items) buckets
+
+-- the ids fall from each bucket to the next
+abbrev pub IsDescending : List Bucket → Type 0
+IsDescending buckets = AllPairs (λ a b. b.id <ℤ a.id) buckets
+
+-- the same, where an id may stand twice
+abbrev pub IsNotAscending : List Bucket → Type 0
+IsNotAscending buckets = AllPairs (λ a b. b.id ≤ℤ a.id) buckets
+
+-- what each forest is, over whatever number of devices
+pub record IsForest (buckets : List Bucket) : Type 0 where
+  pub descending : IsDescending buckets
+  pub limits : IsTrue (forest_limits_ok buckets 1024)
+  pub lawful : IsTrue (forest_ok buckets 1024)
+
+-- why a list of buckets is no forest: a limit first
+abbrev pub forest_fault : List Bucket → ℕ → Option ForestError
+forest_fault buckets max_osd = if forest_limits_ok buckets max_osd then if forest_ok buckets max_osd then None else Some BadForest else Some BadLimit
