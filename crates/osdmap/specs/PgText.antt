@@ -1,7 +1,6 @@
 -- The text of a group: the pool's id in decimal, a point, and the number in lower hexadecimal, both without leading zeros
 -- (Ceph, pg_t::print).
-use Rattle.std.specs.Prelude.{ℕ, ◌+◌, ◌-◌, ◌*◌, ◌^◌, ◌==◌, nat_lt, nat_le, Bool, not, is_none, ◌&&◌, ◌||◌, List, [], ◌∷◌, ◌++◌, Option, Some, None, option_and_then, if◌then◌else◌}
-use Rattle.std.specs.List.{before_first, after_first}
+use Rattle.std.specs.Prelude.{ℕ, ◌+◌, ◌-◌, ◌*◌, ◌^◌, ◌==◌, nat_lt, nat_le, Bool, false, ◌&&◌, List, [], ◌∷◌, ◌++◌, take, drop, position, Option, Some, None, option_and_then, if◌then◌else◌}
 use Rattle.std.specs.Option.{option_map}
 use Rattle.std.specs.Fmt.{digits, decimal}
 use Rattle.osdmap.specs.declared.pg.Pg.{Pg}
@@ -35,6 +34,10 @@ number_in base (c ∷ d ∷ cs) = if c == 48 then None else value_after base 0 (
 abbrev pub within : ℕ → Option ℕ
 within n = if nat_lt n (2 ^ 32) then Some n else None
 
+-- the number that a text is, and in it nothing where it has more than 32 bits
+abbrev pub part_in : ℕ → List ℕ → Option (Option ℕ)
+part_in base text = option_map within (number_in base text)
+
 -- ---- groups
 
 -- the byte of a point
@@ -43,8 +46,8 @@ is_point c = c == 46
 
 -- the parts that a text states, each only where it has at most 32 bits; none where the text is that of no group
 unfoldable pub parts_in : List ℕ → Option PgParts
-parts_in text = option_and_then (λ pool. option_map (λ number. record { pool = within pool; number = within number })
-    (number_in 16 (after_first is_point text))) (number_in 10 (before_first is_point text))
+parts_in text = option_and_then (λ point. option_and_then (λ pool. option_map (λ number. record { pool = pool; number = number })
+    (part_in 16 (drop (point + 1) text))) (part_in 10 (take point text))) (position is_point text)
 
 -- a group of two parts
 abbrev pub group_of : PgParts → Option Pg

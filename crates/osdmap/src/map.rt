@@ -68,7 +68,10 @@ impl OsdMap {
     pub fn rule(&self, id: u32) -> Option<&Rule>
         ensures { option_copied result ≡ rule_at self.now.rules id }
     {
-        self.rules.iter().find(|rule| rule.id == id).map(|rule| &rule.rule)
+        self.rules
+            .iter()
+            .find(|rule| rule.id == id)
+            .map(|rule| &rule.rule)
     }
 
     /// The pools, by id upwards.

@@ -1,8 +1,8 @@
 //! The text of a group: the pool's id in decimal, a point, and the number in lower hexadecimal, both without leading
 //! zeros (Ceph, `pg_t::print`).
-ghost use Rattle.std.specs.Prelude.{◌≡◌, ◌⊎◌, ◌≤◌};
+ghost use Rattle.std.specs.Prelude.{◌≡◌, ◌<◌, ◌≤◌, IfSome, length, position};
 ghost use Rattle.std.specs.Option.{option_map};
-ghost use Rattle.osdmap.specs.PgText.{digit_of, value_after, number_in, within};
+ghost use Rattle.osdmap.specs.PgText.{digit_of, value_after, part_in, within, is_point};
 
 use crate::pg::Pg;
 use std::fmt;
@@ -36,7 +36,8 @@ fn digit(base: u32, byte: u8) -> Option<u32>
 
 /// The number that digits write, `Some(None)` where it has more than 32 bits.
 fn value(base: u32, digits: &[u8]) -> Option<Option<u32>>
-    requires { base ≤ 16 }
+    requires some { 0 < base }
+    requires most { base ≤ 16 }
     ensures { result ≡ option_map within (value_after base 0 digits.now) }
 {
     let mut value: u64 = 0;
@@ -50,13 +51,22 @@ fn value(base: u32, digits: &[u8]) -> Option<Option<u32>>
 /// The number that a text is, without leading zeros: `Some(None)` where it has more than 32 bits.
 #[tactic(auto, unfolding(crate::specs::PgText::number_in))]
 fn number(base: u32, text: &[u8]) -> Option<Option<u32>>
-    requires { base ≤ 16 }
-    ensures { result ≡ option_map within (number_in base text.now) }
+    requires some { 0 < base }
+    requires most { base ≤ 16 }
+    ensures { result ≡ part_in base text.now }
 {
     match text {
         [] | [b'0', _, ..] => None,
         _ => value(base, text),
     }
+}
+
+/// The place of the first point.
+fn point(text: &[u8]) -> Option<usize>
+    ensures place { result ≡ position is_point text.now }
+    ensures within { IfSome result (λ at. at < length text.now) }
+{
+    text.iter().position(|byte| *byte == b'.')
 }
 
 impl PgParts {
@@ -67,7 +77,7 @@ impl PgParts {
     pub fn read(text: &[u8]) -> Option<PgParts>
         ensures { result ≡ parts_in text.now }
     {
-        let point = text.iter().position(|byte| *byte == b'.')?;
+        let point = point(text)?;
         let pool = number(POOL_BASE, &text[..point])?;
         let number = number(NUMBER_BASE, &text[point + 1..])?;
         Some(PgParts { pool, number })
