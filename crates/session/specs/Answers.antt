@@ -22,11 +22,11 @@ Looks m pg answer =
     ((places : List (Option ℕ)) × Places up_set m pg places × (answer ≡ up_text m.epoch pg places))
     (λ r. answer ≡ refusal_text r)
 
--- a change that was read: what its commit answers, and the state with it
+-- a change that was read: what its commit answers, and the state with it; the new epoch is the next after the base
 abbrev pub Commits : History → ℕ × ChangeParts → List ℕ → History → Type 0
 Commits old read answer new =
     MatchOption (commit_fault old read.0 read.1)
-    ((new ≡ committed old read.1) × (answer ≡ ok_text new.map.epoch (evals_of new.map read.1)))
+    ((new ≡ committed old read.1) × (answer ≡ ok_text (read.0 + 1) (evals_of new.map read.1)))
     (λ r. Refuses old r answer new)
 
 -- `change`: why its text states none, or what its commit answers

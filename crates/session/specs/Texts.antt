@@ -12,10 +12,14 @@ use Rattle.osdmap.specs.Placement.{primary_of}
 abbrev pub newline : List ℕ
 newline = 10 ∷ []
 
+-- an OSD, or a word where there is none
+abbrev pub osd_text : List ℕ → Option ℕ → List ℕ
+osd_text word (Some osd) = decimal osd
+osd_text word None = word
+
 -- a place: its OSD, or `none`
 abbrev pub place_text : Option ℕ → List ℕ
-place_text (Some osd) = decimal osd
-place_text None = codes "none"
+place_text place = osd_text (codes "none") place
 
 -- places behind others, each with a comma before it
 abbrev pub more_places : List (Option ℕ) → List ℕ
@@ -29,8 +33,7 @@ set_text (place ∷ places) = place_text place ++ more_places places
 
 -- the primary: its OSD, or -1
 abbrev pub primary_text : Option ℕ → List ℕ
-primary_text (Some osd) = decimal osd
-primary_text None = codes "-1"
+primary_text primary = osd_text (codes "-1") primary
 
 -- `up EPOCH PG [SET] PRIMARY`
 unfoldable pub up_text : ℕ → Pg → List (Option ℕ) → List ℕ

@@ -13,15 +13,17 @@ AnswersLine old (c ∷ cs) answer new = AnswersCommand old (command_in (c ∷ cs
 unfoldable pub IsTranscript : History → List (List ℕ) → List ℕ → History → Type 0
 IsTranscript first [] bytes last = (bytes ≡ []) × (last ≡ first)
 IsTranscript first (line ∷ lines) bytes last =
-    (answer : List ℕ) (rest : List ℕ) (next : History) × AnswersLine first line answer next × IsTranscript next lines rest last × (bytes ≡ answer ++ rest)
+    (answer : List ℕ) × (rest : List ℕ) × (next : History) × AnswersLine first line answer next × IsTranscript next lines rest last × (bytes ≡ answer ++ rest)
 
--- a session that stops: some lines are answered whole; no other has begun, or of the answer to the next a beginning is out
-pub record Stops (first : History) (lines : List (List ℕ)) (out : List ℕ) (last : History) : Type 0 where
-  pub whole : List (List ℕ)
-  pub others : List (List ℕ)
-  pub answers : List ℕ
-  pub between : History
-  pub cut : lines ≡ whole ++ others
-  pub transcript : IsTranscript first whole answers between
-  pub next : ((out ≡ answers) × (last ≡ between)) ⊎ Breaks between others answers out last
-  where Breaks = ?
+-- of the answer to the next line a beginning is out
+abbrev pub Breaks : History → List (List ℕ) → List ℕ → List ℕ → History → Type 0
+Breaks between lines before out last =
+    (line : List ℕ) × (others : List (List ℕ)) × (answer : List ℕ) × (part : List ℕ) × (missing : List ℕ) × (lines ≡ line ∷ others)
+    × AnswersLine between line answer last × (answer ≡ part ++ missing) × (out ≡ before ++ part)
+
+-- a session that stops: some lines are answered whole; no other has begun, or the answer to the next is cut off
+abbrev pub Stops : History → List (List ℕ) → List ℕ → History → Type 0
+Stops first lines out last =
+    (whole : List (List ℕ)) × (others : List (List ℕ)) × (answers : List ℕ) × (between : History) × (lines ≡ whole ++ others)
+    × IsTranscript first whole answers between
+    × (((out ≡ answers) × (last ≡ between)) ⊎ Breaks between others answers out last)
