@@ -1,7 +1,7 @@
 -- A transcript grows by a line at its end.
-use Rattle.std.proofs.Common.{◌≡◌, ℕ, List, [], ◌∷◌, ◌++◌, refl, sym, ◌∙◌, ap, subst, append_assoc, append-nil, inl, inr}
+use Rattle.std.proofs.Common.{◌≡◌, ℕ, List, [], ◌∷◌, ◌++◌, refl, sym, subst, append_assoc, append-nil, inl, inr, Result, Ok, Err}
+use Rattle.std.specs.Result.{OnErr}
 use Rattle.monitor.specs.States.{History}
-use Rattle.session.specs.Sinks.{HasPut}
 use Rattle.session.specs.Transcripts.{AnswersLine, IsTranscript, Stops}
 
 -- the lines before the rest are answered by these bytes
@@ -28,6 +28,13 @@ pub reaches_more : (first between last : History) (lines others : List (List ℕ
 reaches_more first between last lines others line bytes answer (whole, cut, t) a =
     (whole ++ line ∷ [], rw (append_assoc whole (line ∷ []) others) cut, IsTranscript-more first between last whole line bytes answer t a)
 
+-- the next line is empty
+pub reaches_empty : (first now : History) (lines others : List (List ℕ)) (line bytes : List ℕ)
+    → Reaches first lines (line ∷ others) bytes now → line ≡ [] → Reaches first lines others bytes now
+reaches_empty first now lines others line bytes reached none =
+    let answered : AnswersLine now line [] now = subst (λ l. AnswersLine now l [] now) (sym none) (refl, refl) in
+    subst (λ bs. Reaches first lines others bs now) (append-nil bytes) (reaches_more first now now lines others line bytes [] reached answered)
+
 -- every line is answered
 pub reaches_all : (first last : History) (lines : List (List ℕ)) (bytes : List ℕ) → Reaches first lines [] bytes last → IsTranscript first lines bytes last
 reaches_all first last lines bytes (whole, cut, t) = rw (cut, append-nil whole) t
@@ -42,3 +49,9 @@ pub stops_at : (first between last : History) (lines others : List (List ℕ)) (
     → Reaches first lines (line ∷ others) bytes between → AnswersLine between line answer last → answer ≡ part ++ missing → Stops first lines (bytes ++ part) last
 stops_at first between last lines others line bytes answer part missing (whole, cut, t) a e =
     (whole, line ∷ others, bytes, between, cut, t, inr (line, others, answer, part, missing, refl, a, e, refl))
+
+-- a session that stops answers an error, at whatever it says
+pub stopped : {T E : Type 0} (r : Result T E) (first last : History) (lines : List (List ℕ)) (before after out : List ℕ)
+    → Stops first lines out last → after ≡ before ++ out → OnErr r ((bytes : List ℕ) × Stops first lines bytes last × (after ≡ before ++ bytes))
+stopped (Ok x) first last lines before after out stops put = tt
+stopped (Err e) first last lines before after out stops put = (out, stops, put)

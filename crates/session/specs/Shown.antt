@@ -1,5 +1,5 @@
 -- The line of an answer, and what a change answers before it is written.
-use Rattle.std.specs.Prelude.{◌≡◌, ◌⊎◌, ℕ, ◌+◌, List, Option, Some, None, Result, MatchResult}
+use Rattle.std.specs.Prelude.{◌≡◌, ◌⊎◌, ℕ, ◌+◌, List, Some, None, Result, MatchResult}
 use Rattle.osdmap.specs.Sets.{places_of}
 use Rattle.session.specs.declared.answer.Answer.{Answer}
 use Rattle.session.specs.declared.answer.Answer.TheVariants.{Up, Epoch, Changed, Refused}

@@ -1,4 +1,4 @@
-use Rattle.std.proofs.Common.{◌≡◌, ◌≤◌, ◌+◌, ◌-◌, length, take, drop, arith, sym, length-drop}
+use Rattle.std.proofs.Common.{◌≤◌, ◌+◌, ◌-◌, length, drop, arith, sym, length-drop}
 use Rattle.std.proofs.lemmas.List.{take_all}
 use Rattle.session.proofs.LinesIn.{lines_in-cut, lines_in-last}
 use Rattle.session.proofs.command.first_line.Goals as goal
