@@ -23,7 +23,6 @@ pub mod Sought
 pub mod Packed
 pub mod Positions
 pub mod Picked
-pub mod Weights
 pub mod Within
 pub mod Alike
 pub mod Runs

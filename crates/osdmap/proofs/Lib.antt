@@ -4,3 +4,4 @@ pub mod MarksLemmas
 pub mod Named
 pub mod ApplyLemmas
 pub mod PlacementLemmas
+mod PgTexts

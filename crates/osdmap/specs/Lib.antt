@@ -9,3 +9,4 @@ pub mod Placement
 pub mod Sets
 pub mod Stated
 pub mod Primary
+pub mod PgText

@@ -11,6 +11,7 @@ pub mod osd;
 pub mod parts;
 pub mod pg;
 mod placement;
+pub mod pg_text;
 pub mod pool;
 pub mod refusal;
 pub mod rules;
@@ -24,6 +25,7 @@ pub use parts::{
 };
 pub use pg::Pg;
 pub use placement::stable_mod;
+pub use pg_text::PgParts;
 pub use pool::Pool;
 pub use refusal::Refusal;
 pub use rules::NumberedRule;
