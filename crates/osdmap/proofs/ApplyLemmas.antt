@@ -33,6 +33,7 @@ unfolding apply
 HoldsTogether-apply m step holds = record {
   weighed = length-with_weight m.weights step.change.weight ∙ holds.weighed ∙ sym (length-apply m step);
   few = subst (λ n. n ≤ 1024) (sym (length-apply m step)) holds.few;
+  few_pools = holds.few_pools;
   ruled = holds.ruled;
 }
 

@@ -10,3 +10,4 @@ pub mod Sets
 pub mod Stated
 pub mod Primary
 pub mod PgText
+pub mod Evals
