@@ -1,6 +1,6 @@
 -- two lists of reweights that agree on the devices of a set place alike within it: what packing and what choosing for
 -- positions gives
-use Rattle.std.proofs.Common.{◌≡◌, ◌≢◌, ℕ, zero, suc, ◌+◌, ◌<◌, ℤ, Bool, true, false, not, cond, ◌||◌, ◌&&◌, ltb, eqb, List, [], ◌∷◌, ◌++◌, length, map, get_or, set, replicate, Option, Some, None, inl, inr, sym, ap, refl, ◌∙◌, subst, arith}
+use Rattle.std.proofs.Common.{◌≡◌, ℕ, zero, suc, ◌+◌, ℤ, Bool, true, false, not, cond, ◌||◌, ◌&&◌, ltb, eqb, List, [], length, map, get_or, set, replicate, Option, Some, None, inl, inr, sym, ap, refl, ◌∙◌, subst, arith}
 use Rattle.std.specs.Prelude.{unwrap_or}
 use Rattle.std.specs.List.{All, find, list_any, fold, range_with_len}
 use Rattle.std.specs.Ordering.{int_eq}
@@ -19,8 +19,8 @@ use Rattle.crush.specs.World.{World, is_out}
 use Rattle.crush.specs.Descent.{item_below, leaf_below}
 use Rattle.crush.specs.Firstn.{numbers_from, is_free, attempt_with, attempt_at, attempt_of, is_failed, replica_of, with_attempt, firstn_from, firstn}
 use Rattle.crush.specs.Indep.{number_in, numbers_in, holds_item, is_open, position_with, position_at, position_of, after_turn, after_round, indep}
-use Rattle.crush.proofs.Packed.{attempt_by, IsChoice, chosen_by, first_of}
-use Rattle.crush.proofs.Positions.{position_by, FillsBy, filled_by, fold_keeps}
+use Rattle.crush.proofs.Packed.{attempt_by, chosen_by, first_of}
+use Rattle.crush.proofs.Positions.{position_by, filled_by, fold_keeps}
 use Rattle.crush.proofs.Within.{other, IsDevice, HasIn, AreAlike, descent_same, descent_in, descent_device, leaf_same, leaf_in}
 
 -- whether a device is out matters only where type 0 is wanted

@@ -10,6 +10,7 @@ pub mod Rounds
 pub mod Bounds
 pub mod Chains
 pub mod Counts
+pub mod Deciding
 pub mod Ids
 pub mod Made
 pub mod Marks

@@ -1,5 +1,5 @@
 -- two lists of reweights that agree on the devices of a set place alike within it: the run of a rule
-use Rattle.std.proofs.Common.{◌≡◌, ℕ, ◌-◌, ◌<◌, ℤ, Bool, true, false, cond, List, [], ◌∷◌, ◌++◌, length, map, min, take, Option, Some, None, sym, ap, refl, ◌∙◌, subst, arith}
+use Rattle.std.proofs.Common.{◌≡◌, ℕ, ◌-◌, ℤ, List, [], ◌∷◌, ◌++◌, length, map, min, Option, Some, None, ap, refl, ◌∙◌, arith}
 use Rattle.std.specs.List.{All, fold}
 use Rattle.std.proofs.lemmas.List.Elements.{All-head, All-tail, All-cons, All-append, All-take, All-map, All-weaker}
 use Rattle.crush.specs.declared.bucket.Bucket.{Bucket}
@@ -16,7 +16,7 @@ use Rattle.crush.specs.Forest.{bucket_at}
 use Rattle.crush.specs.World.{World}
 use Rattle.crush.specs.Firstn.{firstn}
 use Rattle.crush.specs.Indep.{indep, leaf_at}
-use Rattle.crush.specs.Run.{all_tries, segment_by, numrep_of, segment_of, after_bucket, after_entry, chosen_from, Progress, progress_of, after_step, run_of}
+use Rattle.crush.specs.Run.{all_tries, segment_by, numrep_of, segment_of, after_bucket, after_entry, Progress, progress_of, after_step, run_of}
 use Rattle.crush.proofs.Within.{other, HasIn, AreAlike}
 use Rattle.crush.proofs.Alike.{firstn_same, firstn_in, HoldsIn, indep_same, indep_in}
 

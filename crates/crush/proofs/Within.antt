@@ -1,6 +1,6 @@
 -- a placement stays within a set of items that holds, with each bucket, all items of that bucket; and of two lists of
 -- reweights that agree on its devices it does not tell one from the other
-use Rattle.std.proofs.Common.{◌≡◌, ◌≢◌, ℕ, zero, suc, ◌+◌, ◌<◌, ℤ, pos, Bool, true, false, not, cond, ◌||◌, ◌&&◌, eqb, List, [], ◌∷◌, length, get_or, Option, Some, None, sym, ap, refl, ◌∙◌, subst, arith}
+use Rattle.std.proofs.Common.{◌≡◌, ℕ, zero, suc, ◌<◌, ℤ, pos, Bool, true, false, cond, eqb, List, [], ◌∷◌, length, get_or, Option, Some, None, ap, refl, ◌∙◌, subst, arith}
 use Rattle.std.proofs.lemmas.Bool.{eqb-true}
 use Rattle.std.specs.List.{find, filter_map, cons_option}
 use Rattle.std.specs.Option.{option_and_then, option_map}
@@ -14,7 +14,6 @@ use Rattle.crush.specs.Items.{item_at}
 use Rattle.crush.specs.Pick.{place_by, place_of, pick_of}
 use Rattle.crush.specs.World.{World, world_of, is_out}
 use Rattle.crush.specs.Descent.{descent, item_below, device_below, leaf_below}
-use Rattle.crush.specs.Laws.{IsGreatestWinner}
 use Rattle.crush.proofs.Drawn.{uniform_place_below}
 use Rattle.crush.proofs.Picked.{list_picks_greatest_winner, tree_picks_weight}
 
