@@ -27,3 +27,4 @@ pub mod Within
 pub mod Alike
 pub mod Runs
 pub mod Weighing
+pub mod Reached

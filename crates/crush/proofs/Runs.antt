@@ -1,7 +1,7 @@
 -- two lists of reweights that agree on the devices of a set place alike within it: the run of a rule
 use Rattle.std.proofs.Common.{◌≡◌, ℕ, ◌-◌, ℤ, List, [], ◌∷◌, ◌++◌, length, map, min, Option, Some, None, ap, refl, ◌∙◌, arith}
 use Rattle.std.specs.List.{All, fold}
-use Rattle.std.proofs.lemmas.List.Elements.{All-head, All-tail, All-cons, All-append, All-map, All-weaker}
+use Rattle.std.proofs.lemmas.List.Elements.{All-head, All-tail, All-cons, All-append, All-take, All-map, All-weaker}
 use Rattle.crush.specs.declared.bucket.Bucket.{Bucket}
 use Rattle.crush.specs.declared.choose.Choice.{Choice}
 use Rattle.crush.specs.declared.choose.Position.{Position}
@@ -21,7 +21,7 @@ use Rattle.crush.proofs.Within.{other, HasIn, AreAlike}
 use Rattle.crush.proofs.Alike.{firstn_same, firstn_in, HoldsIn, indep_same, indep_in}
 
 -- an entry that names nothing outside the set
-abbrev IsIn : (ℤ → Type 0) → Option ℤ → Type 0
+abbrev pub IsIn : (ℤ → Type 0) → Option ℤ → Type 0
 IsIn R None = Unit {0}
 IsIn R (Some item) = R item
 
@@ -101,3 +101,20 @@ steps_same R w vs t size p (step ∷ steps) s takes all =
 pub run_same : (R : ℤ → Type 0) (w : World) (vs : List ℕ) (steps : List Step) (size : ℕ) → AreAlike R w vs → All (TakesIn R) steps → run_of w steps size ≡ run_of (other w vs) steps size
 unfolding run_of
 run_same R w vs steps size s takes = ap (λ p. p.emitted) (steps_same R w vs all_tries size (progress_of [] []) steps s takes (nothing R))
+
+emitted_in : (R : ℤ → Type 0) (w : World) (t : Tries) (size : ℕ) (p : Progress) (step : Step) → All (IsIn R) p.working → All (IsIn R) p.emitted → All (IsIn R) (after_step w t size p step).emitted
+unfolding after_step
+emitted_in R w t size p (Take id) all out = out
+emitted_in R w t size p (Chooses c) all out = out
+emitted_in R w t size p Emit all out = All-take (IsIn R) size (p.emitted ++ p.working) (All-append (IsIn R) p.emitted p.working out all)
+
+steps_in : (R : ℤ → Type 0) (w : World) (vs : List ℕ) (t : Tries) (size : ℕ) (p : Progress) (steps : List Step) → AreAlike R w vs → All (TakesIn R) steps → All (IsIn R) p.working → All (IsIn R) p.emitted → All (IsIn R) (fold (after_step w t size) p steps).emitted
+steps_in R w vs t size p [] s takes all out = out
+steps_in R w vs t size p (step ∷ steps) s takes all out =
+    let next = step_in R w vs t size p step s (All-head (TakesIn R) step steps takes) all in
+    steps_in R w vs t size (after_step w t size p step) steps s (All-tail (TakesIn R) step steps takes) next (emitted_in R w t size p step all out)
+
+-- and places nothing outside the set
+pub run_in : (R : ℤ → Type 0) (w : World) (vs : List ℕ) (steps : List Step) (size : ℕ) → AreAlike R w vs → All (TakesIn R) steps → All (IsIn R) (run_of w steps size)
+unfolding run_of
+run_in R w vs steps size s takes = steps_in R w vs all_tries size (progress_of [] []) steps s takes (nothing R) (nothing R)

@@ -21,7 +21,7 @@ use Rattle.crush.proofs.Picked.{list_picks_greatest_winner, tree_picks_weight}
 abbrev pub other : World → List ℕ → World
 other w vs = world_of w.buckets vs w.x
 
--- an id that is not negative
+-- the id of a device
 pub record IsDevice (id : ℤ) : Type 0 where
   pub osd : ℕ
   pub is : id ≡ pos osd
