@@ -33,10 +33,7 @@ fn read<'a, R: Files + AllocGlobal>(rt: &R, path: &'a str) -> Result<Vec<u8>, En
 }
 
 /// Reads the files, the map first, and puts the answers to standard output.
-fn work<'a, R: Files + AllocGlobal + Print>(
-    rt: &R,
-    options: &'a Options,
-) -> Result<(), Ending<'a>>
+fn work<'a, R: Files + AllocGlobal + Print>(rt: &R, options: &'a Options) -> Result<(), Ending<'a>>
     requires least { 1 ≤ options.now.journal }
     requires most { options.now.journal ≤ 65536 }
     requires scripts { vec_len options.now.scripts ≡ 1 }
@@ -86,3 +83,6 @@ fn main(rt: HostRuntime) -> ExitCode {
         Err(LineError::Memory) => ended(&rt, &Ending::Memory),
     }
 }
+
+#[cfg(test)]
+mod tests;

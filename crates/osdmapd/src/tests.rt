@@ -8,13 +8,17 @@ use std::alloc::{AllocError, Global};
 use std::test::Fail;
 
 /// One device, one group of one replica.
-const ONE_DEVICE: &str = r#"{"buckets":[{"id":-1,"items":[[0,65536]],"kind":"uniform","type":10}],"epoch":1,"max_osd":1,"osds":[{"exists":true,"id":0,"up":true,"weight":65536}],"pg_upmap":[],"pg_upmap_items":[],"pools":[{"id":1,"kind":"replicated","pg_num":1,"pgp_num":1,"rule":0,"size":1}],"rules":[{"id":0,"kind":"replicated","steps":[["take",-1],["choose_firstn",0,0],["emit"]]}],"version":1}"#;
+const ONE_DEVICE: &str =
+    r#"{"buckets":[{"id":-1,"items":[[0,65536]],"kind":"uniform","type":10}],"epoch":1,"max_osd":1,"osds":[{"exists":true,"id":0,"up":true,"weight":65536}],"pg_upmap":[],"pg_upmap_items":[],"pools":[{"id":1,"kind":"replicated","pg_num":1,"pgp_num":1,"rule":0,"size":1}],"rules":[{"id":0,"kind":"replicated","steps":[["take",-1],["choose_firstn",0,0],["emit"]]}],"version":1}"#;
 /// The same with two replicas.
-const TWO_REPLICAS: &str = r#"{"buckets":[{"id":-1,"items":[[0,65536]],"kind":"uniform","type":10}],"epoch":1,"max_osd":1,"osds":[{"exists":true,"id":0,"up":true,"weight":65536}],"pg_upmap":[],"pg_upmap_items":[],"pools":[{"id":1,"kind":"replicated","pg_num":1,"pgp_num":1,"rule":0,"size":2}],"rules":[{"id":0,"kind":"replicated","steps":[["take",-1],["choose_firstn",0,0],["emit"]]}],"version":1}"#;
+const TWO_REPLICAS: &str =
+    r#"{"buckets":[{"id":-1,"items":[[0,65536]],"kind":"uniform","type":10}],"epoch":1,"max_osd":1,"osds":[{"exists":true,"id":0,"up":true,"weight":65536}],"pg_upmap":[],"pg_upmap_items":[],"pools":[{"id":1,"kind":"replicated","pg_num":1,"pgp_num":1,"rule":0,"size":2}],"rules":[{"id":0,"kind":"replicated","steps":[["take",-1],["choose_firstn",0,0],["emit"]]}],"version":1}"#;
 /// The device twice in its bucket.
-const DEVICE_TWICE: &str = r#"{"buckets":[{"id":-1,"items":[[0,65536],[0,65536]],"kind":"uniform","type":10}],"epoch":1,"max_osd":1,"osds":[{"exists":true,"id":0,"up":true,"weight":65536}],"pg_upmap":[],"pg_upmap_items":[],"pools":[{"id":1,"kind":"replicated","pg_num":1,"pgp_num":1,"rule":0,"size":1}],"rules":[{"id":0,"kind":"replicated","steps":[["take",-1],["choose_firstn",0,0],["emit"]]}],"version":1}"#;
+const DEVICE_TWICE: &str =
+    r#"{"buckets":[{"id":-1,"items":[[0,65536],[0,65536]],"kind":"uniform","type":10}],"epoch":1,"max_osd":1,"osds":[{"exists":true,"id":0,"up":true,"weight":65536}],"pg_upmap":[],"pg_upmap_items":[],"pools":[{"id":1,"kind":"replicated","pg_num":1,"pgp_num":1,"rule":0,"size":1}],"rules":[{"id":0,"kind":"replicated","steps":[["take",-1],["choose_firstn",0,0],["emit"]]}],"version":1}"#;
 /// The device with the weight 0.
-const ITEM_WITHOUT_WEIGHT: &str = r#"{"buckets":[{"id":-1,"items":[[0,0]],"kind":"uniform","type":10}],"epoch":1,"max_osd":1,"osds":[{"exists":true,"id":0,"up":true,"weight":65536}],"pg_upmap":[],"pg_upmap_items":[],"pools":[{"id":1,"kind":"replicated","pg_num":1,"pgp_num":1,"rule":0,"size":1}],"rules":[{"id":0,"kind":"replicated","steps":[["take",-1],["choose_firstn",0,0],["emit"]]}],"version":1}"#;
+const ITEM_WITHOUT_WEIGHT: &str =
+    r#"{"buckets":[{"id":-1,"items":[[0,0]],"kind":"uniform","type":10}],"epoch":1,"max_osd":1,"osds":[{"exists":true,"id":0,"up":true,"weight":65536}],"pg_upmap":[],"pg_upmap_items":[],"pools":[{"id":1,"kind":"replicated","pg_num":1,"pgp_num":1,"rule":0,"size":1}],"rules":[{"id":0,"kind":"replicated","steps":[["take",-1],["choose_firstn",0,0],["emit"]]}],"version":1}"#;
 /// A map cut after its tenth byte.
 const CUT: &str = r#"{"buckets""#;
 
@@ -131,7 +135,10 @@ fn a_journal_outside_its_limits_is_refused(rt: HostRuntime) -> Result<(), Fail> 
     let alloc = rt.alloc();
     for journal in ["0", "65537"] {
         let line = words(alloc, &["osdmapd", "--journal", journal, "map", "script"])?;
-        assert!(rt; matches!(options(alloc, &line), Err(LineError::Usage(_))), "{journal}");
+        assert!(rt;
+            matches!(options(alloc, &line), Err(LineError::Usage(_))),
+            "{journal}"
+        );
     }
     Ok(())
 }
