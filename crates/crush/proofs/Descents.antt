@@ -1,6 +1,6 @@
 -- one pick of a descent
 use Rattle.std.proofs.Common.{◌≡◌, ◌≢◌, ℕ, zero, suc, ◌+◌, ◌-◌, ◌<◌, ◌≤◌, ℤ, cond, eqb, Option, Some, None, sym, ap, ◌∙◌, arith}
-use Rattle.std.specs.Option.{option_and_then}
+use Rattle.std.specs.Option.{option_and_then, option_map_or}
 use Rattle.std.proofs.lemmas.Bool.{eq-eqb, ne_eqb}
 use Rattle.crush.specs.declared.bucket.Bucket.{Bucket}
 use Rattle.crush.specs.declared.choose.Picked.{Picked}
@@ -9,6 +9,10 @@ use Rattle.crush.specs.Pick.{pick_of}
 use Rattle.crush.specs.World.{World}
 use Rattle.crush.specs.Indep.{number_in}
 use Rattle.crush.specs.Descent.{descent}
+
+-- the type of an item, from its bucket
+pub level_is : (w : World) (found : Option Bucket) (item : ℤ) (level : ℕ) → level ≡ option_map_or (λ b. b.level) found 0 → found ≡ bucket_at w.buckets item → level ≡ level_of w.buckets item
+level_is w found item level e is = e ∙ ap (λ o. option_map_or (λ b. b.level) o 0) is
 
 -- what one pick leads to
 abbrev next : World → (Bucket → ℕ) → ℕ → ℕ → Bucket → ℤ → Option Picked

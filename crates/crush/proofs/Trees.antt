@@ -8,7 +8,7 @@ use Rattle.std.proofs.lemmas.List.Sums.{AllPass-from_list_all, sum_by-append, su
 use borrow.Author.Tests.{ltb-true}
 use Rattle.std.proofs.lemmas.Bool.{ltb-false, eqb-true, cases_lt}
 use Rattle.std.proofs.lemmas.Nat.{div_below}
-use Rattle.std.proofs.Math.Nat.{mul-lt-mul_of_pos_right, pow-le-pow_right, pow-suc}
+use Rattle.std.proofs.Math.Nat.{mul_comm, mul-lt-mul_of_pos_right, pow-le-pow_right, pow-suc}
 use Rattle.rjenkins.specs.Jenkins.{hash4_of}
 use Rattle.crush.specs.declared.bucket.Item.{Item}
 use Rattle.crush.specs.declared.bucket.Bucket.{Bucket}
@@ -95,8 +95,9 @@ at_root x id r items some few =
     has_items (i ∷ is) h = omega arith
 
 -- a draw is below the weight that it is made against
-draw_below : (h w : ℕ) → h < 2 ^ 32 → 0 < w → h * w / 2 ^ 32 < w
-draw_below h w low some = div_below (h * w) (2 ^ 32) w (omega arith) (let p : h * w < 2 ^ 32 * w = mul-lt-mul_of_pos_right low some in let q : 2 ^ 32 * w ≡ w * 2 ^ 32 = omega arith in omega arith)
+pub draw_below : (scale h w : ℕ) → h < scale → 0 < w → h * w / scale < w
+draw_below scale h w low some =
+    div_below (h * w) scale w (omega arith) (let p : h * w < scale * w = mul-lt-mul_of_pos_right low some in let q : scale * w ≡ w * scale = mul_comm scale w in omega arith)
 
 -- the node's halves
 pub halves_of : (x id r k from w left : ℕ) (items : List Item) → IsAt x id r items (suc k) from w → left ≡ weight_between items from (2 ^ k) → w ≡ left + weight_between items (from + 2 ^ k) (2 ^ k)
@@ -105,7 +106,7 @@ halves_of x id r k from w left items at el =
     at.weighed ∙ ap (weight_between items from) two ∙ halves items from (2 ^ k) ∙ ap (λ m. m + weight_between items (from + 2 ^ k) (2 ^ k)) (sym el)
 
 -- where the walk goes left the left half weighs something
-goes_left_some : (x id r node w left : ℕ) → goes_left x id r node w left ≡ true → 0 < left
+pub goes_left_some : (x id r node w left : ℕ) → goes_left x id r node w left ≡ true → 0 < left
 unfolding goes_left
 goes_left_some x id r node w left e = let h = ltb-true _ _ e in omega (arith, h)
 
@@ -125,7 +126,7 @@ unfolding goes_left
 step_right x id r k from node w left items at en el low e =
     let two : 2 ^ suc k ≡ 2 ^ k + 2 ^ k = omega (arith, pow-suc 2 k) in
     let both = halves_of x id r k from w left items at el in
-    let under = draw_below (hash4_of x node r id) w low at.some in
+    let under = draw_below (2 ^ 32) (hash4_of x node r id) w low at.some in
     let over = ltb-false _ _ e in
     record {
       low = omega (arith, at.low);

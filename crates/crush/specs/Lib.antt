@@ -1,6 +1,8 @@
+pub mod Facts
 pub mod Fault
 pub mod Forest
 pub mod Grammar
+pub mod Paths
 pub mod Rules
 pub mod Items
 pub mod Uniform
@@ -13,4 +15,6 @@ pub mod Descent
 pub mod Firstn
 pub mod Indep
 pub mod Run
+pub mod Laws
+pub mod Slots
 pub mod WellFormed

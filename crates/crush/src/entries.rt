@@ -1,4 +1,4 @@
-ghost use Rattle.std.specs.Prelude.{◌≡◌, ◌<◌, length, slice_index_or};
+ghost use Rattle.std.specs.Prelude.{◌≡◌, ◌<◌, length, slice_set};
 
 use std::marker::Model;
 
@@ -43,5 +43,15 @@ impl<T> Entries<T> {
         ensures { result.items ≡ self }
     {
         self.list
+    }
+}
+
+impl<T: Drop> Entries<T> {
+    /// Puts another element into a place.
+    pub fn set(&mut self, place: usize, element: T)
+        requires { place < length self.old }
+        ensures { self.new ≡ slice_set self.old place element }
+    {
+        self.list[place] = element;
     }
 }

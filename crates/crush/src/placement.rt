@@ -1,9 +1,22 @@
 //! A placement: its input, which devices are out, and the descent.
 
+ghost use Rattle.std.specs.Prelude.{◌≡◌};
+ghost use Rattle.std.specs.Option.{option_copied, option_map_or};
+
 use crate::bucket::Bucket;
 use crate::choose::{Draw, Picked};
 use crate::forest::Forest;
 use rjenkins::hash2;
+
+/// The type of an item, by its bucket if it is one: 0 for a device.
+fn level_of(bucket: Option<&Bucket>) -> u8
+    ensures { result ≡ option_map_or (λ b. b.level) (option_copied bucket.entry) 0 }
+{
+    match bucket {
+        Some(bucket) => bucket.level,
+        None => 0,
+    }
+}
 
 /// What a placement goes by.
 #[derive(Clone, Copy)]
@@ -43,10 +56,11 @@ impl Placement<'_> {
         for met in 0..start.level {
             let r = draw.at(bucket);
             let item = bucket.pick(self.x, r);
-            if self.forest.level(item) == wanted {
+            let below = self.forest.bucket(item);
+            if level_of(below) == wanted {
                 return Some(Picked { item, r });
             }
-            match self.forest.bucket(item) {
+            match below {
                 Some(below) => bucket = below,
                 None => return None,
             }

@@ -4,7 +4,7 @@ use Rattle.std.specs.List.{list_all, list_any}
 use Rattle.std.specs.Option.{option_map_or}
 use Rattle.std.specs.Str.{bytes_eq, is_utf8}
 use Rattle.serde_json.specs.Data.{Data, Items, no_items, item, Members, no_members, member}
-use Rattle.serde_json.specs.Find.{get, at, as_number, as_integer, as_array, as_object, as_str}
+use Rattle.serde_json.specs.Find.{get, at, as_number, as_integer, as_array, as_object}
 use Rattle.serde_json.specs.Read.{read}
 use Rattle.osdmap.specs.declared.refusal.Refusal.{Refusal}
 use Rattle.osdmap.specs.declared.refusal.Refusal.TheVariants.{BadJson, BadField, Memory as OutOfMemory}
@@ -52,10 +52,13 @@ abbrev pub keys_of : Members → List (List ℕ)
 keys_of no_members = []
 keys_of (member k d ms) = k ∷ keys_of ms
 
+-- each key is among these names
+abbrev pub has_only_keys : List (List ℕ) → Members → Bool
+has_only_keys names ms = list_all (λ k. list_any (bytes_eq k) names) (keys_of ms)
+
 -- an object that has no other keys than these
 abbrev pub has_only : List (List ℕ) → Data → Bool
-has_only names d =
-    option_map_or (λ ms. list_all (λ k. list_any (bytes_eq k) names) (keys_of ms)) (as_object d) false
+has_only names d = option_map_or (has_only_keys names) (as_object d) false
 
 -- the value at a key, which has to be there
 abbrev pub field : {X : Type 0} → (Data → Option X) → List ℕ → Data → Option X
@@ -77,6 +80,16 @@ stated_by stated bytes =
     option_map_or (λ d. option_map_or (λ x. Ok x) (stated d) (Err BadField)) (json_of bytes) (Err BadJson)
 
 -- ---- outcomes
+
+-- what follows from a value that is there
+abbrev pub and_then : {X Y : Type 0} → (X → Result Y Refusal) → Result X Refusal → Result Y Refusal
+and_then next (Ok x) = next x
+and_then next (Err refusal) = Err refusal
+
+-- the refusal, where it is one
+abbrev pub fault_in : {X : Type 0} → Result X Refusal → Option Refusal
+fault_in (Ok x) = None
+fault_in (Err refusal) = Some refusal
 
 -- a reader answers exactly what a value states, or that a growth was refused
 abbrev pub Reads : {X : Type 0} → Result X Fault → Option X → Type 0

@@ -2,7 +2,7 @@
 use Rattle.std.specs.Prelude.{ℕ, ◌&&◌, Bool, true, false, List, [], ◌∷◌, codes, Option, Some, None, Result, Ok, Err, IfOk, if◌then◌else◌}
 use Rattle.std.specs.Option.{option_map_or}
 use Rattle.std.specs.Str.{bytes_eq}
-use Rattle.serde_json.specs.Data.{Data, null, boolean, number, string, array, object, no_items, item}
+use Rattle.serde_json.specs.Data.{Data}
 use Rattle.serde_json.specs.Find.{get, as_bool, as_str}
 use Rattle.crush.specs.declared.bucket.BucketKind.{BucketKind}
 use Rattle.crush.specs.declared.bucket.BucketKind.TheVariants.{Uniform, List as Listed, Tree}
@@ -16,7 +16,6 @@ use Rattle.osdmap.specs.declared.parts.ItemPart.{ItemPart}
 use Rattle.osdmap.specs.declared.parts.RulePart.{RulePart}
 use Rattle.osdmap.specs.declared.parts.StepPart.{StepPart}
 use Rattle.osdmap.specs.declared.parts.StepPart.TheVariants.{Take, Choose, Emit}
-use Rattle.osdmap.specs.declared.parts.ChoosePart.{ChoosePart}
 use Rattle.osdmap.specs.declared.parts.PoolPart.{PoolPart}
 use Rattle.osdmap.specs.declared.parts.OsdPart.{OsdPart}
 use Rattle.osdmap.specs.declared.refusal.Refusal.{Refusal}
@@ -132,21 +131,13 @@ osd_of d = if has_only (codes "exists" ∷ codes "id" ∷ codes "up" ∷ codes "
 
 -- ---- the map
 
--- the empty list
-abbrev pub is_empty_list : Data → Bool
-is_empty_list null = false
-is_empty_list (boolean b) = false
-is_empty_list (number n) = false
-is_empty_list (string s) = false
-is_empty_list (array no_items) = true
-is_empty_list (array (item d ds)) = false
-is_empty_list (object ms) = false
+-- the list at a key is missing or empty
+abbrev pub lacks_entries : List ℕ → Data → Bool
+lacks_entries key d = option_map_or (has_count 0) (get key d) true
 
--- no group is placed by an exception: each of the two lists is missing or empty
+-- no group is placed by an exception
 abbrev pub has_no_exceptions : Data → Bool
-has_no_exceptions d =
-    option_map_or is_empty_list (get (codes "pg_upmap") d) true
-    && option_map_or is_empty_list (get (codes "pg_upmap_items") d) true
+has_no_exceptions d = lacks_entries (codes "pg_upmap") d && lacks_entries (codes "pg_upmap_items") d
 
 abbrev pub map_keys : List (List ℕ)
 map_keys =

@@ -1,5 +1,5 @@
 use osdmap::Refusal;
-use std::alloc::AllocError;
+use std::alloc::AllocFailed;
 
 /// Why a value is not read.
 #[derive(Clone, Copy, Debug, PartialEq, Eq)]
@@ -24,13 +24,13 @@ impl From<Fault> for Refusal {
     }
 }
 
-impl From<AllocError> for Fault {
+impl<T: Drop> From<AllocFailed<T>> for Fault {
     ghost use Rattle.std.specs.Prelude.{◌≡◌};
     ghost use Rattle.mapjson.specs.declared.fault.Fault.TheVariants.{Memory as OutOfMemory};
 
     ghost from_gives = { λ _ fault. fault ≡ OutOfMemory };
 
-    fn from(_error: AllocError) -> Fault {
+    fn from(_error: AllocFailed<T>) -> Fault {
         Fault::Memory
     }
 }

@@ -1,2 +1,7 @@
+pub mod Tests
 pub mod Fits
+pub mod MarksLemmas
+pub mod Named
+pub mod ApplyLemmas
+pub mod PlacementLemmas
 mod PgTexts

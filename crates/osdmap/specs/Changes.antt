@@ -27,7 +27,7 @@ reweighted c = map (λ w. w.osd) c.weight
 
 -- each OSD that is named exists
 unfoldable pub names_osds : ClusterMap → ChangeParts → Bool
-names_osds m c = list_all (osd_exists m) c.down && list_all (osd_exists m) c.up && list_all (osd_exists m) (reweighted c)
+names_osds m c = list_all (osd_exists m) c.down && list_all (osd_exists m) c.up && list_all (λ w. osd_exists m w.osd) c.weight
 
 -- each reweight is at most 65,536
 unfoldable pub weighs_rightly : ChangeParts → Bool

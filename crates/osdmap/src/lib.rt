@@ -1,12 +1,16 @@
 //! The map of a cluster: its forest, rules, pools and OSDs, and the changes that make the next map of it.
 #![tactic(auto)]
 
+mod apply;
 pub mod change;
+mod check;
 pub mod limits;
 pub mod map;
+mod marks;
 pub mod osd;
 pub mod parts;
 pub mod pg;
+mod placement;
 pub mod pg_text;
 pub mod pool;
 pub mod refusal;
@@ -20,6 +24,7 @@ pub use parts::{
     BucketPart, ChoosePart, ItemPart, MapParts, OsdPart, PoolPart, RulePart, StepPart,
 };
 pub use pg::Pg;
+pub use placement::stable_mod;
 pub use pg_text::PgParts;
 pub use pool::Pool;
 pub use refusal::Refusal;

@@ -3,7 +3,7 @@ use crate::parts::MapParts;
 use crate::pool::Pool;
 use crate::refusal::Refusal;
 use crate::rules::NumberedRule;
-use crush::{Forest, Memory, Rule, Weights};
+use crush::{Entries, Forest, Memory, Rule, Weights};
 use std::alloc::Global;
 use std::marker::Model;
 
@@ -15,7 +15,7 @@ pub struct OsdMap {
     pub(crate) forest: Forest,
     pub(crate) rules: Vec<NumberedRule>,
     pub(crate) pools: Vec<Pool>,
-    pub(crate) presences: Vec<Presence>,
+    pub(crate) presences: Entries<Presence>,
     pub(crate) weights: Weights,
 }
 
@@ -24,9 +24,9 @@ impl Model for OsdMap {
 
     ghost Value = { ClusterMap };
 
-    ghost view = { λ m. record { epoch = m.epoch; buckets = m.forest; rules = m.rules.items; pools = m.pools.items; presences = m.presences.items; weights = m.weights } };
+    ghost view = { λ m. record { epoch = m.epoch; buckets = m.forest; rules = m.rules.items; pools = m.pools.items; presences = m.presences; weights = m.weights } };
 
-    ghost invariant = { λ m. HoldsTogether (record { epoch = m.epoch; buckets = m.forest; rules = m.rules.items; pools = m.pools.items; presences = m.presences.items; weights = m.weights }) };
+    ghost invariant = { λ m. HoldsTogether (record { epoch = m.epoch; buckets = m.forest; rules = m.rules.items; pools = m.pools.items; presences = m.presences; weights = m.weights }) };
 }
 
 impl OsdMap {
@@ -92,7 +92,7 @@ impl OsdMap {
     pub fn osd(&self, id: u32) -> Option<OsdState>
         ensures { result ≡ osd_at self.now id }
     {
-        let presence = self.presences.get(id as usize)?;
+        let presence = self.presences.as_slice().get(id as usize)?;
         let weight = self.weights.get(id as usize)?;
         Some(OsdState {
             exists: presence.exists,

@@ -78,7 +78,8 @@ impl Pool {
 
     /// The number of groups for placement.
     pub fn pgp_num(&self) -> u32
-        ensures { result ≡ self.now.pgp_num }
+        ensures value { result ≡ self.now.pgp_num }
+        ensures some { 0 < result }
     {
         self.pgp_num
     }
@@ -90,10 +91,12 @@ impl Pool {
         self.rule
     }
 
-    /// How many OSDs a group has.
-    pub fn size(&self) -> u32
-        ensures { result ≡ self.now.size }
+    /// How many OSDs a group has: 1 to 10.
+    pub fn size(&self) -> u8
+        ensures value { result ≡ self.now.size }
+        ensures some { 1 ≤ result }
+        ensures few { result ≤ 10 }
     {
-        self.size
+        self.size as u8
     }
 }
