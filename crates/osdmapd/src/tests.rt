@@ -1,4 +1,6 @@
 //! Worked runs of the program, and its command lines.
+ghost use Rattle.std.specs.Prelude.{◌≤◌};
+
 use crate::choices::LineError;
 use crate::line::options;
 use crate::serving::{Fault, serve};
@@ -23,6 +25,7 @@ const ITEM_WITHOUT_WEIGHT: &str =
 const CUT: &str = r#"{"buckets""#;
 
 /// A run with a journal of 1,024 changes: its map, its script, and what it writes or why the map is refused.
+#[derive(Clone, Copy)]
 struct Run {
     name: &'static str,
     map: &'static str,
