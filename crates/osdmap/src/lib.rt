@@ -4,6 +4,7 @@
 mod apply;
 pub mod change;
 mod check;
+mod copy;
 mod evals;
 pub mod limits;
 pub mod map;
