@@ -1,6 +1,7 @@
 pub mod Fault
 pub mod Forest
 pub mod Grammar
+pub mod Paths
 pub mod Rules
 pub mod Items
 pub mod Uniform
@@ -14,4 +15,5 @@ pub mod Firstn
 pub mod Indep
 pub mod Run
 pub mod Laws
+pub mod Slots
 pub mod WellFormed

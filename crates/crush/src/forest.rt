@@ -1,5 +1,14 @@
+ghost use Rattle.std.specs.Prelude.{◌≡◌, IfOk};
+ghost use Rattle.crush.specs.Paths.{has_item};
+
 use crate::bucket::Bucket;
-use crate::search::place_of;
+use crate::entries::Entries;
+use crate::fault::ForestError;
+use crate::memory::Memory;
+use crate::search::{bucket_of, level_of};
+use crate::well_formed::{is_well_formed, is_within_limits};
+use std::alloc::{AllocError, Global};
+use std::cmp::Reverse;
 use std::marker::Model;
 
 /// A forest of buckets, well formed.
@@ -21,10 +30,36 @@ impl Model for Forest {
 }
 
 impl Forest {
-    ghost use Rattle.std.specs.Prelude.{◌≡◌, IfSome};
+    ghost use Rattle.std.specs.Prelude.{◌≡◌, ◌↔◌, ℤ, IfSome, IfOk, IsTrue, IsPermutation};
+    ghost use Rattle.std.specs.List.{find};
     ghost use Rattle.std.specs.Option.{option_copied};
+    ghost use Rattle.std.specs.Result.{result_err};
     ghost use Rattle.crush.specs.Forest.{bucket_at, level_of, IsPickable};
-    ghost use Rattle.crush.specs.WellFormed.{IsForest};
+    ghost use Rattle.crush.specs.Paths.{has_item, IsAbove, IsAncestor};
+    ghost use Rattle.crush.specs.WellFormed.{forest_fault, IsForest, IsDescending};
+
+    /// The forest of these buckets over the devices from 0 up to below `max_osd`. It is refused with 12 (BadLimit) where
+    /// it has no bucket or more than 512, `max_osd` is not in 1 to 1,024, or a bucket has an id outside -1 to -65,536,
+    /// a type outside 1 to 15, no item or more than 64, or an item outside -65,536 to 1,023 or of weight 0; else with
+    /// 13 (BadForest) where two buckets have one id, an item is no bucket of the forest and no device below `max_osd`,
+    /// an item's type is not below its bucket's, an item stands in the forest twice, or the weights of a bucket come to
+    /// more than 4,294,967,295 or differ in a uniform bucket.
+    pub fn new(buckets: Vec<Bucket>, max_osd: u32) -> Result<Self, ForestError>
+        ensures fault { result_err result ≡ forest_fault buckets.items max_osd }
+        ensures same { IfOk result (IsPermutation buckets.items) }
+        ensures descending { IfOk result IsDescending }
+        ensures buckets { IfOk result (λ f. (id : ℤ) → bucket_at f id ≡ bucket_at buckets.items id) }
+    {
+        let mut buckets = buckets;
+        if !is_within_limits(&buckets, max_osd) {
+            return Err(ForestError::BadLimit);
+        }
+        buckets.sort_unstable_by_key(|bucket| Reverse(bucket.id));
+        if !is_well_formed(&buckets, max_osd) {
+            return Err(ForestError::BadForest);
+        }
+        Ok(Forest { buckets })
+    }
 
     /// The buckets, by id from -1 downwards.
     pub fn buckets(&self) -> &[Bucket]
@@ -39,17 +74,88 @@ impl Forest {
         ensures value { option_copied result ≡ bucket_at self.now id }
         ensures within { IfSome result (λ b. IsPickable b.now) }
     {
-        let place = place_of(&self.buckets, id)?;
-        Some(&self.buckets[place])
+        bucket_of(&self.buckets, id)
     }
 
     /// The type of an item: that of its bucket, and 0 for a device.
     pub fn level(&self, item: i32) -> u8
         ensures { result ≡ level_of self.now item }
     {
-        match self.bucket(item) {
-            Some(bucket) => bucket.level,
-            None => 0,
-        }
+        level_of(&self.buckets, item)
     }
+
+    /// The bucket of type `level` above an item, a device as a rule. There is no more than one.
+    pub fn ancestor(&self, item: i32, level: u8) -> Option<i32>
+        ensures { (a : ℤ) → (result ≡ Some a) ↔ IsAncestor self.now item level a }
+    {
+        let mut below = item;
+        while let Some(bucket) = self.parent(below) {
+            if bucket.level == level {
+                return Some(bucket.id);
+            }
+            below = bucket.id;
+        }
+        None
+    }
+
+    /// Whether a bucket stands above an item.
+    pub fn is_above(&self, bucket: i32, item: i32) -> bool
+        ensures { IsTrue result ↔ IsAbove self.now bucket item }
+    {
+        let mut below = item;
+        while let Some(parent) = self.parent(below) {
+            if parent.id == bucket {
+                return true;
+            }
+            below = parent.id;
+        }
+        false
+    }
+
+    // The bucket that has an item.
+    fn parent(&self, item: i32) -> Option<&Bucket>
+        ensures value { option_copied result ≡ find (has_item item) self.now }
+        ensures forest { IsForest self.now }
+    {
+        self.buckets.iter().find(|bucket| has_item(item, bucket))
+    }
+
+    /// The same forest once more, or 30 (Memory).
+    pub fn copy(&self, alloc: Global) -> Result<Self, Memory>
+        ensures { IfOk result (λ f. f ≡ self.now) }
+    {
+        Ok(Forest {
+            buckets: copies_of(alloc, &self.buckets)?,
+        })
+    }
+}
+
+/// Whether a bucket has an item.
+fn has_item(item: i32, bucket: &Bucket) -> bool
+    ensures { result ≡ has_item item bucket.now }
+{
+    bucket.items.as_slice().iter().any(|i| i.id == item)
+}
+
+/// The same bucket once more.
+fn copy_of(alloc: Global, bucket: &Bucket) -> Result<Bucket, AllocError>
+    ensures { IfOk result (λ b. b ≡ bucket.now) }
+{
+    Ok(Bucket {
+        id: bucket.id,
+        level: bucket.level,
+        kind: bucket.kind,
+        items: Entries::new(Vec::from_slice(alloc, bucket.items.as_slice())?),
+    })
+}
+
+/// The same buckets once more.
+fn copies_of(alloc: Global, buckets: &[Bucket]) -> Result<Vec<Bucket>, AllocError>
+    ensures { IfOk result (λ v. v.items ≡ buckets.now) }
+{
+    let mut copies = Vec::with_capacity(alloc, buckets.len())?;
+    for bucket in buckets {
+        copies.push(copy_of(alloc, bucket)?)?;
+    }
+    Ok(copies)
 }

@@ -12,6 +12,7 @@ mod indep;
 pub mod laws;
 pub mod limits;
 pub mod memory;
+mod met;
 pub mod pick;
 pub mod placement;
 pub mod rule;

@@ -1,3 +1,6 @@
+ghost use Rattle.std.specs.Prelude.{◌↔◌, IsTrue};
+ghost use Rattle.crush.specs.Paths.{TakesAbove};
+
 use crate::fault::RuleError;
 use crate::forest::Forest;
 use crate::grammar::{is_rule, is_within_limits, takes_known};
@@ -58,9 +61,10 @@ impl Model for Rule {
 }
 
 impl Rule {
-    ghost use Rattle.std.specs.Prelude.{◌≡◌, IfOk};
+    ghost use Rattle.std.specs.Prelude.{◌≡◌, ◌↔◌, IfOk, IsTrue};
     ghost use Rattle.std.specs.Result.{result_err};
     ghost use Rattle.crush.specs.Grammar.{IsLawful, rule_fault};
+    ghost use Rattle.crush.specs.Paths.{Reaches};
 
     /// The rule of these steps over a forest. It is refused with 12 (BadLimit) where it has no step or more than 16,
     /// takes a bucket outside -1 to -65,536, or chooses a type above 15 or more than 10 items; else with 14 (BadRule)
@@ -93,7 +97,14 @@ impl Rule {
         &self.steps
     }
 
-    /// The same rule once more.
+    /// Whether the rule reaches a device of a forest: one that is under a bucket that the rule takes.
+    pub fn reaches(&self, forest: &Forest, osd: i32) -> bool
+        ensures { IsTrue result ↔ Reaches forest.now self.now.steps osd }
+    {
+        self.steps.iter().any(|step| takes_above(step, forest, osd))
+    }
+
+    /// The same rule once more, or 30 (Memory).
     pub fn copy(&self, alloc: Global) -> Result<Self, Memory>
         ensures { IfOk result (λ r. r ≡ self.now) }
     {
@@ -101,5 +112,15 @@ impl Rule {
             kind: self.kind,
             steps: Vec::from_slice(alloc, &self.steps)?,
         })
+    }
+}
+
+/// Whether a step takes a bucket above a device.
+fn takes_above(step: &Step, forest: &Forest, osd: i32) -> bool
+    ensures { IsTrue result ↔ TakesAbove forest.now osd step.now }
+{
+    match step {
+        Step::Take(bucket) => forest.is_above(*bucket, osd),
+        Step::Choose(_) | Step::Emit => false,
     }
 }

@@ -1,10 +1,13 @@
-ghost use Rattle.std.specs.Prelude.{◌≡◌};
+ghost use Rattle.std.specs.Prelude.{◌≡◌, ◌<◌, ◌≤◌, ◌&&◌, ◌==◌, nat_lt, length, IsTrue};
 ghost use Rattle.std.specs.List.{list_all};
-ghost use Rattle.crush.specs.WellFormed.{item_limits_ok, bucket_limits_ok, forest_limits_ok};
+ghost use Rattle.crush.specs.Forest.{level_of, weight_of};
+ghost use Rattle.crush.specs.WellFormed.{item_limits_ok, bucket_limits_ok, forest_limits_ok, has_own_ids, is_known, has_items_below, has_items_once, is_even, weights_ok, forest_ok, IsDescending, IsNotAscending};
 
-use crate::bucket::{Bucket, Item};
+use crate::bucket::{Bucket, BucketKind, Item};
 use crate::grammar::is_bucket_id;
 use crate::limits::{HIGHEST_LEVEL, LOWEST_BUCKET, MOST_BUCKETS, MOST_DEVICES, MOST_ITEMS};
+use crate::met::are_met_once;
+use crate::search::{is_known, level_of};
 
 /// Whether an item is within the limits.
 fn is_item_within(item: &Item) -> bool
@@ -47,4 +50,112 @@ pub(crate) fn is_within_limits(buckets: &[Bucket], max_osd: u32) -> bool
     (1 <= buckets.len() && buckets.len() <= MOST_BUCKETS)
         && (1 <= max_osd && max_osd <= MOST_DEVICES)
         && are_buckets_within(buckets)
+}
+
+/// Whether no two buckets, in order, have one id.
+fn have_own_ids(buckets: &[Bucket]) -> bool
+    requires { IsNotAscending buckets.now }
+    ensures value { result ≡ has_own_ids buckets.now }
+    ensures falls { IsTrue result → IsDescending buckets.now }
+{
+    buckets.is_sorted_by(|a, b| a.id > b.id)
+}
+
+/// Whether an item is known, and its type below that of its bucket.
+fn is_item_below(buckets: &[Bucket], max_osd: u32, item: &Item, level: u8) -> bool
+    requires { IsDescending buckets.now }
+    ensures { result ≡ (is_known buckets.now max_osd item.now.id && nat_lt (level_of buckets.now item.now.id) level) }
+{
+    is_known(buckets, max_osd, item.id) && level_of(buckets, item.id) < level
+}
+
+/// Whether each item of a bucket is known, and its type below that of the bucket.
+fn are_items_below(buckets: &[Bucket], max_osd: u32, items: &[Item], level: u8) -> bool
+    requires { IsDescending buckets.now }
+    ensures { result ≡ list_all (λ i. is_known buckets.now max_osd i.id && nat_lt (level_of buckets.now i.id) level) items.now }
+{
+    items
+        .iter()
+        .all(|item| is_item_below(buckets, max_osd, item, level))
+}
+
+/// Whether each item is known, and its type below that of its bucket.
+fn have_items_below(buckets: &[Bucket], max_osd: u32) -> bool
+    requires { IsDescending buckets.now }
+    ensures { result ≡ has_items_below buckets.now max_osd }
+{
+    buckets.iter().all(|bucket| are_items_below(
+        buckets,
+        max_osd,
+        bucket.items.as_slice(),
+        bucket.level,
+    ))
+}
+
+/// The weight of some items.
+fn total_weight(items: &[Item]) -> u64
+    requires { length items.now ≤ 64 }
+    ensures { result ≡ weight_of items.now }
+{
+    items.iter().map(|item| u64::from(item.weight)).sum()
+}
+
+/// Whether each item has this weight.
+fn are_all_of(weight: u32, items: &[Item]) -> bool
+    ensures { result ≡ list_all (λ i. i.weight == weight) items.now }
+{
+    items.iter().all(|item| item.weight == weight)
+}
+
+/// Whether no two items weigh differently.
+fn is_even(items: &[Item]) -> bool
+    requires { 0 < length items.now }
+    ensures { result ≡ is_even items.now }
+{
+    are_all_of(items[0].weight, items)
+}
+
+/// Whether the weights of a bucket add up to a word, and those of a uniform one are all the same.
+fn are_weights_lawful(kind: BucketKind, items: &[Item]) -> bool
+    requires some { 0 < length items.now }
+    requires few { length items.now ≤ 64 }
+    ensures { result ≡ weights_ok kind items.now }
+{
+    let fits = total_weight(items) <= u64::from(u32::MAX);
+    match kind {
+        BucketKind::Uniform => fits && is_even(items),
+        BucketKind::List | BucketKind::Tree => fits,
+    }
+}
+
+/// Whether the weights of each bucket add up to a word, and those of each uniform one are all the same.
+fn have_lawful_weights(buckets: &[Bucket]) -> bool
+    requires { IsTrue (list_all bucket_limits_ok buckets.now) }
+    ensures { result ≡ list_all (λ b. weights_ok b.kind b.items) buckets.now }
+{
+    for bucket in buckets {
+        if !are_weights_lawful(bucket.kind, bucket.items.as_slice()) {
+            return false;
+        }
+    }
+    true
+}
+
+/// Whether each item is known, has a type below that of its bucket, and stands in the forest once.
+fn are_items_lawful(buckets: &[Bucket], max_osd: u32) -> bool
+    requires descending { IsDescending buckets.now }
+    requires few { length buckets.now ≤ 512 }
+    requires devices { max_osd ≤ 1024 }
+    ensures { result ≡ (has_items_below buckets.now max_osd && has_items_once buckets.now) }
+{
+    have_items_below(buckets, max_osd) && are_met_once(buckets)
+}
+
+/// Whether buckets in order, within the limits, are a well-formed forest over devices below `max_osd`.
+pub(crate) fn is_well_formed(buckets: &[Bucket], max_osd: u32) -> bool
+    requires sorted { IsNotAscending buckets.now }
+    requires limits { IsTrue (forest_limits_ok buckets.now max_osd) }
+    ensures { result ≡ forest_ok buckets.now max_osd }
+{
+    have_own_ids(buckets) && are_items_lawful(buckets, max_osd) && have_lawful_weights(buckets)
 }

@@ -1,0 +1,40 @@
+use Rattle.std.proofs.Common.{◌≡◌, ◌≢◌, w32, find, Some, None, refl, sym, ap, ◌∙◌, rules}
+use Rattle.std.proofs.lemmas.Int.{to_z-of_z}
+use Rattle.crush.specs.Paths.{has_item}
+use Rattle.crush.proofs.Chains.{climb-above, climb-found, climb-none, climb-smaller}
+use Rattle.crush.proofs.forest.Forest.is_above.Goals as goal
+use mir.Val.{SFits, of_z, to_z}
+
+pub returns-then-parent-bucket : goal.returns-then-parent-bucket
+returns-then-parent-bucket c =
+    let fits : SFits w32 c.in-Some.parent.now.id = search rules in
+    let bucket = to_z-of_z w32 c.args.bucket c.ranges.bucket in
+    let item = to_z-of_z w32 c.args.item c.ranges.item in
+    let found : find (has_item c.loop-parent.below) c.args.self.now ≡ Some c.in-Some.parent.now = sym (rw c.loop-parent.below-is at c.in-Some.ensures.value) in
+    let so_far = rw (bucket, item, c.loop-parent.below-is) at c.loop-parent.invariant in
+    let same : c.in-Some.parent.now.id ≡ c.args.bucket = sym (to_z-of_z w32 c.in-Some.parent.now.id fits) ∙ (ap (to_z w32) c.if-parent-bucket.true ∙ bucket) in
+    (λ _. climb-found c.args.self.now c.parent.ensures.forest c.args.bucket c.args.item c.loop-parent.below c.in-Some.parent.now found same so_far, λ _. refl)
+
+pub loop-parent-smaller : goal.loop-parent-smaller
+loop-parent-smaller c =
+    let fits : SFits w32 c.in-Some.parent.now.id = search rules in
+    let found : find (has_item c.loop-parent.below) c.args.self.now ≡ Some c.in-Some.parent.now = sym (rw c.loop-parent.below-is at c.in-Some.ensures.value) in
+    rw (to_z-of_z w32 c.in-Some.parent.now.id fits, c.loop-parent.below-is) (climb-smaller c.args.self.now c.parent.ensures.forest c.loop-parent.below c.in-Some.parent.now found)
+
+pub loop-parent-preserved : goal.loop-parent-preserved
+loop-parent-preserved c =
+    let fits : SFits w32 c.in-Some.parent.now.id = search rules in
+    let bucket = to_z-of_z w32 c.args.bucket c.ranges.bucket in
+    let item = to_z-of_z w32 c.args.item c.ranges.item in
+    let found : find (has_item c.loop-parent.below) c.args.self.now ≡ Some c.in-Some.parent.now = sym (rw c.loop-parent.below-is at c.in-Some.ensures.value) in
+    let so_far = rw (bucket, item, c.loop-parent.below-is) at c.loop-parent.invariant in
+    let differs : c.in-Some.parent.now.id ≢ c.args.bucket = λ e. c.if-parent-bucket.false (ap (of_z w32) e) in
+    rw (bucket, item, to_z-of_z w32 c.in-Some.parent.now.id fits) (climb-above c.args.self.now c.parent.ensures.forest c.args.bucket c.args.item c.loop-parent.below c.in-Some.parent.now found differs so_far)
+
+pub returns : goal.returns
+returns c =
+    let bucket = to_z-of_z w32 c.args.bucket c.ranges.bucket in
+    let item = to_z-of_z w32 c.args.item c.ranges.item in
+    let absent : find (has_item c.loop-parent.below) c.args.self.now ≡ None = sym (rw c.loop-parent.below-is at c.in_default.ensures.value) in
+    let so_far = rw (bucket, item, c.loop-parent.below-is) at c.loop-parent.invariant in
+    (λ e. absurd (cc), λ above. absurd (climb-none c.args.self.now c.parent.ensures.forest c.args.bucket c.args.item c.loop-parent.below absent so_far above))
