@@ -3,3 +3,7 @@ pub mod Fits
 pub mod MarksLemmas
 pub mod Named
 pub mod ApplyLemmas
+pub mod BuildFits
+pub mod Distinct
+pub mod BuildLemmas
+pub mod Listing

@@ -8,3 +8,4 @@ pub mod Ordered
 pub mod Placement
 pub mod Sets
 pub mod Stated
+pub mod Built

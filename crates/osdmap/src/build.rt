@@ -1,0 +1,6 @@
+mod forest;
+mod numbers;
+mod order;
+mod osds;
+mod pools;
+mod rules;
