@@ -33,7 +33,7 @@ passed true refusal h = refl
 passed false refusal h = cc
 
 -- an error that is known is that error
-error_is : {X : Type 0} (r : Result X Refusal) (e : Refusal) → IsErrAnd r (λ y. y ≡ e) → r ≡ Err e
+pub error_is : {X : Type 0} (r : Result X Refusal) (e : Refusal) → IsErrAnd r (λ y. y ≡ e) → r ≡ Err e
 error_is (Ok x) e h = absurd h
 error_is (Err y) e h = ap Err h
 

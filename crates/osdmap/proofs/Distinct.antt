@@ -104,7 +104,7 @@ module _ {X : Type 0} (number : X → ℕ) where
 
   -- ---- in order
 
-  rising_distinct : (xs : List X) → AllPairs (λ a b. number a < number b) xs → is_distinct (map number xs) ≡ true
+  pub rising_distinct : (xs : List X) → AllPairs (λ a b. number a < number b) xs → is_distinct (map number xs) ≡ true
   rising_distinct [] rises = apart_distinct [] (λ i j d below inside. absurd (omega arith))
   rising_distinct (x ∷ xs) rises = apart_distinct (map number (x ∷ xs)) (λ i j d below inside.
       let in_range : j < length (x ∷ xs) = rw length-map at inside in

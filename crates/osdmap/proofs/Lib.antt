@@ -7,3 +7,4 @@ pub mod BuildFits
 pub mod Distinct
 pub mod BuildLemmas
 pub mod Listing
+pub mod Built

@@ -17,7 +17,7 @@ use Rattle.osdmap.specs.Changes.{names_osds, change_fault}
 -- an OSD that exists is below max_osd
 below_max : (m : ClusterMap) (osd n : ℕ) → length m.presences ≤ n → osd_exists m osd ≡ true → nat_lt osd n ≡ true
 below_max m osd n most = elim (slice_get m.presences osd) as (λ p. slice_get m.presences osd ≡ p → option_map_or (λ q. q.exists) p false ≡ true → nat_lt osd n ≡ true) [
-    None ↦ λ is h. absurd (false≢true h)
+  | None ↦ λ is h. absurd (false≢true h)
   | Some p ↦ λ is h. grind (arith, nat_tests, slice_get_within m.presences osd p is)
 ] refl
 
@@ -45,6 +45,6 @@ all_below m c n most h =
 -- a change that nothing refuses names only OSDs that exist
 pub accepted_names : (m : ClusterMap) (c : ChangeParts) → change_fault m c ≡ None → names_osds m c ≡ true
 accepted_names m c h = elim (names_osds m c) as (λ b. names_osds m c ≡ b → names_osds m c ≡ true) [
-    true ↦ λ is. is
+  | true ↦ λ is. is
   | false ↦ λ is. let wrong : Some UnknownOsd ≡ None = rw is at h in cc
 ] refl

@@ -49,7 +49,10 @@ impl OsdMap {
     pub fn exists(&self, osd: u32) -> bool
         ensures { result ≡ osd_exists self.now osd }
     {
-        self.presences.as_slice().get(osd as usize).is_some_and(|presence| presence.exists)
+        self.presences
+            .as_slice()
+            .get(osd as usize)
+            .is_some_and(|presence| presence.exists)
     }
 
     /// Whether each OSD of a list exists.
@@ -71,7 +74,9 @@ impl OsdMap {
     fn names_osds(&self, change: &Change) -> bool
         ensures { result ≡ names_osds self.now change.now }
     {
-        self.all_exist(change.down()) && self.all_exist(change.up()) && self.all_reweighted_exist(change.weight())
+        self.all_exist(change.down())
+            && self.all_exist(change.up())
+            && self.all_reweighted_exist(change.weight())
     }
 
     /// Whether no OSD that a change names stands twice in a part, or in two parts of which one undoes the other.
