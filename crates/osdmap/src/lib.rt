@@ -5,6 +5,7 @@ mod apply;
 mod build;
 pub mod change;
 mod check;
+mod copy;
 pub mod limits;
 pub mod map;
 mod marks;
