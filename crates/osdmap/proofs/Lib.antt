@@ -6,3 +6,8 @@ pub mod ApplyLemmas
 pub mod PlacementLemmas
 pub mod EvalsLemmas
 mod PgTexts
+pub mod BuildFits
+pub mod Distinct
+pub mod BuildLemmas
+pub mod Listing
+pub mod Built

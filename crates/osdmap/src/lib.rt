@@ -2,6 +2,7 @@
 #![tactic(auto)]
 
 mod apply;
+mod build;
 pub mod change;
 mod check;
 mod copy;
