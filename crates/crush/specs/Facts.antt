@@ -1,5 +1,5 @@
 -- What the tests of a forest say, as facts: its limits, and that it is well formed (CRUSH paper, SC 2006, section 3.3).
-use Rattle.std.specs.Prelude.{◌≡◌, ◌↔◌, ℕ, ◌<◌, ◌≤◌, ◌^◌, ℤ, pos, negsuc, neg_ℤ, ◌<ℤ◌, ◌≤ℤ◌, List, length, All, IsSome, IsOk, IsErrOf, Result}
+use Rattle.std.specs.Prelude.{◌≡◌, ◌↔◌, ℕ, ◌<◌, ◌≤◌, ◌^◌, ℤ, pos, negsuc, neg_ℤ, ◌<ℤ◌, ◌≤ℤ◌, List, length, All, IsSome, IsOk, IsErrOf, Result, MatchOption}
 use Rattle.crush.specs.declared.bucket.Item.{Item}
 use Rattle.crush.specs.declared.bucket.Bucket.{Bucket}
 use Rattle.crush.specs.declared.bucket.BucketKind.TheVariants.{Uniform}
@@ -56,3 +56,12 @@ pub record IsVerdict {T : Type 0} (result : Result T ForestError) (buckets : Lis
   pub lawful : IsOk result ↔ (IsWithinLimits buckets max_osd × IsWellFormed buckets max_osd)
   pub limit : IsErrOf result BadLimit ↔ (¬ IsWithinLimits buckets max_osd)
   pub forest : IsErrOf result BadForest ↔ (IsWithinLimits buckets max_osd × (¬ IsWellFormed buckets max_osd))
+
+-- a device's number
+abbrev pub IsDevice : ℤ → Type 0
+IsDevice (pos n) = n < 1024
+IsDevice (negsuc n) = ⊥
+
+-- each item of a bucket is a device, or a bucket of a type below that of its own
+abbrev pub LeadsDown : List Bucket → Bucket → Type 0
+LeadsDown buckets b = All (λ i. MatchOption (bucket_at buckets i.id) (IsDevice i.id) (λ c. c.level < b.level)) b.items

@@ -2,6 +2,7 @@ pub mod Facts
 pub mod Fault
 pub mod Forest
 pub mod Grammar
+pub mod Order
 pub mod Paths
 pub mod Rules
 pub mod Slots

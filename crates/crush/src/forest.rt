@@ -34,8 +34,9 @@ impl Forest {
     ghost use Rattle.std.specs.List.{find};
     ghost use Rattle.std.specs.Option.{option_copied};
     ghost use Rattle.std.specs.Result.{result_err};
-    ghost use Rattle.crush.specs.Facts.{IsWithinLimits, IsWellFormed, IsVerdict};
+    ghost use Rattle.crush.specs.Facts.{IsWithinLimits, IsWellFormed, IsVerdict, LeadsDown};
     ghost use Rattle.crush.specs.Forest.{bucket_at, level_of, IsPickable};
+    ghost use Rattle.crush.specs.Order.{by_id};
     ghost use Rattle.crush.specs.Paths.{has_item, IsAbove, IsAncestor};
     ghost use Rattle.crush.specs.WellFormed.{forest_fault, IsForest, IsDescending};
 
@@ -48,6 +49,7 @@ impl Forest {
     pub fn new(buckets: Vec<Bucket>, max_osd: u32) -> Result<Self, ForestError>
         ensures fault { result_err result ≡ forest_fault buckets.items max_osd }
         ensures verdict { IsVerdict result buckets.items max_osd }
+        ensures value { IfOk result (λ f. f ≡ by_id buckets.items) }
         ensures same { IfOk result (IsPermutation buckets.items) }
         ensures descending { IfOk result IsDescending }
         ensures buckets { IfOk result (λ f. (id : ℤ) → bucket_at f id ≡ bucket_at buckets.items id) }
@@ -77,6 +79,7 @@ impl Forest {
     pub fn bucket(&self, id: i32) -> Option<&Bucket>
         ensures value { option_copied result ≡ bucket_at self.now id }
         ensures within { IfSome result (λ b. IsPickable b.now) }
+        ensures leads_down { IfSome result (λ b. LeadsDown self.now b.now) }
     {
         bucket_of(&self.buckets, id)
     }

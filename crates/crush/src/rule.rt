@@ -63,7 +63,7 @@ impl Model for Rule {
 impl Rule {
     ghost use Rattle.std.specs.Prelude.{◌≡◌, ◌↔◌, IfOk, IsTrue};
     ghost use Rattle.std.specs.Result.{result_err};
-    ghost use Rattle.crush.specs.Grammar.{IsLawful, rule_fault};
+    ghost use Rattle.crush.specs.Grammar.{IsLawful, IsGrammatical, rule_fault};
     ghost use Rattle.crush.specs.Paths.{Reaches};
 
     /// The rule of these steps over a forest. It is refused with 12 (BadLimit) where it has no step or more than 16,
@@ -93,6 +93,7 @@ impl Rule {
     pub fn steps(&self) -> &[Step]
         ensures value { result.now ≡ self.now.steps }
         ensures lawful { IsLawful self.now.kind self.now.steps }
+        ensures grammar { IsGrammatical self.now.kind self.now.steps }
     {
         &self.steps
     }
