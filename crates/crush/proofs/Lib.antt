@@ -1,3 +1,12 @@
+pub mod Drawn
+pub mod Words
+pub mod Trees
+pub mod Winners
+pub mod Descents
+pub mod Leaves
+pub mod Replicas
+pub mod Segments
+pub mod Rounds
 pub mod Bounds
 pub mod Chains
 pub mod Counts
@@ -12,4 +21,12 @@ pub mod Places
 pub mod RuleLemmas
 pub mod Sorted
 pub mod Tests
-pub mod Weights
+pub mod Sought
+pub mod Packed
+pub mod Positions
+pub mod Picked
+pub mod Within
+pub mod Alike
+pub mod Runs
+pub mod Weighing
+pub mod Reached

@@ -5,5 +5,17 @@ pub mod Grammar
 pub mod Order
 pub mod Paths
 pub mod Rules
+pub mod Items
+pub mod Uniform
+pub mod Listed
+pub mod Tree
+pub mod Pick
+pub mod World
+pub mod Placed
+pub mod Descent
+pub mod Firstn
+pub mod Indep
+pub mod Run
+pub mod Laws
 pub mod Slots
 pub mod WellFormed

@@ -1,4 +1,4 @@
-ghost use Rattle.std.specs.Prelude.{◌≡◌, ◌<◌, length, slice_index_or};
+ghost use Rattle.std.specs.Prelude.{◌≡◌, ◌<◌, length, slice_set};
 
 use std::marker::Model;
 
@@ -36,5 +36,22 @@ impl<T> Entries<T> {
         ensures { result.now ≡ self.now }
     {
         &self.list
+    }
+
+    /// The vector itself.
+    pub fn into_vec(self) -> Vec<T>
+        ensures { result.items ≡ self }
+    {
+        self.list
+    }
+}
+
+impl<T: Drop> Entries<T> {
+    /// Puts another element into a place.
+    pub fn set(&mut self, place: usize, element: T)
+        requires { place < length self.old }
+        ensures { self.new ≡ slice_set self.old place element }
+    {
+        self.list[place] = element;
     }
 }

@@ -2,16 +2,25 @@
 #![tactic(auto)]
 
 pub mod bucket;
+pub mod choose;
 pub mod entries;
 pub mod fault;
+mod firstn;
 pub mod forest;
 mod grammar;
+mod indep;
+pub mod laws;
 pub mod limits;
 pub mod memory;
+pub mod pick;
+pub mod placement;
 mod met;
 pub mod rule;
+mod run;
 mod search;
+pub mod weights;
 mod well_formed;
+pub mod work;
 
 pub use bucket::{Bucket, BucketKind, Item};
 pub use entries::Entries;
@@ -19,3 +28,8 @@ pub use fault::{ForestError, RuleError};
 pub use forest::Forest;
 pub use memory::Memory;
 pub use rule::{Choose, Mode, Rule, RuleKind, Step};
+pub use weights::Weights;
+pub use work::Work;
+
+#[cfg(test)]
+mod worked_values;

@@ -1,0 +1,13 @@
+pub mod Refusals
+pub mod Pools
+pub mod Parts
+pub mod Maps
+pub mod Marks
+pub mod Changes
+pub mod Ordered
+pub mod Placement
+pub mod Sets
+pub mod Stated
+pub mod Primary
+pub mod PgText
+pub mod Evals

@@ -1,2 +1,122 @@
-//! Robert Jenkins' 32-bit hash of two, three and four words, as Ceph's placement uses it.
+//! Robert Jenkins' 32-bit hash of two, three and four words, as Ceph's placement uses it (Ceph, hash.c, rjenkins1).
+//!
+//! No function takes memory, and each answers for every word.
 #![tactic(auto)]
+
+ghost use Rattle.std.specs.Prelude.{◌≡◌, ◌<◌};
+ghost use Rattle.rjenkins.specs.Jenkins.{turned, mixed, hash2_of, hash3_of, hash4_of};
+
+/// What every hash begins from (`crush_hash_seed`).
+const SEED: u32 = 1_315_423_911;
+
+/// The two words that a hash mixes in beside its arguments.
+const X: u32 = 231_232;
+
+const Y: u32 = 1_232;
+
+/// One turn of `mix`: three of its nine assignments. The turns differ in their shifts.
+#[tactic(auto, unfolding(crate::specs::Jenkins::turned))]
+fn turn(right: u32, left: u32, last: u32, a: u32, b: u32, c: u32) -> (u32, u32, u32)
+    requires right { right < 32 }
+    requires left { left < 32 }
+    requires last { last < 32 }
+    ensures { result ≡ turned right left last (a, b, c) }
+{
+    let a = a.wrapping_sub(b).wrapping_sub(c) ^ (c >> right);
+    let b = b.wrapping_sub(c).wrapping_sub(a) ^ (a << left);
+    let c = c.wrapping_sub(a).wrapping_sub(b) ^ (b >> last);
+    (a, b, c)
+}
+
+/// Mixes three words (`crush_hashmix`).
+#[tactic(auto, unfolding(crate::specs::Jenkins::mixed))]
+pub fn mix(a: u32, b: u32, c: u32) -> (u32, u32, u32)
+    ensures { result ≡ mixed a b c }
+{
+    let (a, b, c) = turn(13, 8, 13, a, b, c);
+    let (a, b, c) = turn(12, 16, 5, a, b, c);
+    turn(3, 10, 15, a, b, c)
+}
+
+/// The hash of two words (`crush_hash32_rjenkins1_2`).
+#[tactic(auto, unfolding(crate::specs::Jenkins::hash2_of))]
+pub fn hash2(a: u32, b: u32) -> u32
+    ensures { result ≡ hash2_of a b }
+{
+    let h = SEED ^ a ^ b;
+    let (a, b, h) = mix(a, b, h);
+    let (_, _, h) = mix(X, a, h);
+    let (_, _, h) = mix(b, Y, h);
+    h
+}
+
+/// The hash of three words (`crush_hash32_rjenkins1_3`).
+#[tactic(auto, unfolding(crate::specs::Jenkins::hash3_of))]
+pub fn hash3(a: u32, b: u32, c: u32) -> u32
+    ensures { result ≡ hash3_of a b c }
+{
+    let h = SEED ^ a ^ b ^ c;
+    let (a, b, h) = mix(a, b, h);
+    let (c, x, h) = mix(c, X, h);
+    let (y, _, h) = mix(Y, a, h);
+    let (_, _, h) = mix(b, x, h);
+    let (_, _, h) = mix(y, c, h);
+    h
+}
+
+/// The hash of four words (`crush_hash32_rjenkins1_4`).
+#[tactic(auto, unfolding(crate::specs::Jenkins::hash4_of))]
+pub fn hash4(a: u32, b: u32, c: u32, d: u32) -> u32
+    ensures { result ≡ hash4_of a b c d }
+{
+    let h = SEED ^ a ^ b ^ c ^ d;
+    let (a, b, h) = mix(a, b, h);
+    let (c, d, h) = mix(c, d, h);
+    let (_, x, h) = mix(a, X, h);
+    let (y, _, h) = mix(Y, b, h);
+    let (_, _, h) = mix(c, x, h);
+    let (_, _, h) = mix(y, d, h);
+    h
+}
+
+#[cfg(test)]
+mod tests {
+    use super::*;
+
+    // The values are those of Ceph's hash.c, compiled by a C compiler.
+
+    #[test]
+    fn mixes_as_published(rt: HostRuntime) {
+        assert_eq!(rt; mix(0, 0, 0), (0, 0, 0));
+        assert_eq!(rt; mix(1, 0, 0), (0xfda0dfc7, 0x790420aa, 0x8ec212aa));
+        assert_eq!(rt;
+            mix(0xffffffff, 0x80000000, 0x12345678),
+            (0xc434092a, 0xd31fddf6, 0x89843ac7)
+        );
+    }
+
+    #[test]
+    fn hashes_as_published(rt: HostRuntime) {
+        assert_eq!(rt; hash2(0, 0), 430787817);
+        assert_eq!(rt; hash2(1, 2), 3079532188);
+        assert_eq!(rt; hash2(0xffffffff, 0xffffffff), 2671514060);
+        assert_eq!(rt; hash2(0x12345678, 0x9abcdef0), 1138898975);
+        assert_eq!(rt; hash2(0xffffffff, 0), 3004783074);
+        assert_eq!(rt; hash3(0, 0, 0), 2050749362);
+        assert_eq!(rt; hash3(1, 2, 3), 1935332395);
+        assert_eq!(rt; hash3(0xffffffff, 0xffffffff, 0xffffffff), 3112661447);
+        assert_eq!(rt; hash3(0x12345678, 0x9abcdef0, 0x0fedcba9), 2207943352);
+        assert_eq!(rt; hash3(0xffffffff, 0, 0x80000000), 2046873419);
+        assert_eq!(rt; hash4(0, 0, 0, 0), 1068478541);
+        assert_eq!(rt; hash4(1, 2, 3, 4), 1768759062);
+        assert_eq!(rt;
+            hash4(0xffffffff, 0xffffffff, 0xffffffff, 0xffffffff),
+            2697901196
+        );
+        assert_eq!(rt;
+            hash4(0x12345678, 0x9abcdef0, 0x0fedcba9, 0x87654321),
+            166563560
+        );
+        assert_eq!(rt; hash4(0xffffffff, 0, 0x80000000, 1), 1191810674);
+    }
+}

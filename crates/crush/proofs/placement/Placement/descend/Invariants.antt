@@ -1,0 +1,14 @@
+use Rattle.std.proofs.Common.{◌≡◌, ◌-◌}
+use Rattle.crush.specs.Forest.{IsPickable}
+use Rattle.crush.specs.Placed.{world}
+use Rattle.crush.specs.Indep.{number_in}
+use Rattle.crush.specs.Descent.{descent}
+use Rattle.crush.proofs.placement.Placement.descend.Given as goal
+
+abbrev pub invariant-loop-met : goal.invariant-loop-met
+invariant-loop-met l =
+    let w = world l.self in
+    record {
+      within : IsPickable l.bucket;
+      rest : descent w (number_in l.draw.numrep l.draw.base l.draw.round) l.wanted (l.met-end - l.met) l.bucket ≡ descent w (number_in l.draw.numrep l.draw.base l.draw.round) l.wanted l.met-end l.start;
+    }

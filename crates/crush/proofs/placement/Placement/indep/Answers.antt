@@ -1,0 +1,12 @@
+use Rattle.std.proofs.Common.{replicate, length, ap, ◌∙◌}
+use Rattle.crush.specs.declared.choose.Position.TheVariants.{Open}
+use Rattle.crush.specs.Placed.{world}
+use Rattle.crush.specs.Indep.{after_round}
+use Rattle.crush.proofs.Rounds.{fold_range}
+use Rattle.crush.proofs.placement.Placement.indep.Goals as goal
+
+pub loop-round-preserved : goal.loop-round-preserved
+loop-round-preserved c =
+    let a = c.args in
+    let f = after_round (world a.self.now) a.choose a.tries a.numrep a.start.now in
+    c.take_round.ensures ∙ ap (λ ps. f ps c.loop-round.round) c.loop-round.invariant ∙ fold_range f (replicate (length a.positions.now) Open) c.loop-round.round

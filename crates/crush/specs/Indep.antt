@@ -1,0 +1,87 @@
+-- Choosing items that keep their positions (CRUSH paper, section 3.2.2; Ceph, mapper.c, crush_choose_indep).
+use Rattle.std.specs.Prelude.{ℕ, ◌+◌, ◌*◌, ◌%◌, ℤ, Bool, true, false, not, ◌&&◌, List, length, map, replicate, slice_index_or, slice_set, ◌==◌, Option, Some, None, if◌then◌else◌}
+use Rattle.std.specs.List.{range_with_len, list_any, fold}
+use Rattle.std.specs.Ordering.{int_eq}
+use Rattle.crush.specs.declared.bucket.Bucket.{Bucket}
+use Rattle.crush.specs.declared.bucket.BucketKind.{BucketKind}
+use Rattle.crush.specs.declared.bucket.BucketKind.TheVariants.{Uniform, List as InList, Tree as InTree}
+use Rattle.crush.specs.declared.choose.Picked.{Picked}
+use Rattle.crush.specs.declared.choose.Position.{Position}
+use Rattle.crush.specs.declared.choose.Position.TheVariants.{Open, Hole, Filled}
+use Rattle.crush.specs.declared.choose.Tries.{Tries}
+use Rattle.crush.specs.declared.rule.Choose.{Choose}
+use Rattle.crush.specs.World.{World, is_out}
+use Rattle.crush.specs.Descent.{item_below, leaf_below}
+
+-- how far the replica number goes on each round: numrep, and one more inside a uniform bucket whose size numrep
+-- divides, so that the rounds meet each place
+abbrev pub stride_by : BucketKind → ℕ → ℕ → ℕ
+stride_by Uniform numrep size = if size % numrep == 0 then numrep + 1 else numrep
+stride_by InList numrep size = numrep
+stride_by InTree numrep size = numrep
+
+-- the replica number of a round at a bucket, on top of `base`
+unfoldable pub number_in : ℕ → ℕ → ℕ → Bucket → ℕ
+number_in numrep base round b = base + stride_by b.kind numrep (length b.items) * round
+
+-- the same for the rounds 0 up to n
+abbrev pub numbers_in : ℕ → ℕ → ℕ → List (Bucket → ℕ)
+numbers_in numrep base n = map (number_in numrep base) (range_with_len 0 n)
+
+abbrev pub holds_item : ℤ → Position → Bool
+holds_item item Open = false
+holds_item item Hole = false
+holds_item item (Filled e) = int_eq e.item item
+
+abbrev pub is_open : Position → Bool
+is_open Open = true
+is_open Hole = false
+is_open (Filled e) = false
+
+-- a bucket fills its position with a leaf, and leaves it open without one
+abbrev pub filled_with : ℤ → Option ℤ → Position
+filled_with item None = Open
+filled_with item (Some leaf) = Filled (record { item = item; leaf = leaf })
+
+-- what an item makes of position `rep`: it stays open where the item stands at some position, a device is out, or the
+-- bucket has no leaf that is in. Leaves are sought for the same position, on top of the replica number with which the
+-- bucket was picked
+unfoldable pub position_with : World → Choose → Tries → ℕ → List Position → ℕ → Picked → Position
+position_with w c tries numrep positions rep p =
+    if list_any (holds_item p.item) positions then Open
+    else if c.to_leaf then filled_with p.item (leaf_below w (λ d. not (is_out w d)) (numbers_in numrep (rep + p.r) tries.leaf) p.item)
+    else if c.level == 0 && is_out w p.item then Open
+    else Filled (record { item = p.item; leaf = p.item })
+
+-- a device where another type is wanted leaves a hole
+abbrev pub position_at : World → Choose → Tries → ℕ → List Position → ℕ → Option Picked → Position
+position_at w c tries numrep positions rep None = Hole
+position_at w c tries numrep positions rep (Some p) = position_with w c tries numrep positions rep p
+
+-- what position `rep` becomes in a round
+unfoldable pub position_of : World → Choose → Tries → ℕ → Bucket → ℕ → List Position → ℕ → Position
+position_of w c tries numrep start round positions rep =
+    position_at w c tries numrep positions rep (item_below w (number_in numrep rep round) c.level start)
+
+-- one turn of a round: an open position is tried, another is left alone
+abbrev pub after_turn : World → Choose → Tries → ℕ → Bucket → ℕ → List Position → ℕ → List Position
+after_turn w c tries numrep start round positions rep =
+    if is_open (slice_index_or positions rep Hole)
+    then slice_set positions rep (position_of w c tries numrep start round positions rep)
+    else positions
+
+-- a round takes the positions in order
+unfoldable pub after_round : World → Choose → Tries → ℕ → Bucket → List Position → ℕ → List Position
+after_round w c tries numrep start positions round =
+    fold (after_turn w c tries numrep start round) positions (range_with_len 0 (length positions))
+
+-- the positions after all rounds, `count` of them
+unfoldable pub indep : World → Choose → Tries → Bucket → ℕ → ℕ → List Position
+indep w c tries start numrep count =
+    fold (after_round w c tries numrep start) (replicate count Open) (range_with_len 0 tries.total)
+
+-- the device at a position
+abbrev pub leaf_at : Position → Option ℤ
+leaf_at Open = None
+leaf_at Hole = None
+leaf_at (Filled e) = Some e.leaf

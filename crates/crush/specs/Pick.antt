@@ -1,0 +1,25 @@
+-- The item that a bucket picks for an input x and a replica number r (CRUSH paper, section 3.4; Ceph, mapper.c,
+-- crush_bucket_choose).
+use Rattle.std.specs.Prelude.{ℕ, ℤ, length}
+use Rattle.crush.specs.declared.bucket.Bucket.{Bucket}
+use Rattle.crush.specs.declared.bucket.BucketKind.{BucketKind}
+use Rattle.crush.specs.declared.bucket.BucketKind.TheVariants.{Uniform, List as InList, Tree as InTree}
+use Rattle.crush.specs.Forest.{word}
+use Rattle.crush.specs.Items.{item_at}
+use Rattle.crush.specs.Uniform.{uniform_place}
+use Rattle.crush.specs.Listed.{list_place}
+use Rattle.crush.specs.Tree.{tree_place, height_of}
+
+-- the place that a bucket picks, by its kind
+unfoldable pub place_by : BucketKind → Bucket → ℕ → ℕ → ℕ
+place_by Uniform b x r = uniform_place x (word b.id) (length b.items) r
+place_by InList b x r = list_place x (word b.id) r b.items
+place_by InTree b x r = tree_place x (word b.id) r b.items (height_of (length b.items)) 0
+
+-- the place that a bucket picks
+abbrev pub place_of : Bucket → ℕ → ℕ → ℕ
+place_of b x r = place_by b.kind b x r
+
+-- the item that a bucket picks
+unfoldable pub pick_of : Bucket → ℕ → ℕ → ℤ
+pick_of b x r = (item_at b.items (place_of b x r)).id

@@ -1,0 +1,51 @@
+//! The item that a bucket picks (CRUSH paper, section 3.4; Ceph, mapper.c, `crush_bucket_choose`).
+
+ghost use Rattle.std.specs.Prelude.{◌≡◌, ◌^◌, ◌<◌};
+ghost use Rattle.crush.specs.Forest.{weight_of};
+
+use crate::bucket::{Bucket, BucketKind, Item};
+use list::list_pick;
+use tree::tree_pick;
+use uniform::uniform_pick;
+
+mod list;
+mod tree;
+mod uniform;
+
+/// The weight of some items.
+fn total_weight(items: &[Item]) -> u32
+    requires { weight_of items.now < 2 ^ 32 }
+    ensures { result ≡ weight_of items.now }
+{
+    items.iter().map(|item| item.weight).sum()
+}
+
+impl Bucket {
+    ghost use Rattle.std.specs.Prelude.{◌≡◌, ◌<◌, length};
+    ghost use Rattle.crush.specs.Forest.{IsPickable};
+    ghost use Rattle.crush.specs.Pick.{place_of, pick_of};
+
+    /// The item that the bucket picks for an input and a replica number. It takes no memory.
+    pub fn pick(&self, x: u32, r: u32) -> i32
+        requires { IsPickable self.now }
+        ensures { result ≡ pick_of self.now x r }
+    {
+        self.items.as_slice()[self.place(x, r)].id
+    }
+
+    /// The place of that item.
+    #[tactic(auto, unfolding(crate::specs::Pick::place_by))]
+    fn place(&self, x: u32, r: u32) -> usize
+        requires { IsPickable self.now }
+        ensures place { result ≡ place_of self.now x r }
+        ensures within { result < length self.now.items }
+    {
+        let id = self.id.cast_unsigned();
+        let items = self.items.as_slice();
+        match self.kind {
+            BucketKind::Uniform => uniform_pick(items.len(), x, id, r),
+            BucketKind::List => list_pick(items, x, id, r),
+            BucketKind::Tree => tree_pick(items, x, id, r),
+        }
+    }
+}

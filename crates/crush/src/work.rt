@@ -1,0 +1,64 @@
+use crate::choose::Choice;
+use crate::forest::Forest;
+use crate::memory::Memory;
+use std::alloc::Global;
+use std::marker::Model;
+
+/// How many places the greatest pool has.
+const MOST_PLACES: usize = 10;
+
+/// The lists that a run works on.
+#[derive(Debug, Drop)]
+pub(crate) struct Lists {
+    pub working: Vec<Option<i32>>,
+    pub found: Vec<Option<i32>>,
+    pub emitted: Vec<Option<i32>>,
+    pub chosen: Vec<Choice>,
+}
+
+/// What the last run left, the number of runs, and the room that runs work in. It serves any forest.
+#[derive(Debug, Drop)]
+pub struct Work {
+    pub(crate) lists: Lists,
+    pub(crate) runs: u64,
+}
+
+impl Model for Work {
+    ghost use Rattle.crush.specs.Run.{Ran};
+
+    ghost Value = { Ran };
+
+    ghost view = { λ w. record { result = w.lists.emitted.items; runs = w.runs } };
+}
+
+impl Work {
+    ghost use Rattle.std.specs.Prelude.{◌≡◌, [], IfOk};
+
+    /// A work with room for the runs of the greatest pool, and no run yet. The one error is out of memory.
+    pub fn new(alloc: Global, _forest: &Forest) -> Result<Work, Memory>
+        ensures result { IfOk result (λ work. work.result ≡ []) }
+        ensures runs { IfOk result (λ work. work.runs ≡ 0) }
+    {
+        let lists = Lists {
+            working: Vec::with_capacity(alloc, MOST_PLACES)?,
+            found: Vec::with_capacity(alloc, MOST_PLACES)?,
+            emitted: Vec::with_capacity(alloc, 2 * MOST_PLACES)?,
+            chosen: Vec::with_capacity(alloc, MOST_PLACES)?,
+        };
+        Ok(Work { lists, runs: 0 })
+    }
+
+    /// The places that the last run left: devices, or `None` where a place has none.
+    pub fn result(&self) -> &[Option<i32>]
+        ensures { result.now ≡ self.now.result }
+    {
+        &self.lists.emitted
+    }
+
+    /// How many runs there were. The count stays at the greatest number.
+    pub fn runs(&self) -> u64
+        ensures { result ≡ self.now.runs }
+    {
+        self.runs
+    }
+}

@@ -1,0 +1,106 @@
+-- The parts of a map as a text states them: their limits, what is wrong with them, and the values that they stand for.
+use Rattle.std.specs.Prelude.{◌≡◌, ℕ, Result, MatchResult, ℤ, pos, negsuc, nat_abs, int_le, nat_le, Bool, true, not, ◌&&◌, List, length, map, Option, Some, None, if◌then◌else◌}
+use Rattle.std.specs.List.{list_all}
+use Rattle.crush.specs.declared.bucket.Item.{Item}
+use Rattle.crush.specs.declared.bucket.Bucket.{Bucket}
+use Rattle.crush.specs.declared.rule.Step.{Step}
+use Rattle.crush.specs.declared.rule.Step.TheVariants.{Take as TakeBucket, Choose as ChooseBy, Emit as EmitAll}
+use Rattle.crush.specs.Rules.{Recipe}
+use Rattle.osdmap.specs.declared.parts.MapParts.{MapParts}
+use Rattle.osdmap.specs.declared.parts.BucketPart.{BucketPart}
+use Rattle.osdmap.specs.declared.parts.ItemPart.{ItemPart}
+use Rattle.osdmap.specs.declared.parts.RulePart.{RulePart}
+use Rattle.osdmap.specs.declared.parts.StepPart.{StepPart}
+use Rattle.osdmap.specs.declared.parts.StepPart.TheVariants.{Take, Choose as Chooses, Emit}
+use Rattle.osdmap.specs.declared.parts.PoolPart.{PoolPart}
+use Rattle.osdmap.specs.declared.parts.OsdPart.{OsdPart}
+use Rattle.osdmap.specs.declared.refusal.Refusal.{Refusal}
+use Rattle.osdmap.specs.declared.refusal.Refusal.TheVariants.{BadLimit, BadPool}
+use Rattle.osdmap.specs.Pools.{PoolFacts}
+
+-- ---- limits
+
+-- from `low` to `high`, both among them
+unfoldable pub is_between : ℤ → ℤ → ℤ → Bool
+is_between low high z = int_le low z && int_le z high
+
+-- at least `low` and at most `high` entries
+unfoldable pub has_between : {X : Type 0} → ℕ → ℕ → List X → Bool
+has_between low high xs = nat_le low (length xs) && nat_le (length xs) high
+
+-- a bucket's id: -1 down to -65,536
+unfoldable pub is_bucket_id : ℤ → Bool
+is_bucket_id z = is_between (negsuc 65535) (negsuc 0) z
+
+unfoldable pub item_fits : ItemPart → Bool
+item_fits i = is_between (negsuc 65535) (pos 1023) i.id && is_between (pos 1) (pos 4294967295) i.weight
+
+unfoldable pub bucket_fits : BucketPart → Bool
+bucket_fits b = is_bucket_id b.id && is_between (pos 1) (pos 15) b.level && has_between 1 64 b.items && list_all item_fits b.items
+
+unfoldable pub step_fits : StepPart → Bool
+step_fits (Take id) = is_bucket_id id
+step_fits (Chooses c) = is_between (pos 0) (pos 10) c.count && is_between (pos 0) (pos 15) c.level
+step_fits Emit = true
+
+unfoldable pub rule_fits : RulePart → Bool
+rule_fits r = is_between (pos 0) (pos 255) r.id && has_between 1 16 r.steps && list_all step_fits r.steps
+
+unfoldable pub pool_fits : PoolPart → Bool
+pool_fits p =
+    is_between (pos 1) (pos 65535) p.id && is_between (pos 1) (pos 4096) p.pg_num && is_between (pos 1) (pos 4096) p.pgp_num
+    && is_between (pos 0) (pos 255) p.rule && is_between (pos 1) (pos 10) p.size
+
+unfoldable pub osd_fits : OsdPart → Bool
+osd_fits o = is_between (pos 0) (pos 1023) o.id && is_between (pos 0) (pos 65536) o.weight
+
+-- the numbers that stand alone
+unfoldable pub head_fits : MapParts → Bool
+head_fits p =
+    is_between (pos 1) (pos 1) p.version && is_between (pos 1) (pos 2147483648) p.epoch && is_between (pos 1) (pos 1024) p.max_osd
+
+-- how many buckets, rules and pools there are
+unfoldable pub lists_fit : MapParts → Bool
+lists_fit p = has_between 1 512 p.buckets && has_between 1 32 p.rules && has_between 0 32 p.pools
+
+-- every number and every length of the map
+unfoldable pub parts_fit : MapParts → Bool
+parts_fit p =
+    head_fits p && lists_fit p && list_all bucket_fits p.buckets && list_all rule_fits p.rules
+    && list_all pool_fits p.pools && list_all osd_fits p.osds
+
+-- ---- the values that parts within the limits stand for
+
+abbrev pub item_of : ItemPart → Item
+item_of i = record { id = i.id; weight = nat_abs i.weight }
+
+abbrev pub bucket_of : BucketPart → Bucket
+bucket_of b = record { id = b.id; level = nat_abs b.level; kind = b.kind; items = map item_of b.items }
+
+abbrev pub step_of : StepPart → Step
+step_of (Take id) = TakeBucket id
+step_of (Chooses c) = ChooseBy (record { mode = c.mode; to_leaf = c.to_leaf; count = nat_abs c.count; level = nat_abs c.level })
+step_of Emit = EmitAll
+
+abbrev pub recipe_of : RulePart → Recipe
+recipe_of r = record { kind = r.kind; steps = map step_of r.steps }
+
+abbrev pub pool_of : PoolPart → PoolFacts
+pool_of p = record {
+  id = nat_abs p.id;
+  kind = p.kind;
+  pg_num = nat_abs p.pg_num;
+  pgp_num = nat_abs p.pgp_num;
+  rule = nat_abs p.rule;
+  size = nat_abs p.size;
+}
+
+-- ---- what is wrong
+
+-- of a pool by itself: a number outside its limits, else more groups for placement than groups
+abbrev pub pool_fault : PoolPart → Option Refusal
+pool_fault p = if not (pool_fits p) then Some BadLimit else if not (int_le p.pgp_num p.pg_num) then Some BadPool else None
+
+-- what a call that may run out of memory answers: the value where there is no fault, else the fault
+abbrev pub Outcome : {X : Type 0} → Result X Refusal → Option Refusal → X → Type 0
+Outcome r fault value = MatchResult r (λ x. (fault ≡ None) × (x ≡ value)) (λ e. fault ≡ Some e)

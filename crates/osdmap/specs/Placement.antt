@@ -1,0 +1,67 @@
+-- Where the groups of a map are placed (Ceph, OSDMap.cc: _pg_to_raw_osds, _raw_to_up_osds; osd_types.h: raw_pg_to_pps).
+use Rattle.std.specs.Prelude.{◌≡◌, ℕ, ◌-◌, ◌/◌, ℤ, pos, negsuc, List, [], ◌∷◌, map, nat_lt, nat_le, bit_and, Option, Some, None, option_and_then, unwrap_or, IfSome, if◌then◌else◌}
+use Rattle.std.specs.List.{find}
+use Rattle.std.specs.Option.{option_map_or}
+use Rattle.rjenkins.specs.Jenkins.{hash2_of}
+use Rattle.crush.specs.declared.rule.Step.{Step}
+use Rattle.crush.specs.World.{world_of}
+use Rattle.crush.specs.Run.{run_of}
+use Rattle.osdmap.specs.declared.pg.Pg.{Pg}
+use Rattle.osdmap.specs.declared.refusal.Refusal.{Refusal}
+use Rattle.osdmap.specs.declared.refusal.Refusal.TheVariants.{UnknownPool, UnknownGroup}
+use Rattle.osdmap.specs.Pools.{PoolFacts}
+use Rattle.osdmap.specs.Sets.{kept}
+use Rattle.osdmap.specs.Maps.{ClusterMap, rule_at, pool_at, osd_exists, osd_is_up}
+
+-- the numbers 2 ^ k - 1 up to 4095
+unfoldable pub masks : List ℕ
+masks = 0 ∷ 1 ∷ 3 ∷ 7 ∷ 15 ∷ 31 ∷ 63 ∷ 127 ∷ 255 ∷ 511 ∷ 1023 ∷ 2047 ∷ 4095 ∷ []
+
+-- the least of these that is at least b - 1, for b up to 4096
+unfoldable pub mask_of : ℕ → ℕ
+mask_of b = unwrap_or (find (λ m. nat_le (b - 1) m) masks) 4095
+
+-- a number folded into the numbers below b, so that most stay where they are when b grows (ceph_stable_mod)
+unfoldable pub stable_mod : ℕ → ℕ → ℕ → ℕ
+stable_mod x b m = if nat_lt (bit_and x m) b then bit_and x m else bit_and x (m / 2)
+
+-- the input with which the rule places group n of a pool (hashpspool)
+unfoldable pub placement_input : PoolFacts → ℕ → ℕ
+placement_input p n = hash2_of (stable_mod n p.pgp_num (mask_of p.pgp_num)) p.id
+
+-- what refuses a question about a group
+abbrev pub group_fault : ClusterMap → Pg → Option Refusal
+group_fault m pg = elim (pool_at m.pools pg.pool) [ None ↦ Some UnknownPool | Some p ↦ (if nat_lt pg.number p.pg_num then None else Some UnknownGroup) ]
+
+-- the steps of the pool's rule
+abbrev pub steps_of : ClusterMap → PoolFacts → List Step
+steps_of m p = option_map_or (λ r. r.steps) (rule_at m.rules p.rule) []
+
+-- the devices that the pool's rule places (_pg_to_raw_osds)
+unfoldable pub placed : ClusterMap → PoolFacts → ℕ → List (Option ℤ)
+placed m p n = run_of (world_of m.buckets m.weights (placement_input p n)) (steps_of m p) p.size
+
+-- a device that is an OSD which exists
+abbrev pub existing : ClusterMap → ℤ → Option ℕ
+existing m (pos osd) = if osd_exists m osd then Some osd else None
+existing m (negsuc n) = None
+
+-- an OSD that is up
+abbrev pub upward : ClusterMap → ℕ → Option ℕ
+upward m osd = if osd_is_up m osd then Some osd else None
+
+-- the raw set: what the rule places, without OSDs that do not exist (_pg_to_raw_osds)
+unfoldable pub raw_set : ClusterMap → PoolFacts → ℕ → List (Option ℕ)
+raw_set m p n = kept p.kind (map (option_and_then (existing m)) (placed m p n))
+
+-- the mapped set: the raw set, as no group has exceptions
+unfoldable pub mapped_set : ClusterMap → PoolFacts → ℕ → List (Option ℕ)
+mapped_set m p n = raw_set m p n
+
+-- the up set: the mapped set without OSDs that are down (_raw_to_up_osds)
+unfoldable pub up_set : ClusterMap → PoolFacts → ℕ → List (Option ℕ)
+up_set m p n = kept p.kind (map (option_and_then (upward m)) (mapped_set m p n))
+
+-- a set of the group is the one that a definition gives, where the group is there, and else a refusal
+pub record Places (set : ClusterMap → PoolFacts → ℕ → List (Option ℕ)) (m : ClusterMap) (pg : Pg) (places : List (Option ℕ)) : Type 0 where
+  pub is : IfSome (pool_at m.pools pg.pool) (λ p. places ≡ set m p pg.number)

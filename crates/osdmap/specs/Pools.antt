@@ -1,0 +1,23 @@
+-- A pool: how many groups it has, and the rule and size by which they are placed (Ceph, osd_types.h, pg_pool_t).
+use Rattle.std.specs.Prelude.{ℕ, ◌≤◌, ◌<◌}
+use Rattle.crush.specs.declared.rule.RuleKind.{RuleKind}
+
+-- what callers see of a pool
+pub record PoolFacts : Type 0 where
+  pub id : ℕ
+  pub kind : RuleKind
+  pub pg_num : ℕ
+  pub pgp_num : ℕ
+  pub rule : ℕ
+  pub size : ℕ
+
+-- each number is within its limits, and no more groups serve for placement than there are
+pub record IsWithinLimits (p : PoolFacts) : Type 0 where
+  pub id_some : 0 < p.id
+  pub id_most : p.id ≤ 65535
+  pub groups_some : 0 < p.pgp_num
+  pub groups_few : p.pgp_num ≤ p.pg_num
+  pub groups_most : p.pg_num ≤ 4096
+  pub rule_most : p.rule ≤ 255
+  pub size_some : 0 < p.size
+  pub size_most : p.size ≤ 10

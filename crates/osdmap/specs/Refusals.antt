@@ -1,0 +1,42 @@
+-- The number and the name of each refusal.
+use Rattle.std.specs.Prelude.{ℕ, List, codes}
+use Rattle.osdmap.specs.declared.refusal.Refusal.{Refusal}
+use Rattle.osdmap.specs.declared.refusal.Refusal.TheVariants.{BadJson, BadField, BadLimit, BadForest, BadRule, BadPool, BadOsd, StaleEpoch, UnknownOsd, BadWeight, UnknownPool, UnknownGroup, DuplicatePart, JournalFull, Memory, BadCommand}
+
+-- the number
+abbrev pub number_of : Refusal → ℕ
+number_of BadJson = 10
+number_of BadField = 11
+number_of BadLimit = 12
+number_of BadForest = 13
+number_of BadRule = 14
+number_of BadPool = 15
+number_of BadOsd = 16
+number_of (StaleEpoch current) = 20
+number_of UnknownOsd = 21
+number_of BadWeight = 22
+number_of UnknownPool = 23
+number_of UnknownGroup = 25
+number_of DuplicatePart = 27
+number_of JournalFull = 28
+number_of Memory = 30
+number_of BadCommand = 33
+
+-- the name, as the bytes of its text
+abbrev pub name_of : Refusal → List ℕ
+name_of BadJson = codes "BadJson"
+name_of BadField = codes "BadField"
+name_of BadLimit = codes "BadLimit"
+name_of BadForest = codes "BadForest"
+name_of BadRule = codes "BadRule"
+name_of BadPool = codes "BadPool"
+name_of BadOsd = codes "BadOsd"
+name_of (StaleEpoch current) = codes "StaleEpoch"
+name_of UnknownOsd = codes "UnknownOsd"
+name_of BadWeight = codes "BadWeight"
+name_of UnknownPool = codes "UnknownPool"
+name_of UnknownGroup = codes "UnknownGroup"
+name_of DuplicatePart = codes "DuplicatePart"
+name_of JournalFull = codes "JournalFull"
+name_of Memory = codes "Memory"
+name_of BadCommand = codes "BadCommand"

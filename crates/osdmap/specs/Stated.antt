@@ -1,0 +1,89 @@
+-- The map that parts state, or what is wrong with them.
+use Rattle.std.specs.Prelude.{◌≡◌, ℕ, ◌<◌, ◌==◌, Bool, false, not, ◌&&◌, ◌||◌, int_le, nat_lt, nat_abs, List, map, Option, Some, None, Result, MatchResult, ◌⊎◌, if◌then◌else◌}
+use Rattle.std.specs.List.{find, list_all, range_with_len, AllPairs}
+use Rattle.std.specs.List.Sorted.{IsPermutation}
+use Rattle.std.specs.Option.{option_map_or}
+use Rattle.crush.specs.declared.bucket.Bucket.{Bucket}
+use Rattle.crush.specs.WellFormed.{forest_ok, IsDescending}
+use Rattle.crush.specs.Grammar.{rule_ok}
+use Rattle.osdmap.specs.declared.osd.Presence.{Presence}
+use Rattle.osdmap.specs.declared.parts.MapParts.{MapParts}
+use Rattle.osdmap.specs.declared.parts.RulePart.{RulePart}
+use Rattle.osdmap.specs.declared.parts.PoolPart.{PoolPart}
+use Rattle.osdmap.specs.declared.parts.OsdPart.{OsdPart}
+use Rattle.osdmap.specs.declared.rules.NumberedRule.{NumberedRule}
+use Rattle.osdmap.specs.declared.refusal.Refusal.{Refusal}
+use Rattle.osdmap.specs.declared.refusal.Refusal.TheVariants.{BadLimit, BadForest, BadRule, BadPool, BadOsd, Memory as OutOfMemory}
+use Rattle.osdmap.specs.Parts.{parts_fit, bucket_of, step_of, recipe_of, pool_of}
+use Rattle.osdmap.specs.Maps.{ClusterMap, has_rule}
+use Rattle.osdmap.specs.Changes.{is_distinct}
+
+-- what a call that makes a value answers: a value with the fact P exactly where there is no fault, and else the fault; or
+-- that a growth was refused
+abbrev pub Makes : {X : Type 0} → Result X Refusal → Option Refusal → (X → Type 0) → Type 0
+Makes r fault P = MatchResult r (λ x. (fault ≡ None) × P x) (λ e. (e ≡ OutOfMemory) ⊎ (fault ≡ Some e))
+
+-- ---- what is wrong with parts within the limits
+
+-- the buckets of the forest, in the order of the text
+abbrev pub buckets_of : MapParts → List Bucket
+buckets_of p = map bucket_of p.buckets
+
+-- a rule under its id
+abbrev pub rule_of : RulePart → NumberedRule
+rule_of r = record { id = nat_abs r.id; rule = recipe_of r }
+
+-- no id twice, and each rule is one of the grammar that takes buckets of the forest
+unfoldable pub rules_ok : MapParts → Bool
+rules_ok p = is_distinct (map (λ r. nat_abs r.id) p.rules) && list_all (λ r. rule_ok r.kind (map step_of r.steps) (buckets_of p)) p.rules
+
+-- no more groups for placement than groups, and a rule of the pool's kind
+unfoldable pub pool_ok : List NumberedRule → PoolPart → Bool
+pool_ok rules q = int_le q.pgp_num q.pg_num && has_rule rules (pool_of q)
+
+-- no id twice, and each pool by itself
+unfoldable pub pools_ok : MapParts → Bool
+pools_ok p = is_distinct (map (λ q. nat_abs q.id) p.pools) && list_all (pool_ok (map rule_of p.rules)) p.pools
+
+-- an OSD below max_osd that is up only where it exists
+unfoldable pub osd_ok : ℕ → OsdPart → Bool
+osd_ok max_osd o = nat_lt (nat_abs o.id) max_osd && (not o.up || o.exists)
+
+-- no id twice, and each OSD by itself
+unfoldable pub osds_ok : MapParts → Bool
+osds_ok p = is_distinct (map (λ o. nat_abs o.id) p.osds) && list_all (osd_ok (nat_abs p.max_osd)) p.osds
+
+-- the first thing that is wrong: a limit, the forest, a rule, a pool, an OSD, each over the whole map
+unfoldable pub map_fault : MapParts → Option Refusal
+map_fault p =
+    if not (parts_fit p) then Some BadLimit
+    else if not (forest_ok (buckets_of p) (nat_abs p.max_osd)) then Some BadForest
+    else if not (rules_ok p) then Some BadRule
+    else if not (pools_ok p) then Some BadPool
+    else if not (osds_ok p) then Some BadOsd
+    else None
+
+-- ---- the map that parts state
+
+-- what is listed of an OSD
+abbrev pub listed : List OsdPart → ℕ → Option OsdPart
+listed osds n = find (λ o. nat_abs o.id == n) osds
+
+-- an OSD that is not listed does not exist, is down and has reweight 0
+abbrev pub presence_in : List OsdPart → ℕ → Presence
+presence_in osds n = option_map_or (λ o. record { exists = o.exists; up = o.up }) (listed osds n) (record { exists = false; up = false })
+
+abbrev pub weight_in : List OsdPart → ℕ → ℕ
+weight_in osds n = option_map_or (λ o. nat_abs o.weight) (listed osds n) 0
+
+-- the map has what the parts state: the buckets by id downwards, rules and pools by id upwards, and each OSD by number
+pub record IsStated (p : MapParts) (m : ClusterMap) : Type 0 where
+  pub epoch : m.epoch ≡ nat_abs p.epoch
+  pub buckets : IsPermutation (buckets_of p) m.buckets
+  pub falling : IsDescending m.buckets
+  pub rules : IsPermutation (map rule_of p.rules) m.rules
+  pub rules_rise : AllPairs (λ a b. a.id < b.id) m.rules
+  pub pools : IsPermutation (map pool_of p.pools) m.pools
+  pub pools_rise : AllPairs (λ a b. a.id < b.id) m.pools
+  pub presences : m.presences ≡ map (presence_in p.osds) (range_with_len 0 (nat_abs p.max_osd))
+  pub weights : m.weights ≡ map (weight_in p.osds) (range_with_len 0 (nat_abs p.max_osd))

