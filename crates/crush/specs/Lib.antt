@@ -4,6 +4,7 @@ pub mod Forest
 pub mod Grammar
 pub mod Order
 pub mod Paths
+pub mod RuleFacts
 pub mod Rules
 pub mod Items
 pub mod Uniform
@@ -19,3 +20,4 @@ pub mod Run
 pub mod Laws
 pub mod Slots
 pub mod WellFormed
+pub mod Verdict

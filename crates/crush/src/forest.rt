@@ -34,10 +34,11 @@ impl Forest {
     ghost use Rattle.std.specs.List.{find};
     ghost use Rattle.std.specs.Option.{option_copied};
     ghost use Rattle.std.specs.Result.{result_err};
-    ghost use Rattle.crush.specs.Facts.{IsWithinLimits, IsWellFormed, IsVerdict, LeadsDown};
+    ghost use Rattle.crush.specs.Facts.{IsWithinLimits, IsWellFormed, LeadsDown};
     ghost use Rattle.crush.specs.Forest.{bucket_at, level_of, IsPickable};
     ghost use Rattle.crush.specs.Order.{by_id};
     ghost use Rattle.crush.specs.Paths.{has_item, IsAbove, IsAncestor};
+    ghost use Rattle.crush.specs.Verdict.{IsVerdict};
     ghost use Rattle.crush.specs.WellFormed.{forest_fault, IsForest, IsDescending};
 
     /// The forest of these buckets over the devices from 0 up to below `max_osd`. It is refused with 12 (BadLimit) where
@@ -48,7 +49,8 @@ impl Forest {
     /// more than 4,294,967,295 or differ in a uniform bucket.
     pub fn new(buckets: Vec<Bucket>, max_osd: u32) -> Result<Self, ForestError>
         ensures fault { result_err result ≡ forest_fault buckets.items max_osd }
-        ensures verdict { IsVerdict result buckets.items max_osd }
+        ensures verdict { IsVerdict result ForestError.BadLimit ForestError.BadForest
+            (IsWithinLimits buckets.items max_osd) (IsWellFormed buckets.items max_osd) }
         ensures value { IfOk result (λ f. f ≡ by_id buckets.items) }
         ensures same { IfOk result (IsPermutation buckets.items) }
         ensures descending { IfOk result IsDescending }
