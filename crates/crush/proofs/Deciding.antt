@@ -1,32 +1,18 @@
 -- The tests of a forest decide its facts.
-use Rattle.std.proofs.Common.{◌≡◌, ℕ, ◌<◌, ◌≤◌, ◌^◌, Bool, true, false, ◌&&◌, nat_lt, eqb, List, length, ℤ, pos, negsuc, neg_ℤ, ◌<ℤ◌, ◌≤ℤ◌, All, Decides, Result, Ok, Err, Some, None, if◌then◌else◌, refl, arith}
-use Rattle.std.specs.Prelude.{int_le, int_lt}
-use Rattle.std.specs.List.{list_all}
+use Rattle.std.proofs.Common.{◌≡◌, ℕ, ◌<◌, ◌^◌, ◌&&◌, nat_lt, eqb, List, length, ℤ, pos, negsuc, neg_ℤ, All, Decides, Result, refl}
 use Rattle.std.specs.Result.{result_err}
-use Rattle.std.proofs.lemmas.Bool.{false≢true}
-use Rattle.std.proofs.lemmas.Bool.Decides.{nat_tests, Decides-eqb, Decides-ltb, Decides-and, Decides-like, Decides-by_and}
-use Rattle.std.proofs.lemmas.Int.{ints}
+use Rattle.std.proofs.lemmas.Bool.Decides.{Decides-eqb, Decides-ltb, Decides-and, Decides-like}
 use Rattle.crush.specs.declared.bucket.Bucket.{Bucket}
 use Rattle.crush.specs.declared.bucket.BucketKind.{BucketKind}
 use Rattle.crush.specs.declared.bucket.BucketKind.TheVariants.{Uniform, List as InList, Tree}
 use Rattle.crush.specs.declared.bucket.Item.{Item}
 use Rattle.crush.specs.declared.fault.ForestError.{ForestError}
 use Rattle.crush.specs.declared.fault.ForestError.TheVariants.{BadLimit, BadForest}
-use Rattle.crush.specs.Facts.{IsItemWithin, IsBucketWithin, IsWithinLimits, IsKnown, IsItemLawful, IsWellFormed, IsVerdict}
+use Rattle.crush.specs.Facts.{IsItemWithin, IsBucketWithin, IsWithinLimits, IsKnown, IsItemLawful, IsWellFormed}
 use Rattle.crush.specs.Forest.{level_of, weight_of}
-use Rattle.crush.specs.WellFormed.{is_within, item_limits_ok, bucket_limits_ok, forest_limits_ok, buckets_with, times_in, is_known, is_even, weights_ok, forest_ok, forest_fault}
-
-decides-all : {X : Type 0} (p : X → Bool) (P : X → Type 0) → ((x : X) → Decides (p x) (P x)) → (xs : List X) → Decides (list_all p xs) (All P xs)
-decides-all p P each xs = Decides-by_and p P (list_all p) each refl (λ _ _. refl) xs
-
-decides-within : (low high n : ℕ) → Decides (is_within low high n) ((low ≤ n) × (n ≤ high))
-decides-within low high n = (λ e. grind (arith, nat_tests), λ h. grind (arith, nat_tests))
-
-decides-le : (x y : ℤ) → Decides (int_le x y) (x ≤ℤ y)
-decides-le x y = (λ e. grind (arith, ints), λ h. grind (arith, ints))
-
-decides-lt : (x y : ℤ) → Decides (int_lt x y) (x <ℤ y)
-decides-lt x y = (λ e. grind (arith, ints), λ h. grind (arith, ints))
+use Rattle.crush.specs.Verdict.{IsVerdict}
+use Rattle.crush.specs.WellFormed.{item_limits_ok, bucket_limits_ok, forest_limits_ok, buckets_with, times_in, is_known, is_even, weights_ok, forest_ok, forest_fault}
+use Rattle.crush.proofs.Judging.{verdict, decides-all, decides-within, decides-le, decides-lt}
 
 decides-item : (i : Item) → Decides (item_limits_ok i) (IsItemWithin i)
 decides-item i =
@@ -91,32 +77,5 @@ decides-forest buckets max_osd =
     (decides-all _ (λ b. IsWeighed b.kind b.items) (λ b. decides-weights b.kind b.items) buckets))
 
 -- an answer by the first fault says what the buckets are
-pub verdict : {T : Type 0} (r : Result T ForestError) (buckets : List Bucket) (max_osd : ℕ) → result_err r ≡ forest_fault buckets max_osd → IsVerdict r buckets max_osd
-verdict {T = T} r buckets max_osd e = by_tests r (forest_limits_ok buckets max_osd) (forest_ok buckets max_osd) e (decides-limits buckets max_osd) (decides-forest buckets max_osd)
-  where
-    by_tests : (r : Result T ForestError) (a b : Bool) → result_err r ≡ (if a then if b then None else Some BadForest else Some BadLimit) → Decides a (IsWithinLimits buckets max_osd) → Decides b (IsWellFormed buckets max_osd) → IsVerdict r buckets max_osd
-    by_tests (Ok x) true true e a b = record {
-      lawful = (λ _. (a.0 refl, b.0 refl), λ _. refl);
-      limit = (λ h. absurd (cc), λ out. absurd (out (a.0 refl)));
-      forest = (λ h. absurd (cc), λ h. absurd (h.1 (b.0 refl)));
-    }
-    by_tests (Ok x) true false e a b = absurd (cc)
-    by_tests (Ok x) false b' e a b = absurd (cc)
-    by_tests (Err BadLimit) true true e a b = absurd (cc)
-    by_tests (Err BadLimit) true false e a b = absurd (cc)
-    by_tests (Err BadLimit) false b' e a b =
-        let out = λ (h : IsWithinLimits buckets max_osd). false≢true (a.1 h) in
-        record {
-          lawful = (λ h. absurd (false≢true h), λ h. absurd (out h.0));
-          limit = (λ _. out, λ _. refl);
-          forest = (λ h. absurd (cc), λ h. absurd (out h.0));
-        }
-    by_tests (Err BadForest) true true e a b = absurd (cc)
-    by_tests (Err BadForest) true false e a b =
-        let ill = λ (h : IsWellFormed buckets max_osd). false≢true (b.1 h) in
-        record {
-          lawful = (λ h. absurd (false≢true h), λ h. absurd (ill h.1));
-          limit = (λ h. absurd (cc), λ out. absurd (out (a.0 refl)));
-          forest = (λ _. (a.0 refl, ill), λ _. refl);
-        }
-    by_tests (Err BadForest) false b' e a b = absurd (cc)
+pub forest-verdict : {T : Type 0} (r : Result T ForestError) (buckets : List Bucket) (max_osd : ℕ) → result_err r ≡ forest_fault buckets max_osd → IsVerdict r BadLimit BadForest (IsWithinLimits buckets max_osd) (IsWellFormed buckets max_osd)
+forest-verdict r buckets max_osd e = verdict r (forest_limits_ok buckets max_osd) (forest_ok buckets max_osd) BadLimit BadForest (λ same. cc) e (decides-limits buckets max_osd) (decides-forest buckets max_osd)

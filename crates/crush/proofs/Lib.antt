@@ -11,9 +11,13 @@ pub mod Bounds
 pub mod Chains
 pub mod Counts
 pub mod Deciding
+pub mod DecidingRules
+pub mod Down
 pub mod Ids
+pub mod Judging
 pub mod Made
 pub mod Marks
+pub mod Ordered
 pub mod Pickable
 pub mod Places
 pub mod RuleLemmas

@@ -1,10 +1,8 @@
 -- What the tests of a forest say, as facts: its limits, and that it is well formed (CRUSH paper, SC 2006, section 3.3).
-use Rattle.std.specs.Prelude.{◌≡◌, ◌↔◌, ℕ, ◌<◌, ◌≤◌, ◌^◌, ℤ, pos, negsuc, neg_ℤ, ◌<ℤ◌, ◌≤ℤ◌, List, length, All, IsSome, IsOk, IsErrOf, Result}
+use Rattle.std.specs.Prelude.{◌≡◌, ℕ, ◌<◌, ◌≤◌, ◌^◌, ℤ, pos, negsuc, neg_ℤ, ◌<ℤ◌, ◌≤ℤ◌, List, length, All, IsSome, MatchOption}
 use Rattle.crush.specs.declared.bucket.Item.{Item}
 use Rattle.crush.specs.declared.bucket.Bucket.{Bucket}
 use Rattle.crush.specs.declared.bucket.BucketKind.TheVariants.{Uniform}
-use Rattle.crush.specs.declared.fault.ForestError.{ForestError}
-use Rattle.crush.specs.declared.fault.ForestError.TheVariants.{BadLimit, BadForest}
 use Rattle.crush.specs.Forest.{bucket_at, level_of, weight_of}
 use Rattle.crush.specs.WellFormed.{buckets_with, times_in}
 
@@ -51,8 +49,11 @@ pub record IsWellFormed (buckets : List Bucket) (max_osd : ℕ) : Type 0 where
   pub fits : All (λ b. weight_of b.items < 2 ^ 32) buckets
   pub even : All (λ b. b.kind ≡ Uniform → All (λ i. All (λ j. i.weight ≡ j.weight) b.items) b.items) buckets
 
--- what an answer says of the buckets: they are lawful, or break a limit, or are within the limits and not well formed
-pub record IsVerdict {T : Type 0} (result : Result T ForestError) (buckets : List Bucket) (max_osd : ℕ) : Type 0 where
-  pub lawful : IsOk result ↔ (IsWithinLimits buckets max_osd × IsWellFormed buckets max_osd)
-  pub limit : IsErrOf result BadLimit ↔ (¬ IsWithinLimits buckets max_osd)
-  pub forest : IsErrOf result BadForest ↔ (IsWithinLimits buckets max_osd × (¬ IsWellFormed buckets max_osd))
+-- a device's number
+abbrev pub IsDevice : ℤ → Type 0
+IsDevice (pos n) = n < 1024
+IsDevice (negsuc n) = ⊥
+
+-- each item of a bucket is a device, or a bucket of a type below that of its own
+abbrev pub LeadsDown : List Bucket → Bucket → Type 0
+LeadsDown buckets b = All (λ i. MatchOption (bucket_at buckets i.id) (IsDevice i.id) (λ c. c.level < b.level)) b.items

@@ -1,6 +1,6 @@
 -- Which lists of steps are rules: the limits, the grammar, and the buckets that they take (CRUSH paper, SC 2006,
 -- section 3.2; Ceph, crush.h). The grammar is narrower than Ceph's.
-use Rattle.std.specs.Prelude.{Bool, true, false, IsTrue, ◌&&◌, nat_le, nat_lt, ◌-◌, ◌==◌, not, slice_get, take, List, [], ◌∷◌, length, if◌then◌else◌, Option, Some, None, is_some}
+use Rattle.std.specs.Prelude.{◌≡◌, ◌<◌, All, ◌++◌, Bool, true, false, IsTrue, ◌&&◌, nat_le, nat_lt, ◌-◌, ◌==◌, not, slice_get, take, List, [], ◌∷◌, length, if◌then◌else◌, Option, Some, None, is_some}
 use Rattle.std.specs.List.{list_all, slice_split}
 use Rattle.std.specs.Option.{option_map_or}
 use Rattle.crush.specs.declared.bucket.Bucket.{Bucket}
@@ -64,6 +64,18 @@ ends steps = option_map_or is_emit (slice_get steps (length steps - 1)) false
 -- a rule: one or more blocks, each ended by an emit
 abbrev pub is_rule : RuleKind → List Step → Bool
 is_rule kind steps = ends steps && are_blocks kind (take (length steps - 1) steps)
+
+-- the steps of blocks, one after another, each ended by an emit
+abbrev pub steps_of : List (List Step) → List Step
+steps_of [] = []
+steps_of (block ∷ blocks) = block ++ step.Emit ∷ steps_of blocks
+
+-- the grammar as a fact: the steps are those of one or more blocks
+pub record IsGrammatical (kind : RuleKind) (steps : List Step) : Type 0 where
+  pub blocks : List (List Step)
+  pub some : 0 < length blocks
+  pub lawful : All (λ block. IsTrue (is_block kind block)) blocks
+  pub made : steps ≡ steps_of blocks
 
 -- a step takes no bucket that the forest has not
 abbrev pub takes_known : List Bucket → Step → Bool

@@ -2,7 +2,9 @@ pub mod Facts
 pub mod Fault
 pub mod Forest
 pub mod Grammar
+pub mod Order
 pub mod Paths
+pub mod RuleFacts
 pub mod Rules
 pub mod Items
 pub mod Uniform
@@ -18,3 +20,4 @@ pub mod Run
 pub mod Laws
 pub mod Slots
 pub mod WellFormed
+pub mod Verdict

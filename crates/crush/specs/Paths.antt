@@ -1,4 +1,5 @@
--- What stands above what in a forest (CRUSH paper, SC 2006, section 3.3): chains of buckets, each an item of the one before.
+-- What stands above what in a forest: chains of buckets, each an item of the one before (CRUSH paper, SC 2006,
+-- section 3.3).
 use Rattle.std.specs.Prelude.{◌≡◌, ℕ, Bool, ℤ, List, [], ◌∷◌, IsTrue, IsSomeAnd, Any}
 use Rattle.std.specs.Ordering.{int_eq}
 use Rattle.std.specs.List.{list_any}

@@ -19,7 +19,8 @@ is_within low high n = nat_le low n && nat_le n high
 abbrev pub is_bucket_id : ℤ → Bool
 is_bucket_id id = int_le (neg_ℤ (pos 65536)) id && int_lt id (pos 0)
 
--- an item within the limits: an id that a bucket may have or a device up to 1,023, of a weight from 1 on (its type ends it)
+-- an item within the limits: an id that a bucket may have or a device up to 1,023, of a weight from 1 on; its type
+-- ends the weight at 4,294,967,295
 abbrev pub item_limits_ok : Item → Bool
 item_limits_ok i = int_le (neg_ℤ (pos 65536)) i.id && int_le i.id (pos 1023) && nat_lt 0 i.weight
 
@@ -48,9 +49,13 @@ abbrev pub is_known : List Bucket → ℕ → ℤ → Bool
 is_known buckets max_osd (pos n) = nat_lt n max_osd
 is_known buckets max_osd (negsuc n) = is_some (bucket_at buckets (negsuc n))
 
+-- an item that is known, and of a type below that of its bucket
+abbrev pub is_item_ok : List Bucket → ℕ → ℕ → Item → Bool
+is_item_ok buckets max_osd level i = is_known buckets max_osd i.id && nat_lt (level_of buckets i.id) level
+
 -- each item is known, and its type is below that of its bucket
 abbrev pub has_items_below : List Bucket → ℕ → Bool
-has_items_below buckets max_osd = list_all (λ b. list_all (λ i. is_known buckets max_osd i.id && nat_lt (level_of buckets i.id) b.level) b.items) buckets
+has_items_below buckets max_osd = list_all (λ b. list_all (is_item_ok buckets max_osd b.level) b.items) buckets
 
 -- no item stands in the forest twice
 abbrev pub has_items_once : List Bucket → Bool

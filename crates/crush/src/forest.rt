@@ -34,20 +34,24 @@ impl Forest {
     ghost use Rattle.std.specs.List.{find};
     ghost use Rattle.std.specs.Option.{option_copied};
     ghost use Rattle.std.specs.Result.{result_err};
-    ghost use Rattle.crush.specs.Facts.{IsWithinLimits, IsWellFormed, IsVerdict};
+    ghost use Rattle.crush.specs.Facts.{IsWithinLimits, IsWellFormed, LeadsDown};
     ghost use Rattle.crush.specs.Forest.{bucket_at, level_of, IsPickable};
+    ghost use Rattle.crush.specs.Order.{by_id};
     ghost use Rattle.crush.specs.Paths.{has_item, IsAbove, IsAncestor};
+    ghost use Rattle.crush.specs.Verdict.{IsVerdict};
     ghost use Rattle.crush.specs.WellFormed.{forest_fault, IsForest, IsDescending};
 
-    /// The forest of these buckets over the devices from 0 up to below `max_osd`. It is refused with 12 (BadLimit) where
-    /// it has no bucket or more than 512, `max_osd` is not in 1 to 1,024, or a bucket has an id outside -1 to -65,536,
-    /// a type outside 1 to 15, no item or more than 64, or an item outside -65,536 to 1,023 or of weight 0; else with
-    /// 13 (BadForest) where two buckets have one id, an item is no bucket of the forest and no device below `max_osd`,
-    /// an item's type is not below its bucket's, an item stands in the forest twice, or the weights of a bucket come to
-    /// more than 4,294,967,295 or differ in a uniform bucket.
+    /// The forest of these buckets over the devices from 0 up to below `max_osd`, its buckets by id from -1 downwards.
+    /// It is refused with 12 (BadLimit) where it has no bucket or more than 512, `max_osd` is not in 1 to 1,024, or a
+    /// bucket has an id outside -1 to -65,536, a type outside 1 to 15, no item or more than 64, or an item outside
+    /// -65,536 to 1,023 or of weight 0; else with 13 (BadForest) where two buckets have one id, an item is no bucket of
+    /// the forest and no device below `max_osd`, an item's type is not below its bucket's, an item stands in the forest
+    /// twice, or the weights of a bucket come to more than 4,294,967,295 or differ in a uniform bucket.
     pub fn new(buckets: Vec<Bucket>, max_osd: u32) -> Result<Self, ForestError>
         ensures fault { result_err result ≡ forest_fault buckets.items max_osd }
-        ensures verdict { IsVerdict result buckets.items max_osd }
+        ensures verdict { IsVerdict result ForestError.BadLimit ForestError.BadForest
+            (IsWithinLimits buckets.items max_osd) (IsWellFormed buckets.items max_osd) }
+        ensures value { IfOk result (λ f. f ≡ by_id buckets.items) }
         ensures same { IfOk result (IsPermutation buckets.items) }
         ensures descending { IfOk result IsDescending }
         ensures buckets { IfOk result (λ f. (id : ℤ) → bucket_at f id ≡ bucket_at buckets.items id) }
@@ -77,6 +81,7 @@ impl Forest {
     pub fn bucket(&self, id: i32) -> Option<&Bucket>
         ensures value { option_copied result ≡ bucket_at self.now id }
         ensures within { IfSome result (λ b. IsPickable b.now) }
+        ensures leads_down { IfSome result (λ b. LeadsDown self.now b.now) }
     {
         bucket_of(&self.buckets, id)
     }

@@ -63,8 +63,10 @@ impl Model for Rule {
 impl Rule {
     ghost use Rattle.std.specs.Prelude.{◌≡◌, ◌↔◌, IfOk, IsTrue};
     ghost use Rattle.std.specs.Result.{result_err};
-    ghost use Rattle.crush.specs.Grammar.{IsLawful, rule_fault};
+    ghost use Rattle.crush.specs.Grammar.{IsLawful, IsGrammatical, rule_fault};
     ghost use Rattle.crush.specs.Paths.{Reaches};
+    ghost use Rattle.crush.specs.RuleFacts.{IsRuleWithin, IsRuleOver};
+    ghost use Rattle.crush.specs.Verdict.{IsVerdict};
 
     /// The rule of these steps over a forest. It is refused with 12 (BadLimit) where it has no step or more than 16,
     /// takes a bucket outside -1 to -65,536, or chooses a type above 15 or more than 10 items; else with 14 (BadRule)
@@ -72,6 +74,8 @@ impl Rule {
     pub fn new(kind: RuleKind, steps: Vec<Step>, forest: &Forest) -> Result<Self, RuleError>
         ensures value { IfOk result (λ r. r ≡ record { kind = kind; steps = steps.items }) }
         ensures fault { result_err result ≡ rule_fault kind steps.items forest.now }
+        ensures verdict { IsVerdict result RuleError.BadLimit RuleError.BadRule
+            (IsRuleWithin steps.items) (IsRuleOver kind steps.items forest.now) }
     {
         if !is_within_limits(&steps) {
             return Err(RuleError::BadLimit);
@@ -93,6 +97,7 @@ impl Rule {
     pub fn steps(&self) -> &[Step]
         ensures value { result.now ≡ self.now.steps }
         ensures lawful { IsLawful self.now.kind self.now.steps }
+        ensures grammar { IsGrammatical self.now.kind self.now.steps }
     {
         &self.steps
     }

@@ -1,7 +1,7 @@
 ghost use Rattle.std.specs.Prelude.{◌≡◌, ◌<◌, ◌≤◌, ◌&&◌, ◌==◌, nat_lt, length, IsTrue};
 ghost use Rattle.std.specs.List.{list_all};
 ghost use Rattle.crush.specs.Forest.{level_of, weight_of};
-ghost use Rattle.crush.specs.WellFormed.{item_limits_ok, bucket_limits_ok, forest_limits_ok, has_own_ids, is_known, has_items_below, has_items_once, is_even, weights_ok, forest_ok, IsDescending, IsNotAscending};
+ghost use Rattle.crush.specs.WellFormed.{item_limits_ok, bucket_limits_ok, forest_limits_ok, has_own_ids, is_item_ok, has_items_below, has_items_once, is_even, weights_ok, forest_ok, IsDescending, IsNotAscending};
 
 use crate::bucket::{Bucket, BucketKind, Item};
 use crate::grammar::is_bucket_id;
@@ -64,7 +64,7 @@ fn have_own_ids(buckets: &[Bucket]) -> bool
 /// Whether an item is known, and its type below that of its bucket.
 fn is_item_below(buckets: &[Bucket], max_osd: u32, item: &Item, level: u8) -> bool
     requires { IsDescending buckets.now }
-    ensures { result ≡ (is_known buckets.now max_osd item.now.id && nat_lt (level_of buckets.now item.now.id) level) }
+    ensures { result ≡ is_item_ok buckets.now max_osd level item.now }
 {
     is_known(buckets, max_osd, item.id) && level_of(buckets, item.id) < level
 }
@@ -72,7 +72,7 @@ fn is_item_below(buckets: &[Bucket], max_osd: u32, item: &Item, level: u8) -> bo
 /// Whether each item of a bucket is known, and its type below that of the bucket.
 fn are_items_below(buckets: &[Bucket], max_osd: u32, items: &[Item], level: u8) -> bool
     requires { IsDescending buckets.now }
-    ensures { result ≡ list_all (λ i. is_known buckets.now max_osd i.id && nat_lt (level_of buckets.now i.id) level) items.now }
+    ensures { result ≡ list_all (is_item_ok buckets.now max_osd level) items.now }
 {
     items
         .iter()

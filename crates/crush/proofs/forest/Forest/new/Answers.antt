@@ -1,8 +1,9 @@
 use Rattle.std.proofs.Common.{Ok, Err, sym, ◌∙◌, rules}
 use Rattle.std.proofs.lemmas.Fn.{always_returns_same}
 use Rattle.crush.specs.declared.fault.ForestError.TheVariants.{BadLimit, BadForest}
-use Rattle.crush.proofs.Deciding.{verdict}
+use Rattle.crush.proofs.Deciding.{forest-verdict}
 use Rattle.crush.proofs.Made.{descending-own, forest-passed, fault-limit, fault-forest, fault-none, own-ok}
+use Rattle.crush.proofs.Ordered.{by_id-sorted}
 use Rattle.crush.proofs.Sorted.{sorted-falls, own_ids-moved, limits-moved, bucket_at-moved}
 use Rattle.crush.proofs.forest.Forest.new.Goals as goal
 
@@ -50,10 +51,17 @@ returns-clause-buckets c =
 pub returns-then-not-is_within_limits-clause-verdict : goal.returns-then-not-is_within_limits-clause-verdict
 returns-then-not-is_within_limits-clause-verdict c =
     let bad = rw c.deref.ensures.value at (sym c.is_within_limits.ensures ∙ c.if-not-is_within_limits.true) in
-    verdict (Err BadLimit) c.args.buckets.items c.args.max_osd (fault-limit c.args.buckets.items c.args.max_osd bad)
+    forest-verdict (Err BadLimit) c.args.buckets.items c.args.max_osd (fault-limit c.args.buckets.items c.args.max_osd bad)
 
 pub returns-then-not-is_well_formed-clause-verdict : goal.returns-then-not-is_well_formed-clause-verdict
-returns-then-not-is_well_formed-clause-verdict c = verdict (Err BadForest) c.args.buckets.items c.args.max_osd (returns-then-not-is_well_formed-clause-fault c)
+returns-then-not-is_well_formed-clause-verdict c = forest-verdict (Err BadForest) c.args.buckets.items c.args.max_osd (returns-then-not-is_well_formed-clause-fault c)
 
 pub returns-clause-verdict : goal.returns-clause-verdict
-returns-clause-verdict c = verdict (Ok c.sort_unstable_by_key.new.self.items) c.args.buckets.items c.args.max_osd (returns-clause-fault c)
+returns-clause-verdict c = forest-verdict (Ok c.sort_unstable_by_key.new.self.items) c.args.buckets.items c.args.max_osd (returns-clause-fault c)
+
+pub returns-clause-value : goal.returns-clause-value
+returns-clause-value c =
+    let ok = rw c.deref-2.ensures.value at (sym c.is_well_formed.ensures ∙ c.if-not-is_well_formed.false) in
+    let moved = c.sort_unstable_by_key.ensures.permutation in
+    let own = sym (own_ids-moved _ _ moved) ∙ own-ok c.sort_unstable_by_key.new.self.items c.args.max_osd ok in
+    by_id-sorted c.args.buckets.items c.sort_unstable_by_key.new.self.items moved own (returns-clause-descending c)
