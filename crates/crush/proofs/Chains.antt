@@ -31,7 +31,7 @@ some-and : {X : Type 0} (P : X → Type 0) (o : Option X) → IsSomeAnd o P → 
 some-and P None h = absurd h
 some-and P (Some x) h = (x, refl, h)
 
-and-some : {X : Type 0} (P : X → Type 0) (o : Option X) (x : X) → o ≡ Some x → P x → IsSomeAnd o P
+pub and-some : {X : Type 0} (P : X → Type 0) (o : Option X) (x : X) → o ≡ Some x → P x → IsSomeAnd o P
 and-some P o x e h = rw e h
 
 module _ (buckets : List Bucket) (forest : IsForest buckets) where

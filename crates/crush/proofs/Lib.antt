@@ -10,6 +10,7 @@ pub mod Rounds
 pub mod Bounds
 pub mod Chains
 pub mod Counts
+pub mod Deciding
 pub mod Ids
 pub mod Made
 pub mod Marks
@@ -22,4 +23,8 @@ pub mod Sought
 pub mod Packed
 pub mod Positions
 pub mod Picked
-pub mod WeightSums
+pub mod Within
+pub mod Alike
+pub mod Runs
+pub mod Weighing
+pub mod Reached

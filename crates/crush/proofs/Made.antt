@@ -37,10 +37,10 @@ forest-passed buckets max_osd sorted limits ok =
     }
 
 -- what is wrong with buckets, by what is wrong with them in order
-module _ (given ordered : List Bucket) (moved : IsPermutation given ordered) (max_osd : ℕ) where
-  pub fault-limit : forest_limits_ok given max_osd ≡ false → Some BadLimit ≡ forest_fault given max_osd
-  fault-limit bad = rw bad
+pub fault-limit : (given : List Bucket) (max_osd : ℕ) → forest_limits_ok given max_osd ≡ false → Some BadLimit ≡ forest_fault given max_osd
+fault-limit given max_osd bad = rw bad
 
+module _ (given ordered : List Bucket) (moved : IsPermutation given ordered) (max_osd : ℕ) where
   pub fault-forest : forest_limits_ok given max_osd ≡ true → forest_ok ordered max_osd ≡ false → Some BadForest ≡ forest_fault given max_osd
   fault-forest limits bad = rw (limits, sym (forest_ok-moved given ordered moved max_osd) ∙ bad)
 

@@ -20,17 +20,17 @@ use Rattle.crush.specs.Laws.{takes_devices, IsSegment, FirstnIsSegment}
 use Rattle.crush.proofs.Sought.{leaf_accepted, neither, other_holds, no_device, other_key}
 
 -- an attempt, by the tests that it makes
-attempt_by : Bool → Bool → Bool → Option ℤ → ℤ → Attempt
+unfoldable pub attempt_by : Bool → Bool → Bool → Option ℤ → ℤ → Attempt
 attempt_by held to_leaf barred leaf item = cond held Failed (cond to_leaf (with_leaf item leaf) (cond barred Failed (Chosen (record { item = item; leaf = item }))))
 
 -- what is known of an item that was chosen
-record IsChoice (held to_leaf barred : Bool) (leaf : Option ℤ) (item : ℤ) (e : Choice) : Type 0 where
-  apart : held ≡ false
-  item_is : item ≡ e.item
-  taken : to_leaf ≡ true → leaf ≡ Some e.leaf
-  itself : to_leaf ≡ false → (e.leaf ≡ e.item) × (barred ≡ false)
+pub record IsChoice (held to_leaf barred : Bool) (leaf : Option ℤ) (item : ℤ) (e : Choice) : Type 0 where
+  pub apart : held ≡ false
+  pub item_is : item ≡ e.item
+  pub taken : to_leaf ≡ true → leaf ≡ Some e.leaf
+  pub itself : to_leaf ≡ false → (e.leaf ≡ e.item) × (barred ≡ false)
 
-chosen_by : (held to_leaf barred : Bool) (leaf : Option ℤ) (item : ℤ) (e : Choice) → attempt_by held to_leaf barred leaf item ≡ Chosen e → IsChoice held to_leaf barred leaf item e
+pub chosen_by : (held to_leaf barred : Bool) (leaf : Option ℤ) (item : ℤ) (e : Choice) → attempt_by held to_leaf barred leaf item ≡ Chosen e → IsChoice held to_leaf barred leaf item e
 unfolding attempt_by
 chosen_by true to_leaf barred leaf item e h = absurd (cc)
 chosen_by false true barred None item e h = absurd (cc)
@@ -77,7 +77,7 @@ unfolding attempt_of
 fresh_of w c t chosen start r e h = fresh_at w c t chosen r (item_below w (λ _. r) c.level start) e h
 
 -- the first that is no failure is this one or comes later
-first_of : (a : Attempt) (rest : Option Attempt) (e : Choice) → unwrap_or (cond (not (is_failed a)) (Some a) rest) Failed ≡ Chosen e → (a ≡ Chosen e) ⊎ (unwrap_or rest Failed ≡ Chosen e)
+pub first_of : (a : Attempt) (rest : Option Attempt) (e : Choice) → unwrap_or (cond (not (is_failed a)) (Some a) rest) Failed ≡ Chosen e → (a ≡ Chosen e) ⊎ (unwrap_or rest Failed ≡ Chosen e)
 first_of Abandoned rest e h = absurd (cc)
 first_of Failed rest e h = inr h
 first_of (Chosen a) rest e h = inl h

@@ -21,17 +21,17 @@ use Rattle.crush.specs.Laws.{takes_devices, AreApart, HoldsNoneOut, ArePositions
 use Rattle.crush.proofs.Sought.{leaf_accepted, other_holds, no_device, not_true}
 
 -- what a position becomes, by the tests that are made
-position_by : Bool → Bool → Bool → Option ℤ → ℤ → Position
+unfoldable pub position_by : Bool → Bool → Bool → Option ℤ → ℤ → Position
 position_by held to_leaf barred leaf item = cond held Open (cond to_leaf (filled_with item leaf) (cond barred Open (Filled (record { item = item; leaf = item }))))
 
 -- what is known of an item that fills a position
-record FillsBy (held to_leaf barred : Bool) (leaf : Option ℤ) (item : ℤ) (e : Choice) : Type 0 where
-  apart : held ≡ false
-  item_is : item ≡ e.item
-  taken : to_leaf ≡ true → leaf ≡ Some e.leaf
-  itself : to_leaf ≡ false → (e.leaf ≡ item) × (barred ≡ false)
+pub record FillsBy (held to_leaf barred : Bool) (leaf : Option ℤ) (item : ℤ) (e : Choice) : Type 0 where
+  pub apart : held ≡ false
+  pub item_is : item ≡ e.item
+  pub taken : to_leaf ≡ true → leaf ≡ Some e.leaf
+  pub itself : to_leaf ≡ false → (e.leaf ≡ item) × (barred ≡ false)
 
-filled_by : (held to_leaf barred : Bool) (leaf : Option ℤ) (item : ℤ) (e : Choice) → position_by held to_leaf barred leaf item ≡ Filled e → FillsBy held to_leaf barred leaf item e
+pub filled_by : (held to_leaf barred : Bool) (leaf : Option ℤ) (item : ℤ) (e : Choice) → position_by held to_leaf barred leaf item ≡ Filled e → FillsBy held to_leaf barred leaf item e
 unfolding position_by
 filled_by true to_leaf barred leaf item e h = absurd (cc)
 filled_by false true barred None item e h = absurd (cc)
@@ -137,7 +137,7 @@ positions_turn w c t numrep start round count positions rep true s =
     }
 
 -- what each step of a fold keeps the fold keeps
-fold_keeps : {A B : Type 0} (P : B → Type 0) (f : B → A → B) → ((b : B) (x : A) → P b → P (f b x)) → (b : B) (xs : List A) → P b → P (fold f b xs)
+pub fold_keeps : {A B : Type 0} (P : B → Type 0) (f : B → A → B) → ((b : B) (x : A) → P b → P (f b x)) → (b : B) (xs : List A) → P b → P (fold f b xs)
 fold_keeps P f step b [] s = s
 fold_keeps P f step b (x ∷ xs) s = fold_keeps P f step (f b x) xs (step b x s)
 

@@ -1,5 +1,5 @@
 -- What follows from the definitions of placement.
-use Rattle.std.specs.Prelude.{◌<◌, ◌≡◌, ◌≢◌, ℕ, ◌+◌, Bool, true, false, ◌||◌, List, length, slice_index_or, ◌==◌}
+use Rattle.std.specs.Prelude.{◌<◌, ◌≡◌, ◌≢◌, ℕ, ◌+◌, Bool, true, false, ◌||◌, List, length, slice_index_or, ◌==◌, pos, Option, Some, slice_index, Contains}
 use Rattle.std.specs.List.{All, AllPairs, range_with_len}
 use Rattle.std.specs.List.Sorted.{IsPermutation}
 use Rattle.crush.specs.declared.bucket.Item.{Item}
@@ -10,14 +10,20 @@ use Rattle.crush.specs.declared.choose.Position.{Position}
 use Rattle.crush.specs.declared.choose.Position.TheVariants.{Hole, Filled}
 use Rattle.crush.specs.declared.choose.Tries.{Tries}
 use Rattle.crush.specs.declared.rule.Choose.{Choose}
+use Rattle.crush.specs.declared.rule.RuleKind.{RuleKind}
+use Rattle.crush.specs.declared.rule.Step.{Step}
 use Rattle.crush.specs.Forest.{word, IsPickable}
 use Rattle.crush.specs.Items.{item_at}
 use Rattle.crush.specs.Uniform.{draw_order}
 use Rattle.crush.specs.Listed.{wins_at}
 use Rattle.crush.specs.Pick.{place_of}
-use Rattle.crush.specs.World.{World, is_out}
+use Rattle.crush.specs.World.{World, world_of, is_out}
 use Rattle.crush.specs.Firstn.{firstn}
 use Rattle.crush.specs.Indep.{is_open, indep}
+use Rattle.crush.specs.Run.{run_of}
+use Rattle.crush.specs.Grammar.{IsLawful}
+use Rattle.crush.specs.Paths.{Reaches}
+use Rattle.crush.specs.WellFormed.{IsForest}
 
 -- the greatest place that wins its draw
 pub record IsGreatestWinner (x id r : ℕ) (items : List Item) (place : ℕ) : Type 0 where
@@ -77,3 +83,14 @@ IndepKeepsPositions = (w : World) (c : Choose) (leaf rounds more : ℕ) (start :
     let before = indep w c (record { total = rounds; leaf = leaf }) start numrep count in
     let after = indep w c (record { total = rounds + more; leaf = leaf }) start numrep count in
     is_open (slice_index_or before place Hole) ≡ false → slice_index_or after place Hole ≡ slice_index_or before place Hole
+
+-- everything that a rule places is reached
+abbrev pub RunPlacesReached : Type 0
+RunPlacesReached = (buckets : List Bucket) (kind : RuleKind) (steps : List Step) (weights : List ℕ) (x size : ℕ) → IsForest buckets → IsLawful kind steps →
+    (osd : ℕ) → Contains (run_of (world_of buckets weights x) steps size) (Some (pos osd)) → Reaches buckets steps (pos osd)
+
+-- two lists of reweights that agree on the devices that a rule reaches give the same places
+abbrev pub RunReadsReached : Type 0
+RunReadsReached = (buckets : List Bucket) (kind : RuleKind) (steps : List Step) (weights others : List ℕ) (x size : ℕ) → IsForest buckets → IsLawful kind steps →
+    ((osd : ℕ) → Reaches buckets steps (pos osd) → slice_index weights osd ≡ slice_index others osd) →
+    run_of (world_of buckets weights x) steps size ≡ run_of (world_of buckets others x) steps size

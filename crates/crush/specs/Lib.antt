@@ -1,3 +1,4 @@
+pub mod Facts
 pub mod Fault
 pub mod Forest
 pub mod Grammar

@@ -34,6 +34,7 @@ impl Forest {
     ghost use Rattle.std.specs.List.{find};
     ghost use Rattle.std.specs.Option.{option_copied};
     ghost use Rattle.std.specs.Result.{result_err};
+    ghost use Rattle.crush.specs.Facts.{IsWithinLimits, IsWellFormed, IsVerdict};
     ghost use Rattle.crush.specs.Forest.{bucket_at, level_of, IsPickable};
     ghost use Rattle.crush.specs.Paths.{has_item, IsAbove, IsAncestor};
     ghost use Rattle.crush.specs.WellFormed.{forest_fault, IsForest, IsDescending};
@@ -46,6 +47,7 @@ impl Forest {
     /// more than 4,294,967,295 or differ in a uniform bucket.
     pub fn new(buckets: Vec<Bucket>, max_osd: u32) -> Result<Self, ForestError>
         ensures fault { result_err result ≡ forest_fault buckets.items max_osd }
+        ensures verdict { IsVerdict result buckets.items max_osd }
         ensures same { IfOk result (IsPermutation buckets.items) }
         ensures descending { IfOk result IsDescending }
         ensures buckets { IfOk result (λ f. (id : ℤ) → bucket_at f id ≡ bucket_at buckets.items id) }
@@ -64,7 +66,9 @@ impl Forest {
     /// The buckets, by id from -1 downwards.
     pub fn buckets(&self) -> &[Bucket]
         ensures value { result.now ≡ self.now }
-        ensures well_formed { IsForest self.now }
+        ensures descending { IsDescending self.now }
+        ensures limits { IsWithinLimits self.now 1024 }
+        ensures well_formed { IsWellFormed self.now 1024 }
     {
         &self.buckets
     }
@@ -159,3 +163,6 @@ fn copies_of(alloc: Global, buckets: &[Bucket]) -> Result<Vec<Bucket>, AllocErro
     }
     Ok(copies)
 }
+
+#[cfg(test)]
+mod tests;

@@ -1,6 +1,6 @@
 //! What follows from the definitions of placement: each law is the contract of a function that does nothing.
 
-ghost use Rattle.crush.specs.Laws.{DrawsEachPlaceOnce, ListPicksGreatestWinner, TreePicksWeight, FirstnIsSegment, IndepIsPositions, IndepKeepsPositions};
+ghost use Rattle.crush.specs.Laws.{DrawsEachPlaceOnce, ListPicksGreatestWinner, TreePicksWeight, FirstnIsSegment, IndepIsPositions, IndepKeepsPositions, RunPlacesReached, RunReadsReached};
 
 /// A uniform bucket draws each of its places once, so it picks all of its items at n replica numbers in a row.
 pub fn uniform_draws_each_place_once()
@@ -31,4 +31,14 @@ pub fn indep_is_positions()
 /// What a round decided for a position stays through all later rounds.
 pub fn indep_keeps_positions()
     ensures { IndepKeepsPositions }
+{}
+
+/// Every device that a rule places is one that it reaches.
+pub fn run_places_reached()
+    ensures { RunPlacesReached }
+{}
+
+/// A rule places by the reweights of the devices that it reaches, and by no other reweight.
+pub fn run_reads_reached()
+    ensures { RunReadsReached }
 {}

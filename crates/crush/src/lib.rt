@@ -12,9 +12,9 @@ mod indep;
 pub mod laws;
 pub mod limits;
 pub mod memory;
-mod met;
 pub mod pick;
 pub mod placement;
+mod met;
 pub mod rule;
 mod run;
 mod search;
@@ -30,3 +30,6 @@ pub use memory::Memory;
 pub use rule::{Choose, Mode, Rule, RuleKind, Step};
 pub use weights::Weights;
 pub use work::Work;
+
+#[cfg(test)]
+mod worked_values;

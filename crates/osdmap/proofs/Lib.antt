@@ -8,3 +8,6 @@ pub mod Distinct
 pub mod BuildLemmas
 pub mod Listing
 pub mod Built
+pub mod PlacementLemmas
+pub mod EvalsLemmas
+mod PgTexts

@@ -1,5 +1,5 @@
 -- The OSDs that a change names.
-use Rattle.std.proofs.Common.{◌≡◌, ℕ, ◌+◌, ◌<◌, ◌≤◌, Bool, true, false, not, ◌&&◌, List, [], ◌∷◌, ◌++◌, map, length, refl, arith, nat_lt, IsTrue, slice_get, None, Some}
+use Rattle.std.proofs.Common.{◌≡◌, ℕ, ◌≤◌, Bool, true, false, ◌&&◌, List, [], ◌∷◌, length, refl, arith, nat_lt, slice_get, None, Some}
 use mathlib.Core.Bool.{false≢true}
 use Rattle.std.specs.List.{list_all}
 use Rattle.std.specs.Option.{option_map_or}
@@ -7,8 +7,6 @@ use Rattle.std.proofs.lemmas.Option.{slice_get_within}
 use Rattle.osdmap.specs.Marks.{are_below}
 use Rattle.osdmap.proofs.Tests.{and_first, and_second}
 use Rattle.std.proofs.lemmas.Bool.Decides.{nat_tests}
-use Rattle.std.proofs.lemmas.Grind.{common_steps}
-use Rattle.osdmap.specs.declared.osd.Presence.{Presence}
 use Rattle.osdmap.specs.declared.change.ChangeParts.{ChangeParts}
 use Rattle.osdmap.specs.declared.refusal.Refusal.TheVariants.{UnknownOsd}
 use Rattle.osdmap.specs.Maps.{ClusterMap, osd_exists}

@@ -9,3 +9,6 @@ pub mod Placement
 pub mod Sets
 pub mod Stated
 pub mod Built
+pub mod Primary
+pub mod PgText
+pub mod Evals

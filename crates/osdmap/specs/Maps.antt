@@ -1,5 +1,5 @@
 -- The map of a cluster as callers see it, and the look-ups in it. A map is finite: rules and pools by id, OSDs by number.
-use Rattle.std.specs.Prelude.{◌≡◌, length, ℕ, ◌==◌, Bool, true, false, List, Option, slice_get, slice_index, ◌≤◌, IsTrue}
+use Rattle.std.specs.Prelude.{◌≡◌, length, ℕ, ◌==◌, Bool, true, false, List, Option, slice_get, slice_index, ◌≤◌}
 use Rattle.std.specs.List.{find, list_all}
 use Rattle.std.specs.Option.{option_map, option_map_or}
 use Rattle.crush.specs.declared.bucket.Bucket.{Bucket}
@@ -53,8 +53,9 @@ is_kind Erasure Erasure = true
 abbrev pub has_rule : List NumberedRule → PoolFacts → Bool
 has_rule rules p = option_map_or (λ r. is_kind r.kind p.kind) (rule_at rules p.rule) false
 
--- what holds in every map: each OSD has a reweight, there are few, and each pool has a rule of its kind
+-- what holds in every map: each OSD has a reweight, there are few OSDs and pools, and each pool has a rule of its kind
 pub record HoldsTogether (m : ClusterMap) : Type 0 where
   pub weighed : length m.weights ≡ length m.presences
   pub few : length m.presences ≤ 1024
+  pub few_pools : length m.pools ≤ 32
   pub ruled : list_all (has_rule m.rules) m.pools ≡ true

@@ -1,13 +1,11 @@
 -- Where the groups of a map are placed (Ceph, OSDMap.cc: _pg_to_raw_osds, _raw_to_up_osds; osd_types.h: raw_pg_to_pps).
-use Rattle.std.specs.Prelude.{◌≡◌, ℕ, ◌+◌, ◌-◌, ◌/◌, ◌^◌, ℤ, pos, negsuc, List, [], ◌∷◌, map, filter, is_some, nat_lt, nat_le, bit_and, Option, Some, None, option_and_then, unwrap_or, IfSome, if◌then◌else◌}
-use Rattle.std.specs.List.{find, range_with_len}
+use Rattle.std.specs.Prelude.{◌≡◌, ℕ, ◌-◌, ◌/◌, ℤ, pos, negsuc, List, [], ◌∷◌, map, nat_lt, nat_le, bit_and, Option, Some, None, option_and_then, unwrap_or, IfSome, if◌then◌else◌}
+use Rattle.std.specs.List.{find}
 use Rattle.std.specs.Option.{option_map_or}
 use Rattle.rjenkins.specs.Jenkins.{hash2_of}
 use Rattle.crush.specs.declared.rule.Step.{Step}
 use Rattle.crush.specs.World.{world_of}
 use Rattle.crush.specs.Run.{run_of}
-use Rattle.crush.specs.declared.rule.RuleKind.{RuleKind}
-use Rattle.crush.specs.declared.rule.RuleKind.TheVariants.{Replicated, Erasure}
 use Rattle.osdmap.specs.declared.pg.Pg.{Pg}
 use Rattle.osdmap.specs.declared.refusal.Refusal.{Refusal}
 use Rattle.osdmap.specs.declared.refusal.Refusal.TheVariants.{UnknownPool, UnknownGroup}
@@ -15,9 +13,9 @@ use Rattle.osdmap.specs.Pools.{PoolFacts}
 use Rattle.osdmap.specs.Sets.{kept}
 use Rattle.osdmap.specs.Maps.{ClusterMap, rule_at, pool_at, osd_exists, osd_is_up}
 
--- 0, 1, 3, 7, .., 4095
-abbrev pub masks : List ℕ
-masks = map (λ k. 2 ^ k - 1) (range_with_len 0 13)
+-- the numbers 2 ^ k - 1 up to 4095
+unfoldable pub masks : List ℕ
+masks = 0 ∷ 1 ∷ 3 ∷ 7 ∷ 15 ∷ 31 ∷ 63 ∷ 127 ∷ 255 ∷ 511 ∷ 1023 ∷ 2047 ∷ 4095 ∷ []
 
 -- the least of these that is at least b - 1, for b up to 4096
 unfoldable pub mask_of : ℕ → ℕ

@@ -9,12 +9,6 @@ use Rattle.osdmap.specs.declared.up_set.UpSet.{UpSet}
 abbrev pub places_of : UpSet → List (Option ℕ)
 places_of s = take s.len s.places
 
--- the primary: the first place that has an OSD
-abbrev pub primary_of : List (Option ℕ) → Option ℕ
-primary_of [] = None
-primary_of (None ∷ places) = primary_of places
-primary_of (Some osd ∷ places) = Some osd
-
 -- what is kept of a place: copies may change their places, so that one without an OSD is left out; coded parts keep theirs
 abbrev pub kept_in : RuleKind → Option ℕ → List (Option ℕ)
 kept_in Replicated None = []

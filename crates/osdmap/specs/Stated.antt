@@ -1,5 +1,5 @@
 -- The map that parts state, or what is wrong with them.
-use Rattle.std.specs.Prelude.{◌≡◌, ℕ, ◌+◌, ◌<◌, ◌==◌, Bool, true, false, not, ◌&&◌, ◌||◌, int_le, nat_lt, nat_abs, List, [], ◌∷◌, map, length, Option, Some, None, Result, MatchResult, ◌⊎◌, if◌then◌else◌}
+use Rattle.std.specs.Prelude.{◌≡◌, ℕ, ◌<◌, ◌==◌, Bool, false, not, ◌&&◌, ◌||◌, int_le, nat_lt, nat_abs, List, map, Option, Some, None, Result, MatchResult, ◌⊎◌, if◌then◌else◌}
 use Rattle.std.specs.List.{find, list_all, range_with_len, AllPairs}
 use Rattle.std.specs.List.Sorted.{IsPermutation}
 use Rattle.std.specs.Option.{option_map_or}
@@ -15,7 +15,6 @@ use Rattle.osdmap.specs.declared.rules.NumberedRule.{NumberedRule}
 use Rattle.osdmap.specs.declared.refusal.Refusal.{Refusal}
 use Rattle.osdmap.specs.declared.refusal.Refusal.TheVariants.{BadLimit, BadForest, BadRule, BadPool, BadOsd, Memory as OutOfMemory}
 use Rattle.osdmap.specs.Parts.{parts_fit, bucket_of, step_of, recipe_of, pool_of}
-use Rattle.osdmap.specs.Pools.{PoolFacts}
 use Rattle.osdmap.specs.Maps.{ClusterMap, has_rule}
 use Rattle.osdmap.specs.Changes.{is_distinct}
 

@@ -3,21 +3,20 @@ ghost use Rattle.std.specs.Prelude.{◌≡◌, IfOk};
 use crate::map::OsdMap;
 use crate::rules::NumberedRule;
 use crush::{Entries, Memory};
-use std::alloc::Global;
+use std::alloc::{AllocError, Global};
 
-/// The same rules once more.
-fn copies_of(alloc: Global, rules: &[NumberedRule]) -> Result<Vec<NumberedRule>, Memory>
+/// Each of some rules once more.
+fn copied_rules(alloc: Global, rules: &[NumberedRule]) -> Result<Vec<NumberedRule>, Memory>
     ensures { IfOk result (λ copies. copies.items ≡ rules.now) }
 {
     let mut copies = Vec::with_capacity(alloc, rules.len())?;
-    for rule in rules {
+    for numbered in rules {
+        let rule = numbered.rule.copy(alloc)?;
         let copy = NumberedRule {
-            id: rule.id,
-            rule: rule.rule.copy(alloc)?,
+            id: numbered.id,
+            rule,
         };
-        if copies.push(copy).is_err() {
-            return Err(Memory);
-        }
+        copies.push(copy).map_err(AllocError::from)?;
     }
     Ok(copies)
 }
@@ -32,7 +31,7 @@ impl OsdMap {
         Ok(OsdMap {
             epoch: self.epoch,
             forest: self.forest.copy(alloc)?,
-            rules: copies_of(alloc, &self.rules)?,
+            rules: copied_rules(alloc, &self.rules)?,
             pools: Vec::from_slice(alloc, &self.pools)?,
             presences: Entries::new(Vec::from_slice(alloc, self.presences.as_slice())?),
             weights: self.weights.copy(alloc)?,

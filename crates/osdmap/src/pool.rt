@@ -69,16 +69,18 @@ impl Pool {
         self.kind
     }
 
-    /// The number of groups.
+    /// The number of groups: at most 4,096.
     pub fn pg_num(&self) -> u32
-        ensures { result ≡ self.now.pg_num }
+        ensures value { result ≡ self.now.pg_num }
+        ensures few { result ≤ 4096 }
     {
         self.pg_num
     }
 
     /// The number of groups for placement.
     pub fn pgp_num(&self) -> u32
-        ensures { result ≡ self.now.pgp_num }
+        ensures value { result ≡ self.now.pgp_num }
+        ensures some { 0 < result }
     {
         self.pgp_num
     }
@@ -90,10 +92,12 @@ impl Pool {
         self.rule
     }
 
-    /// How many OSDs a group has.
-    pub fn size(&self) -> u32
-        ensures { result ≡ self.now.size }
+    /// How many OSDs a group has: 1 to 10.
+    pub fn size(&self) -> u8
+        ensures value { result ≡ self.now.size }
+        ensures some { 1 ≤ result }
+        ensures few { result ≤ 10 }
     {
-        self.size
+        self.size as u8
     }
 }

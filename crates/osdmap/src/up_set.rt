@@ -1,4 +1,5 @@
-ghost use Rattle.std.specs.Prelude.{◌≤◌};
+ghost use Rattle.std.specs.Prelude.{◌≡◌, ◌≤◌};
+ghost use Rattle.osdmap.specs.Primary.{primary_of};
 
 use crush::RuleKind;
 
@@ -13,9 +14,22 @@ pub struct UpSet {
     ghost short: { len ≤ 10 },
 }
 
+/// The first OSD of some places.
+fn first_osd(places: &[Option<u32>]) -> Option<u32>
+    ensures { result ≡ primary_of places.now }
+{
+    for place in places {
+        if let Some(osd) = place {
+            return Some(*osd);
+        }
+    }
+    None
+}
+
 impl UpSet {
+    ghost use Rattle.osdmap.specs.Primary.{primary_of};
     ghost use Rattle.std.specs.Prelude.{◌≡◌, ◌≤◌, ◌<◌, [], ◌∷◌, ◌++◌, length};
-    ghost use Rattle.osdmap.specs.Sets.{places_of, primary_of, kept_in};
+    ghost use Rattle.osdmap.specs.Sets.{places_of, kept_in};
 
     /// The set without a place.
     pub fn new() -> Self
@@ -39,7 +53,7 @@ impl UpSet {
     pub fn primary(&self) -> Option<u32>
         ensures { result ≡ primary_of (places_of self.now) }
     {
-        self.places().iter().copied().flatten().next()
+        first_osd(self.places())
     }
 
     /// One more place.

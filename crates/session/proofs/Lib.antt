@@ -1,0 +1,3 @@
+mod LinesIn
+mod Transcribed
+mod Replies

@@ -1,0 +1,8 @@
+pub mod Sinks
+pub mod Buffers
+pub mod Commands
+pub mod Texts
+pub mod Shown
+pub mod Answers
+pub mod Transcripts
+pub mod Ends

@@ -1,2 +1,10 @@
 //! A session: a script of commands, and the answers to them.
 #![tactic(auto)]
+
+mod answer;
+mod command;
+mod session;
+mod sink;
+
+pub use session::{SessionError, run};
+pub use sink::{Buffer, Sink, WriteFailed, write_whole};

@@ -1,6 +1,8 @@
-use Rattle.std.proofs.Common.{sym, ◌∙◌, rules}
+use Rattle.std.proofs.Common.{Ok, Err, sym, ◌∙◌, rules}
 use Rattle.std.proofs.lemmas.Fn.{always_returns_same}
-use Rattle.crush.proofs.Made.{descending-own, forest-passed, fault-forest, fault-none, own-ok}
+use Rattle.crush.specs.declared.fault.ForestError.TheVariants.{BadLimit, BadForest}
+use Rattle.crush.proofs.Deciding.{verdict}
+use Rattle.crush.proofs.Made.{descending-own, forest-passed, fault-limit, fault-forest, fault-none, own-ok}
 use Rattle.crush.proofs.Sorted.{sorted-falls, own_ids-moved, limits-moved, bucket_at-moved}
 use Rattle.crush.proofs.forest.Forest.new.Goals as goal
 
@@ -44,3 +46,14 @@ returns-clause-buckets c =
     let ok = rw c.deref-2.ensures.value at (sym c.is_well_formed.ensures ∙ c.if-not-is_well_formed.false) in
     let moved = c.sort_unstable_by_key.ensures.permutation in
     bucket_at-moved _ _ moved (sym (own_ids-moved _ _ moved) ∙ own-ok c.sort_unstable_by_key.new.self.items c.args.max_osd ok)
+
+pub returns-then-not-is_within_limits-clause-verdict : goal.returns-then-not-is_within_limits-clause-verdict
+returns-then-not-is_within_limits-clause-verdict c =
+    let bad = rw c.deref.ensures.value at (sym c.is_within_limits.ensures ∙ c.if-not-is_within_limits.true) in
+    verdict (Err BadLimit) c.args.buckets.items c.args.max_osd (fault-limit c.args.buckets.items c.args.max_osd bad)
+
+pub returns-then-not-is_well_formed-clause-verdict : goal.returns-then-not-is_well_formed-clause-verdict
+returns-then-not-is_well_formed-clause-verdict c = verdict (Err BadForest) c.args.buckets.items c.args.max_osd (returns-then-not-is_well_formed-clause-fault c)
+
+pub returns-clause-verdict : goal.returns-clause-verdict
+returns-clause-verdict c = verdict (Ok c.sort_unstable_by_key.new.self.items) c.args.buckets.items c.args.max_osd (returns-clause-fault c)

@@ -1,0 +1,107 @@
+-- What a JSON value states: numbers, words, lists, and objects with the keys that they may have (RFC 8259).
+use Rattle.std.specs.Prelude.{◌≡◌, ℕ, suc, ℤ, ◌==◌, Bool, false, List, [], ◌∷◌, Result, Ok, Err, MatchResult, ◌⊎◌, Option, Some, None, option_map, option_and_then, if◌then◌else◌}
+use Rattle.std.specs.List.{list_all, list_any}
+use Rattle.std.specs.Option.{option_map_or}
+use Rattle.std.specs.Str.{bytes_eq, is_utf8}
+use Rattle.serde_json.specs.Data.{Data, Items, no_items, item, Members, no_members, member}
+use Rattle.serde_json.specs.Find.{get, at, as_number, as_integer, as_array, as_object}
+use Rattle.serde_json.specs.Read.{read}
+use Rattle.osdmap.specs.declared.refusal.Refusal.{Refusal}
+use Rattle.osdmap.specs.declared.refusal.Refusal.TheVariants.{BadJson, BadField, Memory as OutOfMemory}
+use Rattle.mapjson.specs.declared.fault.Fault.{Fault}
+use Rattle.mapjson.specs.declared.fault.Fault.TheVariants.{Field, Memory}
+
+infixl 10 ◌>>=◌
+abbrev pub ◌>>=◌ : {A B : Type 0} → Option A → (A → Option B) → Option B
+o >>= f = option_and_then f o
+
+-- ---- values
+
+-- a whole number from -2^63 to 2^64 - 1; one with a fraction or an exponent is none, nor is -0
+abbrev pub number_of : Data → Option ℤ
+number_of d = option_and_then as_integer (as_number d)
+
+-- each value of a list, by what states one
+abbrev pub entries_of : {X : Type 0} → (Data → Option X) → Items → Option (List X)
+entries_of stated no_items = Some []
+entries_of stated (item d ds) = option_and_then (λ x. option_map (λ xs. x ∷ xs) (entries_of stated ds)) (stated d)
+
+-- a list, by what states each of its values
+abbrev pub list_of : {X : Type 0} → (Data → Option X) → Data → Option (List X)
+list_of stated d = option_and_then (entries_of stated) (as_array d)
+
+-- ---- lists of a fixed form
+
+-- how many values a list has
+abbrev pub count_of : Items → ℕ
+count_of no_items = 0
+count_of (item d ds) = suc (count_of ds)
+
+-- a list of this many values
+abbrev pub has_count : ℕ → Data → Bool
+has_count n d = option_map_or (λ ds. count_of ds == n) (as_array d) false
+
+-- the value at a place of a list
+abbrev pub place : {X : Type 0} → (Data → Option X) → ℕ → Data → Option X
+place stated i d = option_and_then stated (at i d)
+
+-- ---- objects
+
+-- the keys of an object
+abbrev pub keys_of : Members → List (List ℕ)
+keys_of no_members = []
+keys_of (member k d ms) = k ∷ keys_of ms
+
+-- each key is among these names
+abbrev pub has_only_keys : List (List ℕ) → Members → Bool
+has_only_keys names ms = list_all (λ k. list_any (bytes_eq k) names) (keys_of ms)
+
+-- an object that has no other keys than these
+abbrev pub has_only : List (List ℕ) → Data → Bool
+has_only names d = option_map_or (has_only_keys names) (as_object d) false
+
+-- the value at a key, which has to be there
+abbrev pub field : {X : Type 0} → (Data → Option X) → List ℕ → Data → Option X
+field stated key d = option_and_then stated (get key d)
+
+-- the list at a key, which is empty where the key is missing
+abbrev pub optional_list : {X : Type 0} → (Data → Option X) → List ℕ → Data → Option (List X)
+optional_list stated key d = option_map_or (list_of stated) (get key d) (Some [])
+
+-- ---- texts
+
+-- the value of a text in UTF-8, nested no deeper than 127
+abbrev pub json_of : List ℕ → Option Data
+json_of bytes = if is_utf8 bytes then read bytes else None
+
+-- what a text states; or BadJson where it is no JSON, and BadField where its value states nothing
+abbrev pub stated_by : {X : Type 0} → (Data → Option X) → List ℕ → Result X Refusal
+stated_by stated bytes =
+    option_map_or (λ d. option_map_or (λ x. Ok x) (stated d) (Err BadField)) (json_of bytes) (Err BadJson)
+
+-- ---- outcomes
+
+-- what follows from a value that is there
+abbrev pub and_then : {X Y : Type 0} → (X → Result Y Refusal) → Result X Refusal → Result Y Refusal
+and_then next (Ok x) = next x
+and_then next (Err refusal) = Err refusal
+
+-- the refusal, where it is one
+abbrev pub fault_in : {X : Type 0} → Result X Refusal → Option Refusal
+fault_in (Ok x) = None
+fault_in (Err refusal) = Some refusal
+
+-- a reader answers exactly what a value states, or that a growth was refused
+abbrev pub Reads : {X : Type 0} → Result X Fault → Option X → Type 0
+Reads (Ok x) o = o ≡ Some x
+Reads (Err Field) o = o ≡ None
+Reads (Err Memory) o = Unit {0}
+
+-- what a caller is told of it
+abbrev pub refusal_of : Fault → Refusal
+refusal_of Field = BadField
+refusal_of Memory = OutOfMemory
+
+-- a call answers exactly this, or that a growth was refused
+abbrev pub Answers : {X : Type 0} → Result X Refusal → Result X Refusal → Type 0
+Answers r s = MatchResult r (λ x. s ≡ Ok x) (λ e. (e ≡ OutOfMemory) ⊎ (s ≡ Err e))

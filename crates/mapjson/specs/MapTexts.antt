@@ -1,0 +1,178 @@
+-- The parts of a map that a JSON text (RFC 8259) states. The form is this program's own.
+use Rattle.std.specs.Prelude.{ℕ, ◌&&◌, Bool, true, false, List, [], ◌∷◌, codes, Option, Some, None, Result, Ok, Err, IfOk, if◌then◌else◌}
+use Rattle.std.specs.Option.{option_map_or}
+use Rattle.std.specs.Str.{bytes_eq}
+use Rattle.serde_json.specs.Data.{Data}
+use Rattle.serde_json.specs.Find.{get, as_bool, as_str}
+use Rattle.crush.specs.declared.bucket.BucketKind.{BucketKind}
+use Rattle.crush.specs.declared.bucket.BucketKind.TheVariants.{Uniform, List as Listed, Tree}
+use Rattle.crush.specs.declared.rule.Mode.{Mode}
+use Rattle.crush.specs.declared.rule.Mode.TheVariants.{Firstn, Indep}
+use Rattle.crush.specs.declared.rule.RuleKind.{RuleKind}
+use Rattle.crush.specs.declared.rule.RuleKind.TheVariants.{Replicated, Erasure}
+use Rattle.osdmap.specs.declared.parts.MapParts.{MapParts}
+use Rattle.osdmap.specs.declared.parts.BucketPart.{BucketPart}
+use Rattle.osdmap.specs.declared.parts.ItemPart.{ItemPart}
+use Rattle.osdmap.specs.declared.parts.RulePart.{RulePart}
+use Rattle.osdmap.specs.declared.parts.StepPart.{StepPart}
+use Rattle.osdmap.specs.declared.parts.StepPart.TheVariants.{Take, Choose, Emit}
+use Rattle.osdmap.specs.declared.parts.PoolPart.{PoolPart}
+use Rattle.osdmap.specs.declared.parts.OsdPart.{OsdPart}
+use Rattle.osdmap.specs.declared.refusal.Refusal.{Refusal}
+use Rattle.osdmap.specs.Maps.{ClusterMap}
+use Rattle.osdmap.specs.Stated.{map_fault, IsStated}
+use Rattle.mapjson.specs.Json.{◌>>=◌, number_of, list_of, has_count, place, has_only, field, stated_by}
+
+-- ---- the forest
+
+-- how a bucket picks, by its word
+abbrev pub bucket_kind : List ℕ → Option BucketKind
+bucket_kind word =
+    if bytes_eq word (codes "uniform") then Some Uniform
+    else if bytes_eq word (codes "list") then Some Listed
+    else if bytes_eq word (codes "tree") then Some Tree
+    else None
+
+abbrev pub bucket_kind_of : Data → Option BucketKind
+bucket_kind_of d = as_str d >>= bucket_kind
+
+-- an item: [item, weight]
+unfoldable pub item_of : Data → Option ItemPart
+item_of d = if has_count 2 d then (do
+  id ← place number_of 0 d
+  weight ← place number_of 1 d
+  Some (record { id = id; weight = weight })) else None
+
+-- a bucket: id, items, kind and type
+unfoldable pub bucket_of : Data → Option BucketPart
+bucket_of d = if has_only (codes "id" ∷ codes "items" ∷ codes "kind" ∷ codes "type" ∷ []) d then (do
+  id ← field number_of (codes "id") d
+  level ← field number_of (codes "type") d
+  kind ← field bucket_kind_of (codes "kind") d
+  items ← field (list_of item_of) (codes "items") d
+  Some (record { id = id; level = level; kind = kind; items = items })) else None
+
+-- ---- rules
+
+-- what a rule or a pool is for, by its word
+abbrev pub rule_kind : List ℕ → Option RuleKind
+rule_kind word =
+    if bytes_eq word (codes "replicated") then Some Replicated
+    else if bytes_eq word (codes "erasure") then Some Erasure
+    else None
+
+abbrev pub rule_kind_of : Data → Option RuleKind
+rule_kind_of d = as_str d >>= rule_kind
+
+-- ["emit"]
+unfoldable pub emit_of : Data → Option StepPart
+emit_of d = if has_count 1 d then Some Emit else None
+
+-- ["take", bucket]
+unfoldable pub take_of : Data → Option StepPart
+take_of d = if has_count 2 d then (do
+  id ← place number_of 1 d
+  Some (Take id)) else None
+
+-- [word, count, type], where the word gives the mode and whether a device is taken below
+unfoldable pub choose_of : Mode → Bool → Data → Option StepPart
+choose_of mode to_leaf d = if has_count 3 d then (do
+  count ← place number_of 1 d
+  level ← place number_of 2 d
+  Some (Choose (record { mode = mode; to_leaf = to_leaf; count = count; level = level }))) else None
+
+-- a step, by its word
+unfoldable pub step_by : List ℕ → Data → Option StepPart
+step_by word d =
+    if bytes_eq word (codes "take") then take_of d
+    else if bytes_eq word (codes "choose_firstn") then choose_of Firstn false d
+    else if bytes_eq word (codes "choose_indep") then choose_of Indep false d
+    else if bytes_eq word (codes "chooseleaf_firstn") then choose_of Firstn true d
+    else if bytes_eq word (codes "chooseleaf_indep") then choose_of Indep true d
+    else if bytes_eq word (codes "emit") then emit_of d
+    else None
+
+-- a step, whose word stands first
+unfoldable pub step_of : Data → Option StepPart
+step_of d = do
+  word ← place as_str 0 d
+  step_by word d
+
+-- a rule: id, kind and steps
+unfoldable pub rule_of : Data → Option RulePart
+rule_of d = if has_only (codes "id" ∷ codes "kind" ∷ codes "steps" ∷ []) d then (do
+  id ← field number_of (codes "id") d
+  kind ← field rule_kind_of (codes "kind") d
+  steps ← field (list_of step_of) (codes "steps") d
+  Some (record { id = id; kind = kind; steps = steps })) else None
+
+-- ---- pools and OSDs
+
+abbrev pub pool_keys : List (List ℕ)
+pool_keys = codes "id" ∷ codes "kind" ∷ codes "pg_num" ∷ codes "pgp_num" ∷ codes "rule" ∷ codes "size" ∷ []
+
+unfoldable pub pool_of : Data → Option PoolPart
+pool_of d = if has_only pool_keys d then (do
+  id ← field number_of (codes "id") d
+  kind ← field rule_kind_of (codes "kind") d
+  pg_num ← field number_of (codes "pg_num") d
+  pgp_num ← field number_of (codes "pgp_num") d
+  rule ← field number_of (codes "rule") d
+  size ← field number_of (codes "size") d
+  Some (record { id = id; kind = kind; pg_num = pg_num; pgp_num = pgp_num; rule = rule; size = size })) else None
+
+unfoldable pub osd_of : Data → Option OsdPart
+osd_of d = if has_only (codes "exists" ∷ codes "id" ∷ codes "up" ∷ codes "weight" ∷ []) d then (do
+  id ← field number_of (codes "id") d
+  exists ← field as_bool (codes "exists") d
+  up ← field as_bool (codes "up") d
+  weight ← field number_of (codes "weight") d
+  Some (record { id = id; exists = exists; up = up; weight = weight })) else None
+
+-- ---- the map
+
+-- the list at a key is missing or empty
+abbrev pub lacks_entries : List ℕ → Data → Bool
+lacks_entries key d = option_map_or (has_count 0) (get key d) true
+
+-- no group is placed by an exception
+abbrev pub has_no_exceptions : Data → Bool
+has_no_exceptions d = lacks_entries (codes "pg_upmap") d && lacks_entries (codes "pg_upmap_items") d
+
+abbrev pub map_keys : List (List ℕ)
+map_keys =
+    codes "buckets" ∷ codes "epoch" ∷ codes "max_osd" ∷ codes "osds" ∷ codes "pg_upmap" ∷ codes "pg_upmap_items"
+    ∷ codes "pools" ∷ codes "rules" ∷ codes "version" ∷ []
+
+-- the parts of a map
+unfoldable pub stated_map : Data → Option MapParts
+stated_map d = if has_only map_keys d && has_no_exceptions d then (do
+  version ← field number_of (codes "version") d
+  epoch ← field number_of (codes "epoch") d
+  max_osd ← field number_of (codes "max_osd") d
+  buckets ← field (list_of bucket_of) (codes "buckets") d
+  rules ← field (list_of rule_of) (codes "rules") d
+  pools ← field (list_of pool_of) (codes "pools") d
+  osds ← field (list_of osd_of) (codes "osds") d
+  Some (record {
+    version = version;
+    epoch = epoch;
+    max_osd = max_osd;
+    buckets = buckets;
+    rules = rules;
+    pools = pools;
+    osds = osds;
+  })) else None
+
+-- a text that states no map, or a map with a fault
+abbrev pub fault_of_stated : Result MapParts Refusal → Option Refusal
+fault_of_stated (Ok parts) = map_fault parts
+fault_of_stated (Err refusal) = Some refusal
+
+-- why a text is refused as a map
+abbrev pub map_text_fault : List ℕ → Option Refusal
+map_text_fault bytes = fault_of_stated (stated_by stated_map bytes)
+
+-- the map is the one that a text states
+abbrev pub StatesMap : List ℕ → ClusterMap → Type 0
+StatesMap bytes m = IfOk (stated_by stated_map bytes) (λ parts. IsStated parts m)

@@ -1,0 +1,258 @@
+ghost use Rattle.std.specs.Prelude.{◌≡◌};
+ghost use Rattle.serde_json.specs.View.{view};
+ghost use Rattle.mapjson.specs.Json.{Reads};
+ghost use Rattle.mapjson.specs.MapTexts.{bucket_kind_of, item_of, bucket_of, rule_kind_of, emit_of, take_of, choose_of, step_by, step_of, rule_of, pool_of, osd_of, lacks_entries, has_no_exceptions, stated_map};
+
+use crate::fault::Fault;
+use crate::json::{FromJson, field, has_count, has_only, place, text};
+use crush::{BucketKind, Mode, RuleKind};
+use osdmap::{BucketPart, ChoosePart, ItemPart, MapParts, OsdPart, PoolPart, RulePart, StepPart};
+use serde_json::Value;
+use std::alloc::Global;
+
+impl FromJson for BucketKind {
+    ghost stated = { bucket_kind_of };
+
+    fn from_json(_alloc: Global, value: &Value) -> Result<BucketKind, Fault> {
+        match text(value)? {
+            "uniform" => Ok(BucketKind::Uniform),
+            "list" => Ok(BucketKind::List),
+            "tree" => Ok(BucketKind::Tree),
+            _ => Err(Fault::Field),
+        }
+    }
+}
+
+impl FromJson for ItemPart {
+    ghost stated = { item_of };
+
+    #[tactic(auto, unfolding(crate::specs::MapTexts::item_of))]
+    fn from_json(alloc: Global, value: &Value) -> Result<ItemPart, Fault> {
+        if !has_count(value, 2) {
+            return Err(Fault::Field);
+        }
+        let id = place(alloc, value, 0)?;
+        let weight = place(alloc, value, 1)?;
+        Ok(ItemPart { id, weight })
+    }
+}
+
+impl FromJson for BucketPart {
+    ghost stated = { bucket_of };
+
+    #[tactic(auto, unfolding(crate::specs::MapTexts::bucket_of))]
+    fn from_json(alloc: Global, value: &Value) -> Result<BucketPart, Fault> {
+        if !has_only(value, &["id", "items", "kind", "type"]) {
+            return Err(Fault::Field);
+        }
+        let id = field(alloc, value, "id")?;
+        let level = field(alloc, value, "type")?;
+        let kind = field(alloc, value, "kind")?;
+        let items = field(alloc, value, "items")?;
+        Ok(BucketPart {
+            id,
+            level,
+            kind,
+            items,
+        })
+    }
+}
+
+impl FromJson for RuleKind {
+    ghost stated = { rule_kind_of };
+
+    fn from_json(_alloc: Global, value: &Value) -> Result<RuleKind, Fault> {
+        match text(value)? {
+            "replicated" => Ok(RuleKind::Replicated),
+            "erasure" => Ok(RuleKind::Erasure),
+            _ => Err(Fault::Field),
+        }
+    }
+}
+
+/// `["emit"]`.
+#[tactic(auto, unfolding(crate::specs::MapTexts::emit_of))]
+fn emit_step(value: &Value) -> Result<StepPart, Fault>
+    ensures { Reads result (emit_of (view value.now)) }
+{
+    if !has_count(value, 1) {
+        return Err(Fault::Field);
+    }
+    Ok(StepPart::Emit)
+}
+
+/// `["take", bucket]`.
+#[tactic(auto, unfolding(crate::specs::MapTexts::take_of))]
+fn take_step(alloc: Global, value: &Value) -> Result<StepPart, Fault>
+    ensures { Reads result (take_of (view value.now)) }
+{
+    if !has_count(value, 2) {
+        return Err(Fault::Field);
+    }
+    let id = place(alloc, value, 1)?;
+    Ok(StepPart::Take(id))
+}
+
+/// `[word, count, type]`, where the word has told the rest.
+#[tactic(auto, unfolding(crate::specs::MapTexts::choose_of))]
+fn choose_step(alloc: Global, value: &Value, mode: Mode, to_leaf: bool) -> Result<StepPart, Fault>
+    ensures { Reads result (choose_of mode to_leaf (view value.now)) }
+{
+    if !has_count(value, 3) {
+        return Err(Fault::Field);
+    }
+    let count = place(alloc, value, 1)?;
+    let level = place(alloc, value, 2)?;
+    Ok(StepPart::Choose(ChoosePart {
+        mode,
+        to_leaf,
+        count,
+        level,
+    }))
+}
+
+/// The step of a word.
+#[tactic(auto, unfolding(crate::specs::MapTexts::step_by))]
+fn step_by(alloc: Global, word: &str, value: &Value) -> Result<StepPart, Fault>
+    ensures { Reads result (step_by word.now (view value.now)) }
+{
+    match word {
+        "take" => take_step(alloc, value),
+        "choose_firstn" => choose_step(alloc, value, Mode::Firstn, false),
+        "choose_indep" => choose_step(alloc, value, Mode::Indep, false),
+        "chooseleaf_firstn" => choose_step(alloc, value, Mode::Firstn, true),
+        "chooseleaf_indep" => choose_step(alloc, value, Mode::Indep, true),
+        "emit" => emit_step(value),
+        _ => Err(Fault::Field),
+    }
+}
+
+impl FromJson for StepPart {
+    ghost stated = { step_of };
+
+    #[tactic(auto, unfolding(crate::specs::MapTexts::step_of))]
+    fn from_json(alloc: Global, value: &Value) -> Result<StepPart, Fault> {
+        let Some(first) = value.get(0) else {
+            return Err(Fault::Field);
+        };
+        step_by(alloc, text(first)?, value)
+    }
+}
+
+impl FromJson for RulePart {
+    ghost stated = { rule_of };
+
+    #[tactic(auto, unfolding(crate::specs::MapTexts::rule_of))]
+    fn from_json(alloc: Global, value: &Value) -> Result<RulePart, Fault> {
+        if !has_only(value, &["id", "kind", "steps"]) {
+            return Err(Fault::Field);
+        }
+        let id = field(alloc, value, "id")?;
+        let kind = field(alloc, value, "kind")?;
+        let steps = field(alloc, value, "steps")?;
+        Ok(RulePart { id, kind, steps })
+    }
+}
+
+impl FromJson for PoolPart {
+    ghost stated = { pool_of };
+
+    #[tactic(auto, unfolding(crate::specs::MapTexts::pool_of))]
+    fn from_json(alloc: Global, value: &Value) -> Result<PoolPart, Fault> {
+        if !has_only(value, &["id", "kind", "pg_num", "pgp_num", "rule", "size"]) {
+            return Err(Fault::Field);
+        }
+        let id = field(alloc, value, "id")?;
+        let kind = field(alloc, value, "kind")?;
+        let pg_num = field(alloc, value, "pg_num")?;
+        let pgp_num = field(alloc, value, "pgp_num")?;
+        let rule = field(alloc, value, "rule")?;
+        let size = field(alloc, value, "size")?;
+        Ok(PoolPart {
+            id,
+            kind,
+            pg_num,
+            pgp_num,
+            rule,
+            size,
+        })
+    }
+}
+
+impl FromJson for OsdPart {
+    ghost stated = { osd_of };
+
+    #[tactic(auto, unfolding(crate::specs::MapTexts::osd_of))]
+    fn from_json(alloc: Global, value: &Value) -> Result<OsdPart, Fault> {
+        if !has_only(value, &["exists", "id", "up", "weight"]) {
+            return Err(Fault::Field);
+        }
+        let id = field(alloc, value, "id")?;
+        let exists = field(alloc, value, "exists")?;
+        let up = field(alloc, value, "up")?;
+        let weight = field(alloc, value, "weight")?;
+        Ok(OsdPart {
+            id,
+            exists,
+            up,
+            weight,
+        })
+    }
+}
+
+/// Whether the list at a key is missing or empty.
+fn lacks_entries(value: &Value, key: &str) -> bool
+    ensures { result ≡ lacks_entries key.now (view value.now) }
+{
+    match value.get(key) {
+        Some(list) => has_count(list, 0),
+        None => true,
+    }
+}
+
+/// Whether no group is placed by an exception.
+fn has_no_exceptions(value: &Value) -> bool
+    ensures { result ≡ has_no_exceptions (view value.now) }
+{
+    lacks_entries(value, "pg_upmap") && lacks_entries(value, "pg_upmap_items")
+}
+
+/// The keys that a map may have.
+const MAP_KEYS: [&str; 9] = [
+    "buckets",
+    "epoch",
+    "max_osd",
+    "osds",
+    "pg_upmap",
+    "pg_upmap_items",
+    "pools",
+    "rules",
+    "version",
+];
+
+impl FromJson for MapParts {
+    ghost stated = { stated_map };
+
+    #[tactic(auto, unfolding(crate::specs::MapTexts::stated_map))]
+    fn from_json(alloc: Global, value: &Value) -> Result<MapParts, Fault> {
+        if !has_only(value, &MAP_KEYS) || !has_no_exceptions(value) {
+            return Err(Fault::Field);
+        }
+        let version = field(alloc, value, "version")?;
+        let epoch = field(alloc, value, "epoch")?;
+        let max_osd = field(alloc, value, "max_osd")?;
+        let buckets = field(alloc, value, "buckets")?;
+        let rules = field(alloc, value, "rules")?;
+        let pools = field(alloc, value, "pools")?;
+        let osds = field(alloc, value, "osds")?;
+        Ok(MapParts {
+            version,
+            epoch,
+            max_osd,
+            buckets,
+            rules,
+            pools,
+            osds,
+        })
+    }
+}

@@ -1,0 +1,152 @@
+ghost use Rattle.std.specs.Prelude.{◌≡◌, ◌<◌, unwrap_or, nat_le};
+ghost use Rattle.std.specs.List.{find};
+ghost use Rattle.osdmap.specs.Placement.{mask_of, stable_mod, placement_input};
+
+use crate::map::OsdMap;
+use crate::pg::Pg;
+use crate::pool::Pool;
+use crate::refusal::Refusal;
+use crate::up_set::UpSet;
+use crush::{Memory, Work};
+use rjenkins::hash2;
+
+/// The numbers one less than a power of two, up to the greatest number of groups.
+const MASKS: [u32; 13] = [0, 1, 3, 7, 15, 31, 63, 127, 255, 511, 1023, 2047, 4095];
+
+/// The first of some masks that is at least a number.
+fn first_mask(masks: &[u32], number: u32) -> Option<u32>
+    ensures { result ≡ find (λ m. nat_le number m) masks.now }
+{
+    masks.iter().copied().find(|mask| number <= *mask)
+}
+
+/// The least mask that is at least `count - 1`.
+#[tactic(auto, unfolding(crate::specs::Placement::mask_of, crate::specs::Placement::masks))]
+fn mask(count: u32) -> u32
+    requires { 0 < count }
+    ensures { result ≡ mask_of count }
+{
+    first_mask(&MASKS, count - 1).unwrap_or(4095)
+}
+
+/// A number folded into the numbers below `count`, by the mask of `count` (Ceph, `ceph_stable_mod`).
+#[tactic(auto, unfolding(crate::specs::Placement::stable_mod))]
+pub fn stable_mod(number: u32, count: u32, mask: u32) -> u32
+    ensures { result ≡ stable_mod number count mask }
+{
+    if number & mask < count {
+        number & mask
+    } else {
+        number & (mask >> 1)
+    }
+}
+
+/// The input with which a pool's rule places its group of a number (Ceph, `raw_pg_to_pps` with `hashpspool`).
+#[tactic(auto, unfolding(crate::specs::Placement::placement_input))]
+fn placement_input(pool: &Pool, number: u32) -> u32
+    ensures { result ≡ placement_input pool.now number }
+{
+    let count = pool.pgp_num();
+    hash2(stable_mod(number, count, mask(count)), pool.id())
+}
+
+impl OsdMap {
+    ghost use Rattle.std.specs.Prelude.{◌≡◌, ◌≤◌, ◌<◌, true, length, ℤ, List, Option, Some, None, map, IfOk, MatchResult, option_and_then};
+    ghost use Rattle.osdmap.specs.Stated.{Makes};
+    ghost use Rattle.osdmap.specs.Maps.{pool_at, has_rule};
+    ghost use Rattle.osdmap.specs.Sets.{places_of, kept};
+    ghost use Rattle.osdmap.specs.Placement.{group_fault, existing, upward, placed, raw_set, mapped_set, up_set, Places};
+
+    /// The OSD of a device, where it exists.
+    fn existing(&self, device: i32) -> Option<u32>
+        ensures { result ≡ existing self.now device }
+    {
+        let osd = u32::try_from(device).ok()?;
+        if self.exists(osd) { Some(osd) } else { None }
+    }
+
+    /// An OSD, where it is up.
+    fn upward(&self, osd: u32) -> Option<u32>
+        ensures { result ≡ upward self.now osd }
+    {
+        let presence = self.presences.as_slice().get(osd as usize)?;
+        if presence.up { Some(osd) } else { None }
+    }
+
+    /// The pool of a group that is there: else `UnknownPool` (23), `UnknownGroup` (25).
+    fn pool_of(&self, pg: Pg) -> Result<Pool, Refusal>
+        ensures { MatchResult result (λ pool. (group_fault self.now pg ≡ None) × (pool_at self.now.pools pg.pool ≡ Some pool) × (has_rule self.now.rules pool ≡ true)) (λ e. group_fault self.now pg ≡ Some e) }
+    {
+        let _ = &self.pools;
+        let pool = self.pool(pg.pool).ok_or(Refusal::UnknownPool)?;
+        if pg.number < pool.pg_num() {
+            Ok(pool)
+        } else {
+            Err(Refusal::UnknownGroup)
+        }
+    }
+
+    /// The set of those of some devices that exist, in the way of the pool's kind.
+    fn existing_set(&self, pool: &Pool, devices: &[Option<i32>]) -> UpSet
+        requires { length devices.now ≤ 10 }
+        ensures { places_of result ≡ kept pool.now.kind (map (option_and_then (existing self.now)) devices.now) }
+    {
+        let mut set = UpSet::new();
+        for device in devices {
+            set.add(pool.kind(), device.and_then(|device| self.existing(device)));
+        }
+        set
+    }
+
+    /// The set of those OSDs of a set that are up, in the way of the pool's kind.
+    fn upward_set(&self, pool: &Pool, osds: &UpSet) -> UpSet
+        ensures { places_of result ≡ kept pool.now.kind (map (option_and_then (upward self.now)) (places_of osds.now)) }
+    {
+        let mut set = UpSet::new();
+        for osd in osds.places() {
+            set.add(pool.kind(), osd.and_then(|osd| self.upward(osd)));
+        }
+        set
+    }
+
+    /// The raw set of a group of a pool of the map.
+    #[tactic(auto, unfolding(crate::specs::Placement::raw_set, crate::specs::Placement::placed))]
+    fn raw_in(&self, pool: &Pool, number: u32, work: &mut Work) -> Result<UpSet, Memory>
+        requires { has_rule self.now.rules pool.now ≡ true }
+        ensures { IfOk result (λ set. places_of set ≡ raw_set self.now pool.now number) }
+    {
+        let input = placement_input(pool, number);
+        let rule = self.rule(pool.rule()).unwrap();
+        rule.run(&self.forest, &self.weights, input, pool.size(), work)?;
+        Ok(self.existing_set(pool, work.result()))
+    }
+
+    /// The raw set of a group: the OSDs that its pool's rule places and that exist (Ceph, `_pg_to_raw_osds`).
+    /// `UnknownPool` (23), `UnknownGroup` (25), or `Memory` (30).
+    pub fn raw_of(&self, pg: Pg, work: &mut Work) -> Result<UpSet, Refusal>
+        ensures { Makes result (group_fault self.now pg) (λ set. Places raw_set self.now pg (places_of set)) }
+    {
+        let pool = self.pool_of(pg)?;
+        Ok(self.raw_in(&pool, pg.number, work)?)
+    }
+
+    /// The mapped set of a group: its raw set, as no group has exceptions. `UnknownPool` (23), `UnknownGroup` (25), or
+    /// `Memory` (30).
+    #[tactic(auto, unfolding(crate::specs::Placement::mapped_set))]
+    pub fn mapped_of(&self, pg: Pg, work: &mut Work) -> Result<UpSet, Refusal>
+        ensures { Makes result (group_fault self.now pg) (λ set. Places mapped_set self.now pg (places_of set)) }
+    {
+        self.raw_of(pg, work)
+    }
+
+    /// The up set of a group: its mapped set without OSDs that are down (Ceph, `_raw_to_up_osds`). `UnknownPool` (23),
+    /// `UnknownGroup` (25), or `Memory` (30).
+    #[tactic(auto, unfolding(crate::specs::Placement::mapped_set, crate::specs::Placement::up_set))]
+    pub fn up_of(&self, pg: Pg, work: &mut Work) -> Result<UpSet, Refusal>
+        ensures { Makes result (group_fault self.now pg) (λ set. Places up_set self.now pg (places_of set)) }
+    {
+        let pool = self.pool_of(pg)?;
+        let mapped = self.raw_in(&pool, pg.number, work)?;
+        Ok(self.upward_set(&pool, &mapped))
+    }
+}

@@ -1,0 +1,11 @@
+-- A buffer of bytes.
+use Rattle.std.specs.Prelude.{ℕ, Bool, List}
+use Rattle.session.specs.declared.sink.Buffer.{Buffer}
+
+-- the bytes put
+abbrev pub buffered : Buffer → List ℕ
+buffered b = b.bytes.items
+
+-- whether it has found no memory
+abbrev pub is_short : Buffer → Bool
+is_short b = b.failed

@@ -1,0 +1,73 @@
+-- The bytes of each answer.
+use Rattle.std.specs.Prelude.{ℕ, List, [], ◌∷◌, ◌++◌, codes, Option, Some, None}
+use Rattle.std.specs.Fmt.{decimal}
+use Rattle.osdmap.specs.declared.pg.Pg.{Pg}
+use Rattle.osdmap.specs.declared.refusal.Refusal.{Refusal}
+use Rattle.osdmap.specs.declared.refusal.Refusal.TheVariants.{BadJson, BadField, BadLimit, BadForest, BadRule, BadPool, BadOsd, StaleEpoch, UnknownOsd, BadWeight, UnknownPool, UnknownGroup, DuplicatePart, JournalFull, Memory, BadCommand}
+use Rattle.osdmap.specs.Refusals.{number_of, name_of}
+use Rattle.osdmap.specs.PgText.{group_text}
+use Rattle.osdmap.specs.Primary.{primary_of}
+
+-- what ends each answer
+abbrev pub newline : List ℕ
+newline = 10 ∷ []
+
+-- an OSD, or a word where there is none
+abbrev pub osd_text : List ℕ → Option ℕ → List ℕ
+osd_text word (Some osd) = decimal osd
+osd_text word None = word
+
+-- a place: its OSD, or `none`
+abbrev pub place_text : Option ℕ → List ℕ
+place_text place = osd_text (codes "none") place
+
+-- places behind others, each with a comma before it
+abbrev pub more_places : List (Option ℕ) → List ℕ
+more_places [] = []
+more_places (place ∷ places) = 44 ∷ place_text place ++ more_places places
+
+-- a set: its places with commas between them
+abbrev pub set_text : List (Option ℕ) → List ℕ
+set_text [] = []
+set_text (place ∷ places) = place_text place ++ more_places places
+
+-- the primary: its OSD, or -1
+abbrev pub primary_text : Option ℕ → List ℕ
+primary_text primary = osd_text (codes "-1") primary
+
+-- `up EPOCH PG [SET] PRIMARY`
+unfoldable pub up_text : ℕ → Pg → List (Option ℕ) → List ℕ
+up_text epoch pg places =
+    codes "up " ++ decimal epoch ++ codes " " ++ group_text pg ++ codes " [" ++ set_text places ++ codes "] "
+    ++ primary_text (primary_of places) ++ newline
+
+-- `epoch EPOCH`
+unfoldable pub epoch_text : ℕ → List ℕ
+epoch_text epoch = codes "epoch " ++ decimal epoch ++ newline
+
+-- `ok EPOCH evals N`
+unfoldable pub ok_text : ℕ → ℕ → List ℕ
+ok_text epoch evals = codes "ok " ++ decimal epoch ++ codes " evals " ++ decimal evals ++ newline
+
+-- what a refusal carries beside its name: the current epoch, where the change is for another
+abbrev pub detail_of : Refusal → List ℕ
+detail_of BadJson = []
+detail_of BadField = []
+detail_of BadLimit = []
+detail_of BadForest = []
+detail_of BadRule = []
+detail_of BadPool = []
+detail_of BadOsd = []
+detail_of (StaleEpoch current) = codes " " ++ decimal current
+detail_of UnknownOsd = []
+detail_of BadWeight = []
+detail_of UnknownPool = []
+detail_of UnknownGroup = []
+detail_of DuplicatePart = []
+detail_of JournalFull = []
+detail_of Memory = []
+detail_of BadCommand = []
+
+-- `err NUMBER NAME`
+unfoldable pub refusal_text : Refusal → List ℕ
+refusal_text r = codes "err " ++ decimal (number_of r) ++ codes " " ++ name_of r ++ detail_of r ++ newline

@@ -1,0 +1,141 @@
+//! A session: each line of a script in turn, and its answer to a sink.
+ghost use Rattle.std.specs.Prelude.{◌≡◌, ◌<◌, ◌++◌, ℕ, List, length, false, true, OnOk, OnErr, IfErr};
+ghost use Rattle.std.specs.Option.{option_map};
+ghost use Rattle.session.specs.declared.session.SessionError.TheVariants.{Write as CannotWrite, Memory as OutOfMemory};
+ghost use Rattle.session.specs.Commands.{lines_in, shown};
+ghost use Rattle.session.specs.Shown.{answer_text, CommitsStated};
+ghost use Rattle.session.specs.Answers.{AnswersCommand};
+ghost use Rattle.session.specs.Transcripts.{IsTranscript, Stops};
+ghost use Rattle.session.specs.Ends.{Answers};
+
+use crate::answer::Answer;
+use crate::command::{Command, first_line, read_command};
+use crate::sink::{Sink, WriteFailed, write_whole};
+use crush::{Forest, Memory, Work};
+use mapjson::read_change;
+use monitor::State;
+use osdmap::Refusal;
+use std::alloc::Global;
+
+/// Why a session stops before its script ends.
+#[derive(Clone, Copy, Debug, PartialEq, Eq)]
+pub enum SessionError {
+    /// The sink has failed.
+    Write,
+    /// The session, or the text of an answer, found no memory.
+    Memory,
+}
+
+impl From<Memory> for SessionError {
+    ghost from_gives = { λ _ e. e ≡ OutOfMemory };
+
+    fn from(_memory: Memory) -> SessionError {
+        SessionError::Memory
+    }
+}
+
+impl From<WriteFailed> for SessionError {
+    ghost from_gives = { λ _ e. e ≡ CannotWrite };
+
+    fn from(_failed: WriteFailed) -> SessionError {
+        SessionError::Write
+    }
+}
+
+/// What answers are made in.
+#[derive(Debug, Drop)]
+struct Room {
+    work: Work,
+    text: String,
+}
+
+impl Room {
+    /// The one error is out of memory.
+    fn new(alloc: Global, forest: &Forest) -> Result<Room, Memory> {
+        Ok(Room {
+            work: Work::new(alloc, forest)?,
+            text: String::new(alloc),
+        })
+    }
+}
+
+/// Commits the change that a text states: the new epoch, and the number of groups whose placement it can alter.
+fn change(alloc: Global, state: &mut State, text: &[u8]) -> Result<(u64, usize), Refusal>
+    ensures { CommitsStated state.old text.now result state.new }
+{
+    let (base, change) = read_change(alloc, text)?;
+    state.commit(base, change)
+}
+
+/// What a command answers; `None` is a line that is no command.
+fn answer_command(
+    alloc: Global,
+    state: &mut State,
+    work: &mut Work,
+    command: Option<Command<'_>>,
+) -> Answer
+    ensures { AnswersCommand state.old (option_map shown command.entry) (answer_text result) state.new }
+{
+    match command {
+        None => Answer::Refused(Refusal::BadCommand),
+        Some(Command::Epoch) => Answer::Epoch(state.map().epoch()),
+        Some(Command::Up(pg)) => match state.answer_up(pg, work) {
+            Ok((epoch, set)) => Answer::Up { epoch, pg, set },
+            Err(refusal) => Answer::Refused(refusal),
+        },
+        Some(Command::Change(text)) => match change(alloc, state, text) {
+            Ok((epoch, evals)) => Answer::Changed { epoch, evals },
+            Err(refusal) => Answer::Refused(refusal),
+        },
+    }
+}
+
+/// Does the command of a line that is not empty, and puts its answer to a sink.
+fn answer_line<W: Sink>(
+    alloc: Global,
+    state: &mut State,
+    room: &mut Room,
+    line: &[u8],
+    sink: &mut W,
+) -> Result<(), SessionError>
+    requires some { 0 < length line.now }
+    requires open { W.has_failed sink.old ≡ false }
+    ensures answers { Answers W.written W.has_failed state.old line.now state.new sink.old sink.new result }
+{
+    let answer = answer_command(alloc, state, &mut room.work, read_command(line));
+    room.text.clear();
+    if answer.push_to(&mut room.text).is_err() {
+        return Err(SessionError::Memory);
+    }
+    write_whole(sink, room.text.as_bytes())?;
+    Ok(())
+}
+
+/// Runs a script: does the command of each line in order, and writes its answer whole before the next command. A line
+/// that is no command answers `BadCommand` (33), a refused one its number and name, and the session goes on.
+///
+/// It stops with `Write` where the sink has failed, and with `Memory` where the session or the text of an answer found
+/// no memory; what is out is then a beginning of the answers up to the last command done.
+pub fn run<W: Sink>(
+    alloc: Global,
+    state: &mut State,
+    script: &[u8],
+    sink: &mut W,
+) -> Result<(), SessionError>
+    requires { W.has_failed sink.old ≡ false }
+    ensures ok { OnOk result ((bytes : List ℕ) × IsTranscript state.old (lines_in script.now) bytes state.new × (W.written sink.new ≡ W.written sink.old ++ bytes)) }
+    ensures err { OnErr result ((out : List ℕ) × Stops state.old (lines_in script.now) out state.new × (W.written sink.new ≡ W.written sink.old ++ out)) }
+    ensures cause { IfErr result (λ e. e ≡ SessionError.Write → W.has_failed sink.new ≡ true) }
+    ensures open { OnOk result (W.has_failed sink.new ≡ false) }
+{
+    let mut room = Room::new(alloc, state.map().forest())?;
+    let mut rest = script;
+    while !rest.is_empty() {
+        let (line, others) = first_line(rest);
+        if !line.is_empty() {
+            answer_line(alloc, state, &mut room, line, sink)?;
+        }
+        rest = others;
+    }
+    Ok(())
+}

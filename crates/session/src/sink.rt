@@ -1,0 +1,96 @@
+//! Where the answers of a session go.
+ghost use Rattle.std.specs.Prelude.{◌≡◌, ◌++◌, ℕ, List, false, OnOk, OnErr, is_err};
+ghost use Rattle.session.specs.Sinks.{HasPut};
+
+use std::alloc::Global;
+
+/// A write that failed.
+#[derive(Clone, Copy, Debug, PartialEq, Eq)]
+pub struct WriteFailed;
+
+/// Takes the bytes of answers.
+pub trait Sink {
+    ghost use Rattle.std.specs.Prelude.{◌≡◌, ℕ, List, Bool, ◌||◌};
+    ghost use Rattle.session.specs.Sinks.{is_refused, Puts};
+
+    /// The bytes put so far.
+    ghost written: { Self → List ℕ };
+
+    /// Whether a write has failed, or has taken nothing of a text that is not empty.
+    ghost has_failed: { Self → Bool };
+
+    /// Puts the first of the bytes behind those before, and answers how many; a write that fails puts none.
+    fn write(&mut self, bytes: &[u8]) -> Result<usize, WriteFailed>
+        ensures puts { Puts (written self.old) bytes.now (written self.new) result }
+        ensures fails { has_failed self.new ≡ (has_failed self.old || is_refused bytes.now result) };
+
+    /// Whether a write has failed, or has taken nothing of a text that is not empty.
+    fn failed(&self) -> bool
+        ensures { result ≡ has_failed self.now };
+}
+
+/// Puts all the bytes. At an `Err` the sink has failed, and has a beginning of them.
+pub fn write_whole<W: Sink>(sink: &mut W, bytes: &[u8]) -> Result<(), WriteFailed>
+    requires { W.has_failed sink.old ≡ false }
+    ensures whole { OnOk result (W.written sink.new ≡ W.written sink.old ++ bytes.now) }
+    ensures part { OnErr result ((rest : List ℕ) × HasPut (W.written sink.old) bytes.now rest (W.written sink.new)) }
+    ensures failed { W.has_failed sink.new ≡ is_err result }
+{
+    let mut rest = bytes;
+    while !rest.is_empty() {
+        let taken = sink.write(rest)?;
+        if taken == 0 {
+            return Err(WriteFailed);
+        }
+        rest = &rest[taken..];
+    }
+    Ok(())
+}
+
+/// A sink that keeps the bytes. It fails where it finds no memory.
+#[derive(Debug, Drop)]
+pub struct Buffer {
+    bytes: Vec<u8>,
+    failed: bool,
+}
+
+impl Buffer {
+    ghost use Rattle.std.specs.Prelude.{◌≡◌, [], false};
+    ghost use Rattle.session.specs.Buffers.{buffered, is_short};
+
+    /// An empty buffer.
+    pub fn new(alloc: Global) -> Buffer
+        ensures bytes { buffered result ≡ [] }
+        ensures failed { is_short result ≡ false }
+    {
+        Buffer {
+            bytes: Vec::new(alloc),
+            failed: false,
+        }
+    }
+
+    /// The bytes put so far.
+    pub fn bytes(&self) -> &[u8]
+        ensures { result.now ≡ buffered self.now }
+    {
+        &self.bytes
+    }
+}
+
+impl Sink for Buffer {
+    ghost written = { λ b. b.bytes.items };
+
+    ghost has_failed = { λ b. b.failed };
+
+    fn write(&mut self, bytes: &[u8]) -> Result<usize, WriteFailed> {
+        if self.bytes.extend_from_slice(bytes).is_err() {
+            self.failed = true;
+            return Err(WriteFailed);
+        }
+        Ok(bytes.len())
+    }
+
+    fn failed(&self) -> bool {
+        self.failed
+    }
+}
