@@ -1,5 +1,4 @@
-use Rattle.std.proofs.Common.{◌≡◌, ◌∙◌, sym, ap, length, rules}
-use Rattle.std.proofs.Math.ListN.{length-replicate}
+use Rattle.std.proofs.Common.{◌≡◌, ◌∙◌, sym, length, rules}
 use Rattle.osdmap.proofs.BuildLemmas.{osds_below}
 use Rattle.osdmap.proofs.build.osds.rows_of.Goals as goal
 
