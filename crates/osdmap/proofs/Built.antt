@@ -1,10 +1,12 @@
 -- A map that was built has what its parts state, and holds together.
-use Rattle.std.proofs.Common.{◌≡◌, ◌∙◌, ℕ, ◌+◌, ◌<◌, ◌≤◌, Bool, true, false, not, ◌&&◌, cond, eqb, List, [], ◌∷◌, map, length, Option, Some, None, Result, ℤ, pos, nat_abs, refl, sym, ap, inl, inr, arith, find, ◌⊎◌, IsPermutation}
+use Rattle.std.proofs.Common.{◌≡◌, ◌∙◌, nat_le, ℕ, ◌+◌, ◌<◌, ◌≤◌, Bool, true, false, not, ◌&&◌, cond, eqb, List, [], ◌∷◌, map, length, Option, Some, None, Result, ℤ, pos, nat_abs, refl, sym, ap, inl, inr, arith, find, ◌⊎◌, IsPermutation}
 use Rattle.std.specs.List.{list_all, range_with_len}
 use Rattle.std.specs.Option.{option_map, option_map_or}
 use Rattle.std.specs.Result.{IsErrAnd}
 use Rattle.std.proofs.lemmas.Bool.{cases_Bool}
 use Rattle.std.proofs.lemmas.List.{length-map}
+use Rattle.std.proofs.lemmas.List.Sorted.{length_permutation}
+use Rattle.std.proofs.lemmas.Bool.Decides.{nat_tests}
 use Rattle.std.proofs.lemmas.List.Folds.{list_all-map}
 use Rattle.std.proofs.lemmas.List.FromFn.{length-range_with_len}
 use Rattle.crush.specs.declared.bucket.Bucket.{Bucket}
@@ -40,6 +42,7 @@ pub record PartsFit (p : MapParts) : Type 0 where
   pub epoch : is_between (pos 1) (pos 2147483648) p.epoch ≡ true
   pub max_osd : is_between (pos 1) (pos 1024) p.max_osd ≡ true
   pub count : has_between 1 512 p.buckets ≡ true
+  pub pool_count : has_between 0 32 p.pools ≡ true
   pub buckets : list_all bucket_fits p.buckets ≡ true
   pub rules : list_all rule_fits p.rules ≡ true
   pub pools : list_all pool_fits p.pools ≡ true
@@ -51,6 +54,7 @@ parts_fit_each p h = record {
   epoch = grind arith;
   max_osd = grind arith;
   count = grind arith;
+  pool_count = grind arith;
   buckets = grind arith;
   rules = grind arith;
   pools = grind arith;
@@ -62,6 +66,10 @@ some_osds p fits = (natural_between 1 1024 p.max_osd fits.max_osd).least
 
 pub few_osds : (p : MapParts) → PartsFit p → nat_abs p.max_osd ≤ 1024
 few_osds p fits = (natural_between 1 1024 p.max_osd fits.max_osd).most
+
+few_listed : {X : Type 0} (low high : ℕ) (xs : List X) → has_between low high xs ≡ true → length xs ≤ high
+unfolding has_between
+few_listed low high xs h = grind (arith, nat_tests, and_second (nat_le low (length xs)) (nat_le (length xs) high) h)
 
 -- ---- the same tests of what is made
 
@@ -226,5 +234,8 @@ holds p m built =
     record {
       weighed = ap length built.weights ∙ length-map rows row_weight ∙ sym (ap length built.presences ∙ length-map rows row_presence);
       few = rw many (few_osds p (parts_fit_each p built.limits));
+      few_pools =
+          let pools = length_permutation _ _ built.pools.same ∙ length-map p.pools pool_of in
+          rw pools (few_listed 0 32 p.pools (parts_fit_each p built.limits).pool_count);
       ruled = ruled p m built;
     }
