@@ -28,3 +28,4 @@ pub mod Alike
 pub mod Runs
 pub mod Weighing
 pub mod Reached
+pub mod Ends
