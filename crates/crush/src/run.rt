@@ -140,8 +140,9 @@ impl Placement<'_> {
     fn step(&self, step: Step, tries: Tries, size: u8, lists: &mut Lists) -> Result<(), AllocError>
         requires some { 1 ≤ size }
         requires few { size ≤ 10 }
-        ensures { OnOk result (progress_of lists.new.working.items lists.new.emitted.items
-            ≡ after_step (world self.now) tries size (progress_of lists.old.working.items lists.old.emitted.items) step) }
+        ensures { let before = progress_of lists.old.working.items lists.old.emitted.items in
+            OnOk result (progress_of lists.new.working.items lists.new.emitted.items
+            ≡ after_step (world self.now) tries size before step) }
     {
         match step {
             Step::Take(id) => {
@@ -208,7 +209,8 @@ impl Rule {
     ) -> Result<(), Memory>
         requires some { 1 ≤ size }
         requires few { size ≤ 10 }
-        ensures placed { OnOk result (work.new.result ≡ run_of (world_of forest.now weights.now x) self.now.steps size) }
+        ensures placed { let world = world_of forest.now weights.now x in
+            OnOk result (work.new.result ≡ run_of world self.now.steps size) }
         ensures counted { OnOk result (work.new.runs ≡ min (work.old.runs + 1) (2 ^ 64 - 1)) }
         ensures uncounted { OnErr result (work.new.runs ≡ work.old.runs) }
     {
