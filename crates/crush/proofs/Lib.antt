@@ -29,3 +29,4 @@ pub mod Runs
 pub mod Weighing
 pub mod Reached
 pub mod Ends
+pub mod Settled
