@@ -1,5 +1,5 @@
 -- the heights of tree buckets, and one level of the walk
-use Rattle.std.proofs.Common.{◌≡◌, ℕ, suc, ◌+◌, ◌-◌, ◌*◌, ◌/◌, ◌^◌, ◌<◌, ◌≤◌, cond, Bool, true, false, List, [], ◌∷◌, length, get_or, take, drop, eqb, min, lit<, subst, refl, sym, ap, ◌∙◌, inl, inr, arith}
+use Rattle.std.proofs.Common.{◌≡◌, ℕ, suc, ◌+◌, ◌-◌, ◌*◌, ◌/◌, ◌^◌, ◌<◌, ◌≤◌, cond, Bool, true, false, List, length, get_or, take, drop, eqb, min, subst, refl, sym, ap, ◌∙◌, inl, inr, arith}
 use Rattle.std.specs.List.{range_with_len, list_all}
 use lib.Count.{count_leading_zeros}
 use Rattle.std.proofs.Math.Seq.{take-add}
@@ -8,7 +8,7 @@ use Rattle.std.proofs.lemmas.List.Sums.{AllPass-from_list_all, sum_by-append, su
 use borrow.Author.Tests.{ltb-true}
 use Rattle.std.proofs.lemmas.Bool.{ltb-false, eqb-true, cases_lt}
 use Rattle.std.proofs.lemmas.Nat.{div_below}
-use Rattle.std.proofs.Math.Nat.{mul_comm, mul-lt-mul_of_pos_right, pow-le-pow_right, pow-suc}
+use Rattle.std.proofs.Math.Nat.{mul_comm, mul-lt-mul_of_pos_right, pow-suc}
 use Rattle.rjenkins.specs.Jenkins.{hash4_of}
 use Rattle.crush.specs.declared.bucket.Item.{Item}
 use Rattle.crush.specs.declared.bucket.Bucket.{Bucket}
@@ -28,9 +28,6 @@ at_each p all n some few =
 pub height_is : (n : ℕ) → 0 < n → n ≤ 64 → 64 - count_leading_zeros 64 (n - 1) ≡ height_of n
 unfolding count_leading_zeros
 height_is n some few = eqb-true _ _ (at_each (λ n. eqb (64 - count_leading_zeros 64 (n - 1)) (height_of n)) refl n some few)
-
-height_low : (n : ℕ) → 0 < n → n ≤ 64 → height_of n ≤ 6
-height_low n some few = let e = eqb-true _ _ (at_each (λ n. eqb (height_of n - 6) 0) refl n some few) in omega arith
 
 pub height_holds : (n : ℕ) → 0 < n → n ≤ 64 → n ≤ 2 ^ height_of n
 height_holds n some few = let e = eqb-true _ _ (at_each (λ n. eqb (n - 2 ^ height_of n) 0) refl n some few) in omega arith
@@ -78,21 +75,6 @@ pub record IsAt (x id r : ℕ) (items : List Item) (k from w : ℕ) : Type 0 whe
   pub some : 0 < w
   pub weighed : w ≡ weight_between items from (2 ^ k)
   pub rest : tree_place x id r items k from ≡ tree_place x id r items (height_of (length items)) 0
-
-pub at_root : (x id r : ℕ) (items : List Item) → 0 < weight_of items → length items ≤ 64 → IsAt x id r items (height_of (length items)) 0 (weight_of items)
-at_root x id r items some few =
-    let n = length items in
-    let has : 0 < n = has_items items some in
-    let low = height_low n has few in
-    let top : 2 ^ height_of n ≤ 2 ^ 6 = pow_at_most (height_of n) low in
-    record { low = low; room = omega arith; some = some; weighed = sym (ap weight_of (take_all (2 ^ height_of n) items (height_holds n has few))); rest = refl }
-  where
-    pow_at_most : (k : ℕ) → k ≤ 6 → 2 ^ k ≤ 2 ^ 6
-    pow_at_most k h = let two : 0 < 2 = lit< tt in pow-le-pow_right two h
-
-    has_items : (items : List Item) → 0 < weight_of items → 0 < length items
-    has_items [] h = absurd (omega arith)
-    has_items (i ∷ is) h = omega arith
 
 -- a draw is below the weight that it is made against
 pub draw_below : (scale h w : ℕ) → h < scale → 0 < w → h * w / scale < w
