@@ -163,3 +163,6 @@ fn copies_of(alloc: Global, buckets: &[Bucket]) -> Result<Vec<Bucket>, AllocErro
     }
     Ok(copies)
 }
+
+#[cfg(test)]
+mod tests;

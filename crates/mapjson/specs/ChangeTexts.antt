@@ -1,4 +1,4 @@
--- The change that a JSON text states, and the limits of its numbers.
+-- The change that a JSON text (RFC 8259) states, and the limits of its numbers. The form is this program's own.
 use Rattle.std.specs.Prelude.{◌≡◌, ℕ, ℤ, pos, nat_abs, int_le, nat_le, ◌&&◌, Bool, List, [], ◌∷◌, length, map, codes, Option, Some, None, Result, Ok, Err, IfOk, if◌then◌else◌}
 use Rattle.std.specs.List.{list_all}
 use Rattle.serde_json.specs.Data.{Data}
@@ -58,6 +58,7 @@ change_fits c =
 
 -- ---- the change
 
+-- a reweight that is within the limits
 abbrev pub reweight_within : RawReweight → Reweight
 reweight_within w = record { osd = nat_abs w.osd; weight = nat_abs w.weight }
 
@@ -73,6 +74,7 @@ within_limits c = if change_fits c then Ok (nat_abs c.base, parts_within c) else
 abbrev pub change_of : List ℕ → Result (ℕ × ChangeParts) Refusal
 change_of bytes = and_then within_limits (stated_by stated_change bytes)
 
+-- why a text is refused as a change
 abbrev pub change_text_fault : List ℕ → Option Refusal
 change_text_fault bytes = fault_in (change_of bytes)
 

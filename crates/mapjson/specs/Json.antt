@@ -17,7 +17,7 @@ o >>= f = option_and_then f o
 
 -- ---- values
 
--- a whole number of at most 64 bits
+-- a whole number from -2^63 to 2^64 - 1; one with a fraction or an exponent is none, nor is -0
 abbrev pub number_of : Data → Option ℤ
 number_of d = option_and_then as_integer (as_number d)
 
@@ -74,7 +74,7 @@ optional_list stated key d = option_map_or (list_of stated) (get key d) (Some []
 abbrev pub json_of : List ℕ → Option Data
 json_of bytes = if is_utf8 bytes then read bytes else None
 
--- what a text states: nothing where it is no JSON, or where its value states nothing
+-- what a text states; or BadJson where it is no JSON, and BadField where its value states nothing
 abbrev pub stated_by : {X : Type 0} → (Data → Option X) → List ℕ → Result X Refusal
 stated_by stated bytes =
     option_map_or (λ d. option_map_or (λ x. Ok x) (stated d) (Err BadField)) (json_of bytes) (Err BadJson)

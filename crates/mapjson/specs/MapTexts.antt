@@ -1,4 +1,4 @@
--- The parts of a map that a JSON text states.
+-- The parts of a map that a JSON text (RFC 8259) states. The form is this program's own.
 use Rattle.std.specs.Prelude.{ℕ, ◌&&◌, Bool, true, false, List, [], ◌∷◌, codes, Option, Some, None, Result, Ok, Err, IfOk, if◌then◌else◌}
 use Rattle.std.specs.Option.{option_map_or}
 use Rattle.std.specs.Str.{bytes_eq}
@@ -164,11 +164,12 @@ stated_map d = if has_only map_keys d && has_no_exceptions d then (do
     osds = osds;
   })) else None
 
--- why a text is refused as a map: it states none, or the map that it states has a fault
+-- a text that states no map, or a map with a fault
 abbrev pub fault_of_stated : Result MapParts Refusal → Option Refusal
 fault_of_stated (Ok parts) = map_fault parts
 fault_of_stated (Err refusal) = Some refusal
 
+-- why a text is refused as a map
 abbrev pub map_text_fault : List ℕ → Option Refusal
 map_text_fault bytes = fault_of_stated (stated_by stated_map bytes)
 

@@ -86,7 +86,8 @@ pub(crate) fn place<T: FromJson>(alloc: Global, value: &Value, index: usize) -> 
 
 /// The text that a value is.
 pub(crate) fn text(value: &Value) -> Result<&str, Fault>
-    ensures { MatchResult result (λ t. as_str (view value.now) ≡ Some t.now) (λ e. (e ≡ Fault.Field) × (as_str (view value.now) ≡ None)) }
+    ensures { MatchResult result (λ t. as_str (view value.now) ≡ Some t.now)
+        (λ e. (e ≡ Fault.Field) × (as_str (view value.now) ≡ None)) }
 {
     value.as_str().ok_or(Fault::Field)
 }
@@ -100,7 +101,9 @@ fn is_among(name: &str, names: &[&str]) -> bool
 
 /// Whether the keys of an object are all among these names.
 fn are_among(members: &Map<String, Value>, names: &[&str]) -> bool
-    ensures { result ≡ list_all (λ key. list_any (λ known. bytes_eq (string_bytes key) known.now) names.now) (keys members.now) }
+    ensures { result
+        ≡ list_all (λ key. list_any (λ known. bytes_eq (string_bytes key) known.now) names.now)
+        (keys members.now) }
 {
     members.keys().all(|key| is_among(key.as_str(), names))
 }

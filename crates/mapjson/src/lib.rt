@@ -33,7 +33,7 @@ pub fn read_change(alloc: Global, bytes: &[u8]) -> Result<(u64, Change), Refusal
     ensures { Makes result (change_text_fault bytes.now) (StatesChange bytes.now) }
 {
     let (base, parts) = change_of(alloc, bytes)?;
-    let change = Change::new(alloc, parts)?;
+    let change = Change::new(parts)?;
     Ok((base, change))
 }
 

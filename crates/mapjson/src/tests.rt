@@ -9,6 +9,117 @@ use std::test::Fail;
 const ONE_DEVICE: &str =
     r#"{"buckets":[{"id":-1,"items":[[0,65536]],"kind":"uniform","type":10}],"epoch":1,"max_osd":1,"osds":[{"exists":true,"id":0,"up":true,"weight":65536}],"pg_upmap":[],"pg_upmap_items":[],"pools":[{"id":1,"kind":"replicated","pg_num":1,"pgp_num":1,"rule":0,"size":1}],"rules":[{"id":0,"kind":"replicated","steps":[["take",-1],["choose_firstn",0,0],["emit"]]}],"version":1}"#;
 
+/// Edits of the map after which it is still one.
+const STATES_A_MAP: [(&str, &str); 12] = [
+    (r#""epoch":1,"#, r#""epoch":18446744073709551615,"#),
+    (r#""epoch":1,"#, r#""epoch":-9223372036854775808,"#),
+    (r#""epoch":1,"#, r#""epoch":"x","epoch":1,"#),
+    (r#""pg_upmap":[],"#, ""),
+    (r#""pg_upmap_items":[],"#, ""),
+    (r#""uniform""#, r#""list""#),
+    (r#""uniform""#, r#""tree""#),
+    (r#""replicated""#, r#""erasure""#),
+    (r#""choose_firstn""#, r#""choose_indep""#),
+    (r#""choose_firstn""#, r#""chooseleaf_firstn""#),
+    (r#""choose_firstn""#, r#""chooseleaf_indep""#),
+    (r#""emit""#, r#""\u0065mit""#),
+];
+
+/// Edits after which the text is JSON, and states no map.
+const NO_MAP: [(&str, &str); 51] = [
+    (r#""epoch":1,"#, r#""epoch":18446744073709551616,"#),
+    (r#""epoch":1,"#, r#""epoch":-9223372036854775809,"#),
+    (r#""epoch":1,"#, r#""epoch":1.0,"#),
+    (r#""epoch":1,"#, r#""epoch":1e0,"#),
+    (r#""epoch":1,"#, r#""epoch":-0,"#),
+    (r#""epoch":1,"#, r#""epoch":null,"#),
+    (r#""epoch":1,"#, r#""epoch":"1","#),
+    (r#""epoch":1,"#, r#""epoch":1,"epoch":"x","#),
+    (r#"{"buckets""#, r#"{"a":0,"buckets""#),
+    (r#"{"id":-1"#, r#"{"a":0,"id":-1"#),
+    (r#"{"exists""#, r#"{"a":0,"exists""#),
+    (r#"{"id":1,"#, r#"{"a":0,"id":1,"#),
+    (r#"{"id":0,"#, r#"{"a":0,"id":0,"#),
+    (r#""epoch":1,"#, ""),
+    (r#""max_osd":1,"#, ""),
+    (r#","version":1"#, ""),
+    (r#""buckets""#, r#""pg_upmap""#),
+    (r#""osds""#, r#""pg_upmap""#),
+    (r#""pools""#, r#""pg_upmap""#),
+    (r#""rules""#, r#""pg_upmap""#),
+    (r#""pg_upmap":[]"#, r#""pg_upmap":null"#),
+    (r#""pg_upmap_items":[]"#, r#""pg_upmap_items":{}"#),
+    (r#""id":-1,"#, ""),
+    (r#""items":[[0,65536]],"#, ""),
+    (r#""kind":"uniform","#, ""),
+    (r#","type":10"#, ""),
+    (r#""exists":true,"#, ""),
+    (r#""id":0,"up""#, r#""up""#),
+    (r#""up":true,"#, ""),
+    (r#","weight":65536"#, ""),
+    (r#""id":1,"#, ""),
+    (r#""kind":"replicated","pg"#, r#""pg"#),
+    (r#""pg_num":1,"#, ""),
+    (r#""pgp_num":1,"#, ""),
+    (r#""rule":0,"#, ""),
+    (r#","size":1"#, ""),
+    (r#""id":0,"kind""#, r#""kind""#),
+    (r#""kind":"replicated","steps""#, r#""steps""#),
+    (r#""uniform""#, r#""straw2""#),
+    (r#""replicated""#, r#""Replicated""#),
+    (r#""exists":true"#, r#""exists":1"#),
+    (r#""choose_firstn""#, r#""choose""#),
+    (r#"[0,65536]"#, r#"[0]"#),
+    (r#"[0,65536]"#, r#"[0,65536,1]"#),
+    (r#"["take",-1]"#, r#"["take"]"#),
+    (r#"["take",-1]"#, r#"["take",-1,0]"#),
+    (r#""choose_firstn",0,0"#, r#""choose_firstn",0"#),
+    (r#""choose_firstn",0,0"#, r#""choose_firstn",0,0,0"#),
+    (r#"["emit"]"#, r#"["emit",0]"#),
+    (r#"["emit"]"#, r#"[]"#),
+    (r#"["emit"]"#, r#""emit""#),
+];
+
+/// Edits after which the text is no JSON.
+const NO_JSON: [(&str, &str); 2] = [
+    (r#""epoch":1,"#, r#""epoch":1e999,"#),
+    (r#""epoch":1,"#, r#""epoch":01,"#),
+];
+
+/// Texts that state a change.
+const CHANGES: [&str; 3] = [
+    r#"{"base":0}"#,
+    r#"{"base":1,"base":2}"#,
+    r#"{"base":1,"down":[1023]}"#,
+];
+
+/// Texts that are JSON, and state no change.
+const NO_CHANGES: [&str; 9] = [
+    r#"{"base":18446744073709551616}"#,
+    r#"{"base":-9223372036854775809}"#,
+    "[]",
+    "{}",
+    r#"{"base":1,"Down":[]}"#,
+    r#"{"base":1,"down":null}"#,
+    r#"{"base":1,"down":[0.5]}"#,
+    r#"{"base":1,"weight":[[0,1,2]]}"#,
+    r#"{"base":-1,"weight":[[0]]}"#,
+];
+
+/// Changes with a number outside its limits.
+const BEYOND_LIMITS: [&str; 7] = [
+    r#"{"base":-1}"#,
+    r#"{"base":-9223372036854775808}"#,
+    r#"{"base":1,"down":[1024]}"#,
+    r#"{"base":1,"up":[-1]}"#,
+    r#"{"base":1,"weight":[[1024,0]]}"#,
+    r#"{"base":1,"weight":[[0,4294967296]]}"#,
+    r#"{"base":1,"weight":[[0,-1]]}"#,
+];
+
+/// Texts that are no JSON.
+const CUT_CHANGES: [&str; 2] = [r#"{"base":1"#, ""];
+
 fn map_refusal(alloc: Global, text: &[u8]) -> Option<Refusal> {
     stated_by::<MapParts>(alloc, text).err()
 }
@@ -64,143 +175,30 @@ fn states_a_map(rt: HostRuntime) -> Result<(), Fail> {
     Ok(())
 }
 
+/// The map with one text in it replaced.
+fn edited(alloc: Global, old: &str, new: &str) -> Result<String, Fail> {
+    let Some((front, back)) = ONE_DEVICE.split_once(old) else {
+        return Err(Fail::from("a text to replace"));
+    };
+    Ok(format!(in alloc; "{front}{new}{back}")?)
+}
+
 #[test]
 fn refuses_what_states_no_map(rt: HostRuntime) -> Result<(), Fail> {
     let alloc = rt.alloc();
-    for (old, new, wanted) in [
-        // numbers
-        (r#""epoch":1,"#, r#""epoch":18446744073709551615,"#, None),
-        (r#""epoch":1,"#, r#""epoch":-9223372036854775808,"#, None),
-        (
-            r#""epoch":1,"#,
-            r#""epoch":18446744073709551616,"#,
-            Some(Refusal::BadField),
-        ),
-        (
-            r#""epoch":1,"#,
-            r#""epoch":-9223372036854775809,"#,
-            Some(Refusal::BadField),
-        ),
-        (r#""epoch":1,"#, r#""epoch":1.0,"#, Some(Refusal::BadField)),
-        (r#""epoch":1,"#, r#""epoch":1e0,"#, Some(Refusal::BadField)),
-        (r#""epoch":1,"#, r#""epoch":-0,"#, Some(Refusal::BadField)),
-        (r#""epoch":1,"#, r#""epoch":1e999,"#, Some(Refusal::BadJson)),
-        (r#""epoch":1,"#, r#""epoch":01,"#, Some(Refusal::BadJson)),
-        (r#""epoch":1,"#, r#""epoch":null,"#, Some(Refusal::BadField)),
-        (r#""epoch":1,"#, r#""epoch":"1","#, Some(Refusal::BadField)),
-        // a key twice: the last counts
-        (r#""epoch":1,"#, r#""epoch":"x","epoch":1,"#, None),
-        (
-            r#""epoch":1,"#,
-            r#""epoch":1,"epoch":"x","#,
-            Some(Refusal::BadField),
-        ),
-        // unknown keys
-        (
-            r#"{"buckets""#,
-            r#"{"a":0,"buckets""#,
-            Some(Refusal::BadField),
-        ),
-        (r#"{"id":-1"#, r#"{"a":0,"id":-1"#, Some(Refusal::BadField)),
-        (
-            r#"{"exists""#,
-            r#"{"a":0,"exists""#,
-            Some(Refusal::BadField),
-        ),
-        (r#"{"id":1,"#, r#"{"a":0,"id":1,"#, Some(Refusal::BadField)),
-        (r#"{"id":0,"#, r#"{"a":0,"id":0,"#, Some(Refusal::BadField)),
-        // missing keys
-        (r#""epoch":1,"#, "", Some(Refusal::BadField)),
-        (r#""max_osd":1,"#, "", Some(Refusal::BadField)),
-        (r#","version":1"#, "", Some(Refusal::BadField)),
-        (r#""buckets""#, r#""pg_upmap""#, Some(Refusal::BadField)),
-        (r#""osds""#, r#""pg_upmap""#, Some(Refusal::BadField)),
-        (r#""pools""#, r#""pg_upmap""#, Some(Refusal::BadField)),
-        (r#""rules""#, r#""pg_upmap""#, Some(Refusal::BadField)),
-        (r#""pg_upmap":[],"#, "", None),
-        (r#""pg_upmap_items":[],"#, "", None),
-        (
-            r#""pg_upmap":[]"#,
-            r#""pg_upmap":null"#,
-            Some(Refusal::BadField),
-        ),
-        (
-            r#""pg_upmap_items":[]"#,
-            r#""pg_upmap_items":{}"#,
-            Some(Refusal::BadField),
-        ),
-        (r#""id":-1,"#, "", Some(Refusal::BadField)),
-        (r#""items":[[0,65536]],"#, "", Some(Refusal::BadField)),
-        (r#""kind":"uniform","#, "", Some(Refusal::BadField)),
-        (r#","type":10"#, "", Some(Refusal::BadField)),
-        (r#""exists":true,"#, "", Some(Refusal::BadField)),
-        (r#""id":0,"up""#, r#""up""#, Some(Refusal::BadField)),
-        (r#""up":true,"#, "", Some(Refusal::BadField)),
-        (r#","weight":65536"#, "", Some(Refusal::BadField)),
-        (r#""id":1,"#, "", Some(Refusal::BadField)),
-        (
-            r#""kind":"replicated","pg"#,
-            r#""pg"#,
-            Some(Refusal::BadField),
-        ),
-        (r#""pg_num":1,"#, "", Some(Refusal::BadField)),
-        (r#""pgp_num":1,"#, "", Some(Refusal::BadField)),
-        (r#""rule":0,"#, "", Some(Refusal::BadField)),
-        (r#","size":1"#, "", Some(Refusal::BadField)),
-        (r#""id":0,"kind""#, r#""kind""#, Some(Refusal::BadField)),
-        (
-            r#""kind":"replicated","steps""#,
-            r#""steps""#,
-            Some(Refusal::BadField),
-        ),
-        // words and kinds of values
-        (r#""uniform""#, r#""list""#, None),
-        (r#""uniform""#, r#""tree""#, None),
-        (r#""uniform""#, r#""straw2""#, Some(Refusal::BadField)),
-        (r#""replicated""#, r#""erasure""#, None),
-        (
-            r#""replicated""#,
-            r#""Replicated""#,
-            Some(Refusal::BadField),
-        ),
-        (r#""exists":true"#, r#""exists":1"#, Some(Refusal::BadField)),
-        (r#""choose_firstn""#, r#""choose_indep""#, None),
-        (r#""choose_firstn""#, r#""chooseleaf_firstn""#, None),
-        (r#""choose_firstn""#, r#""chooseleaf_indep""#, None),
-        (r#""choose_firstn""#, r#""choose""#, Some(Refusal::BadField)),
-        (r#""emit""#, r#""\u0065mit""#, None),
-        // lengths
-        (r#"[0,65536]"#, r#"[0]"#, Some(Refusal::BadField)),
-        (r#"[0,65536]"#, r#"[0,65536,1]"#, Some(Refusal::BadField)),
-        (r#"["take",-1]"#, r#"["take"]"#, Some(Refusal::BadField)),
-        (
-            r#"["take",-1]"#,
-            r#"["take",-1,0]"#,
-            Some(Refusal::BadField),
-        ),
-        (
-            r#""choose_firstn",0,0"#,
-            r#""choose_firstn",0"#,
-            Some(Refusal::BadField),
-        ),
-        (
-            r#""choose_firstn",0,0"#,
-            r#""choose_firstn",0,0,0"#,
-            Some(Refusal::BadField),
-        ),
-        (r#"["emit"]"#, r#"["emit",0]"#, Some(Refusal::BadField)),
-        (r#"["emit"]"#, r#"[]"#, Some(Refusal::BadField)),
-        (r#"["emit"]"#, r#""emit""#, Some(Refusal::BadField)),
+    for (edits, wanted) in [
+        (STATES_A_MAP.as_slice(), None),
+        (NO_MAP.as_slice(), Some(Refusal::BadField)),
+        (NO_JSON.as_slice(), Some(Refusal::BadJson)),
     ] {
-        let Some((front, back)) = ONE_DEVICE.split_once(old) else {
-            return Err(Fail::from("a text to replace"));
-        };
-        let text = format!(in alloc; "{front}{new}{back}")?;
-        assert_eq!(rt;
-            map_refusal(alloc, text.as_bytes()),
-            wanted,
-            "{new} in place of {old}"
-        );
+        for (old, new) in edits {
+            let text = edited(alloc, old, new)?;
+            assert_eq!(rt;
+                map_refusal(alloc, text.as_bytes()),
+                wanted,
+                "{new} in place of {old}"
+            );
+        }
     }
     Ok(())
 }
@@ -263,33 +261,15 @@ fn states_a_change(rt: HostRuntime) -> Result<(), Fail> {
 #[test]
 fn refuses_what_states_no_change(rt: HostRuntime) -> Result<(), Fail> {
     let alloc = rt.alloc();
-    for (text, wanted) in [
-        (r#"{"base":0}"#, None),
-        (r#"{"base":1,"base":2}"#, None),
-        (r#"{"base":-1}"#, Some(Refusal::BadLimit)),
-        (r#"{"base":18446744073709551616}"#, Some(Refusal::BadField)),
-        (r#"{"base":-9223372036854775808}"#, Some(Refusal::BadLimit)),
-        (r#"{"base":-9223372036854775809}"#, Some(Refusal::BadField)),
-        (r#"{"base":1"#, Some(Refusal::BadJson)),
-        ("", Some(Refusal::BadJson)),
-        ("[]", Some(Refusal::BadField)),
-        ("{}", Some(Refusal::BadField)),
-        (r#"{"base":1,"Down":[]}"#, Some(Refusal::BadField)),
-        (r#"{"base":1,"down":null}"#, Some(Refusal::BadField)),
-        (r#"{"base":1,"down":[0.5]}"#, Some(Refusal::BadField)),
-        (r#"{"base":1,"down":[1023]}"#, None),
-        (r#"{"base":1,"down":[1024]}"#, Some(Refusal::BadLimit)),
-        (r#"{"base":1,"up":[-1]}"#, Some(Refusal::BadLimit)),
-        (r#"{"base":1,"weight":[[1024,0]]}"#, Some(Refusal::BadLimit)),
-        (
-            r#"{"base":1,"weight":[[0,4294967296]]}"#,
-            Some(Refusal::BadLimit),
-        ),
-        (r#"{"base":1,"weight":[[0,-1]]}"#, Some(Refusal::BadLimit)),
-        (r#"{"base":1,"weight":[[0,1,2]]}"#, Some(Refusal::BadField)),
-        (r#"{"base":-1,"weight":[[0]]}"#, Some(Refusal::BadField)),
+    for (texts, wanted) in [
+        (CHANGES.as_slice(), None),
+        (NO_CHANGES.as_slice(), Some(Refusal::BadField)),
+        (BEYOND_LIMITS.as_slice(), Some(Refusal::BadLimit)),
+        (CUT_CHANGES.as_slice(), Some(Refusal::BadJson)),
     ] {
-        assert_eq!(rt; change_refusal(alloc, text.as_bytes()), wanted, "at {text}");
+        for text in texts {
+            assert_eq!(rt; change_refusal(alloc, text.as_bytes()), wanted, "at {text}");
+        }
     }
     for (more, wanted) in [(131_071usize, None), (131_072, Some(Refusal::BadLimit))] {
         let mut text = Vec::new(alloc);

@@ -4,6 +4,7 @@ use Rattle.osdmap.specs.declared.change.ChangeParts.{ChangeParts}
 use Rattle.osdmap.specs.declared.refusal.Refusal.{Refusal}
 use Rattle.osdmap.specs.declared.refusal.Refusal.TheVariants.{BadLimit, StaleEpoch, JournalFull, Memory as OutOfMemory}
 use Rattle.osdmap.specs.Maps.{ClusterMap}
+use Rattle.osdmap.specs.Evals.{evals_of}
 use Rattle.osdmap.specs.Changes.{Step, change_fault, apply, after, IsLawful}
 
 -- what callers see of a state: the first map, the changes since, how many there may be, and the present map
@@ -14,19 +15,21 @@ pub record History : Type 0 where
   pub map : ClusterMap
 
 -- the fact of every state: its journal is lawful from the first map and within its capacity, and its map is the first
--- map with the journal applied in epoch order
+-- map with the journal applied in epoch order; and the epochs stay far below the greatest number
 pub record IsKept (h : History) : Type 0 where
   pub lawful : IsLawful h.first h.journal
   pub within : length h.journal ≤ h.capacity
   pub map : h.map ≡ after h.first h.journal
+  pub early : h.first.epoch ≤ 2147483648
+  pub short : h.capacity ≤ 65536
 
 -- a state at its beginning
 abbrev pub opened : ClusterMap → ℕ → History
 opened m capacity = record { first = m; journal = []; capacity = capacity; map = m }
 
--- what refuses to open: a capacity that is not 1 to 65,536
-abbrev pub open_fault : ℕ → Option Refusal
-open_fault capacity = if nat_le 1 capacity && nat_le capacity 65536 then None else Some BadLimit
+-- what refuses to open: a first epoch above 2,147,483,648, or a capacity that is not 1 to 65,536
+abbrev pub open_fault : ClusterMap → ℕ → Option Refusal
+open_fault m capacity = if nat_le m.epoch 2147483648 && (nat_le 1 capacity && nat_le capacity 65536) then None else Some BadLimit
 
 -- ---- commits
 
@@ -47,10 +50,6 @@ commit_fault h base change =
 -- the state after a commit
 abbrev pub committed : History → ChangeParts → History
 committed h change = record h { journal = h.journal ++ next_step h change ∷ []; map = apply h.map (next_step h change) }
-
--- how many groups' placement a change can alter: none, as no reweight moves a group yet
-abbrev pub evals_of : ClusterMap → ChangeParts → ℕ
-evals_of m change = 0
 
 -- what a commit answers and leaves: the new epoch and the evaluations, with the journal longer by the change, exactly
 -- where there is no fault; else the fault, or that a growth was refused, and nothing is changed

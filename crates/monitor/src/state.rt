@@ -5,9 +5,11 @@ use std::marker::Model;
 
 /// The greatest capacity of a journal.
 pub const MAX_JOURNAL: u32 = 65_536;
+/// The greatest epoch of a first map.
+pub const MAX_FIRST_EPOCH: u64 = 2_147_483_648;
 
 /// The state of a monitor.
-#[derive(Debug, Drop)]
+#[derive(Drop)]
 pub struct State {
     first: OsdMap,
     journal: Vec<Incremental>,
@@ -27,16 +29,27 @@ impl Model for State {
 
 impl State {
     ghost use Rattle.std.specs.Prelude.{◌≡◌, ◌≤◌, IfOk, MatchResult};
+    ghost use Rattle.std.specs.Result.{result_err};
     ghost use Rattle.osdmap.specs.Sets.{places_of};
     ghost use Rattle.osdmap.specs.Stated.{Makes};
     ghost use Rattle.osdmap.specs.Placement.{group_fault, up_set, Places};
-    ghost use Rattle.monitor.specs.States.{opened, Commits, IsKept, open_fault};
+    ghost use Rattle.monitor.specs.States.{opened, Commits, commit_fault, open_fault};
 
-    /// The state at its beginning: no change yet. `BadLimit` (12) where the capacity is not 1 to 65,536; `Memory` (30).
-    pub fn new(_alloc: Global, _map: OsdMap, _capacity: u32) -> Result<State, Refusal>
-        ensures { Makes result (open_fault _capacity) (λ s. s ≡ opened _map _capacity) }
+    /// The state at its beginning: no change yet. `BadLimit` (12) where the map's epoch is above 2,147,483,648, or the
+    /// journal's capacity is not 1 to 65,536; `Memory` (30).
+    pub fn new(alloc: Global, map: OsdMap, capacity: u32) -> Result<State, Refusal>
+        ensures { Makes result (open_fault map capacity) (λ s. s ≡ opened map capacity) }
     {
-        Err(Refusal::Memory)
+        if map.epoch() > MAX_FIRST_EPOCH || !(1..=MAX_JOURNAL).contains(&capacity) {
+            return Err(Refusal::BadLimit);
+        }
+        let first = map.copy(alloc)?;
+        Ok(State {
+            first,
+            journal: Vec::new(alloc),
+            capacity,
+            map,
+        })
     }
 
     /// The present map.
@@ -48,22 +61,41 @@ impl State {
 
     /// Applies a change to the present map, whose epoch `base` must be, and journals it: the new epoch, and the number of
     /// groups whose placement it can alter. `StaleEpoch` (20) with the present epoch where `base` is another; else
-    /// `UnknownOsd` (21), `BadWeight` (22) or `DuplicatePart` (27) as `OsdMap::check`; else `JournalFull` (28); or `Memory` (30).
-    pub fn commit(
-        &mut self,
-        _alloc: Global,
-        _base: u64,
-        _change: Change,
-    ) -> Result<(u64, usize), Refusal>
-        ensures { Commits self.old self.new _base _change result }
+    /// `UnknownOsd` (21), `BadWeight` (22) or `DuplicatePart` (27) as `OsdMap::check`; else `JournalFull` (28); or
+    /// `Memory` (30). After a refusal all is as before.
+    pub fn commit(&mut self, base: u64, change: Change) -> Result<(u64, usize), Refusal>
+        ensures { Commits self.old self.new base change result }
     {
-        Err(Refusal::Memory)
+        self.accepts(base, &change)?;
+        self.journal.reserve(1)?;
+        let step = Incremental::new(base + 1, change);
+        self.map.apply(&step);
+        let evals = self.map.evals(step.change());
+        self.journal.push_reserved(step);
+        Ok((base + 1, evals))
+    }
+
+    /// Whether a commit of a change to the map of the epoch `base` is refused, memory aside.
+    #[tactic(auto, unfolding(crate::specs::States::commit_fault))]
+    fn accepts(&self, base: u64, change: &Change) -> Result<(), Refusal>
+        ensures { result_err result ≡ commit_fault self.now base change.now }
+    {
+        let current = self.map.epoch();
+        if base != current {
+            return Err(Refusal::StaleEpoch(current));
+        }
+        self.map.check(change)?;
+        if self.journal.len() >= self.capacity as usize {
+            return Err(Refusal::JournalFull);
+        }
+        Ok(())
     }
 
     /// The epoch and the up set of a group: `UnknownPool` (23), `UnknownGroup` (25), or `Memory` (30).
-    pub fn answer_up(&self, _pg: Pg, _work: &mut Work) -> Result<(u64, UpSet), Refusal>
-        ensures { Makes result (group_fault self.now.map _pg) (λ answer. (answer.0 ≡ self.now.map.epoch) × Places up_set self.now.map _pg (places_of answer.1)) }
+    pub fn answer_up(&self, pg: Pg, work: &mut Work) -> Result<(u64, UpSet), Refusal>
+        ensures { Makes result (group_fault self.now.map pg) (λ answer. (answer.0 ≡ self.now.map.epoch) × Places up_set self.now.map pg (places_of answer.1)) }
     {
-        Err(Refusal::Memory)
+        let set = self.map.up_of(pg, work)?;
+        Ok((self.map.epoch(), set))
     }
 }

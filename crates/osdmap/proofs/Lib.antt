@@ -4,4 +4,5 @@ pub mod MarksLemmas
 pub mod Named
 pub mod ApplyLemmas
 pub mod PlacementLemmas
+pub mod EvalsLemmas
 mod PgTexts

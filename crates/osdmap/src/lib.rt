@@ -4,14 +4,15 @@
 mod apply;
 pub mod change;
 mod check;
+mod evals;
 pub mod limits;
 pub mod map;
 mod marks;
 pub mod osd;
 pub mod parts;
 pub mod pg;
-mod placement;
 pub mod pg_text;
+mod placement;
 pub mod pool;
 pub mod refusal;
 pub mod rules;
@@ -24,8 +25,8 @@ pub use parts::{
     BucketPart, ChoosePart, ItemPart, MapParts, OsdPart, PoolPart, RulePart, StepPart,
 };
 pub use pg::Pg;
-pub use placement::stable_mod;
 pub use pg_text::PgParts;
+pub use placement::stable_mod;
 pub use pool::Pool;
 pub use refusal::Refusal;
 pub use rules::NumberedRule;

@@ -69,9 +69,10 @@ impl Pool {
         self.kind
     }
 
-    /// The number of groups.
+    /// The number of groups: at most 4,096.
     pub fn pg_num(&self) -> u32
-        ensures { result ≡ self.now.pg_num }
+        ensures value { result ≡ self.now.pg_num }
+        ensures few { result ≤ 4096 }
     {
         self.pg_num
     }

@@ -7,7 +7,8 @@ use Rattle.osdmap.specs.declared.refusal.Refusal.TheVariants.{Memory as OutOfMem
 use Rattle.osdmap.specs.Maps.{ClusterMap}
 use Rattle.osdmap.specs.Placement.{group_fault, up_set, Places}
 use Rattle.mapjson.specs.ChangeTexts.{change_text_fault, StatesChange}
-use Rattle.monitor.specs.States.{History, commit_fault, committed, evals_of}
+use Rattle.osdmap.specs.Evals.{evals_of}
+use Rattle.monitor.specs.States.{History, commit_fault, committed}
 use Rattle.session.specs.Commands.{Command, up, epoch, change}
 use Rattle.session.specs.Texts.{up_text, epoch_text, ok_text, refusal_text}
 

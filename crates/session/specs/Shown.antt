@@ -7,7 +7,8 @@ use Rattle.osdmap.specs.declared.change.ChangeParts.{ChangeParts}
 use Rattle.osdmap.specs.declared.refusal.Refusal.{Refusal}
 use Rattle.osdmap.specs.declared.refusal.Refusal.TheVariants.{Memory as OutOfMemory}
 use Rattle.mapjson.specs.ChangeTexts.{change_text_fault, StatesChange}
-use Rattle.monitor.specs.States.{History, commit_fault, committed, evals_of}
+use Rattle.osdmap.specs.Evals.{evals_of}
+use Rattle.monitor.specs.States.{History, commit_fault, committed}
 use Rattle.session.specs.Texts.{up_text, epoch_text, ok_text, refusal_text}
 
 abbrev pub answer_text : Answer → List ℕ

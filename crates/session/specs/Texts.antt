@@ -6,7 +6,7 @@ use Rattle.osdmap.specs.declared.refusal.Refusal.{Refusal}
 use Rattle.osdmap.specs.declared.refusal.Refusal.TheVariants.{BadJson, BadField, BadLimit, BadForest, BadRule, BadPool, BadOsd, StaleEpoch, UnknownOsd, BadWeight, UnknownPool, UnknownGroup, DuplicatePart, JournalFull, Memory, BadCommand}
 use Rattle.osdmap.specs.Refusals.{number_of, name_of}
 use Rattle.osdmap.specs.PgText.{group_text}
-use Rattle.osdmap.specs.Placement.{primary_of}
+use Rattle.osdmap.specs.Primary.{primary_of}
 
 -- what ends each answer
 abbrev pub newline : List ℕ

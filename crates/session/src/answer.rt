@@ -1,7 +1,7 @@
 //! What the commands of a script answer.
 ghost use Rattle.std.specs.Prelude.{◌≡◌, ◌++◌, OnOk};
 ghost use Rattle.std.specs.String.{string_bytes};
-ghost use Rattle.osdmap.specs.Placement.{primary_of};
+ghost use Rattle.osdmap.specs.Sets.{places_of};
 ghost use Rattle.session.specs.Texts.{osd_text, set_text, up_text, refusal_text};
 
 use osdmap::{Pg, Refusal, UpSet};
@@ -45,26 +45,14 @@ fn push_set(text: &mut String, places: &[Option<u32>]) -> Result<(), AllocError>
     Ok(())
 }
 
-/// The first place that has an OSD.
-fn primary(places: &[Option<u32>]) -> Option<u32>
-    ensures { result ≡ primary_of places.now }
-{
-    for place in places {
-        if place.is_some() {
-            return *place;
-        }
-    }
-    None
-}
-
 #[tactic(auto, unfolding(crate::specs::Texts::up_text))]
-fn push_up(text: &mut String, epoch: u64, pg: Pg, places: &[Option<u32>]) -> Result<(), AllocError>
-    ensures { OnOk result (string_bytes text.new ≡ string_bytes text.old ++ up_text epoch pg places.now) }
+fn push_up(text: &mut String, epoch: u64, pg: Pg, set: &UpSet) -> Result<(), AllocError>
+    ensures { OnOk result (string_bytes text.new ≡ string_bytes text.old ++ up_text epoch pg (places_of set.now)) }
 {
     write!(text, "up {epoch} {pg} [")?;
-    push_set(text, places)?;
+    push_set(text, set.places())?;
     text.push_str("] ")?;
-    push_osd(text, primary(places), "-1")?;
+    push_osd(text, set.primary(), "-1")?;
     text.push_str("\n")
 }
 
@@ -88,7 +76,7 @@ impl Answer {
         ensures { OnOk result (string_bytes text.new ≡ string_bytes text.old ++ answer_text self.now) }
     {
         match *self {
-            Answer::Up { epoch, pg, set } => push_up(text, epoch, pg, set.places()),
+            Answer::Up { epoch, pg, set } => push_up(text, epoch, pg, &set),
             Answer::Epoch(epoch) => writeln!(text, "epoch {epoch}"),
             Answer::Changed { epoch, evals } => writeln!(text, "ok {epoch} evals {evals}"),
             Answer::Refused(refusal) => push_refusal(text, refusal),

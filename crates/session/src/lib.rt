@@ -7,4 +7,4 @@ mod session;
 mod sink;
 
 pub use session::{SessionError, run};
-pub use sink::{Buffer, Sink, WriteFailed};
+pub use sink::{Buffer, Sink, WriteFailed, write_whole};

@@ -64,7 +64,7 @@ fn change(alloc: Global, state: &mut State, text: &[u8]) -> Result<(u64, usize),
     ensures { CommitsStated state.old text.now result state.new }
 {
     let (base, change) = read_change(alloc, text)?;
-    state.commit(alloc, base, change)
+    state.commit(base, change)
 }
 
 /// What a command answers; `None` is a line that is no command.

@@ -30,7 +30,7 @@ pub trait Sink {
 }
 
 /// Puts all the bytes. At an `Err` the sink has failed, and has a beginning of them.
-pub(crate) fn write_whole<W: Sink>(sink: &mut W, bytes: &[u8]) -> Result<(), WriteFailed>
+pub fn write_whole<W: Sink>(sink: &mut W, bytes: &[u8]) -> Result<(), WriteFailed>
     requires { W.has_failed sink.old ≡ false }
     ensures whole { OnOk result (W.written sink.new ≡ W.written sink.old ++ bytes.now) }
     ensures part { OnErr result ((rest : List ℕ) × HasPut (W.written sink.old) bytes.now rest (W.written sink.new)) }

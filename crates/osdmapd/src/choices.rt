@@ -1,0 +1,32 @@
+//! What a command line asks for.
+use std::alloc::AllocError;
+
+/// What the command line asks for.
+#[derive(Debug, Drop)]
+pub struct Options {
+    /// How many changes the journal holds: 1 to 65,536.
+    pub journal: u32,
+    /// The path of the map.
+    pub map: String,
+    /// The paths of the scripts.
+    pub scripts: Vec<String>,
+}
+
+/// Why there are no options.
+#[derive(Debug, Drop)]
+pub enum LineError {
+    /// Help was asked for: its text.
+    Help(String),
+    /// The words are no command line: the parser's text.
+    Usage(String),
+    /// More scripts than can be run.
+    TooMany,
+    /// The parser found no memory.
+    Memory,
+}
+
+impl From<AllocError> for LineError {
+    fn from(_error: AllocError) -> LineError {
+        LineError::Memory
+    }
+}
