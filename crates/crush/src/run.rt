@@ -10,7 +10,7 @@ use crate::memory::Memory;
 use crate::placement::Placement;
 use crate::rule::{Choose, Mode, Rule, Step};
 use crate::weights::Weights;
-use crate::work::{Lists, Work};
+use crate::work::{Lists, MOST_PLACES, Work};
 use std::alloc::AllocError;
 use std::mem;
 
@@ -79,7 +79,7 @@ impl Placement<'_> {
     {
         let numrep = numrep(choose, size);
         let room = usize::from(size).saturating_sub(found.len());
-        let mut all = [Position::Open; 10];
+        let mut all = [Position::Open; MOST_PLACES];
         let positions = &mut all[..room.min(usize::from(numrep))];
         self.indep(choose, tries, start, numrep, positions);
         for position in positions.iter() {
