@@ -4,13 +4,14 @@ use Rattle.std.specs.List.{swap, range_with_len}
 use Rattle.std.proofs.lemmas.List.{take_more, take_more_set, drop_more, take-set-le, get_or-set_same, get_or-set_other, get_or-drop, drop-drop, drop-set, drop-set-add, append_assoc, length-set, length-drop}
 use Rattle.std.proofs.lemmas.Nat.{mod_below}
 use Rattle.std.proofs.lemmas.Bool.{cases_eq}
+use Rattle.std.proofs.lemmas.List.FromFn.{length-range_with_len, get_or-range_with_len}
 use Rattle.std.proofs.lemmas.List.Edits.{swap_is, length-swap}
 use Rattle.std.proofs.lemmas.Grind.{get_or-set_at}
 use Rattle.rjenkins.specs.Jenkins.{hash3_of}
 use Rattle.crush.specs.Uniform.{places_drawn, uniform_place}
 
 -- the list after the swap, by two writes
-pub swapped : List ℕ → ℕ → ℕ → List ℕ
+swapped : List ℕ → ℕ → ℕ → List ℕ
 swapped xs p k = set (set xs p (get_or xs (p + k) 0)) (p + k) (get_or xs p 0)
 
 get_or-swapped : (xs : List ℕ) (p k : ℕ) → p + k < length xs → get_or (swapped xs p k) p 0 ≡ get_or xs (p + k) 0
@@ -21,7 +22,7 @@ get_or-swapped xs p (suc k) h =
     let lt : p < length xs = omega arith in
     get_or-set_other (set xs p (get_or xs (p + suc k) 0)) (p + suc k) p (get_or xs p 0) 0 ne ∙ get_or-set_same xs p (get_or xs (p + suc k) 0) 0 lt
 
-pub take-swapped : (xs : List ℕ) (p k : ℕ) → p + k < length xs → take (p + 1) (swapped xs p k) ≡ take p xs ++ get_or xs (p + k) 0 ∷ []
+take-swapped : (xs : List ℕ) (p k : ℕ) → p + k < length xs → take (p + 1) (swapped xs p k) ≡ take p xs ++ get_or xs (p + k) 0 ∷ []
 unfolding swapped
 take-swapped xs p k h =
     let within : p < length (swapped xs p k) = omega (arith, length-set {A = ℕ}) in
@@ -36,7 +37,7 @@ rest_of_head : (t : List ℕ) (k a b : ℕ) → drop 1 (set (b ∷ t) k a) ≡ d
 rest_of_head t zero a b = refl
 rest_of_head t (suc k) a b = refl
 
-pub drop-swapped : (xs : List ℕ) (p k : ℕ) → p + k < length xs → drop (p + 1) (swapped xs p k) ≡ drop 1 (set (drop p xs) k (get_or (drop p xs) 0 0))
+drop-swapped : (xs : List ℕ) (p k : ℕ) → p + k < length xs → drop (p + 1) (swapped xs p k) ≡ drop 1 (set (drop p xs) k (get_or (drop p xs) 0 0))
 unfolding swapped
 drop-swapped xs p k h =
     let lt : p < length xs = omega arith in
@@ -50,7 +51,7 @@ drop-swapped xs p k h =
     ∙ ap (λ y. drop 1 (set (drop p xs) k y)) (sym head)
 
 -- one turn: the place places_drawn joins the places places_drawn so far
-pub drawn-turn : (x id p n k : ℕ) (xs : List ℕ) → p + suc n ≡ length xs → k ≡ hash3_of x id p % suc n → k < suc n → take (p + 1) (swap xs p (p + k)) ++ places_drawn x id (p + 1) n (drop (p + 1) (swap xs p (p + k))) ≡ take p xs ++ places_drawn x id p (suc n) (drop p xs)
+drawn-turn : (x id p n k : ℕ) (xs : List ℕ) → p + suc n ≡ length xs → k ≡ hash3_of x id p % suc n → k < suc n → take (p + 1) (swap xs p (p + k)) ++ places_drawn x id (p + 1) n (drop (p + 1) (swap xs p (p + k))) ≡ take p xs ++ places_drawn x id p (suc n) (drop p xs)
 unfolding places_drawn swapped
 drawn-turn x id p n k xs h e below =
     let inside : p + k < length xs = omega arith in
@@ -81,7 +82,7 @@ drawn_step x id p k xs ys all lt e is h =
     ∙ h
 
 -- what holds of each number holds of each that is places_drawn
-pub drawn_below : (x id p n b : ℕ) (rest : List ℕ) → n ≤ length rest → ((i : ℕ) → i < length rest → get_or rest i 0 < b) → (i : ℕ) → i < n → get_or (places_drawn x id p n rest) i 0 < b
+drawn_below : (x id p n b : ℕ) (rest : List ℕ) → n ≤ length rest → ((i : ℕ) → i < length rest → get_or rest i 0 < b) → (i : ℕ) → i < n → get_or (places_drawn x id p n rest) i 0 < b
 unfolding places_drawn
 drawn_below x id p zero b rest few h i lt = absurd (omega arith)
 drawn_below x id p (suc n) b rest few h zero lt = h (hash3_of x id p % suc n) (omega (arith, mod_below (hash3_of x id p) (suc n) (omega arith)))
@@ -103,27 +104,12 @@ drawn_below x id p (suc n) b rest few h (suc i) lt =
     drop_below : (b : ℕ) (xs : List ℕ) → ((i : ℕ) → i < length xs → get_or xs i 0 < b) → (j : ℕ) → 1 + j < length xs → get_or (drop 1 xs) j 0 < b
     drop_below b xs h j within = let is : get_or (drop 1 xs) j 0 ≡ get_or xs (1 + j) 0 = get_or-drop 1 xs j 0 in let old : get_or xs (1 + j) 0 < b = h (1 + j) within in omega arith
 
--- the first n of the numbers from a on
-pub take-range : (a m n : ℕ) → n ≤ m → take n (range_with_len a m) ≡ range_with_len a n
-take-range a m zero h = refl
-take-range a zero (suc n) h = absurd (omega arith)
-take-range a (suc m) (suc n) h = ap (λ ys. a ∷ ys) (take-range (a + 1) m n (omega arith))
-
-pub length-range : (a n : ℕ) → length (range_with_len a n) ≡ n
-length-range a zero = refl
-length-range a (suc n) = ap suc (length-range (a + 1) n)
-
-pub get_or-range : (a n i : ℕ) → i < n → get_or (range_with_len a n) i 0 ≡ a + i
-get_or-range a zero i h = absurd (omega arith)
-get_or-range a (suc n) zero h = omega arith
-get_or-range a (suc n) (suc i) h = get_or-range (a + 1) n i (omega arith) ∙ omega arith
-
 -- a uniform bucket picks one of its places
 pub uniform_place_below : (x id n r : ℕ) → 0 < n → uniform_place x id n r < n
 unfolding uniform_place
 uniform_place_below x id n r some =
-    let same = length-range 0 n in
-    drawn_below x id 0 n n (range_with_len 0 n) (omega arith) (λ i h. let is = get_or-range 0 n i (omega arith) in omega arith) (r % n) (mod_below r n some)
+    let same = length-range_with_len 0 n in
+    drawn_below x id 0 n n (range_with_len 0 n) (omega arith) (λ i h. let is = get_or-range_with_len 0 n i 0 (omega arith) in omega arith) (r % n) (mod_below r n some)
 
 -- one more number
 pub range-more : (a n : ℕ) → range_with_len a n ++ (a + n) ∷ [] ≡ range_with_len a (n + 1)
@@ -141,6 +127,6 @@ numbered_step i xs lt h = take_more_set xs i i lt ∙ ap (λ ys. ys ++ i ∷ [])
 pub drawn-numbered : (x id r m n : ℕ) (xs : List ℕ) → xs ≡ range_with_len 0 m → length xs ≡ n → get_or (places_drawn x id 0 (length xs) xs) (r % n) 0 ≡ uniform_place x id n r
 unfolding uniform_place
 drawn-numbered x id r m n xs e len =
-    let k : m ≡ n = sym (length-range 0 m) ∙ sym (ap length e) ∙ len in
+    let k : m ≡ n = sym (length-range_with_len 0 m) ∙ sym (ap length e) ∙ len in
     ap (λ j. get_or (places_drawn x id 0 j xs) (r % n) 0) len
     ∙ ap (λ ys. get_or (places_drawn x id 0 n ys) (r % n) 0) (e ∙ ap (range_with_len 0) k)

@@ -32,3 +32,5 @@ pub mod Alike
 pub mod Runs
 pub mod Weighing
 pub mod Reached
+pub mod Ends
+pub mod Settled

@@ -45,13 +45,13 @@ chosen_by false false false leaf item e h =
     record { apart = refl; item_is = ap (λ c. c.item) same; taken = λ q. absurd (cc); itself = λ _. (sym (ap (λ c. c.leaf) same) ∙ ap (λ c. c.item) same, refl) }
 
 -- a choice that may join those chosen so far
-pub record IsFresh (w : World) (c : Choose) (chosen : List Choice) (e : Choice) : Type 0 where
-  pub item : list_any (λ o. int_eq o.item e.item) chosen ≡ false
-  pub leaf : c.to_leaf ≡ true → list_any (λ o. int_eq o.leaf e.leaf) chosen ≡ false
-  pub itself : c.to_leaf ≡ false → e.leaf ≡ e.item
-  pub inside : takes_devices c ≡ true → is_out w e.leaf ≡ false
+record IsFresh (w : World) (c : Choose) (chosen : List Choice) (e : Choice) : Type 0 where
+  item : list_any (λ o. int_eq o.item e.item) chosen ≡ false
+  leaf : c.to_leaf ≡ true → list_any (λ o. int_eq o.leaf e.leaf) chosen ≡ false
+  itself : c.to_leaf ≡ false → e.leaf ≡ e.item
+  inside : takes_devices c ≡ true → is_out w e.leaf ≡ false
 
-pub fresh_with : (w : World) (c : Choose) (t : Tries) (chosen : List Choice) (r : ℕ) (item : ℤ) (e : Choice) → attempt_with w c t chosen r item ≡ Chosen e → IsFresh w c chosen e
+fresh_with : (w : World) (c : Choose) (t : Tries) (chosen : List Choice) (r : ℕ) (item : ℤ) (e : Choice) → attempt_with w c t chosen r item ≡ Chosen e → IsFresh w c chosen e
 unfolding attempt_with attempt_by
 fresh_with w c t chosen r item e h =
     let found = leaf_below w (is_free w chosen) (numbers_from r t.leaf) item in

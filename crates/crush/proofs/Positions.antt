@@ -187,7 +187,7 @@ same_round : (w : World) (c : Choose) (leaf m n numrep : ℕ) (start : Bucket) �
 unfolding after_round position_of position_with
 same_round w c leaf m n numrep start = refl
 
-range_append : (a m n : ℕ) → range_with_len a (m + n) ≡ range_with_len a m ++ range_with_len (a + m) n
+pub range_append : (a m n : ℕ) → range_with_len a (m + n) ≡ range_with_len a m ++ range_with_len (a + m) n
 range_append a zero n = (let e : zero + n ≡ n = omega arith in let f : a ≡ a + zero = omega arith in ap (range_with_len a) e ∙ ap (λ b. range_with_len b n) f)
 range_append a (suc m) n =
     let e : suc m + n ≡ suc (m + n) = omega arith in

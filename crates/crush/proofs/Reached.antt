@@ -1,7 +1,7 @@
 -- what a rule places by, and what it places: the devices that it reaches
-use Rattle.std.proofs.Common.{◌≡◌, ℕ, ◌<◌, ℤ, pos, negsuc, Bool, true, false, ◌&&◌, ◌≤◌, ◌%◌, List, [], ◌∷◌, ◌++◌, length, get_or, Option, Some, None, ◌⊎◌, inl, inr, sym, ap, refl, ◌∙◌, subst, arith, ltb}
+use Rattle.std.proofs.Common.{◌≡◌, ℕ, ◌<◌, ℤ, pos, negsuc, true, ◌&&◌, ◌≤◌, ◌%◌, List, [], ◌∷◌, ◌++◌, length, get_or, Option, Some, None, ◌⊎◌, inl, inr, sym, ap, refl, ◌∙◌, subst, arith}
 use Rattle.std.specs.Prelude.{is_some, int_lt, nat_lt, nat_le, slice_index}
-use Rattle.std.specs.List.{All, Any, Contains, list_all, list_any}
+use Rattle.std.specs.List.{All, Any, list_all}
 use Rattle.std.specs.Option.{option_map_or}
 use Rattle.std.specs.Ordering.{int_eq}
 use Rattle.std.proofs.lemmas.Bool.Decides.{nat_tests}
@@ -16,13 +16,13 @@ use Rattle.crush.specs.declared.bucket.Item.{Item}
 use Rattle.crush.specs.declared.rule.RuleKind.{RuleKind}
 use Rattle.crush.specs.declared.rule.Step.{Step}
 use Rattle.crush.specs.declared.rule.Step.TheVariants.{Take, Choose as Chooses, Emit}
-use Rattle.crush.specs.Forest.{word, bucket_at, level_of}
+use Rattle.crush.specs.Forest.{bucket_at, level_of}
 use Rattle.crush.specs.Grammar.{step_limits_ok, IsLawful}
 use Rattle.crush.specs.Laws.{RunPlacesReached, RunReadsReached}
 use Rattle.crush.specs.Paths.{has_item, IsItemOf, IsPath, IsAbove, TakesAbove, Reaches}
 use Rattle.crush.specs.Run.{run_of}
 use Rattle.crush.specs.WellFormed.{is_within, bucket_limits_ok, is_known, IsForest}
-use Rattle.crush.specs.World.{World, world_of, is_out}
+use Rattle.crush.specs.World.{world_of, is_out}
 use Rattle.crush.proofs.Bounds.{limits-each}
 use Rattle.crush.proofs.Chains.{and-some}
 use Rattle.crush.proofs.Counts.{find-place}
@@ -68,7 +68,7 @@ is_there None h = absurd (cc)
 is_there (Some b) h = (b, refl)
 
 -- a bucket of a forest is of type 1 at least
-typed : (buckets : List Bucket) (id : ℤ) (b : Bucket) → IsForest buckets → bucket_at buckets id ≡ Some b → 1 ≤ b.level
+pub typed : (buckets : List Bucket) (id : ℤ) (b : Bucket) → IsForest buckets → bucket_at buckets id ≡ Some b → 1 ≤ b.level
 typed buckets id b forest e =
     let place = find-place (λ c. int_eq c.id id) buckets b e in
     let limits : bucket_limits_ok b ≡ true = rw place.2 at (list_all-at bucket_limits_ok buckets place.0 b place.1 (limits-each buckets 1024 forest.limits)) in
@@ -84,12 +84,15 @@ known_device buckets (negsuc n) forest known none =
     let some = typed buckets (negsuc n) there.0 forest there.1 in
     absurd (omega arith)
 
-item_known : (buckets : List Bucket) (id : ℤ) (b : Bucket) (k : ℕ) (d : Item) → IsForest buckets → bucket_at buckets id ≡ Some b → k < length b.items → is_known buckets 1024 (get_or b.items k d).id ≡ true
+-- an item of a bucket of a forest is known, and of a type below
+pub item_known : (buckets : List Bucket) (id : ℤ) (b : Bucket) (k : ℕ) (d : Item) → IsForest buckets → bucket_at buckets id ≡ Some b → k < length b.items → (is_known buckets 1024 (get_or b.items k d).id ≡ true) × (level_of buckets (get_or b.items k d).id < b.level)
 item_known buckets id b k d forest e within =
     let place = find-place (λ c. int_eq c.id id) buckets b e in
     let below = (and_parts _ _ (and_parts _ _ (and_parts _ _ forest.lawful).0).0).1 in
     let inner = rw place.2 at (list_all-at (λ c. list_all (λ i. is_known buckets 1024 i.id && nat_lt (level_of buckets i.id) c.level) c.items) buckets place.0 b place.1 below) in
-    (and_parts _ _ (list_all-at (λ i. is_known buckets 1024 i.id && nat_lt (level_of buckets i.id) b.level) b.items k d within inner)).0
+    let both = list_all-at (λ i. is_known buckets 1024 i.id && nat_lt (level_of buckets i.id) b.level) b.items k d within inner in
+    let parts = and_parts (is_known buckets 1024 (get_or b.items k d).id) (nat_lt (level_of buckets (get_or b.items k d).id) b.level) both in
+    (parts.0, ltb-true _ _ parts.1)
 
 held_items : (buckets : List Bucket) (steps : List Step) (id : ℤ) (b : Bucket) → IsForest buckets → IsHeld buckets steps id → bucket_at buckets id ≡ Some b → HasIn (IsHeld buckets steps) buckets b
 held_items buckets steps id b forest held e =
@@ -100,7 +103,7 @@ held_items buckets steps id b forest held e =
           let has : has_item item b ≡ true = list_any_at (λ (i : Item). int_eq i.id item) b.items k d within (int_eq-yes item item refl) in
           let of : IsItemOf buckets id item = and-some (λ c. has_item item c ≡ true) (bucket_at buckets id) b e has in
           (held.0, held.1, held.2, held.3, takes_below buckets id item held.1 of held.4));
-      devices = λ k d within. λ none. known_device buckets (get_or b.items k d).id forest (item_known buckets id b k d forest e within) none;
+      devices = λ k d within. λ none. known_device buckets (get_or b.items k d).id forest (item_known buckets id b k d forest e within).0 none;
     }
 
 -- a device that the steps hold is one that they reach

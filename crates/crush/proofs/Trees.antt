@@ -1,5 +1,5 @@
 -- the heights of tree buckets, and one level of the walk
-use Rattle.std.proofs.Common.{◌≡◌, ℕ, suc, ◌+◌, ◌-◌, ◌*◌, ◌/◌, ◌^◌, ◌<◌, ◌≤◌, cond, Bool, true, false, List, [], ◌∷◌, length, get_or, take, drop, eqb, min, lit<, subst, refl, sym, ap, ◌∙◌, inl, inr, arith}
+use Rattle.std.proofs.Common.{◌≡◌, ℕ, suc, ◌+◌, ◌-◌, ◌*◌, ◌/◌, ◌^◌, ◌<◌, ◌≤◌, cond, Bool, true, false, List, length, get_or, take, drop, eqb, min, subst, refl, sym, ap, ◌∙◌, inl, inr, arith}
 use Rattle.std.specs.List.{range_with_len, list_all}
 use lib.Count.{count_leading_zeros}
 use Rattle.std.proofs.Math.Seq.{take-add}
@@ -8,7 +8,7 @@ use Rattle.std.proofs.lemmas.List.Sums.{AllPass-from_list_all, sum_by-append, su
 use borrow.Author.Tests.{ltb-true}
 use Rattle.std.proofs.lemmas.Bool.{ltb-false, eqb-true, cases_lt}
 use Rattle.std.proofs.lemmas.Nat.{div_below}
-use Rattle.std.proofs.Math.Nat.{mul_comm, mul-lt-mul_of_pos_right, pow-le-pow_right, pow-suc}
+use Rattle.std.proofs.Math.Nat.{mul_comm, mul-lt-mul_of_pos_right, pow-suc}
 use Rattle.rjenkins.specs.Jenkins.{hash4_of}
 use Rattle.crush.specs.declared.bucket.Item.{Item}
 use Rattle.crush.specs.declared.bucket.Bucket.{Bucket}
@@ -16,27 +16,24 @@ use Rattle.crush.specs.Forest.{weight_of}
 use Rattle.crush.specs.Tree.{weight_between, goes_left, height_of, tree_place}
 use Rattle.crush.specs.Items.{item_at}
 use Rattle.crush.specs.Pick.{place_of, pick_of}
-use Rattle.crush.proofs.Drawn.{get_or-range, length-range}
+use Rattle.std.proofs.lemmas.List.FromFn.{length-range_with_len, get_or-range_with_len}
 
 -- what is computed for each of 1 to 64
 at_each : (p : ℕ → Bool) → list_all p (range_with_len 1 64) ≡ true → (n : ℕ) → 0 < n → n ≤ 64 → p n ≡ true
 at_each p all n some few =
-    let is : get_or (range_with_len 1 64) (n - 1) 0 ≡ n = get_or-range 1 64 (n - 1) (omega arith) ∙ omega arith in
-    let within : n - 1 < length (range_with_len 1 64) = omega (arith, length-range 1 64) in
+    let is : get_or (range_with_len 1 64) (n - 1) 0 ≡ n = get_or-range_with_len 1 64 (n - 1) 0 (omega arith) ∙ omega arith in
+    let within : n - 1 < length (range_with_len 1 64) = omega (arith, length-range_with_len 1 64) in
     ap p (sym is) ∙ AllPass-from_list_all p (range_with_len 1 64) all (n - 1) 0 within
 
 pub height_is : (n : ℕ) → 0 < n → n ≤ 64 → 64 - count_leading_zeros 64 (n - 1) ≡ height_of n
 unfolding count_leading_zeros
 height_is n some few = eqb-true _ _ (at_each (λ n. eqb (64 - count_leading_zeros 64 (n - 1)) (height_of n)) refl n some few)
 
-pub height_low : (n : ℕ) → 0 < n → n ≤ 64 → height_of n ≤ 6
-height_low n some few = let e = eqb-true _ _ (at_each (λ n. eqb (height_of n - 6) 0) refl n some few) in omega arith
-
 pub height_holds : (n : ℕ) → 0 < n → n ≤ 64 → n ≤ 2 ^ height_of n
 height_holds n some few = let e = eqb-true _ _ (at_each (λ n. eqb (n - 2 ^ height_of n) 0) refl n some few) in omega arith
 
 -- the items of a part, with its ends cut at the length
-pub part_is : (items : List Item) (from count : ℕ) → take (min (from + count) (length items) - min from (length items)) (drop (min from (length items)) items) ≡ take count (drop from items)
+part_is : (items : List Item) (from count : ℕ) → take (min (from + count) (length items) - min from (length items)) (drop (min from (length items)) items) ≡ take count (drop from items)
 part_is items from count = elim (cases_lt (length items) from) [
   | inr inside ↦ (let rest = drop from items in
       let len : length rest ≡ length items - from = length-drop from items in
@@ -65,7 +62,7 @@ halves items from half =
     ∙ ap (λ ys. weight_between items from half + weight_of (take half ys)) (drop-drop half from items)
 
 -- the step of the walk
-pub tree_place_more : (x id r k from node w left : ℕ) (items : List Item) (goes : Bool) → node ≡ 2 * from + 2 ^ suc k → w ≡ weight_between items from (2 ^ suc k) → left ≡ weight_between items from (2 ^ k) → goes ≡ goes_left x id r node w left → cond goes (tree_place x id r items k from) (tree_place x id r items k (from + 2 ^ k)) ≡ tree_place x id r items (suc k) from
+tree_place_more : (x id r k from node w left : ℕ) (items : List Item) (goes : Bool) → node ≡ 2 * from + 2 ^ suc k → w ≡ weight_between items from (2 ^ suc k) → left ≡ weight_between items from (2 ^ k) → goes ≡ goes_left x id r node w left → cond goes (tree_place x id r items k from) (tree_place x id r items k (from + 2 ^ k)) ≡ tree_place x id r items (suc k) from
 unfolding tree_place
 tree_place_more x id r k from node w left items goes en ew el eg =
     ap (λ b. cond b (tree_place x id r items k from) (tree_place x id r items k (from + 2 ^ k)))
@@ -79,28 +76,13 @@ pub record IsAt (x id r : ℕ) (items : List Item) (k from w : ℕ) : Type 0 whe
   pub weighed : w ≡ weight_between items from (2 ^ k)
   pub rest : tree_place x id r items k from ≡ tree_place x id r items (height_of (length items)) 0
 
-pub at_root : (x id r : ℕ) (items : List Item) → 0 < weight_of items → length items ≤ 64 → IsAt x id r items (height_of (length items)) 0 (weight_of items)
-at_root x id r items some few =
-    let n = length items in
-    let has : 0 < n = has_items items some in
-    let low = height_low n has few in
-    let top : 2 ^ height_of n ≤ 2 ^ 6 = pow_at_most (height_of n) low in
-    record { low = low; room = omega arith; some = some; weighed = sym (ap weight_of (take_all (2 ^ height_of n) items (height_holds n has few))); rest = refl }
-  where
-    pow_at_most : (k : ℕ) → k ≤ 6 → 2 ^ k ≤ 2 ^ 6
-    pow_at_most k h = let two : 0 < 2 = lit< tt in pow-le-pow_right two h
-
-    has_items : (items : List Item) → 0 < weight_of items → 0 < length items
-    has_items [] h = absurd (omega arith)
-    has_items (i ∷ is) h = omega arith
-
 -- a draw is below the weight that it is made against
 pub draw_below : (scale h w : ℕ) → h < scale → 0 < w → h * w / scale < w
 draw_below scale h w low some =
     div_below (h * w) scale w (omega arith) (let p : h * w < scale * w = mul-lt-mul_of_pos_right low some in let q : scale * w ≡ w * scale = mul_comm scale w in omega arith)
 
 -- the node's halves
-pub halves_of : (x id r k from w left : ℕ) (items : List Item) → IsAt x id r items (suc k) from w → left ≡ weight_between items from (2 ^ k) → w ≡ left + weight_between items (from + 2 ^ k) (2 ^ k)
+halves_of : (x id r k from w left : ℕ) (items : List Item) → IsAt x id r items (suc k) from w → left ≡ weight_between items from (2 ^ k) → w ≡ left + weight_between items (from + 2 ^ k) (2 ^ k)
 halves_of x id r k from w left items at el =
     let two : 2 ^ suc k ≡ 2 ^ k + 2 ^ k = omega (arith, pow-suc 2 k) in
     at.weighed ∙ ap (weight_between items from) two ∙ halves items from (2 ^ k) ∙ ap (λ m. m + weight_between items (from + 2 ^ k) (2 ^ k)) (sym el)
@@ -110,7 +92,7 @@ pub goes_left_some : (x id r node w left : ℕ) → goes_left x id r node w left
 unfolding goes_left
 goes_left_some x id r node w left e = let h = ltb-true _ _ e in omega (arith, h)
 
-pub step_left : (x id r k from node w left : ℕ) (items : List Item) → IsAt x id r items (suc k) from w → node ≡ 2 * from + 2 ^ suc k → left ≡ weight_between items from (2 ^ k) → goes_left x id r node w left ≡ true → IsAt x id r items k from left
+step_left : (x id r k from node w left : ℕ) (items : List Item) → IsAt x id r items (suc k) from w → node ≡ 2 * from + 2 ^ suc k → left ≡ weight_between items from (2 ^ k) → goes_left x id r node w left ≡ true → IsAt x id r items k from left
 step_left x id r k from node w left items at en el e =
     let two : 2 ^ suc k ≡ 2 ^ k + 2 ^ k = omega (arith, pow-suc 2 k) in
     record {
@@ -121,7 +103,7 @@ step_left x id r k from node w left items at en el e =
       rest = tree_place_more x id r k from node w left items true en at.weighed el (sym e) ∙ at.rest;
     }
 
-pub step_right : (x id r k from node w left : ℕ) (items : List Item) → IsAt x id r items (suc k) from w → node ≡ 2 * from + 2 ^ suc k → left ≡ weight_between items from (2 ^ k) → hash4_of x node r id < 2 ^ 32 → goes_left x id r node w left ≡ false → IsAt x id r items k (from + 2 ^ k) (w - left)
+step_right : (x id r k from node w left : ℕ) (items : List Item) → IsAt x id r items (suc k) from w → node ≡ 2 * from + 2 ^ suc k → left ≡ weight_between items from (2 ^ k) → hash4_of x node r id < 2 ^ 32 → goes_left x id r node w left ≡ false → IsAt x id r items k (from + 2 ^ k) (w - left)
 unfolding goes_left
 step_right x id r k from node w left items at en el low e =
     let two : 2 ^ suc k ≡ 2 ^ k + 2 ^ k = omega (arith, pow-suc 2 k) in

@@ -43,7 +43,7 @@ weighs_within [] (suc place) some = absurd (omega arith)
 weighs_within (i ∷ items) zero some = omega arith
 weighs_within (i ∷ items) (suc place) some = omega (arith, weighs_within items place some)
 
-within_by : (k : BucketKind) (b : Bucket) (x r : ℕ) → b.kind ≡ k → IsPickable b → place_by k b x r < length b.items
+pub within_by : (k : BucketKind) (b : Bucket) (x r : ℕ) → b.kind ≡ k → IsPickable b → place_by k b x r < length b.items
 unfolding place_by
 within_by Uniform b x r e p = uniform_place_below x (word b.id) (length b.items) r p.some
 within_by InList b x r e p = subst (λ k. place_by k b x r < length b.items) e (list_picks_greatest_winner b x r e p).within

@@ -1,5 +1,5 @@
 -- What follows from the definitions of placement.
-use Rattle.std.specs.Prelude.{◌<◌, ◌≡◌, ◌≢◌, ℕ, ◌+◌, Bool, true, false, ◌||◌, List, length, slice_index_or, ◌==◌, pos, Option, Some, slice_index, Contains}
+use Rattle.std.specs.Prelude.{◌<◌, ◌≡◌, ◌≢◌, ℕ, ◌+◌, ℤ, [], ◌∷◌, MatchOption, Bool, true, false, ◌||◌, List, length, slice_index_or, ◌==◌, pos, Some, slice_index, Contains}
 use Rattle.std.specs.List.{All, AllPairs, range_with_len}
 use Rattle.std.specs.List.Sorted.{IsPermutation}
 use Rattle.crush.specs.declared.bucket.Item.{Item}
@@ -12,18 +12,19 @@ use Rattle.crush.specs.declared.choose.Tries.{Tries}
 use Rattle.crush.specs.declared.rule.Choose.{Choose}
 use Rattle.crush.specs.declared.rule.RuleKind.{RuleKind}
 use Rattle.crush.specs.declared.rule.Step.{Step}
-use Rattle.crush.specs.Forest.{word, IsPickable}
+use Rattle.crush.specs.Forest.{word, bucket_at, level_of, IsPickable}
 use Rattle.crush.specs.Items.{item_at}
 use Rattle.crush.specs.Uniform.{draw_order}
 use Rattle.crush.specs.Listed.{wins_at}
-use Rattle.crush.specs.Pick.{place_of}
+use Rattle.crush.specs.Pick.{place_of, pick_of}
 use Rattle.crush.specs.World.{World, world_of, is_out}
+use Rattle.crush.specs.Descent.{item_below}
 use Rattle.crush.specs.Firstn.{firstn}
 use Rattle.crush.specs.Indep.{is_open, indep}
 use Rattle.crush.specs.Run.{run_of}
 use Rattle.crush.specs.Grammar.{IsLawful}
 use Rattle.crush.specs.Paths.{Reaches}
-use Rattle.crush.specs.WellFormed.{IsForest}
+use Rattle.crush.specs.WellFormed.{is_known, IsForest}
 
 -- the greatest place that wins its draw
 pub record IsGreatestWinner (x id r : ℕ) (items : List Item) (place : ℕ) : Type 0 where
@@ -42,6 +43,34 @@ ListPicksGreatestWinner = (b : Bucket) (x r : ℕ) → b.kind ≡ InList → IsP
 -- a tree bucket picks an item that weighs something
 abbrev pub TreePicksWeight : Type 0
 TreePicksWeight = (b : Bucket) (x r : ℕ) → b.kind ≡ InTree → IsPickable b → 0 < (item_at b.items (place_of b x r)).weight
+
+-- the picks lead from a bucket, through the buckets between, to an item
+abbrev pub ArePicks : World → (Bucket → ℕ) → Bucket → List Bucket → ℤ → Type 0
+ArePicks w r b [] item = pick_of b w.x (r b) ≡ item
+ArePicks w r b (next ∷ between) item = (bucket_at w.buckets (pick_of b w.x (r b)) ≡ Some next) × ArePicks w r next between item
+
+-- some picks lead from a bucket to an item
+pub record LeadsTo (w : World) (r : Bucket → ℕ) (b : Bucket) (item : ℤ) : Type 0 where
+  pub between : List Bucket
+  pub picks : ArePicks w r b between item
+
+-- the picks from a bucket lead to a device, where another type is wanted
+pub record LeadsAstray (w : World) (r : Bucket → ℕ) (wanted : ℕ) (b : Bucket) : Type 0 where
+  pub osd : ℕ
+  pub other : wanted ≢ 0
+  pub leads : LeadsTo w r b (pos osd)
+
+-- the picks from a bucket lead to an item of the forest of the wanted type
+pub record LeadsToWanted (w : World) (r : Bucket → ℕ) (wanted : ℕ) (b : Bucket) (item : ℤ) : Type 0 where
+  pub of_type : level_of w.buckets item ≡ wanted
+  pub known : is_known w.buckets 1024 item ≡ true
+  pub leads : LeadsTo w r b item
+
+-- in a forest a descent comes to an item of the wanted type, unless a device of another type stops it: never to an
+-- unknown item, and never to an end for want of levels
+abbrev pub DescentEnds : Type 0
+DescentEnds = (w : World) (r : Bucket → ℕ) (wanted : ℕ) (b : Bucket) → IsForest w.buckets → bucket_at w.buckets b.id ≡ Some b →
+    MatchOption (item_below w r wanted b) (LeadsAstray w r wanted b) (λ p. LeadsToWanted w r wanted b p.item)
 
 -- a step that takes devices: leaves, or items of type 0
 abbrev pub takes_devices : Choose → Bool

@@ -2,7 +2,7 @@
 
 ghost use Rattle.std.specs.Prelude.{◌≡◌};
 ghost use Rattle.std.specs.List.{list_any};
-ghost use Rattle.crush.specs.Indep.{holds_item};
+ghost use Rattle.crush.specs.Indep.{holds_item, is_open};
 
 use crate::bucket::Bucket;
 use crate::choose::{Choice, Draw, Picked, Position, Tries};
@@ -17,6 +17,13 @@ fn is_held(positions: &[Position], item: i32) -> bool
         Position::Filled(choice) => choice.item == item,
         Position::Open | Position::Hole => false,
     })
+}
+
+/// Whether a position is still to be filled.
+fn has_open(positions: &[Position]) -> bool
+    ensures { result ≡ list_any is_open positions.now }
+{
+    positions.iter().any(|position| position.is_open())
 }
 
 impl Placement<'_> {
@@ -182,6 +189,9 @@ impl Placement<'_> {
     {
         positions.fill(Position::Open);
         for round in 0..tries.total {
+            if !has_open(positions) {
+                break;
+            }
             self.take_round(choose, tries, numrep, start, positions, round);
         }
     }

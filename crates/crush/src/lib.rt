@@ -15,6 +15,8 @@ pub mod memory;
 mod met;
 pub mod pick;
 pub mod placement;
+mod pick;
+mod placement;
 pub mod rule;
 mod run;
 mod search;

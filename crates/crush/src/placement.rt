@@ -49,7 +49,8 @@ impl Placement<'_> {
         requires within { IsPickable start.now }
         requires some { 0 < draw.numrep }
         requires fits { draw.base < 2 ^ 31 }
-        ensures value { result ≡ item_below (world self.now) (number_in draw.numrep draw.base draw.round) wanted start.now }
+        ensures value { let r = number_in draw.numrep draw.base draw.round in
+            result ≡ item_below (world self.now) r wanted start.now }
         ensures small { IfSome result (λ p. p.r ≤ draw.base + 65280) }
     {
         let mut bucket = start;

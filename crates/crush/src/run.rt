@@ -10,7 +10,7 @@ use crate::memory::Memory;
 use crate::placement::Placement;
 use crate::rule::{Choose, Mode, Rule, Step};
 use crate::weights::Weights;
-use crate::work::{Lists, Work};
+use crate::work::{Lists, MOST_PLACES, Work};
 use std::alloc::AllocError;
 use std::mem;
 
@@ -79,7 +79,7 @@ impl Placement<'_> {
     {
         let numrep = numrep(choose, size);
         let room = usize::from(size).saturating_sub(found.len());
-        let mut all = [Position::Open; 10];
+        let mut all = [Position::Open; MOST_PLACES];
         let positions = &mut all[..room.min(usize::from(numrep))];
         self.indep(choose, tries, start, numrep, positions);
         for position in positions.iter() {
@@ -140,8 +140,9 @@ impl Placement<'_> {
     fn step(&self, step: Step, tries: Tries, size: u8, lists: &mut Lists) -> Result<(), AllocError>
         requires some { 1 ≤ size }
         requires few { size ≤ 10 }
-        ensures { OnOk result (progress_of lists.new.working.items lists.new.emitted.items
-            ≡ after_step (world self.now) tries size (progress_of lists.old.working.items lists.old.emitted.items) step) }
+        ensures { let before = progress_of lists.old.working.items lists.old.emitted.items in
+            OnOk result (progress_of lists.new.working.items lists.new.emitted.items
+            ≡ after_step (world self.now) tries size before step) }
     {
         match step {
             Step::Take(id) => {
@@ -208,7 +209,8 @@ impl Rule {
     ) -> Result<(), Memory>
         requires some { 1 ≤ size }
         requires few { size ≤ 10 }
-        ensures placed { OnOk result (work.new.result ≡ run_of (world_of forest.now weights.now x) self.now.steps size) }
+        ensures placed { let world = world_of forest.now weights.now x in
+            OnOk result (work.new.result ≡ run_of world self.now.steps size) }
         ensures counted { OnOk result (work.new.runs ≡ min (work.old.runs + 1) (2 ^ 64 - 1)) }
         ensures uncounted { OnErr result (work.new.runs ≡ work.old.runs) }
     {

@@ -5,7 +5,7 @@ use std::alloc::Global;
 use std::marker::Model;
 
 /// How many places the greatest pool has.
-const MOST_PLACES: usize = 10;
+pub(crate) const MOST_PLACES: usize = 10;
 
 /// The lists that a run works on.
 #[derive(Debug, Drop)]

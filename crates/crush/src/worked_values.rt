@@ -145,124 +145,73 @@ fn picks_of_each_kind_and_shape(rt: HostRuntime) -> Result<(), AllocError> {
 
 /// A forest of three racks with seven hosts.
 fn racks(alloc: Global) -> Result<Vec<Bucket>, AllocError> {
+    let rows: [(i32, u8, BucketKind, &[(i32, u32)]); 11] = [
+        (
+            -1,
+            10,
+            BucketKind::Uniform,
+            &[(-2, 300), (-3, 300), (-4, 300)],
+        ),
+        (-2, 3, BucketKind::List, &[(-5, 100), (-6, 200)]),
+        (-3, 3, BucketKind::Tree, &[(-7, 50), (-8, 150), (-9, 100)]),
+        (-4, 3, BucketKind::Uniform, &[(-10, 150), (-11, 150)]),
+        (-5, 1, BucketKind::Uniform, &[(0, 50), (1, 50)]),
+        (-6, 1, BucketKind::List, &[(2, 40), (3, 160)]),
+        (-7, 1, BucketKind::Tree, &[(4, 20), (5, 20), (6, 10)]),
+        (-8, 1, BucketKind::Uniform, &[(7, 75), (8, 75)]),
+        (-9, 1, BucketKind::Tree, &[(9, 100)]),
+        (-10, 1, BucketKind::List, &[(10, 75), (11, 75)]),
+        (-11, 1, BucketKind::Uniform, &[(12, 50), (13, 50), (14, 50)]),
+    ];
     let mut buckets = Vec::new(alloc);
-    buckets.push(bucket(
-        alloc,
-        -1,
-        10,
-        BucketKind::Uniform,
-        &[(-2, 300), (-3, 300), (-4, 300)],
-    )?)?;
-    buckets.push(bucket(alloc, -2, 3, BucketKind::List, &[(-5, 100), (-6, 200)])?)?;
-    buckets.push(bucket(
-        alloc,
-        -3,
-        3,
-        BucketKind::Tree,
-        &[(-7, 50), (-8, 150), (-9, 100)],
-    )?)?;
-    buckets.push(bucket(alloc, -4, 3, BucketKind::Uniform, &[(-10, 150), (-11, 150)])?)?;
-    buckets.push(bucket(alloc, -5, 1, BucketKind::Uniform, &[(0, 50), (1, 50)])?)?;
-    buckets.push(bucket(alloc, -6, 1, BucketKind::List, &[(2, 40), (3, 160)])?)?;
-    buckets.push(bucket(alloc, -7, 1, BucketKind::Tree, &[(4, 20), (5, 20), (6, 10)])?)?;
-    buckets.push(bucket(alloc, -8, 1, BucketKind::Uniform, &[(7, 75), (8, 75)])?)?;
-    buckets.push(bucket(alloc, -9, 1, BucketKind::Tree, &[(9, 100)])?)?;
-    buckets.push(bucket(alloc, -10, 1, BucketKind::List, &[(10, 75), (11, 75)])?)?;
-    buckets.push(bucket(
-        alloc,
-        -11,
-        1,
-        BucketKind::Uniform,
-        &[(12, 50), (13, 50), (14, 50)],
-    )?)?;
+    for (id, level, kind, items) in rows {
+        buckets.push(bucket(alloc, id, level, kind, items)?)?;
+    }
     Ok(buckets)
 }
 
+/// The reweights of its devices: one is out, three are in for some inputs, and OSD 14 has none.
+fn reweights(alloc: Global) -> Result<Weights, AllocError> {
+    let list = [
+        ALL, 32768, 0, ALL, ALL, ALL, 1, ALL, 40000, ALL, ALL, ALL, ALL, ALL,
+    ];
+    Ok(Weights::new(Vec::from_slice(alloc, &list)?))
+}
+
 #[test]
-fn runs_of_rules(rt: HostRuntime) -> Result<(), AllocError> {
+fn rules_that_pack(rt: HostRuntime) -> Result<(), AllocError> {
     let alloc = rt.alloc();
     let Ok(forest) = Forest::new(racks(alloc)?, 15) else {
         assert!(rt; false, "the forest was refused");
         return Ok(());
     };
-    // OSD 14 has no reweight.
-    let weights = [
-        ALL, 32768, 0, ALL, ALL, ALL, 1, ALL, 40000, ALL, ALL, ALL, ALL, ALL,
-    ];
-    let weights = Weights::new(Vec::from_slice(alloc, &weights)?);
+    let weights = reweights(alloc)?;
     let take = Step::Take(-1);
-    let copies: [(&[Step], u8, u32, &[i32]); 9] = [
-        (
-            &[take, firstn(true, 0, 1), Step::Emit],
-            3,
-            12345,
-            &[10, 3, 7],
-        ),
-        (
-            &[take, firstn(true, 0, 1), Step::Emit],
-            10,
-            0,
-            &[10, 7, 12, 3, 9, 4, 0],
-        ),
-        (
-            &[take, firstn(false, 2, 3), firstn(true, 2, 1), Step::Emit],
-            3,
-            12345,
-            &[9, 7, 10],
-        ),
-        (
-            &[take, firstn(false, 2, 3), firstn(true, 2, 1), Step::Emit],
-            10,
-            0,
-            &[10, 13, 0, 3],
-        ),
-        (
-            &[
-                Step::Take(-2),
-                firstn(true, 1, 1),
-                Step::Emit,
-                Step::Take(-3),
-                firstn(true, 0, 1),
-                Step::Emit,
-            ],
-            3,
-            12345,
-            &[3, 9, 7],
-        ),
-        (
-            &[
-                Step::Take(-2),
-                firstn(true, 1, 1),
-                Step::Emit,
-                Step::Take(-3),
-                firstn(true, 0, 1),
-                Step::Emit,
-            ],
-            10,
-            0,
-            &[0, 7, 9, 5],
-        ),
-        (
-            &[take, firstn(false, 0, 0), Step::Emit],
-            3,
-            12345,
-            &[10, 3, 7],
-        ),
-        (
-            &[take, firstn(false, 0, 0), Step::Emit],
-            10,
-            0,
-            &[10, 7, 12, 3, 8, 9, 11, 4, 0, 5],
-        ),
-        (
-            &[take, firstn(false, 2, 5), firstn(true, 2, 1), Step::Emit],
-            3,
-            0,
-            &[],
-        ),
+    let leaves = [take, firstn(true, 0, 1), Step::Emit];
+    let racks_then_leaves = [take, firstn(false, 2, 3), firstn(true, 2, 1), Step::Emit];
+    let two_blocks = [
+        Step::Take(-2),
+        firstn(true, 1, 1),
+        Step::Emit,
+        Step::Take(-3),
+        firstn(true, 0, 1),
+        Step::Emit,
     ];
-    for (steps, size, x, want) in copies {
-        let Some(places) = placed(
+    let devices = [take, firstn(false, 0, 0), Step::Emit];
+    let no_such_type = [take, firstn(false, 2, 5), firstn(true, 2, 1), Step::Emit];
+    let rows: [(&[Step], u8, u32, &[i32]); 9] = [
+        (&leaves, 3, 12345, &[10, 3, 7]),
+        (&leaves, 10, 0, &[10, 7, 12, 3, 9, 4, 0]),
+        (&racks_then_leaves, 3, 12345, &[9, 7, 10]),
+        (&racks_then_leaves, 10, 0, &[10, 13, 0, 3]),
+        (&two_blocks, 3, 12345, &[3, 9, 7]),
+        (&two_blocks, 10, 0, &[0, 7, 9, 5]),
+        (&devices, 3, 12345, &[10, 3, 7]),
+        (&devices, 10, 0, &[10, 7, 12, 3, 8, 9, 11, 4, 0, 5]),
+        (&no_such_type, 3, 0, &[]),
+    ];
+    for (steps, size, x, want) in rows {
+        let got = placed(
             alloc,
             &forest,
             RuleKind::Replicated,
@@ -270,78 +219,50 @@ fn runs_of_rules(rt: HostRuntime) -> Result<(), AllocError> {
             &weights,
             x,
             size,
-        )?
-        else {
+        )?;
+        let Some(places) = got else {
             assert!(rt; false, "a rule of size {size} was refused");
             return Ok(());
         };
         assert_eq!(rt; places.as_slice(), want, "size {size} at {x}");
     }
-    let parts: [(&[Step], u8, u32, &[i32]); 10] = [
+    Ok(())
+}
+
+#[test]
+fn rules_that_keep_positions(rt: HostRuntime) -> Result<(), AllocError> {
+    let alloc = rt.alloc();
+    let Ok(forest) = Forest::new(racks(alloc)?, 15) else {
+        assert!(rt; false, "the forest was refused");
+        return Ok(());
+    };
+    let weights = reweights(alloc)?;
+    let take = Step::Take(-1);
+    let racks_then_leaves = [take, indep(false, 2, 3), indep(true, 2, 1), Step::Emit];
+    let leaves_of_racks = [take, indep(true, 0, 3), Step::Emit];
+    let devices = [take, indep(false, 0, 0), Step::Emit];
+    let leaves = [take, indep(true, 0, 1), Step::Emit];
+    let hosts_then_devices = [take, indep(false, 0, 1), indep(false, 1, 0), Step::Emit];
+    let rows: [(&[Step], u8, u32, &[i32]); 10] = [
+        (&racks_then_leaves, 3, 12345, &[5, 9, 10]),
+        (&racks_then_leaves, 10, 0, &[10, -1, 0, 3]),
+        (&leaves_of_racks, 3, 12345, &[9, 12, 3]),
         (
-            &[take, indep(false, 2, 3), indep(true, 2, 1), Step::Emit],
-            3,
-            12345,
-            &[5, 9, 10],
-        ),
-        (
-            &[take, indep(false, 2, 3), indep(true, 2, 1), Step::Emit],
-            10,
-            0,
-            &[10, -1, 0, 3],
-        ),
-        (
-            &[take, indep(true, 0, 3), Step::Emit],
-            3,
-            12345,
-            &[9, 12, 3],
-        ),
-        (
-            &[take, indep(true, 0, 3), Step::Emit],
+            &leaves_of_racks,
             10,
             0,
             &[10, 3, 9, -1, -1, -1, -1, -1, -1, -1],
         ),
-        (
-            &[take, indep(false, 0, 0), Step::Emit],
-            3,
-            12345,
-            &[7, 10, 3],
-        ),
-        (
-            &[take, indep(false, 0, 0), Step::Emit],
-            10,
-            0,
-            &[10, 5, 7, 12, 3, 8, 0, 4, 9, -1],
-        ),
-        (
-            &[take, indep(true, 0, 1), Step::Emit],
-            3,
-            12345,
-            &[7, 11, 3],
-        ),
-        (
-            &[take, indep(true, 0, 1), Step::Emit],
-            10,
-            0,
-            &[10, 0, 7, 12, -1, -1, -1, 3, 9, 5],
-        ),
-        (
-            &[take, indep(false, 0, 1), indep(false, 1, 0), Step::Emit],
-            3,
-            12345,
-            &[-1, 10, 3],
-        ),
-        (
-            &[take, indep(false, 0, 1), indep(false, 1, 0), Step::Emit],
-            10,
-            0,
-            &[10, 0, 7, 12, 3, 4, 9],
-        ),
+        (&devices, 3, 12345, &[7, 10, 3]),
+        (&devices, 10, 0, &[10, 5, 7, 12, 3, 8, 0, 4, 9, -1]),
+        (&leaves, 3, 12345, &[7, 11, 3]),
+        (&leaves, 10, 0, &[10, 0, 7, 12, -1, -1, -1, 3, 9, 5]),
+        (&hosts_then_devices, 3, 12345, &[-1, 10, 3]),
+        (&hosts_then_devices, 10, 0, &[10, 0, 7, 12, 3, 4, 9]),
     ];
-    for (steps, size, x, want) in parts {
-        let Some(places) = placed(alloc, &forest, RuleKind::Erasure, steps, &weights, x, size)?
-        else {
+    for (steps, size, x, want) in rows {
+        let got = placed(alloc, &forest, RuleKind::Erasure, steps, &weights, x, size)?;
+        let Some(places) = got else {
             assert!(rt; false, "a rule of size {size} was refused");
             return Ok(());
         };

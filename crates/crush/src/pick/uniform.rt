@@ -4,6 +4,7 @@ ghost use Rattle.std.specs.Prelude.{◌≡◌, ◌<◌, ◌≤◌, length, slice
 ghost use Rattle.std.specs.List.{range_with_len};
 ghost use Rattle.crush.specs.Uniform.{places_drawn, uniform_place};
 
+use crate::limits::MOST_ITEMS;
 use rjenkins::hash3;
 
 /// Draws the places one after another up to the one that comes to stand at `last`, which it answers.
@@ -38,7 +39,7 @@ pub(super) fn uniform_pick(count: usize, x: u32, id: u32, r: u32) -> usize
     ensures place { result ≡ uniform_place x id count r }
     ensures within { result < count }
 {
-    let mut places = [0; 64];
+    let mut places = [0; MOST_ITEMS];
     let front = &mut places[..count];
     number(front);
     draw(front, x, id, r as usize % count) as usize

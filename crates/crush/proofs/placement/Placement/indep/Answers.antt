@@ -1,8 +1,9 @@
-use Rattle.std.proofs.Common.{replicate, length, ap, ◌∙◌}
+use Rattle.std.proofs.Common.{replicate, length, ap, sym, ◌∙◌, arith}
 use Rattle.crush.specs.declared.choose.Position.TheVariants.{Open}
 use Rattle.crush.specs.Placed.{world}
-use Rattle.crush.specs.Indep.{after_round}
+use Rattle.crush.specs.Indep.{after_round, indep}
 use Rattle.crush.proofs.Rounds.{fold_range}
+use Rattle.crush.proofs.Settled.{rounds_over}
 use Rattle.crush.proofs.placement.Placement.indep.Goals as goal
 
 pub loop-round-preserved : goal.loop-round-preserved
@@ -10,3 +11,9 @@ loop-round-preserved c =
     let a = c.args in
     let f = after_round (world a.self.now) a.choose a.tries a.numrep a.start.now in
     c.take_round.ensures ∙ ap (λ ps. f ps c.loop-round.round) c.loop-round.invariant ∙ fold_range f (replicate (length a.positions.now) Open) c.loop-round.round
+
+pub returns-then-not-has_open : goal.returns-then-not-has_open
+unfolding indep
+returns-then-not-has_open c =
+    let a = c.args in
+    rounds_over (world a.self.now) a.choose a.tries a.numrep a.start.now (replicate (length a.positions.now) Open) c.loop-round.positions c.loop-round.round a.tries.total (omega arith) c.loop-round.invariant (sym c.has_open.ensures ∙ c.if-not-has_open.true)
