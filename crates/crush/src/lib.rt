@@ -13,8 +13,6 @@ pub mod laws;
 pub mod limits;
 pub mod memory;
 mod met;
-pub mod pick;
-pub mod placement;
 mod pick;
 mod placement;
 pub mod rule;
