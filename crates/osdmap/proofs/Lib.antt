@@ -6,3 +6,4 @@ pub mod ApplyLemmas
 pub mod PlacementLemmas
 pub mod EvalsLemmas
 mod PgTexts
+mod GroupTexts
