@@ -7,3 +7,8 @@ pub mod PlacementLemmas
 pub mod EvalsLemmas
 mod PgTexts
 mod GroupTexts
+pub mod BuildFits
+pub mod Distinct
+pub mod BuildLemmas
+pub mod Listing
+pub mod Built

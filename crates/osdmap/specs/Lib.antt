@@ -11,3 +11,4 @@ pub mod Stated
 pub mod Primary
 pub mod PgText
 pub mod Evals
+pub mod Built

@@ -2,8 +2,10 @@
 #![tactic(auto)]
 
 mod apply;
+mod build;
 pub mod change;
 mod check;
+mod copy;
 mod evals;
 pub mod limits;
 pub mod map;

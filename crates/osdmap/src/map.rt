@@ -1,10 +1,7 @@
 use crate::osd::{OsdState, Presence};
-use crate::parts::MapParts;
 use crate::pool::Pool;
-use crate::refusal::Refusal;
 use crate::rules::NumberedRule;
-use crush::{Entries, Forest, Memory, Rule, Weights};
-use std::alloc::Global;
+use crush::{Entries, Forest, Rule, Weights};
 use std::marker::Model;
 
 /// The map of a cluster at an epoch: a forest of buckets, rules, pools, and for each OSD whether it exists, whether it is
@@ -30,18 +27,9 @@ impl Model for OsdMap {
 }
 
 impl OsdMap {
-    ghost use Rattle.std.specs.Prelude.{◌≡◌, IfOk, length};
+    ghost use Rattle.std.specs.Prelude.{◌≡◌, length};
     ghost use Rattle.std.specs.Option.{option_copied};
     ghost use Rattle.osdmap.specs.Maps.{rule_at, pool_at, osd_at};
-    ghost use Rattle.osdmap.specs.Stated.{Makes, map_fault, IsStated};
-
-    /// The map that parts state: `BadLimit` (12), `BadForest` (13), `BadRule` (14), `BadPool` (15) or `BadOsd` (16) where
-    /// something is wrong, the first of these, each tested over the whole map; `Memory` (30).
-    pub fn new(_alloc: Global, _parts: MapParts) -> Result<OsdMap, Refusal>
-        ensures { Makes result (map_fault _parts) (IsStated _parts) }
-    {
-        Err(Refusal::Memory)
-    }
 
     /// The epoch.
     pub fn epoch(&self) -> u64

@@ -1,6 +1,7 @@
 ghost use Rattle.std.specs.Prelude.{◌≡◌};
 
-use crush::Memory;
+use crush::{ForestError, Memory, RuleError};
+use std::alloc::{AllocError, AllocFailed};
 use std::error::Error;
 use std::fmt;
 
@@ -110,5 +111,51 @@ impl From<Memory> for Refusal {
 
     fn from(_memory: Memory) -> Refusal {
         Refusal::Memory
+    }
+}
+
+impl From<AllocError> for Refusal {
+    ghost use Rattle.osdmap.specs.declared.refusal.Refusal.TheVariants.{Memory as OutOfMemory};
+
+    ghost from_gives = { λ _ r. r ≡ OutOfMemory };
+
+    fn from(_error: AllocError) -> Refusal {
+        Refusal::Memory
+    }
+}
+
+impl<T: Drop> From<AllocFailed<T>> for Refusal {
+    ghost use Rattle.osdmap.specs.declared.refusal.Refusal.TheVariants.{Memory as OutOfMemory};
+
+    ghost from_gives = { λ _ r. r ≡ OutOfMemory };
+
+    fn from(_failed: AllocFailed<T>) -> Refusal {
+        Refusal::Memory
+    }
+}
+
+impl From<ForestError> for Refusal {
+    ghost use Rattle.osdmap.specs.Built.{forest_refusal};
+
+    ghost from_gives = { λ e r. r ≡ forest_refusal e };
+
+    fn from(error: ForestError) -> Refusal {
+        match error {
+            ForestError::BadLimit => Refusal::BadLimit,
+            ForestError::BadForest => Refusal::BadForest,
+        }
+    }
+}
+
+impl From<RuleError> for Refusal {
+    ghost use Rattle.osdmap.specs.Built.{rule_refusal};
+
+    ghost from_gives = { λ e r. r ≡ rule_refusal e };
+
+    fn from(error: RuleError) -> Refusal {
+        match error {
+            RuleError::BadLimit => Refusal::BadLimit,
+            RuleError::BadRule => Refusal::BadRule,
+        }
     }
 }

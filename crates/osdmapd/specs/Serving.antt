@@ -1,6 +1,5 @@
 -- What a run of the program writes.
-use Rattle.std.specs.Prelude.{◌≡◌, ℕ, Bool, true, List, ◌++◌, codes, Option, Some, None, Result, Ok, Err}
-use Rattle.osdmap.specs.declared.refusal.Refusal.{Refusal}
+use Rattle.std.specs.Prelude.{◌≡◌, ℕ, Bool, true, List, ◌++◌, codes, Some, None, Result, Ok, Err}
 use Rattle.osdmap.specs.Maps.{ClusterMap}
 use Rattle.mapjson.specs.MapTexts.{map_text_fault, StatesMap}
 use Rattle.monitor.specs.States.{History, opened}

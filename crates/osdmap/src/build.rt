@@ -1,0 +1,44 @@
+mod forest;
+mod numbers;
+mod order;
+mod osds;
+mod pools;
+mod rules;
+
+use crate::limits::{parts_fit, word};
+use crate::map::OsdMap;
+use crate::parts::MapParts;
+use crate::refusal::Refusal;
+use crush::{Entries, Weights};
+use forest::forest_of;
+use osds::{presences_of, rows_of, weights_of};
+use pools::pools_of;
+use rules::rules_of;
+use std::alloc::Global;
+
+impl OsdMap {
+    ghost use Rattle.osdmap.specs.Stated.{Makes, map_fault, IsStated};
+
+    /// The map that parts state: `BadLimit` (12), `BadForest` (13), `BadRule` (14), `BadPool` (15) or `BadOsd` (16) where
+    /// something is wrong, the first of these, each tested over the whole map; `Memory` (30).
+    pub fn new(alloc: Global, parts: MapParts) -> Result<OsdMap, Refusal>
+        ensures { Makes result (map_fault parts) (IsStated parts) }
+    {
+        if !parts_fit(&parts) {
+            return Err(Refusal::BadLimit);
+        }
+        let max_osd = word(parts.max_osd);
+        let forest = forest_of(alloc, parts.buckets.as_slice(), max_osd)?;
+        let rules = rules_of(alloc, parts.rules.as_slice(), &forest)?;
+        let pools = pools_of(alloc, parts.pools.as_slice(), &rules)?;
+        let rows = rows_of(alloc, parts.osds.as_slice(), max_osd)?;
+        Ok(OsdMap {
+            epoch: u64::from(word(parts.epoch)),
+            forest,
+            rules,
+            pools,
+            presences: Entries::new(presences_of(alloc, &rows)?),
+            weights: Weights::new(weights_of(alloc, &rows)?),
+        })
+    }
+}

@@ -1,0 +1,87 @@
+ghost use Rattle.std.specs.Prelude.{◌≡◌, ◌==◌, true, map};
+ghost use Rattle.std.specs.List.{find, list_all};
+ghost use Rattle.std.specs.Option.{option_copied};
+ghost use Rattle.osdmap.specs.declared.refusal.Refusal.TheVariants.{BadPool};
+ghost use Rattle.osdmap.specs.Maps.{is_kind, has_rule};
+ghost use Rattle.osdmap.specs.Parts.{pool_fits, pool_of};
+ghost use Rattle.osdmap.specs.Stated.{Makes, pool_ok};
+ghost use Rattle.osdmap.specs.Built.{refused_unless, pools_fit, Rises};
+
+use super::order::sort_by_number;
+use crate::parts::PoolPart;
+use crate::pool::Pool;
+use crate::refusal::Refusal;
+use crate::rules::NumberedRule;
+use crush::RuleKind;
+use std::alloc::Global;
+
+/// The rule of an id.
+fn rule_at(rules: &[NumberedRule], id: u32) -> Option<&NumberedRule>
+    ensures { option_copied result ≡ find (λ r. r.id == id) rules.now }
+{
+    rules.iter().find(|rule| rule.id == id)
+}
+
+/// Whether two kinds are the same.
+fn is_kind(kind: RuleKind, other: RuleKind) -> bool
+    ensures { result ≡ is_kind kind other }
+{
+    kind == other
+}
+
+/// Whether the rules have the pool's rule, and it is of the pool's kind.
+fn has_rule(rules: &[NumberedRule], pool: Pool) -> bool
+    ensures { result ≡ has_rule rules.now pool }
+{
+    match rule_at(rules, pool.rule()) {
+        Some(rule) => is_kind(rule.rule.kind(), pool.kind()),
+        None => false,
+    }
+}
+
+/// The pool that a part within the limits states: `BadPool` (15) where it has more groups for placement than groups, or no
+/// rule of its kind.
+#[tactic(auto, unfolding(crate::specs::Stated::pool_ok))]
+fn pool_of(part: PoolPart, rules: &[NumberedRule]) -> Result<Pool, Refusal>
+    requires { pool_fits part ≡ true }
+    ensures { Makes result (refused_unless (pool_ok rules.now part) BadPool) (λ pool. pool ≡ pool_of part) }
+{
+    let pool = Pool::new(part)?;
+    if !has_rule(rules, pool) {
+        return Err(Refusal::BadPool);
+    }
+    Ok(pool)
+}
+
+/// The pools that parts within the limits state, in their order: `BadPool` (15) where one of them is none.
+fn pools_made(
+    alloc: Global,
+    parts: &[PoolPart],
+    rules: &[NumberedRule],
+) -> Result<Vec<Pool>, Refusal>
+    requires { list_all pool_fits parts.now ≡ true }
+    ensures { Makes result (refused_unless (list_all (pool_ok rules.now) parts.now) BadPool) (λ pools. pools.items ≡ map pool_of parts.now) }
+{
+    let mut pools = Vec::with_capacity(alloc, parts.len())?;
+    for part in parts {
+        pools.push(pool_of(*part, rules)?)?;
+    }
+    Ok(pools)
+}
+
+/// The pools that parts within the limits state, by id upwards: `BadPool` (15) where one of them is none, or has the id of
+/// another.
+pub(crate) fn pools_of(
+    alloc: Global,
+    parts: &[PoolPart],
+    rules: &[NumberedRule],
+) -> Result<Vec<Pool>, Refusal>
+    requires { list_all pool_fits parts.now ≡ true }
+    ensures { Makes result (refused_unless (pools_fit rules.now parts.now) BadPool) (λ pools. Rises (λ p. p.id) (map pool_of parts.now) pools.items) }
+{
+    let mut pools = pools_made(alloc, parts, rules)?;
+    if !sort_by_number(&mut pools) {
+        return Err(Refusal::BadPool);
+    }
+    Ok(pools)
+}

@@ -1,0 +1,40 @@
+ghost use Rattle.std.specs.Prelude.{◌≡◌, IfOk};
+
+use crate::map::OsdMap;
+use crate::rules::NumberedRule;
+use crush::{Entries, Memory};
+use std::alloc::{AllocError, Global};
+
+/// Each of some rules once more.
+fn copied_rules(alloc: Global, rules: &[NumberedRule]) -> Result<Vec<NumberedRule>, Memory>
+    ensures { IfOk result (λ copies. copies.items ≡ rules.now) }
+{
+    let mut copies = Vec::with_capacity(alloc, rules.len())?;
+    for numbered in rules {
+        let rule = numbered.rule.copy(alloc)?;
+        let copy = NumberedRule {
+            id: numbered.id,
+            rule,
+        };
+        copies.push(copy).map_err(AllocError::from)?;
+    }
+    Ok(copies)
+}
+
+impl OsdMap {
+    ghost use Rattle.std.specs.Prelude.{◌≡◌, IfOk};
+
+    /// The same map once more, or `Memory` (30).
+    pub fn copy(&self, alloc: Global) -> Result<OsdMap, Memory>
+        ensures { IfOk result (λ m. m ≡ self.now) }
+    {
+        Ok(OsdMap {
+            epoch: self.epoch,
+            forest: self.forest.copy(alloc)?,
+            rules: copied_rules(alloc, &self.rules)?,
+            pools: Vec::from_slice(alloc, &self.pools)?,
+            presences: Entries::new(Vec::from_slice(alloc, self.presences.as_slice())?),
+            weights: self.weights.copy(alloc)?,
+        })
+    }
+}
