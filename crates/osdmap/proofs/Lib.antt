@@ -6,6 +6,7 @@ pub mod ApplyLemmas
 pub mod PlacementLemmas
 pub mod EvalsLemmas
 mod PgTexts
+mod GroupTexts
 pub mod BuildFits
 pub mod Distinct
 pub mod BuildLemmas

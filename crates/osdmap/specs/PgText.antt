@@ -1,6 +1,6 @@
 -- The text of a group: the pool's id in decimal, a point, and the number in lower hexadecimal, both without leading zeros
 -- (Ceph, pg_t::print).
-use Rattle.std.specs.Prelude.{ℕ, ◌+◌, ◌-◌, ◌*◌, ◌^◌, ◌==◌, nat_lt, nat_le, Bool, false, ◌&&◌, List, [], ◌∷◌, ◌++◌, take, drop, position, Option, Some, None, option_and_then, if◌then◌else◌}
+use Rattle.std.specs.Prelude.{◌≡◌, ℕ, ◌+◌, ◌-◌, ◌*◌, ◌^◌, ◌==◌, nat_lt, nat_le, Bool, false, ◌&&◌, List, [], ◌∷◌, ◌++◌, take, drop, position, Option, Some, None, option_and_then, if◌then◌else◌}
 use Rattle.std.specs.Option.{option_map}
 use Rattle.std.specs.Fmt.{digits, decimal}
 use Rattle.osdmap.specs.declared.pg.Pg.{Pg}
@@ -60,3 +60,7 @@ group_in text = option_and_then group_of (parts_in text)
 -- the text of a group
 abbrev pub group_text : Pg → List ℕ
 group_text pg = decimal pg.pool ++ 46 ∷ digits 16 false pg.number
+
+-- the text of a group names that group
+abbrev pub IsReadBack : ℕ → ℕ → Type 0
+IsReadBack pool number = let pg : Pg = record { pool = pool; number = number } in group_in (group_text pg) ≡ Some pg

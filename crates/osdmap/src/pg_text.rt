@@ -2,7 +2,7 @@
 //! zeros (Ceph, `pg_t::print`).
 ghost use Rattle.std.specs.Prelude.{◌≡◌, ◌<◌, ◌≤◌, IfSome, length, position};
 ghost use Rattle.std.specs.Option.{option_map};
-ghost use Rattle.osdmap.specs.PgText.{digit_of, value_after, part_in, within, is_point};
+ghost use Rattle.osdmap.specs.PgText.{digit_of, value_after, part_in, within, is_point, IsReadBack};
 
 use crate::pg::Pg;
 use std::fmt;
@@ -98,6 +98,11 @@ impl Pg {
         })
     }
 }
+
+/// A law: the text of a group names that group.
+pub fn group_text_is_read_back(_pool: u32, _number: u32)
+    ensures { IsReadBack _pool _number }
+{}
 
 impl fmt::Display for Pg {
     ghost use Rattle.std.specs.Prelude.{Some};

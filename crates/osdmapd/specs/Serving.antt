@@ -27,7 +27,7 @@ Answered journal map script (Err Output) = ⊥
 Answered journal map script (Err Memory) = Unit {0}
 
 -- what is out at the end: the heading and the answers of a map that is not refused; nothing where it is, or memory is
--- short; where the sink has failed, a beginning
+-- short; and an output that fails is one whose sink has failed
 abbrev pub Serves : {W : Type 0} → (W → List ℕ) → (W → Bool) → ℕ → List ℕ → List ℕ → W → W → Result Unit Fault → Type 0
 Serves written has_failed journal map script before after (Ok done) =
     (map_text_fault map ≡ None)

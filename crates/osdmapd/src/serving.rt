@@ -53,7 +53,7 @@ fn answered(alloc: Global, journal: u32, map: &[u8], script: &[u8]) -> Result<Bu
         Ok(map) => map,
         Err(refusal) => return Err(fault_of(refusal)),
     };
-    // The journal is within its limits, and a buffer fails only for want of memory.
+    // The epoch of a map that was read and the journal are within their limits, so that only memory can be short.
     let Ok(mut state) = State::new(alloc, map, journal) else {
         return Err(Fault::Memory);
     };
