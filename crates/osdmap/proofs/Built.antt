@@ -4,7 +4,9 @@ use Rattle.std.specs.List.{list_all, range_with_len}
 use Rattle.std.specs.Option.{option_map, option_map_or}
 use Rattle.std.specs.Result.{IsErrAnd}
 use Rattle.std.proofs.lemmas.Bool.{cases_Bool}
+use Rattle.std.proofs.lemmas.Bool.Decides.{nat_tests}
 use Rattle.std.proofs.lemmas.List.{length-map}
+use Rattle.std.proofs.lemmas.List.Sorted.{length_permutation}
 use Rattle.std.proofs.lemmas.List.Folds.{list_all-map}
 use Rattle.std.proofs.lemmas.List.FromFn.{length-range_with_len}
 use Rattle.crush.specs.declared.bucket.Bucket.{Bucket}
@@ -40,6 +42,7 @@ pub record PartsFit (p : MapParts) : Type 0 where
   pub epoch : is_between (pos 1) (pos 2147483648) p.epoch ≡ true
   pub max_osd : is_between (pos 1) (pos 1024) p.max_osd ≡ true
   pub count : has_between 1 512 p.buckets ≡ true
+  pub pool_count : has_between 0 32 p.pools ≡ true
   pub buckets : list_all bucket_fits p.buckets ≡ true
   pub rules : list_all rule_fits p.rules ≡ true
   pub pools : list_all pool_fits p.pools ≡ true
@@ -51,6 +54,7 @@ parts_fit_each p h = record {
   epoch = grind arith;
   max_osd = grind arith;
   count = grind arith;
+  pool_count = grind arith;
   buckets = grind arith;
   rules = grind arith;
   pools = grind arith;
@@ -219,6 +223,12 @@ ruled p m built =
     let each = all_more (pool_ok m.rules) (λ q. has_rule m.rules (pool_of q)) p.pools (λ q h. and_second _ (has_rule m.rules (pool_of q)) h) all in
     list_all-moved (has_rule m.rules) (map pool_of p.pools) m.pools built.pools.same ∙ list_all-map (has_rule m.rules) pool_of p.pools ∙ each
 
+few_pools : (p : MapParts) (m : ClusterMap) → IsBuilt p m → has_between 0 32 p.pools ≡ true → length m.pools ≤ 32
+unfolding has_between
+few_pools p m built few =
+    let made = length_permutation _ _ built.pools.same ∙ length-map p.pools pool_of in
+    grind (arith, nat_tests, made)
+
 pub holds : (p : MapParts) (m : ClusterMap) → IsBuilt p m → HoldsTogether m
 holds p m built =
     let rows = rows_of p.osds (nat_abs p.max_osd) in
@@ -226,5 +236,6 @@ holds p m built =
     record {
       weighed = ap length built.weights ∙ length-map rows row_weight ∙ sym (ap length built.presences ∙ length-map rows row_presence);
       few = rw many (few_osds p (parts_fit_each p built.limits));
+      few_pools = few_pools p m built (parts_fit_each p built.limits).pool_count;
       ruled = ruled p m built;
     }
