@@ -1,12 +1,12 @@
 -- A map that was built has what its parts state, and holds together.
-use Rattle.std.proofs.Common.{◌≡◌, ◌∙◌, nat_le, ℕ, ◌+◌, ◌<◌, ◌≤◌, Bool, true, false, not, ◌&&◌, cond, eqb, List, [], ◌∷◌, map, length, Option, Some, None, Result, ℤ, pos, nat_abs, refl, sym, ap, inl, inr, arith, find, ◌⊎◌, IsPermutation}
+use Rattle.std.proofs.Common.{◌≡◌, ◌∙◌, ℕ, ◌+◌, ◌<◌, ◌≤◌, Bool, true, false, not, ◌&&◌, cond, eqb, List, [], ◌∷◌, map, length, Option, Some, None, Result, ℤ, pos, nat_abs, refl, sym, ap, inl, inr, arith, find, ◌⊎◌, IsPermutation}
 use Rattle.std.specs.List.{list_all, range_with_len}
 use Rattle.std.specs.Option.{option_map, option_map_or}
 use Rattle.std.specs.Result.{IsErrAnd}
 use Rattle.std.proofs.lemmas.Bool.{cases_Bool}
+use Rattle.std.proofs.lemmas.Bool.Decides.{nat_tests}
 use Rattle.std.proofs.lemmas.List.{length-map}
 use Rattle.std.proofs.lemmas.List.Sorted.{length_permutation}
-use Rattle.std.proofs.lemmas.Bool.Decides.{nat_tests}
 use Rattle.std.proofs.lemmas.List.Folds.{list_all-map}
 use Rattle.std.proofs.lemmas.List.FromFn.{length-range_with_len}
 use Rattle.crush.specs.declared.bucket.Bucket.{Bucket}
@@ -66,10 +66,6 @@ some_osds p fits = (natural_between 1 1024 p.max_osd fits.max_osd).least
 
 pub few_osds : (p : MapParts) → PartsFit p → nat_abs p.max_osd ≤ 1024
 few_osds p fits = (natural_between 1 1024 p.max_osd fits.max_osd).most
-
-few_listed : {X : Type 0} (low high : ℕ) (xs : List X) → has_between low high xs ≡ true → length xs ≤ high
-unfolding has_between
-few_listed low high xs h = grind (arith, nat_tests, and_second (nat_le low (length xs)) (nat_le (length xs) high) h)
 
 -- ---- the same tests of what is made
 
@@ -227,6 +223,12 @@ ruled p m built =
     let each = all_more (pool_ok m.rules) (λ q. has_rule m.rules (pool_of q)) p.pools (λ q h. and_second _ (has_rule m.rules (pool_of q)) h) all in
     list_all-moved (has_rule m.rules) (map pool_of p.pools) m.pools built.pools.same ∙ list_all-map (has_rule m.rules) pool_of p.pools ∙ each
 
+few_pools : (p : MapParts) (m : ClusterMap) → IsBuilt p m → has_between 0 32 p.pools ≡ true → length m.pools ≤ 32
+unfolding has_between
+few_pools p m built few =
+    let made = length_permutation _ _ built.pools.same ∙ length-map p.pools pool_of in
+    grind (arith, nat_tests, made)
+
 pub holds : (p : MapParts) (m : ClusterMap) → IsBuilt p m → HoldsTogether m
 holds p m built =
     let rows = rows_of p.osds (nat_abs p.max_osd) in
@@ -234,8 +236,6 @@ holds p m built =
     record {
       weighed = ap length built.weights ∙ length-map rows row_weight ∙ sym (ap length built.presences ∙ length-map rows row_presence);
       few = rw many (few_osds p (parts_fit_each p built.limits));
-      few_pools =
-          let pools = length_permutation _ _ built.pools.same ∙ length-map p.pools pool_of in
-          rw pools (few_listed 0 32 p.pools (parts_fit_each p built.limits).pool_count);
+      few_pools = few_pools p m built (parts_fit_each p built.limits).pool_count;
       ruled = ruled p m built;
     }
