@@ -1,15 +1,14 @@
 # run: builds the program and answers the example; test: the gate; bench: speeds, outside the gate.
-EXAMPLE = examples/map.json examples/script.txt
+EXAMPLE = $(CURDIR)/examples/map.json $(CURDIR)/examples/script.txt
 
 .PHONY: run test bench
 
 run:
-	@cd crates/osdmapd && rt run > /dev/null
+	@cd crates/osdmapd && { rt run -- $(EXAMPLE) > /dev/null 2>&1 || rt run -- $(EXAMPLE); }
 	@crates/osdmapd/out/osdmapd $(EXAMPLE)
 
 test:
 	@bash .ci/gate
 
-bench:
-	@cd crates/osdmapd && rt run > /dev/null
+bench: run
 	@python3 bench/speeds.py crates/osdmapd/out/osdmapd

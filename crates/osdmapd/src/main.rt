@@ -86,3 +86,5 @@ fn main(rt: HostRuntime) -> ExitCode {
 
 #[cfg(test)]
 mod tests;
+#[cfg(test)]
+mod worked;

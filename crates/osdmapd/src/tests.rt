@@ -4,13 +4,15 @@ ghost use Rattle.std.specs.Prelude.{◌≤◌};
 use crate::choices::LineError;
 use crate::line::options;
 use crate::serving::{Fault, serve};
+use crate::worked;
 use osdmap::Refusal;
 use session::Buffer;
 use std::alloc::{AllocError, Global};
+use std::process::Abort;
 use std::test::Fail;
 
 /// One device, one group of one replica.
-const ONE_DEVICE: &str =
+pub(crate) const ONE_DEVICE: &str =
     r#"{"buckets":[{"id":-1,"items":[[0,65536]],"kind":"uniform","type":10}],"epoch":1,"max_osd":1,"osds":[{"exists":true,"id":0,"up":true,"weight":65536}],"pg_upmap":[],"pg_upmap_items":[],"pools":[{"id":1,"kind":"replicated","pg_num":1,"pgp_num":1,"rule":0,"size":1}],"rules":[{"id":0,"kind":"replicated","steps":[["take",-1],["choose_firstn",0,0],["emit"]]}],"version":1}"#;
 /// The same with two replicas.
 const TWO_REPLICAS: &str =
@@ -26,11 +28,11 @@ const CUT: &str = r#"{"buckets""#;
 
 /// A run with a journal of 1,024 changes: its map, its script, and what it writes or why the map is refused.
 #[derive(Clone, Copy)]
-struct Run {
-    name: &'static str,
-    map: &'static str,
-    script: &'static str,
-    wanted: Result<&'static str, Refusal>,
+pub(crate) struct Run {
+    pub(crate) name: &'static str,
+    pub(crate) map: &'static str,
+    pub(crate) script: &'static str,
+    pub(crate) wanted: Result<&'static str, Refusal>,
 }
 
 const RUNS: [Run; 7] = [
@@ -97,19 +99,32 @@ fn put_out(
     }
 }
 
+/// Tests that a run puts out what is wanted, or is refused as is wanted.
+fn assert_run(rt: &impl Abort, alloc: Global, run: Run) -> Result<(), AllocError> {
+    match (put_out(alloc, 1024, run.map, run.script)?, run.wanted) {
+        (Ok(out), Ok(wanted)) => {
+            assert_eq!(rt; out.bytes(), wanted.as_bytes(), "{}", run.name);
+        }
+        (Err(fault), Err(refusal)) => {
+            assert_eq!(rt; fault, Fault::Map(refusal), "{}", run.name);
+        }
+        _ => assert!(rt; false, "{}", run.name),
+    }
+    Ok(())
+}
+
 #[test]
 fn runs_as_worked(rt: HostRuntime) -> Result<(), Fail> {
-    let alloc = rt.alloc();
     for run in RUNS {
-        match (put_out(alloc, 1024, run.map, run.script)?, run.wanted) {
-            (Ok(out), Ok(wanted)) => {
-                assert_eq!(rt; out.bytes(), wanted.as_bytes(), "{}", run.name);
-            }
-            (Err(fault), Err(refusal)) => {
-                assert_eq!(rt; fault, Fault::Map(refusal), "{}", run.name);
-            }
-            _ => assert!(rt; false, "{}", run.name),
-        }
+        assert_run(&rt, rt.alloc(), run)?;
+    }
+    Ok(())
+}
+
+#[test]
+fn runs_over_larger_maps_as_worked(rt: HostRuntime) -> Result<(), Fail> {
+    for run in worked::RUNS {
+        assert_run(&rt, rt.alloc(), run)?;
     }
     Ok(())
 }
