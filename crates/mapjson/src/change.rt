@@ -7,6 +7,7 @@ ghost use Rattle.mapjson.specs.ChangeTexts.{change_of, reweight_of, stated_chang
 use crate::fault::Fault;
 use crate::json::{FromJson, field, has_count, has_only, optional_list, place, stated_by};
 use crush::{Entries, Memory};
+use osdmap::limits::MAX_OSDS;
 use osdmap::{ChangeParts, Refusal, Reweight};
 use serde_json::Value;
 use std::alloc::{AllocError, Global};
@@ -14,11 +15,11 @@ use std::alloc::{AllocError, Global};
 /// How many entries a list of a change has at most.
 const MAX_ENTRIES: usize = 131_072;
 /// The greatest id of an OSD.
-const MAX_OSD: i128 = 1_023;
+const MAX_OSD: i128 = MAX_OSDS - 1;
 /// The greatest reweight in a change.
-const MAX_WEIGHT: i128 = 4_294_967_295;
+const MAX_WEIGHT: i128 = u32::MAX as i128;
 /// The greatest epoch.
-const MAX_EPOCH: i128 = 18_446_744_073_709_551_615;
+const MAX_EPOCH: i128 = u64::MAX as i128;
 
 /// A change as a text states it, its numbers untested: each is any whole number.
 #[derive(Debug, Drop)]

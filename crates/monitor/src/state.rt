@@ -1,12 +1,12 @@
 use crush::Work;
-use osdmap::{Change, Incremental, OsdMap, Pg, Refusal, UpSet};
+use osdmap::{Change, Incremental, OsdMap, Pg, Refusal, UpSet, limits};
 use std::alloc::Global;
 use std::marker::Model;
 
 /// The greatest capacity of a journal.
 pub const MAX_JOURNAL: u32 = 65_536;
 /// The greatest epoch of a first map.
-pub const MAX_FIRST_EPOCH: u64 = 2_147_483_648;
+pub const MAX_FIRST_EPOCH: u64 = limits::MAX_FIRST_EPOCH as u64;
 
 /// The state of a monitor.
 #[derive(Drop)]

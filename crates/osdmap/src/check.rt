@@ -4,12 +4,10 @@ ghost use Rattle.osdmap.specs.Marks.{are_below};
 ghost use Rattle.osdmap.specs.Changes.{weighs_rightly, is_distinct};
 
 use crate::change::{Change, Reweight};
+use crate::limits::FULL_WEIGHT;
 use crate::map::OsdMap;
 use crate::marks::Marks;
 use crate::refusal::Refusal;
-
-/// The reweight of an OSD that takes its whole share.
-const FULL_WEIGHT: u32 = 65_536;
 
 /// Whether each reweight is at most the whole.
 #[tactic(auto, unfolding(crate::specs::Changes::weighs_rightly))]

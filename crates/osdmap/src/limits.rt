@@ -3,31 +3,33 @@ ghost use Rattle.std.specs.List.{list_all};
 ghost use Rattle.osdmap.specs.Parts.{is_between, has_between, is_bucket_id, item_fits, bucket_fits, step_fits, rule_fits, pool_fits, osd_fits, head_fits, lists_fit, parts_fit};
 
 use crate::parts::{BucketPart, ItemPart, MapParts, OsdPart, PoolPart, RulePart, StepPart};
+use crate::up_set::MAX_PLACES;
+use crush::limits;
 
 /// The version of the form in which maps are stated.
 pub const VERSION: i128 = 1;
 /// The greatest first epoch.
 pub const MAX_FIRST_EPOCH: i128 = 2_147_483_648;
 /// The greatest `max_osd`.
-pub const MAX_OSDS: i128 = 1_024;
+pub const MAX_OSDS: i128 = limits::MOST_DEVICES as i128;
 /// How many buckets a forest has at most.
-pub const MAX_BUCKETS: usize = 512;
+pub const MAX_BUCKETS: usize = limits::MOST_BUCKETS;
 /// The lowest id of a bucket.
-pub const LOWEST_BUCKET: i128 = -65_536;
+pub const LOWEST_BUCKET: i128 = limits::LOWEST_BUCKET as i128;
 /// The greatest type of a bucket or a step.
-pub const MAX_LEVEL: i128 = 15;
+pub const MAX_LEVEL: i128 = limits::HIGHEST_LEVEL as i128;
 /// How many items a bucket has at most.
-pub const MAX_ITEMS: usize = 64;
+pub const MAX_ITEMS: usize = limits::MOST_ITEMS;
 /// The greatest weight of an item.
-pub const MAX_ITEM_WEIGHT: i128 = 4_294_967_295;
+pub const MAX_ITEM_WEIGHT: i128 = u32::MAX as i128;
 /// How many rules a map has at most.
 pub const MAX_RULES: usize = 32;
 /// The greatest id of a rule.
 pub const MAX_RULE_ID: i128 = 255;
 /// How many steps a rule has at most.
-pub const MAX_STEPS: usize = 16;
+pub const MAX_STEPS: usize = limits::MOST_STEPS;
 /// The greatest count of a choose step, and the greatest size of a pool.
-pub const MAX_SIZE: i128 = 10;
+pub const MAX_SIZE: i128 = MAX_PLACES as i128;
 /// How many pools a map has at most.
 pub const MAX_POOLS: usize = 32;
 /// The greatest id of a pool.
@@ -35,7 +37,7 @@ pub const MAX_POOL_ID: i128 = 65_535;
 /// How many groups a pool has at most.
 pub const MAX_GROUPS: i128 = 4_096;
 /// The reweight of an OSD that takes its whole share.
-pub const FULL_WEIGHT: i128 = 65_536;
+pub const FULL_WEIGHT: u32 = 65_536;
 
 /// Whether a number is among `low` to `high`.
 #[tactic(auto, unfolding(crate::specs::Parts::is_between))]
@@ -145,7 +147,7 @@ fn all_pools_fit(pools: &[PoolPart]) -> bool
 fn osd_fits(osd: &OsdPart) -> bool
     ensures { result ≡ osd_fits osd.now }
 {
-    is_between(0, MAX_OSDS - 1, osd.id) && is_between(0, FULL_WEIGHT, osd.weight)
+    is_between(0, MAX_OSDS - 1, osd.id) && is_between(0, i128::from(FULL_WEIGHT), osd.weight)
 }
 
 fn all_osds_fit(osds: &[OsdPart]) -> bool

@@ -2,10 +2,11 @@ ghost use Rattle.std.specs.Prelude.{◌≡◌, length, true, IsTrue};
 ghost use Rattle.osdmap.specs.Marks.{are_new, marked, are_below};
 
 use crate::change::Reweight;
+use crush::limits::MOST_DEVICES;
 use std::marker::Model;
 
 /// How many OSDs a map has at most.
-const MAX_OSDS: usize = 1_024;
+const MAX_OSDS: usize = MOST_DEVICES as usize;
 
 /// What names an OSD.
 pub(crate) trait NamesOsd {

@@ -4,6 +4,7 @@ ghost use Rattle.std.specs.Prelude.{◌≡◌, ◌≤◌, IfOk, vec_len};
 use crate::choices::{LineError, Options};
 use clap::error::ErrorKind;
 use clap::{Arg, ArgAction, ArgMatches, Command, Error, value_parser};
+use monitor::state::MAX_JOURNAL;
 use std::alloc::{AllocError, Global};
 
 /// How many scripts can be run.
@@ -13,7 +14,7 @@ fn command<'a>(alloc: Global) -> Result<Command<'a>, AllocError> {
     let journal = Arg::new(alloc, "journal")
         .long("journal")
         .action(ArgAction::Set)
-        .value_parser(value_parser!(u32).range(1..=65536))
+        .value_parser(value_parser!(u32).range(1..=i64::from(MAX_JOURNAL)))
         .default_value("1024");
     let map = Arg::new(alloc, "MAP").required(true).action(ArgAction::Set);
     let scripts = Arg::new(alloc, "SCRIPT")
@@ -57,7 +58,7 @@ fn taken(alloc: Global, matches: &ArgMatches<'_>) -> Result<Options, LineError>
     if scripts.len() > MOST_SCRIPTS {
         return Err(LineError::TooMany);
     }
-    if journal < 1 || journal > 65536 || scripts.is_empty() {
+    if journal < 1 || journal > MAX_JOURNAL || scripts.is_empty() {
         return Err(LineError::Memory);
     }
     let map = String::from_str(alloc, map)?;
