@@ -19,8 +19,8 @@ use std::alloc::Global;
 impl OsdMap {
     ghost use Rattle.osdmap.specs.Stated.{Makes, map_fault, IsStated};
 
-    /// The map that parts state: `BadLimit` (12), `BadForest` (13), `BadRule` (14), `BadPool` (15) or `BadOsd` (16) where
-    /// something is wrong, the first of these, each tested over the whole map; `Memory` (30).
+    /// The map that parts state: `BadLimit` (12), `BadForest` (13), `BadRule` (14), `BadPool` (15) or `BadOsd` (16)
+    /// where something is wrong, the first of these, each tested over the whole map; `Memory` (30).
     pub fn new(alloc: Global, parts: MapParts) -> Result<OsdMap, Refusal>
         ensures { Makes result (map_fault parts) (IsStated parts) }
     {
@@ -42,3 +42,6 @@ impl OsdMap {
         })
     }
 }
+
+#[cfg(test)]
+mod tests;

@@ -57,8 +57,8 @@ fn enter(rows: &mut Vec<Option<OsdState>>, osds: &[OsdPart]) -> bool
     true
 }
 
-/// What is listed of each OSD below `max_osd`: `BadOsd` (16) where an OSD is not below it, is up and does not exist, or is
-/// listed twice.
+/// What is listed of each OSD below `max_osd`: `BadOsd` (16) where an OSD is not below it, is up and does not exist, or
+/// is listed twice.
 pub(crate) fn rows_of(
     alloc: Global,
     osds: &[OsdPart],

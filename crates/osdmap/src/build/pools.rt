@@ -39,8 +39,8 @@ fn has_rule(rules: &[NumberedRule], pool: Pool) -> bool
     }
 }
 
-/// The pool that a part within the limits states: `BadPool` (15) where it has more groups for placement than groups, or no
-/// rule of its kind.
+/// The pool that a part within the limits states: `BadPool` (15) where it has more groups for placement than groups, or
+/// no rule of its kind.
 #[tactic(auto, unfolding(crate::specs::Stated::pool_ok))]
 fn pool_of(part: PoolPart, rules: &[NumberedRule]) -> Result<Pool, Refusal>
     requires { pool_fits part ≡ true }
@@ -69,8 +69,8 @@ fn pools_made(
     Ok(pools)
 }
 
-/// The pools that parts within the limits state, by id upwards: `BadPool` (15) where one of them is none, or has the id of
-/// another.
+/// The pools that parts within the limits state, by id upwards: `BadPool` (15) where one of them is none, or has the id
+/// of another.
 pub(crate) fn pools_of(
     alloc: Global,
     parts: &[PoolPart],

@@ -58,7 +58,8 @@ fn rule_of(alloc: Global, part: &RulePart, forest: &Forest) -> Result<NumberedRu
     })
 }
 
-/// The rules over a forest that parts within the limits state, in their order: `BadRule` (14) where one of them is none.
+/// The rules over a forest that parts within the limits state, in their order: `BadRule` (14) where one of them is
+/// none.
 fn rules_made(
     alloc: Global,
     parts: &[RulePart],
@@ -74,8 +75,8 @@ fn rules_made(
     Ok(rules)
 }
 
-/// The rules over a forest that parts within the limits state, by id upwards: `BadRule` (14) where one of them is none, or
-/// has the id of another.
+/// The rules over a forest that parts within the limits state, by id upwards: `BadRule` (14) where one of them is
+/// none, or has the id of another.
 pub(crate) fn rules_of(
     alloc: Global,
     parts: &[RulePart],
