@@ -150,3 +150,24 @@ impl OsdMap {
         Ok(self.upward_set(&pool, &mapped))
     }
 }
+
+#[cfg(test)]
+mod tests {
+    use super::stable_mod;
+
+    #[test]
+    fn folds_as_published(rt: HostRuntime) {
+        let folded = [
+            (0, 1, 0, 0),
+            (3, 4, 3, 3),
+            (4, 5, 7, 4),
+            (6, 5, 7, 2),
+            (7, 6, 7, 3),
+            (16, 17, 31, 16),
+            (17, 17, 31, 1),
+        ];
+        for (number, count, mask, wanted) in folded {
+            assert_eq!(rt; stable_mod(number, count, mask), wanted);
+        }
+    }
+}
