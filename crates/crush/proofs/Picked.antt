@@ -1,4 +1,4 @@
--- what the picks of each kind have in common with the papers: every place drawn once, the greatest winner, some weight
+-- what the picks of each kind have in common with the CRUSH paper: every place drawn once, the greatest winner, some weight
 use Rattle.std.proofs.Common.{◌≡◌, ◌≢◌, ℕ, zero, suc, ◌+◌, ◌*◌, ◌/◌, ◌%◌, ◌^◌, ◌<◌, ◌≤◌, Bool, true, false, cond, List, [], ◌∷◌, length, get_or, set, take, drop, length-set, inl, inr, sym, ap, refl, ◌∙◌, subst, arith}
 use Rattle.std.specs.List.{range_with_len}
 use Rattle.std.specs.List.Sorted.{IsPermutation}
