@@ -1,5 +1,5 @@
 -- What follows from the definitions of placement.
-use Rattle.std.specs.Prelude.{◌<◌, ◌≡◌, ◌≢◌, ℕ, ◌+◌, ℤ, [], ◌∷◌, MatchOption, Bool, true, false, ◌||◌, List, length, slice_index_or, ◌==◌, pos, Some, slice_index, Contains}
+use Rattle.std.specs.Prelude.{◌<◌, ◌≡◌, ◌≢◌, ℕ, ◌+◌, ◌*◌, ◌^◌, map, ℤ, [], ◌∷◌, MatchOption, Bool, true, false, ◌||◌, List, length, slice_index_or, ◌==◌, pos, Some, slice_index, Contains}
 use Rattle.std.specs.List.{All, AllPairs, range_with_len}
 use Rattle.std.specs.List.Sorted.{IsPermutation}
 use Rattle.crush.specs.declared.bucket.Item.{Item}
@@ -17,6 +17,7 @@ use Rattle.crush.specs.Items.{item_at}
 use Rattle.crush.specs.Uniform.{draw_order}
 use Rattle.crush.specs.Listed.{wins_at}
 use Rattle.crush.specs.Pick.{place_of, pick_of}
+use Rattle.crush.specs.Tree.{height_of}
 use Rattle.crush.specs.World.{World, world_of, is_out}
 use Rattle.crush.specs.Descent.{item_below}
 use Rattle.crush.specs.Firstn.{firstn}
@@ -43,6 +44,23 @@ ListPicksGreatestWinner = (b : Bucket) (x r : ℕ) → b.kind ≡ InList → IsP
 -- a tree bucket picks an item that weighs something
 abbrev pub TreePicksWeight : Type 0
 TreePicksWeight = (b : Bucket) (x r : ℕ) → b.kind ≡ InTree → IsPickable b → 0 < (item_at b.items (place_of b x r)).weight
+
+-- a tree of n items has this depth, this many nodes, this root and these leaves, where the 2 ^ k places from `from` on are
+-- node 2 * from + 2 ^ k
+pub record HasShape (n depth nodes root : ℕ) (leaves : List ℕ) : Type 0 where
+  pub of_depth : height_of n + 1 ≡ depth
+  pub of_nodes : 2 ^ depth ≡ nodes
+  pub of_root : 2 ^ height_of n ≡ root
+  pub of_leaves : map (λ place. 2 * place + 1) (range_with_len 0 n) ≡ leaves
+
+-- the shapes of trees of 1 to 5 items and of 64
+pub record TreesHaveShapes : Type 0 where
+  pub one : HasShape 1 1 2 1 (1 ∷ [])
+  pub two : HasShape 2 2 4 2 (1 ∷ 3 ∷ [])
+  pub three : HasShape 3 3 8 4 (1 ∷ 3 ∷ 5 ∷ [])
+  pub four : HasShape 4 3 8 4 (1 ∷ 3 ∷ 5 ∷ 7 ∷ [])
+  pub five : HasShape 5 4 16 8 (1 ∷ 3 ∷ 5 ∷ 7 ∷ 9 ∷ [])
+  pub most : (leaves : List ℕ) × HasShape 64 7 128 64 leaves × (slice_index leaves 63 ≡ 127)
 
 -- the picks lead from a bucket, through the buckets between, to an item
 abbrev pub ArePicks : World → (Bucket → ℕ) → Bucket → List Bucket → ℤ → Type 0

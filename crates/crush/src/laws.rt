@@ -1,6 +1,6 @@
 //! What follows from the definitions of placement: each law is the contract of a function that does nothing.
 
-ghost use Rattle.crush.specs.Laws.{DrawsEachPlaceOnce, ListPicksGreatestWinner, TreePicksWeight, DescentEnds, FirstnIsSegment, IndepIsPositions, IndepKeepsPositions, RunPlacesReached, RunReadsReached};
+ghost use Rattle.crush.specs.Laws.{DrawsEachPlaceOnce, ListPicksGreatestWinner, TreePicksWeight, TreesHaveShapes, DescentEnds, FirstnIsSegment, IndepIsPositions, IndepKeepsPositions, RunPlacesReached, RunReadsReached};
 
 /// A uniform bucket draws each of its places once, so it picks all of its items at n replica numbers in a row.
 pub fn uniform_draws_each_place_once()
@@ -15,6 +15,11 @@ pub fn list_picks_greatest_winner()
 /// A tree bucket picks an item that weighs something.
 pub fn tree_picks_weight()
     ensures { TreePicksWeight }
+{}
+
+/// A tree of n items has as many levels of halves as hold them; its nodes are numbered by their intervals.
+pub fn trees_have_shapes()
+    ensures { TreesHaveShapes }
 {}
 
 /// In a forest a descent comes to an item of the wanted type, unless a device of another type stops it.
