@@ -4,7 +4,7 @@ EXAMPLE = $(CURDIR)/examples/map.json $(CURDIR)/examples/script.txt
 .PHONY: run test bench
 
 run:
-	@cd crates/osdmapd && { rt run -- $(EXAMPLE) > /dev/null 2>&1 || rt run -- $(EXAMPLE); }
+	@cd crates/osdmapd && { rt run -- $(EXAMPLE) > /dev/null 2>&1 || test -x out/osdmapd; }
 	@crates/osdmapd/out/osdmapd $(EXAMPLE)
 
 test:
