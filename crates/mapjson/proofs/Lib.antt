@@ -1,2 +1,10 @@
 pub mod Lists
 pub mod Texts
+pub mod Listed
+pub mod ReadBack
+pub mod Named
+pub mod Shallow
+pub mod Texted
+pub mod Readable
+pub mod ReadableMaps
+pub mod ChangeFits

@@ -45,6 +45,13 @@ has_count n d = option_map_or (λ ds. count_of ds == n) (as_array d) false
 abbrev pub place : {X : Type 0} → (Data → Option X) → ℕ → Data → Option X
 place stated i d = option_and_then stated (at i d)
 
+-- a list of two values, by what states each
+abbrev pub both_of : {X Y : Type 0} → (Data → Option X) → (Data → Option Y) → Data → Option (X × Y)
+both_of first second d = if has_count 2 d then (do
+  x ← place first 0 d
+  y ← place second 1 d
+  Some (x, y)) else None
+
 -- ---- objects
 
 -- the keys of an object

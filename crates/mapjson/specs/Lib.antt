@@ -1,3 +1,4 @@
 pub mod Json
 pub mod MapTexts
 pub mod ChangeTexts
+pub mod Written

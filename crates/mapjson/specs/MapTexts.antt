@@ -1,9 +1,8 @@
 -- The parts of a map that a JSON text (RFC 8259) states. The form is this program's own.
-use Rattle.std.specs.Prelude.{ℕ, ◌&&◌, Bool, true, false, List, [], ◌∷◌, codes, Option, Some, None, Result, Ok, Err, IfOk, if◌then◌else◌}
-use Rattle.std.specs.Option.{option_map_or}
+use Rattle.std.specs.Prelude.{ℕ, Bool, true, false, List, [], ◌∷◌, codes, Option, Some, None, option_map, Result, Ok, Err, IfOk, if◌then◌else◌}
 use Rattle.std.specs.Str.{bytes_eq}
 use Rattle.serde_json.specs.Data.{Data}
-use Rattle.serde_json.specs.Find.{get, as_bool, as_str}
+use Rattle.serde_json.specs.Find.{as_bool, as_str}
 use Rattle.crush.specs.declared.bucket.BucketKind.{BucketKind}
 use Rattle.crush.specs.declared.bucket.BucketKind.TheVariants.{Uniform, List as Listed, Tree}
 use Rattle.crush.specs.declared.rule.Mode.{Mode}
@@ -18,10 +17,14 @@ use Rattle.osdmap.specs.declared.parts.StepPart.{StepPart}
 use Rattle.osdmap.specs.declared.parts.StepPart.TheVariants.{Take, Choose, Emit}
 use Rattle.osdmap.specs.declared.parts.PoolPart.{PoolPart}
 use Rattle.osdmap.specs.declared.parts.OsdPart.{OsdPart}
+use Rattle.osdmap.specs.declared.parts.ExceptionPart.{ExceptionPart}
+use Rattle.osdmap.specs.declared.parts.PairPart.{PairPart}
+use Rattle.osdmap.specs.declared.pg_text.PgParts.{PgParts}
+use Rattle.osdmap.specs.PgText.{parts_in}
 use Rattle.osdmap.specs.declared.refusal.Refusal.{Refusal}
 use Rattle.osdmap.specs.Maps.{ClusterMap}
 use Rattle.osdmap.specs.Stated.{map_fault, IsStated}
-use Rattle.mapjson.specs.Json.{◌>>=◌, number_of, list_of, has_count, place, has_only, field, stated_by}
+use Rattle.mapjson.specs.Json.{◌>>=◌, number_of, list_of, has_count, place, both_of, has_only, field, optional_list, stated_by}
 
 -- ---- the forest
 
@@ -38,10 +41,7 @@ bucket_kind_of d = as_str d >>= bucket_kind
 
 -- an item: [item, weight]
 unfoldable pub item_of : Data → Option ItemPart
-item_of d = if has_count 2 d then (do
-  id ← place number_of 0 d
-  weight ← place number_of 1 d
-  Some (record { id = id; weight = weight })) else None
+item_of d = option_map (λ item. record { id = item.0; weight = item.1 }) (both_of number_of number_of d)
 
 -- a bucket: id, items, kind and type
 unfoldable pub bucket_of : Data → Option BucketPart
@@ -129,24 +129,30 @@ osd_of d = if has_only (codes "exists" ∷ codes "id" ∷ codes "up" ∷ codes "
   weight ← field number_of (codes "weight") d
   Some (record { id = id; exists = exists; up = up; weight = weight })) else None
 
+-- ---- exceptions
+
+-- a group, by its text
+abbrev pub pg_of : Data → Option PgParts
+pg_of d = as_str d >>= parts_in
+
+-- a pair: [from, to]
+unfoldable pub pair_of : Data → Option PairPart
+pair_of d = option_map (λ pair. record { from = pair.0; to = pair.1 }) (both_of number_of number_of d)
+
+-- an exception: [group, [entry, ..]], by what states an entry
+unfoldable pub exception_of : {X : Type 0} → (Data → Option X) → Data → Option (ExceptionPart X)
+exception_of stated d = option_map (λ said. record { pg = said.0; entries = said.1 }) (both_of pg_of (list_of stated) d)
+
 -- ---- the map
-
--- the list at a key is missing or empty
-abbrev pub lacks_entries : List ℕ → Data → Bool
-lacks_entries key d = option_map_or (has_count 0) (get key d) true
-
--- no group is placed by an exception
-abbrev pub has_no_exceptions : Data → Bool
-has_no_exceptions d = lacks_entries (codes "pg_upmap") d && lacks_entries (codes "pg_upmap_items") d
 
 abbrev pub map_keys : List (List ℕ)
 map_keys =
     codes "buckets" ∷ codes "epoch" ∷ codes "max_osd" ∷ codes "osds" ∷ codes "pg_upmap" ∷ codes "pg_upmap_items"
     ∷ codes "pools" ∷ codes "rules" ∷ codes "version" ∷ []
 
--- the parts of a map
+-- the parts of a map: all are required but the exceptions, which may be missing
 unfoldable pub stated_map : Data → Option MapParts
-stated_map d = if has_only map_keys d && has_no_exceptions d then (do
+stated_map d = if has_only map_keys d then (do
   version ← field number_of (codes "version") d
   epoch ← field number_of (codes "epoch") d
   max_osd ← field number_of (codes "max_osd") d
@@ -154,6 +160,8 @@ stated_map d = if has_only map_keys d && has_no_exceptions d then (do
   rules ← field (list_of rule_of) (codes "rules") d
   pools ← field (list_of pool_of) (codes "pools") d
   osds ← field (list_of osd_of) (codes "osds") d
+  pg_upmap ← optional_list (exception_of number_of) (codes "pg_upmap") d
+  pg_upmap_items ← optional_list (exception_of pair_of) (codes "pg_upmap_items") d
   Some (record {
     version = version;
     epoch = epoch;
@@ -162,6 +170,8 @@ stated_map d = if has_only map_keys d && has_no_exceptions d then (do
     rules = rules;
     pools = pools;
     osds = osds;
+    pg_upmap = pg_upmap;
+    pg_upmap_items = pg_upmap_items;
   })) else None
 
 -- a text that states no map, or a map with a fault

@@ -1,17 +1,25 @@
 //! Maps and changes as JSON text (RFC 8259).
 #![tactic(auto)]
 
+ghost use Rattle.std.specs.Prelude.{◌≡◌, Ok, IfOk};
+ghost use Rattle.std.specs.Str.{IsUtf8};
 ghost use Rattle.osdmap.specs.Stated.{Makes};
-ghost use Rattle.mapjson.specs.MapTexts.{map_text_fault, StatesMap};
+ghost use Rattle.osdmap.specs.PartsOf.{parts_of};
+ghost use Rattle.mapjson.specs.Json.{stated_by};
+ghost use Rattle.mapjson.specs.MapTexts.{stated_map, map_text_fault, StatesMap};
 ghost use Rattle.mapjson.specs.ChangeTexts.{change_text_fault, StatesChange};
+ghost use Rattle.mapjson.specs.Written.{written, IsReadBack};
 
 mod change;
 mod fault;
-mod json;
 mod map;
+mod stated;
+mod written;
 
 use crate::change::change_of;
-use crate::json::stated_by;
+use crate::stated::stated_by;
+use crate::written::ToJson;
+use crush::Memory;
 use osdmap::{Change, MapParts, OsdMap, Refusal};
 use std::alloc::Global;
 
@@ -27,14 +35,35 @@ pub fn read_map(alloc: Global, bytes: &[u8]) -> Result<OsdMap, Refusal>
 
 /// The base and the change that a text states: `BadJson` (10) where the text is not UTF-8, is no JSON or nests deeper
 /// than 127; `BadField` (11) where it does not state a change; `BadLimit` (12) where a number or a length is outside
-/// its limits: a base of 0 to 2^64 - 1, OSDs of 0 to 1,023, reweights of 0 to 4,294,967,295, lists of at most 131,072
-/// entries. `Memory` (30).
+/// its limits: a base of 0 to 2^64 - 1, ids of pools of 1 to 65,535, OSDs of 0 to 1,023, reweights of 0 to
+/// 4,294,967,295, groups' numbers of at most 32 bits, at most 10 OSDs or pairs of a group, lists of at most 131,072
+/// entries, and of a new pool what [`osdmap::Pool`] has; `BadPool` (15) where a new pool's `pgp_num` is above its
+/// `pg_num`. Each is tested over the whole text before the next. `Memory` (30).
 pub fn read_change(alloc: Global, bytes: &[u8]) -> Result<(u64, Change), Refusal>
     ensures { Makes result (change_text_fault bytes.now) (StatesChange bytes.now) }
 {
     let (base, parts) = change_of(alloc, bytes)?;
     let change = Change::new(parts)?;
     Ok((base, change))
+}
+
+/// The text of a map: compact JSON, each object with all its keys in byte order, buckets by id from -1 downwards, rules,
+/// pools and OSDs by id upwards, exceptions by group upwards, items, steps, explicit sets and pairs in their order. An
+/// OSD that does not exist and has reweight 0 is left out. Or 30 (Memory).
+pub fn write_map(alloc: Global, map: &OsdMap) -> Result<Vec<u8>, Memory>
+    ensures text { IfOk result (λ bytes. bytes.items ≡ written map.now) }
+    ensures utf8 { IfOk result (λ bytes. IsUtf8 bytes.items) }
+    ensures reads_back { IfOk result (λ bytes. stated_by stated_map bytes.items ≡ Ok (parts_of map.now)) }
+{
+    let value = map.to_json(alloc)?;
+    Ok(value.to_vec(alloc)?)
+}
+
+/// A law: the text of a map of an epoch of 1 to 2,147,483,648 is read back as that map.
+pub fn written_map_is_read_back(map: &OsdMap)
+    ensures { IsReadBack map.now }
+{
+    map.states_itself();
 }
 
 #[cfg(test)]

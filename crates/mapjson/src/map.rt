@@ -1,12 +1,15 @@
 ghost use Rattle.std.specs.Prelude.{◌≡◌};
 ghost use Rattle.serde_json.specs.View.{view};
 ghost use Rattle.mapjson.specs.Json.{Reads};
-ghost use Rattle.mapjson.specs.MapTexts.{bucket_kind_of, item_of, bucket_of, rule_kind_of, emit_of, take_of, choose_of, step_by, step_of, rule_of, pool_of, osd_of, lacks_entries, has_no_exceptions, stated_map};
+ghost use Rattle.mapjson.specs.MapTexts.{bucket_kind_of, item_of, bucket_of, rule_kind_of, emit_of, take_of, choose_of, step_by, step_of, rule_of, pool_of, osd_of, pg_of, exception_of, pair_of, stated_map};
 
 use crate::fault::Fault;
-use crate::json::{FromJson, field, has_count, has_only, place, text};
+use crate::stated::{FromJson, field, has_count, has_only, optional_list, place, text};
 use crush::{BucketKind, Mode, RuleKind};
-use osdmap::{BucketPart, ChoosePart, ItemPart, MapParts, OsdPart, PoolPart, RulePart, StepPart};
+use osdmap::{
+    BucketPart, ChoosePart, ExceptionPart, ItemPart, MapParts, OsdPart, PairPart, PgParts,
+    PoolPart, RulePart, StepPart,
+};
 use serde_json::Value;
 use std::alloc::Global;
 
@@ -28,11 +31,7 @@ impl FromJson for ItemPart {
 
     #[tactic(auto, unfolding(crate::specs::MapTexts::item_of))]
     fn from_json(alloc: Global, value: &Value) -> Result<ItemPart, Fault> {
-        if !has_count(value, 2) {
-            return Err(Fault::Field);
-        }
-        let id = place(alloc, value, 0)?;
-        let weight = place(alloc, value, 1)?;
+        let (id, weight) = FromJson::from_json(alloc, value)?;
         Ok(ItemPart { id, weight })
     }
 }
@@ -200,21 +199,32 @@ impl FromJson for OsdPart {
     }
 }
 
-/// Whether the list at a key is missing or empty.
-fn lacks_entries(value: &Value, key: &str) -> bool
-    ensures { result ≡ lacks_entries key.now (view value.now) }
-{
-    match value.get(key) {
-        Some(list) => has_count(list, 0),
-        None => true,
+impl FromJson for PgParts {
+    ghost stated = { pg_of };
+
+    fn from_json(_alloc: Global, value: &Value) -> Result<PgParts, Fault> {
+        PgParts::read(text(value)?.as_bytes()).ok_or(Fault::Field)
     }
 }
 
-/// Whether no group is placed by an exception.
-fn has_no_exceptions(value: &Value) -> bool
-    ensures { result ≡ has_no_exceptions (view value.now) }
-{
-    lacks_entries(value, "pg_upmap") && lacks_entries(value, "pg_upmap_items")
+impl FromJson for PairPart {
+    ghost stated = { pair_of };
+
+    #[tactic(auto, unfolding(crate::specs::MapTexts::pair_of))]
+    fn from_json(alloc: Global, value: &Value) -> Result<PairPart, Fault> {
+        let (from, to) = FromJson::from_json(alloc, value)?;
+        Ok(PairPart { from, to })
+    }
+}
+
+impl<E: FromJson> FromJson for ExceptionPart<E> {
+    ghost stated = { exception_of E.stated };
+
+    #[tactic(auto, unfolding(crate::specs::MapTexts::exception_of))]
+    fn from_json(alloc: Global, value: &Value) -> Result<ExceptionPart<E>, Fault> {
+        let (pg, entries) = FromJson::from_json(alloc, value)?;
+        Ok(ExceptionPart { pg, entries })
+    }
 }
 
 /// The keys that a map may have.
@@ -235,7 +245,7 @@ impl FromJson for MapParts {
 
     #[tactic(auto, unfolding(crate::specs::MapTexts::stated_map))]
     fn from_json(alloc: Global, value: &Value) -> Result<MapParts, Fault> {
-        if !has_only(value, &MAP_KEYS) || !has_no_exceptions(value) {
+        if !has_only(value, &MAP_KEYS) {
             return Err(Fault::Field);
         }
         let version = field(alloc, value, "version")?;
@@ -245,6 +255,8 @@ impl FromJson for MapParts {
         let rules = field(alloc, value, "rules")?;
         let pools = field(alloc, value, "pools")?;
         let osds = field(alloc, value, "osds")?;
+        let pg_upmap = optional_list(alloc, value, "pg_upmap")?;
+        let pg_upmap_items = optional_list(alloc, value, "pg_upmap_items")?;
         Ok(MapParts {
             version,
             epoch,
@@ -253,6 +265,8 @@ impl FromJson for MapParts {
             rules,
             pools,
             osds,
+            pg_upmap,
+            pg_upmap_items,
         })
     }
 }

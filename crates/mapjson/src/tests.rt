@@ -1,21 +1,38 @@
 use crate::change::change_of;
-use crate::json::stated_by;
 use crate::read_map;
+use crate::stated::stated_by;
 use crush::{BucketKind, Mode, RuleKind};
-use osdmap::{ChoosePart, ItemPart, MapParts, PoolPart, Refusal, Reweight, StepPart};
+use osdmap::{
+    ChoosePart, ItemPart, MapParts, Pair, PairPart, Pg, PgParts, PoolPart, Refusal, Reweight,
+    StepPart,
+};
 use std::alloc::Global;
 use std::test::Fail;
 
 const ONE_DEVICE: &str =
     r#"{"buckets":[{"id":-1,"items":[[0,65536]],"kind":"uniform","type":10}],"epoch":1,"max_osd":1,"osds":[{"exists":true,"id":0,"up":true,"weight":65536}],"pg_upmap":[],"pg_upmap_items":[],"pools":[{"id":1,"kind":"replicated","pg_num":1,"pgp_num":1,"rule":0,"size":1}],"rules":[{"id":0,"kind":"replicated","steps":[["take",-1],["choose_firstn",0,0],["emit"]]}],"version":1}"#;
 
-/// Edits of the map after which it is still one.
-const STATES_A_MAP: [(&str, &str); 12] = [
+/// Edits of the map after which the text still states one, whatever its numbers.
+const STATES_A_MAP: [(&str, &str); 18] = [
     (r#""epoch":1,"#, r#""epoch":18446744073709551615,"#),
     (r#""epoch":1,"#, r#""epoch":-9223372036854775808,"#),
     (r#""epoch":1,"#, r#""epoch":"x","epoch":1,"#),
+    (r#""epoch":1,"#, "\t\r\n \"epoch\" : 1 ,"),
+    (r#""epoch":1,"#, r#""\u0065poch":1,"#),
     (r#""pg_upmap":[],"#, ""),
     (r#""pg_upmap_items":[],"#, ""),
+    (
+        r#""pg_upmap":[]"#,
+        r#""pg_upmap":[["1.0",[]],["65536.100000000",[1024,-1]]]"#,
+    ),
+    (
+        r#""pg_upmap":[]"#,
+        r#""pg_upmap":[["99999999999999999999.0",[]],["\u0031.f",[0]]]"#,
+    ),
+    (
+        r#""pg_upmap_items":[]"#,
+        r#""pg_upmap_items":[["1.0",[[0,1],[1,0]]],["0.0",[]]]"#,
+    ),
     (r#""uniform""#, r#""list""#),
     (r#""uniform""#, r#""tree""#),
     (r#""replicated""#, r#""erasure""#),
@@ -23,10 +40,11 @@ const STATES_A_MAP: [(&str, &str); 12] = [
     (r#""choose_firstn""#, r#""chooseleaf_firstn""#),
     (r#""choose_firstn""#, r#""chooseleaf_indep""#),
     (r#""emit""#, r#""\u0065mit""#),
+    (r#""emit""#, r#""emi\u0074""#),
 ];
 
 /// Edits after which the text is JSON, and states no map.
-const NO_MAP: [(&str, &str); 51] = [
+const NO_MAP: [(&str, &str); 71] = [
     (r#""epoch":1,"#, r#""epoch":18446744073709551616,"#),
     (r#""epoch":1,"#, r#""epoch":-9223372036854775809,"#),
     (r#""epoch":1,"#, r#""epoch":1.0,"#),
@@ -78,47 +96,196 @@ const NO_MAP: [(&str, &str); 51] = [
     (r#"["emit"]"#, r#"["emit",0]"#),
     (r#"["emit"]"#, r#"[]"#),
     (r#"["emit"]"#, r#""emit""#),
+    (r#""pg_upmap":[]"#, r#""pg_upmap":[["1.0"]]"#),
+    (r#""pg_upmap":[]"#, r#""pg_upmap":[["1.0",[0],0]]"#),
+    (r#""pg_upmap":[]"#, r#""pg_upmap":[["1.0",0]]"#),
+    (r#""pg_upmap":[]"#, r#""pg_upmap":[[1.0,[0]]]"#),
+    (r#""pg_upmap":[]"#, r#""pg_upmap":["1.0"]"#),
+    (r#""pg_upmap":[]"#, r#""pg_upmap":[["1.0",[[0,1]]]]"#),
+    (r#""pg_upmap":[]"#, r#""pg_upmap":[["01.0",[0]]]"#),
+    (r#""pg_upmap":[]"#, r#""pg_upmap":[["1.00",[0]]]"#),
+    (r#""pg_upmap":[]"#, r#""pg_upmap":[["1.A",[0]]]"#),
+    (r#""pg_upmap":[]"#, r#""pg_upmap":[["a.1",[0]]]"#),
+    (r#""pg_upmap":[]"#, r#""pg_upmap":[["1.",[0]]]"#),
+    (r#""pg_upmap":[]"#, r#""pg_upmap":[[".1",[0]]]"#),
+    (r#""pg_upmap":[]"#, r#""pg_upmap":[["1",[0]]]"#),
+    (r#""pg_upmap":[]"#, r#""pg_upmap":[["1.0.0",[0]]]"#),
+    (r#""pg_upmap":[]"#, r#""pg_upmap":[["+1.0",[0]]]"#),
+    (r#""pg_upmap":[]"#, r#""pg_upmap":[[" 1.0",[0]]]"#),
+    (
+        r#""pg_upmap_items":[]"#,
+        r#""pg_upmap_items":[["1.0",[0]]]"#,
+    ),
+    (
+        r#""pg_upmap_items":[]"#,
+        r#""pg_upmap_items":[["1.0",[[0]]]]"#,
+    ),
+    (
+        r#""pg_upmap_items":[]"#,
+        r#""pg_upmap_items":[["1.0",[[0,1,2]]]]"#,
+    ),
+    (
+        r#""pg_upmap_items":[]"#,
+        r#""pg_upmap_items":[["1.0",[[0,1.5]]]]"#,
+    ),
 ];
 
 /// Edits after which the text is no JSON.
-const NO_JSON: [(&str, &str); 2] = [
+const NO_JSON: [(&str, &str); 14] = [
     (r#""epoch":1,"#, r#""epoch":1e999,"#),
     (r#""epoch":1,"#, r#""epoch":01,"#),
+    (r#""epoch":1,"#, r#""epoch":+1,"#),
+    (r#""epoch":1,"#, r#""epoch":NaN,"#),
+    (r#""epoch":1,"#, r#""epoch":1,,"#),
+    (r#""epoch":1,"#, r#"'epoch':1,"#),
+    (r#""weight":65536}"#, r#""weight":65536,}"#),
+    (r#"[0,65536]"#, r#"[0,65536,]"#),
+    (r#""version":1}"#, r#""version":1}}"#),
+    (r#""uniform""#, r#""\ud800""#),
+    (r#""uniform""#, r#""\udc00\ud800""#),
+    (r#""uniform""#, r#""\x75niform""#),
+    (r#""uniform""#, "\"uni\nform\""),
+    (r#""uniform""#, "\"uni\u{0}form\""),
 ];
 
-/// Texts that state a change.
-const CHANGES: [&str; 3] = [
+/// Edits by exceptions with a number or a length outside its limits.
+const EXCEPTIONS_BEYOND_LIMITS: [(&str, &str); 10] = [
+    (r#""pg_upmap":[]"#, r#""pg_upmap":[["0.0",[0]]]"#),
+    (r#""pg_upmap":[]"#, r#""pg_upmap":[["65536.0",[0]]]"#),
+    (r#""pg_upmap":[]"#, r#""pg_upmap":[["4294967296.0",[0]]]"#),
+    (r#""pg_upmap":[]"#, r#""pg_upmap":[["1.100000000",[0]]]"#),
+    (r#""pg_upmap":[]"#, r#""pg_upmap":[["1.0",[-1]]]"#),
+    (r#""pg_upmap":[]"#, r#""pg_upmap":[["1.0",[1024]]]"#),
+    (
+        r#""pg_upmap":[]"#,
+        r#""pg_upmap":[["1.0",[0,0,0,0,0,0,0,0,0,0,0]]]"#,
+    ),
+    (
+        r#""pg_upmap_items":[]"#,
+        r#""pg_upmap_items":[["1.0",[[1024,0]]]]"#,
+    ),
+    (
+        r#""pg_upmap_items":[]"#,
+        r#""pg_upmap_items":[["1.0",[[0,-1]]]]"#,
+    ),
+    (
+        r#""pg_upmap_items":[]"#,
+        r#""pg_upmap_items":[["1.0",[[0,1],[0,1],[0,1],[0,1],[0,1],[0,1],[0,1],[0,1],[0,1],[0,1],[0,1]]]]"#,
+    ),
+];
+
+/// Texts that state a change, numbers and lengths at the edges of their limits among them.
+const CHANGES: [&str; 20] = [
     r#"{"base":0}"#,
+    r#"{"base":18446744073709551615}"#,
     r#"{"base":1,"base":2}"#,
-    r#"{"base":1,"down":[1023]}"#,
+    r#"{"base":1,"down":0,"down":[0,1023]}"#,
+    r#"{"b\u0061se":1,"up":[0,1023]}"#,
+    r#"{"base":1,"weight":[[0,0],[1023,4294967295]]}"#,
+    r#"{"base":1,"old_pools":[1,65535]}"#,
+    r#"{"base":1,"new_pools":[{"id":1,"kind":"replicated","pg_num":1,"pgp_num":1,"rule":0,"size":1}]}"#,
+    r#"{"base":1,"new_pools":[{"id":65535,"kind":"erasure","pg_num":4096,"pgp_num":4096,"rule":255,"size":10}]}"#,
+    r#"{"base":1,"old_upmap":["1.0","65535.ffffffff"]}"#,
+    r#"{"base":1,"old_items":["1.0","65535.ffffffff","1\u002e0"]}"#,
+    r#"{"base":1,"new_upmap":[["1.0",[]],["1.0",[0,1023,0,0,0,0,0,0,0,0]]]}"#,
+    r#"{"base":1,"new_items":[["1.0",[]],["1.0",[[0,1023],[1023,0],[0,0]]]]}"#,
+    r#"{"base":1,"new_items":[["1.0",[[0,1],[0,1],[0,1],[0,1],[0,1],[0,1],[0,1],[0,1],[0,1],[0,1]]]]}"#,
+    r#"{"base":1,"down":[0,0]}"#,
+    r#"{"base":1,"down":[],"up":[],"weight":[]}"#,
+    r#"{"base":1,"old_pools":[],"new_pools":[]}"#,
+    r#"{"base":1,"old_upmap":[],"old_items":[],"new_upmap":[],"new_items":[]}"#,
+    " {\"base\":1}\n",
+    "\r\n\t {\t\"base\" : 1 }",
 ];
 
 /// Texts that are JSON, and state no change.
-const NO_CHANGES: [&str; 9] = [
+const NO_CHANGES: [&str; 30] = [
     r#"{"base":18446744073709551616}"#,
     r#"{"base":-9223372036854775809}"#,
     "[]",
     "{}",
+    "1",
+    r#"{"base":null}"#,
+    r#"{"base":"1"}"#,
+    r#"{"base":1,"base":[]}"#,
     r#"{"base":1,"Down":[]}"#,
+    r#"{"base":1,"pg_upmap":[]}"#,
     r#"{"base":1,"down":null}"#,
+    r#"{"base":1,"up":{}}"#,
+    r#"{"base":1,"weight":0}"#,
+    r#"{"base":1,"old_pools":null}"#,
+    r#"{"base":1,"new_pools":null}"#,
+    r#"{"base":1,"old_upmap":null}"#,
+    r#"{"base":1,"old_items":null}"#,
+    r#"{"base":1,"new_upmap":null}"#,
+    r#"{"base":1,"new_items":null}"#,
     r#"{"base":1,"down":[0.5]}"#,
     r#"{"base":1,"weight":[[0,1,2]]}"#,
+    r#"{"base":1,"old_pools":["1"]}"#,
+    r#"{"base":1,"new_pools":[{"id":1,"kind":"replicated","pg_num":1,"pgp_num":1,"rule":0}]}"#,
+    r#"{"base":1,"new_pools":[{"id":1,"kind":"replicated","pg_num":1,"pgp_num":1,"rule":0,"size":1,"up":1}]}"#,
+    r#"{"base":1,"old_upmap":[["1.0",[0]]]}"#,
+    r#"{"base":1,"old_items":["1.0 "]}"#,
+    r#"{"base":1,"new_upmap":[["1.0",[[0,1]]]]}"#,
+    r#"{"base":1,"new_items":[["1.0",[0,1]]]}"#,
     r#"{"base":-1,"weight":[[0]]}"#,
+    r#"{"base":1,"down":[1024],"old_items":["1.0A"]}"#,
 ];
 
-/// Changes with a number outside its limits.
-const BEYOND_LIMITS: [&str; 7] = [
+/// Changes with a number or a length outside its limits.
+const BEYOND_LIMITS: [&str; 33] = [
     r#"{"base":-1}"#,
     r#"{"base":-9223372036854775808}"#,
+    r#"{"base":1,"old_pools":[0]}"#,
+    r#"{"base":1,"old_pools":[65536]}"#,
+    r#"{"base":1,"old_pools":[-1]}"#,
+    r#"{"base":1,"new_pools":[{"id":0,"kind":"replicated","pg_num":1,"pgp_num":1,"rule":0,"size":1}]}"#,
+    r#"{"base":1,"new_pools":[{"id":65536,"kind":"replicated","pg_num":1,"pgp_num":1,"rule":0,"size":1}]}"#,
+    r#"{"base":1,"new_pools":[{"id":1,"kind":"replicated","pg_num":0,"pgp_num":1,"rule":0,"size":1}]}"#,
+    r#"{"base":1,"new_pools":[{"id":1,"kind":"replicated","pg_num":4097,"pgp_num":1,"rule":0,"size":1}]}"#,
+    r#"{"base":1,"new_pools":[{"id":1,"kind":"replicated","pg_num":1,"pgp_num":0,"rule":0,"size":1}]}"#,
+    r#"{"base":1,"new_pools":[{"id":1,"kind":"replicated","pg_num":1,"pgp_num":4097,"rule":0,"size":1}]}"#,
+    r#"{"base":1,"new_pools":[{"id":1,"kind":"replicated","pg_num":1,"pgp_num":1,"rule":-1,"size":1}]}"#,
+    r#"{"base":1,"new_pools":[{"id":1,"kind":"replicated","pg_num":1,"pgp_num":1,"rule":256,"size":1}]}"#,
+    r#"{"base":1,"new_pools":[{"id":1,"kind":"replicated","pg_num":1,"pgp_num":1,"rule":0,"size":0}]}"#,
+    r#"{"base":1,"new_pools":[{"id":1,"kind":"replicated","pg_num":1,"pgp_num":1,"rule":0,"size":11}]}"#,
+    r#"{"base":1,"new_pools":[{"id":1,"kind":"replicated","pg_num":1,"pgp_num":2,"rule":0,"size":1}],"up":[1024]}"#,
     r#"{"base":1,"down":[1024]}"#,
     r#"{"base":1,"up":[-1]}"#,
     r#"{"base":1,"weight":[[1024,0]]}"#,
     r#"{"base":1,"weight":[[0,4294967296]]}"#,
     r#"{"base":1,"weight":[[0,-1]]}"#,
+    r#"{"base":1,"old_upmap":["0.0"]}"#,
+    r#"{"base":1,"old_upmap":["65536.0"]}"#,
+    r#"{"base":1,"old_items":["1.100000000"]}"#,
+    r#"{"base":1,"old_items":["4294967297.0"]}"#,
+    r#"{"base":1,"new_upmap":[["65536.0",[0]]]}"#,
+    r#"{"base":1,"new_upmap":[["1.0",[1024]]]}"#,
+    r#"{"base":1,"new_upmap":[["1.0",[-1]]]}"#,
+    r#"{"base":1,"new_upmap":[["1.0",[0,1,2,3,4,5,6,7,8,9,10]]]}"#,
+    r#"{"base":1,"new_items":[["1.100000000",[[0,1]]]]}"#,
+    r#"{"base":1,"new_items":[["1.0",[[1024,0]]]]}"#,
+    r#"{"base":1,"new_items":[["1.0",[[0,1024]]]]}"#,
+    r#"{"base":1,"new_items":[["1.0",[[0,1],[0,1],[0,1],[0,1],[0,1],[0,1],[0,1],[0,1],[0,1],[0,1],[0,1]]]]}"#,
+];
+
+/// Changes with a new pool that has more groups for placement than groups.
+const POOLS_PAST_THEIR_GROUPS: [&str; 2] = [
+    r#"{"base":1,"new_pools":[{"id":1,"kind":"replicated","pg_num":4095,"pgp_num":4096,"rule":0,"size":1}]}"#,
+    r#"{"base":1,"new_pools":[{"id":1,"kind":"replicated","pg_num":1,"pgp_num":2,"rule":0,"size":1},{"id":1,"kind":"replicated","pg_num":1,"pgp_num":1,"rule":0,"size":1}]}"#,
 ];
 
 /// Texts that are no JSON.
-const CUT_CHANGES: [&str; 2] = [r#"{"base":1"#, ""];
+const CUT_CHANGES: [&str; 5] = [
+    r#"{"base":1"#,
+    "",
+    r#"{"base":1,}"#,
+    r#"{"base":1,"down":[0,]}"#,
+    r#"{"base":1}{}"#,
+];
+
+/// Lists of a change, each with an entry within the limits.
+const LISTS: [(&str, &str); 2] = [("down", "0"), ("new_items", r#"["1.0",[]]"#)];
 
 fn map_refusal(alloc: Global, text: &[u8]) -> Option<Refusal> {
     stated_by::<MapParts>(alloc, text).err()
@@ -126,6 +293,14 @@ fn map_refusal(alloc: Global, text: &[u8]) -> Option<Refusal> {
 
 fn change_refusal(alloc: Global, text: &[u8]) -> Option<Refusal> {
     change_of(alloc, text).err()
+}
+
+fn pg(pool: Option<u32>, number: Option<u32>) -> PgParts {
+    PgParts { pool, number }
+}
+
+fn group(pool: u32, number: u32) -> Pg {
+    Pg { pool, number }
 }
 
 #[test]
@@ -184,6 +359,29 @@ fn edited(alloc: Global, old: &str, new: &str) -> Result<String, Fail> {
 }
 
 #[test]
+fn states_exceptions(rt: HostRuntime) -> Result<(), Fail> {
+    let alloc = rt.alloc();
+    let text = edited(
+        alloc,
+        r#""pg_upmap":[],"pg_upmap_items":[]"#,
+        r#""pg_upmap":[["1.ff",[3,2]],["65536.100000000",[]]],"pg_upmap_items":[["2.0",[[4,5]]]]"#,
+    )?;
+    let parts = stated_by::<MapParts>(alloc, text.as_bytes())?;
+    let [first, second] = parts.pg_upmap.as_slice() else {
+        return Err(Fail::from("two explicit sets"));
+    };
+    assert!(rt; first.pg == pg(Some(1), Some(255)));
+    assert!(rt; first.entries.as_slice() == [3, 2].as_slice());
+    assert!(rt; second.pg == pg(Some(65_536), None) && second.entries.len() == 0);
+    let [items] = parts.pg_upmap_items.as_slice() else {
+        return Err(Fail::from("the pairs of one group"));
+    };
+    assert!(rt; items.pg == pg(Some(2), Some(0)));
+    assert!(rt; items.entries.as_slice() == [PairPart { from: 4, to: 5 }].as_slice());
+    Ok(())
+}
+
+#[test]
 fn refuses_what_states_no_map(rt: HostRuntime) -> Result<(), Fail> {
     let alloc = rt.alloc();
     for (edits, wanted) in [
@@ -204,6 +402,40 @@ fn refuses_what_states_no_map(rt: HostRuntime) -> Result<(), Fail> {
 }
 
 #[test]
+fn refuses_exceptions_beyond_limits(rt: HostRuntime) -> Result<(), Fail> {
+    let alloc = rt.alloc();
+    for (old, new) in EXCEPTIONS_BEYOND_LIMITS {
+        let text = edited(alloc, old, new)?;
+        assert_eq!(rt;
+            read_map(alloc, text.as_bytes()).err(),
+            Some(Refusal::BadLimit),
+            "{new}"
+        );
+    }
+    Ok(())
+}
+
+/// The map behind some bytes.
+fn behind(alloc: Global, front: &[u8]) -> Result<Vec<u8>, Fail> {
+    let mut text = Vec::from_slice(alloc, front)?;
+    text.extend_from_slice(ONE_DEVICE.as_bytes())?;
+    Ok(text)
+}
+
+/// A text between as many openings and endings.
+fn nested(alloc: Global, depth: usize, open: &[u8], text: &[u8], end: u8) -> Result<Vec<u8>, Fail> {
+    let mut nested = Vec::new(alloc);
+    for _ in 0..depth {
+        nested.extend_from_slice(open)?;
+    }
+    nested.extend_from_slice(text)?;
+    for _ in 0..depth {
+        nested.push(end)?;
+    }
+    Ok(nested)
+}
+
+#[test]
 fn refuses_what_is_no_json(rt: HostRuntime) -> Result<(), Fail> {
     let alloc = rt.alloc();
     for len in 0..ONE_DEVICE.len() {
@@ -213,35 +445,68 @@ fn refuses_what_is_no_json(rt: HostRuntime) -> Result<(), Fail> {
             "cut after {len} bytes"
         );
     }
-    let mut text = Vec::new(alloc);
-    text.push(255)?;
-    text.extend_from_slice(ONE_DEVICE.as_bytes())?;
-    assert!(rt;
-        map_refusal(alloc, text.as_slice()) == Some(Refusal::BadJson),
-        "a byte 255"
-    );
+    for (front, wanted) in [
+        (b"\xff".as_slice(), Some(Refusal::BadJson)),
+        (b"\xef\xbb\xbf".as_slice(), Some(Refusal::BadJson)),
+        (b"\x0b".as_slice(), Some(Refusal::BadJson)),
+        (b",".as_slice(), Some(Refusal::BadJson)),
+        (b" \t\r\n".as_slice(), None),
+    ] {
+        let text = behind(alloc, front)?;
+        assert_eq!(rt;
+            map_refusal(alloc, text.as_slice()),
+            wanted,
+            "{front:?} in front"
+        );
+    }
     for (depth, wanted) in [(127usize, Refusal::BadField), (128, Refusal::BadJson)] {
-        let mut text = Vec::new(alloc);
-        for _ in 0..depth {
-            text.push(b'[')?;
-        }
-        for _ in 0..depth {
-            text.push(b']')?;
-        }
+        let lists = nested(alloc, depth, b"[", b"", b']')?;
         assert!(rt;
-            map_refusal(alloc, text.as_slice()) == Some(wanted),
+            map_refusal(alloc, lists.as_slice()) == Some(wanted),
             "{depth} nested lists"
+        );
+        let objects = nested(alloc, depth, br#"{"epoch":"#, b"1", b'}')?;
+        assert!(rt;
+            map_refusal(alloc, objects.as_slice()) == Some(wanted),
+            "{depth} nested objects"
         );
     }
     Ok(())
 }
 
 #[test]
+fn refuses_long_numbers(rt: HostRuntime) -> Result<(), Fail> {
+    let alloc = rt.alloc();
+    for (digits, wanted) in [
+        (20usize, Refusal::BadField),
+        (300, Refusal::BadField),
+        (1_000, Refusal::BadJson),
+    ] {
+        let mut text = Vec::from_slice(alloc, br#"{"base":"#)?;
+        for _ in 0..digits {
+            text.push(b'9')?;
+        }
+        text.push(b'}')?;
+        assert!(rt;
+            change_refusal(alloc, text.as_slice()) == Some(wanted),
+            "a number of {digits} digits"
+        );
+    }
+    Ok(())
+}
+
+/// A change of every part.
+const WHOLE_CHANGE: &str =
+    r#" {"weight":[[5,4294967295],[0,0]],"up":[2,1],"down":[1023],"old_pools":[7,1],
+    "new_pools":[{"id":2,"kind":"erasure","pg_num":256,"pgp_num":128,"rule":3,"size":4}],"old_upmap":["2.b"],
+    "old_items":["2.a","1.0"],"new_upmap":[["2.0",[9,8]],["2.1",[]]],"new_items":[["2.ff",[[3,4],[5,6]]]],"base":7} "#;
+
+#[test]
 fn states_a_change(rt: HostRuntime) -> Result<(), Fail> {
     let alloc = rt.alloc();
-    let text = r#" {"weight":[[5,4294967295],[0,0]],"up":[2,1],"down":[1023],"base":7} "#;
-    let (base, parts) = change_of(alloc, text.as_bytes())?;
+    let (base, parts) = change_of(alloc, WHOLE_CHANGE.as_bytes())?;
     assert!(rt; base == 7);
+    assert!(rt; parts.old_pools.as_slice() == [7, 1].as_slice());
     assert!(rt; parts.down.as_slice() == [1023].as_slice());
     assert!(rt; parts.up.as_slice() == [2, 1].as_slice());
     let reweights = [
@@ -252,9 +517,42 @@ fn states_a_change(rt: HostRuntime) -> Result<(), Fail> {
         Reweight { osd: 0, weight: 0 },
     ];
     assert!(rt; parts.weight.as_slice() == reweights.as_slice());
-    let (base, parts) = change_of(alloc, br#"{"base":18446744073709551615}"#)?;
+    let [pool] = parts.new_pools.as_slice() else {
+        return Err(Fail::from("one pool"));
+    };
+    assert!(rt; pool.id() == 2 && pool.kind() == RuleKind::Erasure && pool.rule() == 3);
+    assert!(rt; pool.pg_num() == 256 && pool.pgp_num() == 128 && pool.size() == 4);
+    Ok(())
+}
+
+#[test]
+fn states_exceptions_of_a_change(rt: HostRuntime) -> Result<(), Fail> {
+    let alloc = rt.alloc();
+    let (_, parts) = change_of(alloc, WHOLE_CHANGE.as_bytes())?;
+    let old_items = [group(2, 10), group(1, 0)];
+    assert!(rt; parts.old_upmap.as_slice() == [group(2, 11)].as_slice());
+    assert!(rt; parts.old_items.as_slice() == old_items.as_slice());
+    let [first, second] = parts.new_upmap.as_slice() else {
+        return Err(Fail::from("two explicit sets"));
+    };
+    assert!(rt; first.pg == group(2, 0) && first.entries.as_slice() == [9, 8].as_slice());
+    assert!(rt; second.pg == group(2, 1) && second.entries.as_slice().is_empty());
+    let [items] = parts.new_items.as_slice() else {
+        return Err(Fail::from("the pairs of one group"));
+    };
+    let pairs = [Pair { from: 3, to: 4 }, Pair { from: 5, to: 6 }];
+    assert!(rt; items.pg == group(2, 255) && items.entries.as_slice() == pairs.as_slice());
+    Ok(())
+}
+
+#[test]
+fn missing_lists_of_a_change_are_empty(rt: HostRuntime) -> Result<(), Fail> {
+    let (base, parts) = change_of(rt.alloc(), br#"{"base":18446744073709551615}"#)?;
     assert!(rt; base == u64::MAX);
+    assert!(rt; parts.old_pools.len() == 0 && parts.new_pools.len() == 0);
     assert!(rt; parts.down.len() == 0 && parts.up.len() == 0 && parts.weight.len() == 0);
+    assert!(rt; parts.old_upmap.len() == 0 && parts.old_items.len() == 0);
+    assert!(rt; parts.new_upmap.len() == 0 && parts.new_items.len() == 0);
     Ok(())
 }
 
@@ -265,24 +563,45 @@ fn refuses_what_states_no_change(rt: HostRuntime) -> Result<(), Fail> {
         (CHANGES.as_slice(), None),
         (NO_CHANGES.as_slice(), Some(Refusal::BadField)),
         (BEYOND_LIMITS.as_slice(), Some(Refusal::BadLimit)),
+        (POOLS_PAST_THEIR_GROUPS.as_slice(), Some(Refusal::BadPool)),
         (CUT_CHANGES.as_slice(), Some(Refusal::BadJson)),
     ] {
         for text in texts {
             assert_eq!(rt; change_refusal(alloc, text.as_bytes()), wanted, "at {text}");
         }
     }
-    for (more, wanted) in [(131_071usize, None), (131_072, Some(Refusal::BadLimit))] {
-        let mut text = Vec::new(alloc);
-        text.extend_from_slice(br#"{"base":1,"down":["#)?;
-        for _ in 0..more {
-            text.extend_from_slice(b"0,")?;
+    Ok(())
+}
+
+/// A change that has one list, of an entry as often as said.
+fn change_of_one_list(
+    alloc: Global,
+    key: &str,
+    entry: &str,
+    count: usize,
+) -> Result<Vec<u8>, Fail> {
+    let front = format!(in alloc; "{{\"base\":1,\"{key}\":[{entry}")?;
+    let mut text = Vec::from_slice(alloc, front.as_bytes())?;
+    for _ in 1..count {
+        text.push(b',')?;
+        text.extend_from_slice(entry.as_bytes())?;
+    }
+    text.extend_from_slice(b"]}")?;
+    Ok(text)
+}
+
+#[test]
+fn lists_of_a_change_have_a_limit(rt: HostRuntime) -> Result<(), Fail> {
+    let alloc = rt.alloc();
+    for (key, entry) in LISTS {
+        for (count, wanted) in [(131_072, None), (131_073, Some(Refusal::BadLimit))] {
+            let text = change_of_one_list(alloc, key, entry, count)?;
+            assert_eq!(rt;
+                change_refusal(alloc, text.as_slice()),
+                wanted,
+                "{count} entries of {key}"
+            );
         }
-        text.extend_from_slice(b"0]}")?;
-        assert_eq!(rt;
-            change_refusal(alloc, text.as_slice()),
-            wanted,
-            "{more} entries and one"
-        );
     }
     Ok(())
 }

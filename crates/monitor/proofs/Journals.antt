@@ -2,7 +2,7 @@
 use Rattle.std.proofs.Common.{◌≡◌, ◌∙◌, sym, ap, ℕ, ◌+◌, ◌≤◌, ◌<◌, List, [], ◌∷◌, ◌++◌, length, refl, arith, None, Some, subst, true, false, not, nat_lt, ◌==◌, if◌then◌else◌, length-append}
 use Rattle.osdmap.specs.declared.change.ChangeParts.{ChangeParts}
 use Rattle.osdmap.specs.Maps.{ClusterMap}
-use Rattle.osdmap.specs.Changes.{Step, apply, after, change_fault, IsLawful}
+use Rattle.osdmap.specs.Changes.{Step, apply, after, change_fault, IsLawful, epoch_after}
 use Rattle.std.proofs.lemmas.Bool.{eqb-true, ltb-true}
 use Rattle.osdmap.specs.declared.refusal.Refusal.TheVariants.{StaleEpoch, JournalFull}
 use Rattle.monitor.specs.States.{History, IsKept, opened, committed, next_step, commit_fault, unless}
@@ -41,11 +41,13 @@ IsKept-committed h change kept accepted room = record {
   short = kept.short;
 }
 
+-- the present epoch is the one that the journal reaches
+pub epoch-kept : (h : History) → IsKept h → h.map.epoch ≡ epoch_after h.first h.journal
+epoch-kept h kept = ap (λ (m : ClusterMap). m.epoch) kept.map ∙ epoch-after h.first h.journal kept.lawful
+
 -- the next epoch is far below the greatest number
 pub epoch-small : (h : History) → IsKept h → h.map.epoch ≤ 2147549184
-epoch-small h kept =
-    let is = ap (λ (m : ClusterMap). m.epoch) kept.map ∙ epoch-after h.first h.journal kept.lawful in
-    omega (arith, kept.early, kept.short, kept.within)
+epoch-small h kept = omega (arith, epoch-kept h kept, kept.early, kept.short, kept.within)
 
 -- what holds where nothing refuses a commit
 pub record IsAccepted (h : History) (base : ℕ) (change : ChangeParts) : Type 0 where

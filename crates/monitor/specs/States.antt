@@ -1,11 +1,12 @@
 -- The state of a monitor, and what a commit answers.
-use Rattle.std.specs.Prelude.{◌≡◌, ℕ, ◌+◌, ◌≤◌, ◌==◌, not, List, [], ◌∷◌, ◌++◌, length, nat_lt, nat_le, ◌&&◌, Option, Some, None, Result, MatchResult, ◌⊎◌, if◌then◌else◌}
+use Rattle.std.specs.Prelude.{◌≡◌, ℕ, ◌+◌, ◌≤◌, ◌==◌, not, List, [], ◌∷◌, ◌++◌, length, nat_lt, nat_le, ◌&&◌, Option, Some, None, Result, OnErr, if◌then◌else◌}
 use Rattle.osdmap.specs.declared.change.ChangeParts.{ChangeParts}
 use Rattle.osdmap.specs.declared.refusal.Refusal.{Refusal}
-use Rattle.osdmap.specs.declared.refusal.Refusal.TheVariants.{BadLimit, StaleEpoch, JournalFull, Memory as OutOfMemory}
+use Rattle.osdmap.specs.declared.refusal.Refusal.TheVariants.{BadLimit, StaleEpoch, JournalFull}
 use Rattle.osdmap.specs.Maps.{ClusterMap}
 use Rattle.osdmap.specs.Evals.{evals_of}
 use Rattle.osdmap.specs.Changes.{Step, change_fault, apply, after, IsLawful}
+use Rattle.osdmap.specs.Stated.{Gives}
 
 -- what callers see of a state: the first map, the changes since, how many there may be, and the present map
 pub record History : Type 0 where
@@ -51,10 +52,9 @@ commit_fault h base change =
 abbrev pub committed : History → ChangeParts → History
 committed h change = record h { journal = h.journal ++ next_step h change ∷ []; map = apply h.map (next_step h change) }
 
--- what a commit answers and leaves: the new epoch and the evaluations, with the journal longer by the change, exactly
--- where there is no fault; else the fault, or that a growth was refused, and nothing is changed
+-- what a commit answers and leaves: where there is no fault the new epoch and the evaluations, with the journal longer by
+-- the change, or that a growth was refused; else the fault; and after a refusal nothing is changed
 abbrev pub Commits : History → History → ℕ → ChangeParts → Result (ℕ × ℕ) Refusal → Type 0
 Commits old new base change r =
-    MatchResult r
-    (λ ok. (commit_fault old base change ≡ None) × (new ≡ committed old change) × (ok.0 ≡ base + 1) × (ok.1 ≡ evals_of new.map change))
-    (λ e. ((e ≡ OutOfMemory) ⊎ (commit_fault old base change ≡ Some e)) × (new ≡ old))
+    Gives r (commit_fault old base change) (λ ok. (new ≡ committed old change) × (ok.0 ≡ base + 1) × (ok.1 ≡ evals_of new.map change))
+    × OnErr r (new ≡ old)

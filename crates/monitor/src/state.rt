@@ -30,15 +30,16 @@ impl Model for State {
 impl State {
     ghost use Rattle.std.specs.Prelude.{◌≡◌, ◌≤◌, IfOk, MatchResult};
     ghost use Rattle.std.specs.Result.{result_err};
+    ghost use Rattle.osdmap.specs.Changes.{epoch_after};
     ghost use Rattle.osdmap.specs.Sets.{places_of};
-    ghost use Rattle.osdmap.specs.Stated.{Makes};
-    ghost use Rattle.osdmap.specs.Placement.{group_fault, up_set, Places};
-    ghost use Rattle.monitor.specs.States.{opened, Commits, commit_fault, open_fault};
+    ghost use Rattle.osdmap.specs.Stated.{Gives};
+    ghost use Rattle.osdmap.specs.Placement.{group_fault, up_set, Places, RunsOnce};
+    ghost use Rattle.monitor.specs.States.{opened, IsKept, Commits, commit_fault, open_fault};
 
     /// The state at its beginning: no change yet. `BadLimit` (12) where the map's epoch is above 2,147,483,648, or the
-    /// journal's capacity is not 1 to 65,536; `Memory` (30).
+    /// journal's capacity is not 1 to 65,536; else `Memory` (30).
     pub fn new(alloc: Global, map: OsdMap, capacity: u32) -> Result<State, Refusal>
-        ensures { Makes result (open_fault map capacity) (λ s. s ≡ opened map capacity) }
+        ensures { Gives result (open_fault map capacity) (λ s. s ≡ opened map capacity) }
     {
         if map.epoch() > MAX_FIRST_EPOCH || !(1..=MAX_JOURNAL).contains(&capacity) {
             return Err(Refusal::BadLimit);
@@ -52,26 +53,35 @@ impl State {
         })
     }
 
-    /// The present map.
+    /// The present map: the first map with the changes of the journal applied in the order of their epochs, which follow
+    /// on that of the first map without gaps.
     pub fn map(&self) -> &OsdMap
-        ensures { result.now ≡ self.now.map }
+        ensures map { result.now ≡ self.now.map }
+        ensures kept { IsKept self.now }
+        ensures epoch { self.now.map.epoch ≡ epoch_after self.now.first self.now.journal }
     {
         &self.map
     }
 
     /// Applies a change to the present map, whose epoch `base` must be, and journals it: the new epoch, and the number of
-    /// groups whose placement it can alter. `StaleEpoch` (20) with the present epoch where `base` is another; else
-    /// `UnknownOsd` (21), `BadWeight` (22) or `DuplicatePart` (27) as `OsdMap::check`; else `JournalFull` (28); or
-    /// `Memory` (30). After a refusal all is as before.
-    pub fn commit(&mut self, base: u64, change: Change) -> Result<(u64, usize), Refusal>
+    /// groups whose placement it can alter. `StaleEpoch` (20) with the present epoch where `base` is another; else what
+    /// `OsdMap::check` refuses (21, 22, 23, 24, 15, 25, 26, 27); else `JournalFull` (28); else `Memory` (30). After a refusal
+    /// all is as before.
+    pub fn commit(
+        &mut self,
+        alloc: Global,
+        base: u64,
+        change: Change,
+    ) -> Result<(u64, usize), Refusal>
         ensures { Commits self.old self.new base change result }
     {
         self.accepts(base, &change)?;
         self.journal.reserve(1)?;
+        let map = self.map.after(alloc, &change)?;
+        let evals = map.evals(&change);
         let step = Incremental::new(base + 1, change);
-        self.map.apply(&step);
-        let evals = self.map.evals(step.change());
         self.journal.push_reserved(step);
+        self.map = map;
         Ok((base + 1, evals))
     }
 
@@ -91,9 +101,11 @@ impl State {
         Ok(())
     }
 
-    /// The epoch and the up set of a group: `UnknownPool` (23), `UnknownGroup` (25), or `Memory` (30).
+    /// The epoch and the up set of a group: `UnknownPool` (23), `UnknownGroup` (25), else `Memory` (30). It takes one run
+    /// of the rule, which `work` counts.
     pub fn answer_up(&self, pg: Pg, work: &mut Work) -> Result<(u64, UpSet), Refusal>
-        ensures { Makes result (group_fault self.now.map pg) (λ answer. (answer.0 ≡ self.now.map.epoch) × Places up_set self.now.map pg (places_of answer.1)) }
+        ensures set { Gives result (group_fault self.now.map pg) (λ answer. (answer.0 ≡ self.now.map.epoch) × Places up_set self.now.map pg (places_of answer.1)) }
+        ensures run { RunsOnce work.old work.new result }
     {
         let set = self.map.up_of(pg, work)?;
         Ok((self.map.epoch(), set))

@@ -1,5 +1,5 @@
 -- What the numbers of parts within their limits come to.
-use Rattle.std.proofs.Common.{◌≡◌, ℕ, ◌≤◌, ℤ, pos, negsuc, nat_abs, true, Bool, List, map, length, IsTrue, refl, arith}
+use Rattle.std.proofs.Common.{◌≡◌, ℕ, ◌≤◌, ℤ, pos, negsuc, nat_abs, true, List, map, length, IsTrue, refl, arith}
 use mathlib.Core.Bool.{false≢true}
 use Rattle.std.specs.List.{list_all}
 use Rattle.std.proofs.lemmas.List.{length-map}
@@ -61,6 +61,14 @@ choose_count c h = byte_between 0 10 c.count (omega arith) (grind arith)
 pub choose_level : (c : ChoosePart) → step_fits (Chooses c) ≡ true → IsTrue (is_between (pos 0) (pos 255) c.level)
 unfolding step_fits
 choose_level c h = byte_between 0 15 c.level (omega arith) (grind arith)
+
+pub rule_id_fits : (r : RulePart) → rule_fits r ≡ true → is_between (pos 0) (pos 255) r.id ≡ true
+unfolding rule_fits
+rule_id_fits r h = grind arith
+
+pub osd_weight_fits : (o : OsdPart) → osd_fits o ≡ true → is_between (pos 0) (pos 65536) o.weight ≡ true
+unfolding osd_fits
+osd_weight_fits o h = grind arith
 
 pub rule_id : (r : RulePart) → rule_fits r ≡ true → IsTrue (is_between (pos 0) (pos 4294967295) r.id)
 unfolding rule_fits

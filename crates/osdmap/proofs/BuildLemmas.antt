@@ -1,28 +1,23 @@
 -- What building a map finds, put together.
-use Rattle.std.proofs.Common.{◌≡◌, ◌≢◌, ℕ, ◌+◌, ◌<◌, ◌≤◌, Bool, true, false, not, ◌&&◌, cond, List, [], ◌∷◌, map, length, Option, Some, None, Result, Ok, Err, IsTrue, nat_lt, nat_abs, refl, sym, ap, ◌∙◌, arith, IsPermutation, inr}
-use mathlib.Core.Bool.{false≢true}
-use Rattle.std.specs.List.{list_all, AllPairs}
-use Rattle.std.specs.Result.{IsErrAnd, MatchResult}
-use Rattle.std.proofs.lemmas.Bool.{cases_Bool}
-use Rattle.std.proofs.lemmas.Bool.Decides.{nat_tests}
-use Rattle.std.proofs.lemmas.List.Sorted.{length_permutation}
+use Rattle.std.proofs.Common.{◌≡◌, ℕ, Bool, true, false, ◌&&◌, cond, List, [], ◌∷◌, map, Some, None, Result, Ok, Err, nat_lt, nat_abs, refl, ap, inr}
+use Rattle.std.specs.List.{list_all}
+use Rattle.std.specs.Result.{IsErrAnd}
 use Rattle.crush.specs.declared.bucket.Bucket.{Bucket}
 use Rattle.crush.specs.declared.rule.RuleKind.{RuleKind}
 use Rattle.crush.specs.declared.rule.Step.{Step}
-use Rattle.crush.specs.declared.rule.Step.TheVariants as step
 use Rattle.crush.specs.declared.fault.ForestError.{ForestError}
 use Rattle.crush.specs.declared.fault.ForestError.TheVariants as forest
 use Rattle.crush.specs.declared.fault.RuleError.{RuleError}
 use Rattle.crush.specs.declared.fault.RuleError.TheVariants as rule
-use Rattle.crush.specs.WellFormed.{item_limits_ok, bucket_limits_ok, forest_limits_ok, forest_ok, forest_fault}
-use Rattle.crush.specs.Grammar.{step_limits_ok, rule_limits_ok, rule_ok, rule_fault}
+use Rattle.crush.specs.WellFormed.{forest_limits_ok, forest_ok, forest_fault}
+use Rattle.crush.specs.Grammar.{rule_limits_ok, rule_ok, rule_fault}
 use Rattle.osdmap.specs.declared.parts.OsdPart.{OsdPart}
 use Rattle.osdmap.specs.declared.refusal.Refusal.{Refusal}
-use Rattle.osdmap.specs.declared.refusal.Refusal.TheVariants.{BadForest, BadRule, Memory as OutOfMemory}
-use Rattle.osdmap.specs.Changes.{is_distinct}
+use Rattle.osdmap.specs.declared.refusal.Refusal.TheVariants.{BadForest, BadRule}
+use Rattle.osdmap.specs.Keyed.{is_distinct}
 use Rattle.osdmap.specs.Stated.{Makes, osd_ok}
 use Rattle.osdmap.specs.Built.{refused_unless, forest_refusal, rule_refusal, Rises}
-use Rattle.osdmap.proofs.Tests.{and_first, and_second}
+use Rattle.osdmap.proofs.Tests.{and_first}
 use Rattle.osdmap.proofs.Named.{all_more}
 
 -- ---- refusals
@@ -59,7 +54,7 @@ rule_refused r P kind steps buckets e limits fault err = by_test (rule_ok kind s
     by_test false rule.BadLimit h err = absurd (cc)
     by_test false rule.BadRule h err = rw (error_is r BadRule err) (inr refl)
 
--- ---- lists that are sorted by a number
+-- ---- lists that are put in order by a key
 
 pub map_twice : {X Y Z : Type 0} (f : Y → Z) (g : X → Y) (xs : List X) → map f (map g xs) ≡ map (λ x. f (g x)) xs
 map_twice f g [] = refl
@@ -71,20 +66,29 @@ pub osds_below : (max_osd : ℕ) (osds : List OsdPart) → list_all (osd_ok max_
 unfolding osd_ok
 osds_below max_osd osds h = all_more (osd_ok max_osd) (λ (o : OsdPart). nat_lt (nat_abs o.id) max_osd) osds (λ o. and_first (nat_lt (nat_abs o.id) max_osd) _) h
 
-module _ {P X : Type 0} (made : P → X) (key : P → ℕ) (number : X → ℕ) (same : (p : P) → number (made p) ≡ key p) where
-  keys_same : (parts : List P) → map number (map made parts) ≡ map key parts
-  keys_same [] = refl
-  keys_same (p ∷ parts) = rw (same p, keys_same parts) refl
+and_true : (b : Bool) → (b && true) ≡ b
+and_true true = refl
+and_true false = refl
 
-  pub not_sorted : (parts : List P) (items : List X) (ok : Bool) (refusal : Refusal) → items ≡ map made parts → false ≡ is_distinct (map number items)
-      → refused_unless (is_distinct (map key parts) && ok) refusal ≡ Some refusal
-  not_sorted parts items ok refusal is twice =
-      let fails : is_distinct (map key parts) ≡ false = sym (rw (is, keys_same parts) at twice) in
-      rw fails refl
+keys_same : {P X : Type 0} (made : P → X) (key : P → ℕ) (number : X → ℕ) → ((p : P) → number (made p) ≡ key p) → (parts : List P) → map number (map made parts) ≡ map key parts
+keys_same made key number same [] = refl
+keys_same made key number same (p ∷ parts) = rw (same p, keys_same made key number same parts) refl
 
-  pub sorted : (parts : List P) (items : List X) (ok : Bool) (refusal : Refusal) (in_order : List X) → refused_unless ok refusal ≡ None → items ≡ map made parts
-      → true ≡ is_distinct (map number items) → IsPermutation items in_order → AllPairs (λ a b. number a < number b) in_order
-      → (refused_unless (is_distinct (map key parts) && ok) refusal ≡ None) × Rises number (map made parts) in_order
-  sorted parts items ok refusal in_order fine is once moved rises =
-      let holds : is_distinct (map key parts) ≡ true = sym (rw (is, keys_same parts) at once) in
-      (rw (holds, passed ok refusal fine) refl, record { same = rw is at moved; rising = rises })
+-- what puts entries that passed their tests in order refuses no more than a key twice
+pub ordered : {P X V : Type 0} (items : V → List X) (made : P → X) (key : P → ℕ) (number : X → ℕ) → ((p : P) → number (made p) ≡ key p)
+    → (parts : List P) (given : List X) (ok : Bool) (refusal : Refusal) (r : Result V Refusal) → given ≡ map made parts → refused_unless ok refusal ≡ None
+    → Makes r (refused_unless (is_distinct (map number given)) refusal) (λ v. Rises number given (items v))
+    → Makes r (refused_unless (is_distinct (map key parts) && ok) refusal) (λ v. Rises number (map made parts) (items v))
+ordered items made key number same parts given ok refusal r is fine h =
+    rw (passed ok refusal fine, and_true (is_distinct (map key parts)), ← keys_same made key number same parts) (rw is at h)
+
+-- so it is where the tests are of what is put in order
+pub ordered_itself : {X V : Type 0} (items : V → List X) (number : X → ℕ) (given : List X) (ok : Bool) (refusal : Refusal) (r : Result V Refusal) → ok ≡ true
+    → Makes r (refused_unless (is_distinct (map number given)) refusal) (λ v. Rises number given (items v))
+    → Makes r (refused_unless (is_distinct (map number given) && ok) refusal) (λ v. Rises number given (items v))
+ordered_itself items number given ok refusal r is h = rw (is, and_true (is_distinct (map number given))) h
+
+-- where a test fails
+pub fails_both : (a b : Bool) (refusal : Refusal) → b ≡ false → refused_unless (a && b) refusal ≡ Some refusal
+fails_both true b refusal h = rw h refl
+fails_both false b refusal h = refl

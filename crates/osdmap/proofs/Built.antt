@@ -1,22 +1,22 @@
 -- A map that was built has what its parts state, and holds together.
-use Rattle.std.proofs.Common.{◌≡◌, ◌∙◌, ℕ, ◌+◌, ◌<◌, ◌≤◌, Bool, true, false, not, ◌&&◌, cond, eqb, List, [], ◌∷◌, map, length, Option, Some, None, Result, ℤ, pos, nat_abs, refl, sym, ap, inl, inr, arith, find, ◌⊎◌, IsPermutation}
-use Rattle.std.specs.List.{list_all, range_with_len}
+use Rattle.std.proofs.Common.{◌≡◌, ◌∙◌, ℕ, ◌≤◌, Bool, true, false, not, ◌==◌, nat_lt, List, [], ◌∷◌, map, length, Option, Some, None, Result, pos, nat_abs, refl, sym, ap, inl, inr, arith, ◌⊎◌}
+use Rattle.std.specs.Prelude.{◌||◌, nat_le, int_le}
+use Rattle.std.specs.List.{list_all, range_with_len, All}
 use Rattle.std.specs.Option.{option_map, option_map_or}
 use Rattle.std.specs.Result.{IsErrAnd}
-use Rattle.std.proofs.lemmas.Bool.{cases_Bool}
 use Rattle.std.proofs.lemmas.Bool.Decides.{nat_tests}
 use Rattle.std.proofs.lemmas.List.{length-map}
-use Rattle.std.proofs.lemmas.List.Sorted.{length_permutation}
+use Rattle.std.proofs.lemmas.Int.{ints}
+use Rattle.std.proofs.lemmas.List.Elements.{All-nil, All-cons}
+use Rattle.std.proofs.lemmas.List.Sorted.{length_permutation, IsPermutation-refl, All-permutation}
 use Rattle.std.proofs.lemmas.List.Folds.{list_all-map}
 use Rattle.std.proofs.lemmas.List.FromFn.{length-range_with_len}
 use Rattle.crush.specs.declared.bucket.Bucket.{Bucket}
-use Rattle.crush.specs.declared.rule.RuleKind.{RuleKind}
 use Rattle.crush.specs.declared.rule.Step.{Step}
 use Rattle.crush.specs.declared.rule.Step.TheVariants as step
-use Rattle.crush.specs.Forest.{bucket_at}
-use Rattle.crush.specs.WellFormed.{forest_ok}
-use Rattle.crush.specs.Grammar.{takes_known, rule_ok}
-use Rattle.osdmap.specs.declared.osd.OsdState.{OsdState}
+use Rattle.crush.specs.WellFormed.{forest_ok, IsForest}
+use Rattle.crush.specs.Grammar.{takes_known}
+use Rattle.crush.proofs.Sorted.{forest_ok-moved}
 use Rattle.osdmap.specs.declared.parts.MapParts.{MapParts}
 use Rattle.osdmap.specs.declared.parts.RulePart.{RulePart}
 use Rattle.osdmap.specs.declared.parts.PoolPart.{PoolPart}
@@ -24,15 +24,17 @@ use Rattle.osdmap.specs.declared.parts.OsdPart.{OsdPart}
 use Rattle.osdmap.specs.declared.rules.NumberedRule.{NumberedRule}
 use Rattle.osdmap.specs.declared.refusal.Refusal.{Refusal}
 use Rattle.osdmap.specs.declared.refusal.Refusal.TheVariants.{BadLimit, BadForest, BadRule, BadPool, BadOsd, Memory as OutOfMemory}
-use Rattle.osdmap.specs.Maps.{ClusterMap, has_rule, is_kind, HoldsTogether}
-use Rattle.osdmap.specs.Parts.{is_between, has_between, bucket_fits, rule_fits, pool_fits, osd_fits, head_fits, lists_fit, parts_fit, pool_of}
-use Rattle.osdmap.specs.Pools.{PoolFacts}
-use Rattle.osdmap.specs.Changes.{is_distinct}
-use Rattle.osdmap.specs.Stated.{Makes, buckets_of, rule_of, rules_ok, pool_ok, pools_ok, osds_ok, map_fault, listed, presence_in, weight_in, IsStated}
+use Rattle.osdmap.specs.Maps.{ClusterMap, has_rule, is_kind, is_rule_over, is_presence, HoldsTogether}
+use Rattle.osdmap.specs.Parts.{is_between, has_between, bucket_fits, rule_fits, pool_fits, osd_fits, is_osd_id, pair_fits, exceptions_fit, head_fits, lists_fit, parts_fit, pool_of}
+use Rattle.osdmap.specs.Pools.{PoolFacts, IsWithinLimits}
+use Rattle.osdmap.specs.Keyed.{is_distinct}
+use Rattle.osdmap.specs.Stated.{Makes, buckets_of, rule_of, rules_ok, pool_ok, pools_ok, osd_ok, osds_ok, explicit_of, items_of, all_exceptions_ok, map_fault, listed, presence_in, weight_in, IsStated}
 use Rattle.osdmap.specs.Built.{refused_unless, IsForestOf, Rises, is_lawful, rules_fit, pools_fit, osds_fit, state_of, rows_of, row_presence, row_weight}
 use Rattle.osdmap.proofs.Tests.{and_first, and_second}
 use Rattle.osdmap.proofs.Named.{all_more}
-use Rattle.osdmap.proofs.Fits.{natural_between}
+use Rattle.osdmap.proofs.Fits.{natural_between, pool_fits_each, pool_within}
+use Rattle.osdmap.proofs.BuildFits.{rule_id_fits, rule_limits, osd_weight_fits}
+use Rattle.osdmap.proofs.PlacementLemmas.{found_passes}
 use Rattle.osdmap.proofs.Distinct.{distinct-moved, rising_distinct, find-moved, list_all-moved}
 use Rattle.osdmap.proofs.BuildLemmas.{passed, error_is, map_twice}
 
@@ -42,11 +44,14 @@ pub record PartsFit (p : MapParts) : Type 0 where
   pub epoch : is_between (pos 1) (pos 2147483648) p.epoch ≡ true
   pub max_osd : is_between (pos 1) (pos 1024) p.max_osd ≡ true
   pub count : has_between 1 512 p.buckets ≡ true
+  pub rule_count : has_between 1 32 p.rules ≡ true
   pub pool_count : has_between 0 32 p.pools ≡ true
   pub buckets : list_all bucket_fits p.buckets ≡ true
   pub rules : list_all rule_fits p.rules ≡ true
   pub pools : list_all pool_fits p.pools ≡ true
   pub osds : list_all osd_fits p.osds ≡ true
+  pub explicit : exceptions_fit is_osd_id p.pg_upmap ≡ true
+  pub items : exceptions_fit pair_fits p.pg_upmap_items ≡ true
 
 pub parts_fit_each : (p : MapParts) → parts_fit p ≡ true → PartsFit p
 unfolding parts_fit head_fits lists_fit
@@ -54,11 +59,14 @@ parts_fit_each p h = record {
   epoch = grind arith;
   max_osd = grind arith;
   count = grind arith;
+  rule_count = grind arith;
   pool_count = grind arith;
   buckets = grind arith;
   rules = grind arith;
   pools = grind arith;
   osds = grind arith;
+  explicit = grind arith;
+  items = grind arith;
 }
 
 pub some_osds : (p : MapParts) → PartsFit p → 1 ≤ nat_abs p.max_osd
@@ -69,7 +77,7 @@ few_osds p fits = (natural_between 1 1024 p.max_osd fits.max_osd).most
 
 -- ---- the same tests of what is made
 
-list_all-agree : {X : Type 0} (p q : X → Bool) → ((x : X) → p x ≡ q x) → (xs : List X) → list_all p xs ≡ list_all q xs
+pub list_all-agree : {X : Type 0} (p q : X → Bool) → ((x : X) → p x ≡ q x) → (xs : List X) → list_all p xs ≡ list_all q xs
 list_all-agree p q same [] = refl
 list_all-agree p q same (x ∷ xs) = rw (same x, list_all-agree p q same xs) refl
 
@@ -81,7 +89,7 @@ takes_same given sorted forest step.Emit = refl
 lawful_same : (given sorted : List Bucket) → IsForestOf given sorted → (r : RulePart) → is_lawful sorted r ≡ is_lawful given r
 lawful_same given sorted forest r = rw (list_all-agree (takes_known sorted) (takes_known given) (takes_same given sorted forest)) refl
 
-rules_same : (p : MapParts) (sorted : List Bucket) → IsForestOf (buckets_of p) sorted → rules_fit sorted p.rules ≡ rules_ok p
+pub rules_same : (p : MapParts) (sorted : List Bucket) → IsForestOf (buckets_of p) sorted → rules_fit sorted p.rules ≡ rules_ok p
 unfolding rules_ok
 rules_same p sorted forest = rw (list_all-agree (is_lawful sorted) (is_lawful (buckets_of p)) (lawful_same (buckets_of p) sorted forest)) refl
 
@@ -95,11 +103,11 @@ pool_same : (given sorted : List NumberedRule) → Rises (λ r. r.id) given sort
 unfolding pool_ok
 pool_same given sorted rises q = rw (has_same given sorted rises (pool_of q)) refl
 
-pools_same : (p : MapParts) (sorted : List NumberedRule) → Rises (λ r. r.id) (map rule_of p.rules) sorted → pools_fit sorted p.pools ≡ pools_ok p
+pub pools_same : (p : MapParts) (sorted : List NumberedRule) → Rises (λ r. r.id) (map rule_of p.rules) sorted → pools_fit sorted p.pools ≡ pools_ok p
 unfolding pools_ok
 pools_same p sorted rises = rw (list_all-agree (pool_ok sorted) (pool_ok (map rule_of p.rules)) (pool_same (map rule_of p.rules) sorted rises)) refl
 
-osds_same : (p : MapParts) → osds_fit (nat_abs p.max_osd) p.osds ≡ osds_ok p
+pub osds_same : (p : MapParts) → osds_fit (nat_abs p.max_osd) p.osds ≡ osds_ok p
 unfolding osds_ok
 osds_same p = refl
 
@@ -168,6 +176,7 @@ pub record IsBuilt (p : MapParts) (m : ClusterMap) : Type 0 where
   pub limits : parts_fit p ≡ true
   pub epoch : m.epoch ≡ nat_abs p.epoch
   pub grown : refused_unless (forest_ok (buckets_of p) (nat_abs p.max_osd)) BadForest ≡ None
+  pub is_forest : IsForest m.buckets
   pub forest : IsForestOf (buckets_of p) m.buckets
   pub lawful : refused_unless (rules_fit m.buckets p.rules) BadRule ≡ None
   pub rules : Rises (λ r. r.id) (map rule_of p.rules) m.rules
@@ -176,14 +185,16 @@ pub record IsBuilt (p : MapParts) (m : ClusterMap) : Type 0 where
   pub entered : refused_unless (osds_fit (nat_abs p.max_osd) p.osds) BadOsd ≡ None
   pub presences : m.presences ≡ map row_presence (rows_of p.osds (nat_abs p.max_osd))
   pub weights : m.weights ≡ map row_weight (rows_of p.osds (nat_abs p.max_osd))
+  pub explicit : m.explicit ≡ []
+  pub items : m.items ≡ []
 
-pub no_fault : (p : MapParts) (m : ClusterMap) → IsBuilt p m → map_fault p ≡ None
+pub no_fault : (p : MapParts) (m : ClusterMap) → IsBuilt p m → all_exceptions_ok p ≡ true → map_fault p ≡ None
 unfolding map_fault
-no_fault p m built =
+no_fault p m built excepted =
     let good = sym (rules_same p m.buckets built.forest) ∙ passed _ _ built.lawful in
     let served = sym (pools_same p m.rules built.rules) ∙ passed _ _ built.served in
     let entered = sym (osds_same p) ∙ passed _ _ built.entered in
-    rw (built.limits, passed _ _ built.grown, good, served, entered) refl
+    rw (built.limits, passed _ _ built.grown, good, served, entered, excepted) refl
 
 map-agree : {X Y : Type 0} (f g : X → Y) → ((x : X) → f x ≡ g x) → (xs : List X) → map f xs ≡ map g xs
 map-agree f g same [] = refl
@@ -203,8 +214,14 @@ weight_same osds n = by_listed (listed osds n)
     by_listed None = refl
     by_listed (Some o) = refl
 
-pub is_stated : (p : MapParts) (m : ClusterMap) → IsBuilt p m → IsStated p m
-is_stated p m built = record {
+pub presences_same : (osds : List OsdPart) (max_osd : ℕ) → map row_presence (rows_of osds max_osd) ≡ map (presence_in osds) (range_with_len 0 max_osd)
+presences_same osds max_osd = map_twice row_presence _ (range_with_len 0 max_osd) ∙ map-agree _ _ (presence_same osds) (range_with_len 0 max_osd)
+
+pub weights_same : (osds : List OsdPart) (max_osd : ℕ) → map row_weight (rows_of osds max_osd) ≡ map (weight_in osds) (range_with_len 0 max_osd)
+weights_same osds max_osd = map_twice row_weight _ (range_with_len 0 max_osd) ∙ map-agree _ _ (weight_same osds) (range_with_len 0 max_osd)
+
+pub is_stated : (p : MapParts) (m : ClusterMap) → IsBuilt p m → explicit_of p ≡ [] → items_of p ≡ [] → IsStated p m
+is_stated p m built no_explicit no_items = record {
   epoch = built.epoch;
   buckets = built.forest.same;
   falling = built.forest.falling;
@@ -212,8 +229,12 @@ is_stated p m built = record {
   rules_rise = built.rules.rising;
   pools = built.pools.same;
   pools_rise = built.pools.rising;
-  presences = built.presences ∙ map_twice row_presence _ (range_with_len 0 (nat_abs p.max_osd)) ∙ map-agree _ _ (presence_same p.osds) (range_with_len 0 (nat_abs p.max_osd));
-  weights = built.weights ∙ map_twice row_weight _ (range_with_len 0 (nat_abs p.max_osd)) ∙ map-agree _ _ (weight_same p.osds) (range_with_len 0 (nat_abs p.max_osd));
+  presences = built.presences ∙ presences_same p.osds (nat_abs p.max_osd);
+  weights = built.weights ∙ weights_same p.osds (nat_abs p.max_osd);
+  explicit = rw (built.explicit, no_explicit) (IsPermutation-refl []);
+  explicit_rise = rw built.explicit (λ i j d below inside. absurd (omega arith));
+  items = rw (built.items, no_items) (IsPermutation-refl []);
+  items_rise = rw built.items (λ i j d below inside. absurd (omega arith));
 }
 
 ruled : (p : MapParts) (m : ClusterMap) → IsBuilt p m → list_all (has_rule m.rules) m.pools ≡ true
@@ -222,6 +243,89 @@ ruled p m built =
     let all = and_second (is_distinct (map (λ (q : PoolPart). nat_abs q.id) p.pools)) (list_all (pool_ok m.rules) p.pools) (passed _ _ built.served) in
     let each = all_more (pool_ok m.rules) (λ q. has_rule m.rules (pool_of q)) p.pools (λ q h. and_second _ (has_rule m.rules (pool_of q)) h) all in
     list_all-moved (has_rule m.rules) (map pool_of p.pools) m.pools built.pools.same ∙ list_all-map (has_rule m.rules) pool_of p.pools ∙ each
+
+counted_rules : (p : MapParts) (m : ClusterMap) → IsBuilt p m → has_between 1 32 p.rules ≡ true → (1 ≤ length m.rules) × (length m.rules ≤ 32)
+unfolding has_between
+counted_rules p m built few =
+    let made = length_permutation _ _ built.rules.same ∙ length-map p.rules rule_of in
+    (grind (arith, nat_tests, made), grind (arith, nat_tests, made))
+
+all_both : {X : Type 0} (p q r : X → Bool) → ((x : X) → p x ≡ true → q x ≡ true → r x ≡ true) → (xs : List X) → list_all p xs ≡ true → list_all q xs ≡ true → list_all r xs ≡ true
+all_both p q r gives [] all also = refl
+all_both p q r gives (x ∷ xs) all also =
+    rw (gives x (and_first (p x) (list_all p xs) all) (and_first (q x) (list_all q xs) also), all_both p q r gives xs (and_second (p x) (list_all p xs) all) (and_second (q x) (list_all q xs) also)) refl
+
+rule_over : (buckets : List Bucket) (r : RulePart) → rule_fits r ≡ true → is_lawful buckets r ≡ true → is_rule_over buckets (rule_of r) ≡ true
+unfolding is_rule_over
+rule_over buckets r fits lawful =
+    let id = (natural_between 0 255 r.id (rule_id_fits r fits)).most in
+    grind (arith, nat_tests, id, rule_limits r fits, lawful)
+
+rules_over : (p : MapParts) (m : ClusterMap) → IsBuilt p m → list_all rule_fits p.rules ≡ true → list_all (is_rule_over m.buckets) m.rules ≡ true
+rules_over p m built fit =
+    let lawful = and_second (is_distinct (map (λ (r : RulePart). nat_abs r.id) p.rules)) (list_all (is_lawful m.buckets) p.rules) (passed _ _ built.lawful) in
+    list_all-moved (is_rule_over m.buckets) (map rule_of p.rules) m.rules built.rules.same ∙ list_all-map (is_rule_over m.buckets) rule_of p.rules
+    ∙ all_both rule_fits (is_lawful m.buckets) (λ r. is_rule_over m.buckets (rule_of r)) (rule_over m.buckets) p.rules fit lawful
+
+one_within : (rules : List NumberedRule) (q : PoolPart) → pool_fits q ≡ true → pool_ok rules q ≡ true → IsWithinLimits (pool_of q)
+unfolding pool_ok
+one_within rules q fits ok =
+    let few : int_le q.pgp_num q.pg_num ≡ true = and_first (int_le q.pgp_num q.pg_num) (has_rule rules (pool_of q)) ok in
+    pool_within q (pool_fits_each q fits) (grind (arith, ints, few))
+
+each_within : (rules : List NumberedRule) (qs : List PoolPart) → list_all pool_fits qs ≡ true → list_all (pool_ok rules) qs ≡ true → All IsWithinLimits (map pool_of qs)
+each_within rules [] fit ok = All-nil IsWithinLimits
+each_within rules (q ∷ qs) fit ok =
+    All-cons IsWithinLimits (pool_of q) (map pool_of qs) (one_within rules q (and_first (pool_fits q) (list_all pool_fits qs) fit) (and_first (pool_ok rules q) (list_all (pool_ok rules) qs) ok))
+    (each_within rules qs (and_second (pool_fits q) (list_all pool_fits qs) fit) (and_second (pool_ok rules q) (list_all (pool_ok rules) qs) ok))
+
+pools_within : (p : MapParts) (m : ClusterMap) → IsBuilt p m → list_all pool_fits p.pools ≡ true → All IsWithinLimits m.pools
+pools_within p m built fit =
+    let ok = and_second (is_distinct (map (λ (q : PoolPart). nat_abs q.id) p.pools)) (list_all (pool_ok m.rules) p.pools) (passed _ _ built.served) in
+    All-permutation IsWithinLimits (map pool_of p.pools) m.pools built.pools.same (each_within m.rules p.pools fit ok)
+
+-- ---- OSDs
+
+all_so : {X : Type 0} (p : X → Bool) → ((x : X) → p x ≡ true) → (xs : List X) → list_all p xs ≡ true
+all_so p so [] = refl
+all_so p so (x ∷ xs) = rw (so x, all_so p so xs) refl
+
+up_fine : (max_osd : ℕ) (o : OsdPart) → osd_ok max_osd o ≡ true → (not o.up || o.exists) ≡ true
+unfolding osd_ok
+up_fine max_osd o h = and_second (nat_lt (nat_abs o.id) max_osd) (not o.up || o.exists) h
+
+row_present : (max_osd : ℕ) (osds : List OsdPart) → list_all (osd_ok max_osd) osds ≡ true → (n : ℕ) → is_presence (row_presence (option_map state_of (listed osds n))) ≡ true
+row_present max_osd osds fit n = by_listed (listed osds n) refl
+  where
+    by_listed : (o : Option OsdPart) → listed osds n ≡ o → is_presence (row_presence (option_map state_of o)) ≡ true
+    by_listed None is = refl
+    by_listed (Some o) is = up_fine max_osd o (found_passes (λ (p : OsdPart). nat_abs p.id == n) (osd_ok max_osd) osds o is fit)
+
+row_little : (osds : List OsdPart) → list_all osd_fits osds ≡ true → (n : ℕ) → nat_le (row_weight (option_map state_of (listed osds n))) 65536 ≡ true
+row_little osds fit n = by_listed (listed osds n) refl
+  where
+    by_listed : (o : Option OsdPart) → listed osds n ≡ o → nat_le (row_weight (option_map state_of o)) 65536 ≡ true
+    by_listed None is = refl
+    by_listed (Some o) is =
+        let little = (natural_between 0 65536 o.weight (osd_weight_fits o (found_passes (λ (p : OsdPart). nat_abs p.id == n) osd_fits osds o is fit))).most in
+        grind (arith, nat_tests, little)
+
+present : (p : MapParts) (m : ClusterMap) → IsBuilt p m → list_all is_presence m.presences ≡ true
+present p m built =
+    let fit = and_second (is_distinct (map (λ (o : OsdPart). nat_abs o.id) p.osds)) (list_all (osd_ok (nat_abs p.max_osd)) p.osds) (passed _ _ built.entered) in
+    let rows = rows_of p.osds (nat_abs p.max_osd) in
+    ap (list_all is_presence) built.presences ∙ list_all-map is_presence row_presence rows
+    ∙ list_all-map (λ r. is_presence (row_presence r)) (λ n. option_map state_of (listed p.osds n)) (range_with_len 0 (nat_abs p.max_osd))
+    ∙ all_so _ (row_present (nat_abs p.max_osd) p.osds fit) (range_with_len 0 (nat_abs p.max_osd))
+
+weigh_little : (p : MapParts) (m : ClusterMap) → IsBuilt p m → list_all osd_fits p.osds ≡ true → list_all (λ w. nat_le w 65536) m.weights ≡ true
+weigh_little p m built fit =
+    let rows = rows_of p.osds (nat_abs p.max_osd) in
+    ap (list_all (λ w. nat_le w 65536)) built.weights ∙ list_all-map (λ w. nat_le w 65536) row_weight rows
+    ∙ list_all-map (λ r. nat_le (row_weight r) 65536) (λ n. option_map state_of (listed p.osds n)) (range_with_len 0 (nat_abs p.max_osd))
+    ∙ all_so _ (row_little p.osds fit) (range_with_len 0 (nat_abs p.max_osd))
+
+-- ---- all of it
 
 few_pools : (p : MapParts) (m : ClusterMap) → IsBuilt p m → has_between 0 32 p.pools ≡ true → length m.pools ≤ 32
 unfolding has_between
@@ -233,9 +337,26 @@ pub holds : (p : MapParts) (m : ClusterMap) → IsBuilt p m → HoldsTogether m
 holds p m built =
     let rows = rows_of p.osds (nat_abs p.max_osd) in
     let many : length m.presences ≡ nat_abs p.max_osd = ap length built.presences ∙ length-map rows row_presence ∙ length-map (range_with_len 0 (nat_abs p.max_osd)) _ ∙ length-range_with_len 0 (nat_abs p.max_osd) in
+    let each = parts_fit_each p built.limits in
+    let counted = counted_rules p m built each.rule_count in
     record {
+      some = rw many (some_osds p each);
+      few = rw many (few_osds p each);
+      present = present p m built;
       weighed = ap length built.weights ∙ length-map rows row_weight ∙ sym (ap length built.presences ∙ length-map rows row_presence);
-      few = rw many (few_osds p (parts_fit_each p built.limits));
-      few_pools = few_pools p m built (parts_fit_each p built.limits).pool_count;
+      weigh_little = weigh_little p m built each.osds;
+      forest = built.is_forest;
+      over_osds = rw many (forest_ok-moved (buckets_of p) m.buckets built.forest.same (nat_abs p.max_osd) ∙ passed _ _ built.grown);
+      some_rules = counted.0;
+      few_rules = counted.1;
+      rules_rise = built.rules.rising;
+      rules_over = rules_over p m built each.rules;
+      few_pools = few_pools p m built each.pool_count;
+      pools_rise = built.pools.rising;
+      pools_within = pools_within p m built each.pools;
       ruled = ruled p m built;
+      explicit_rise = rw built.explicit (λ i j d below inside. absurd (omega arith));
+      explicit_sound = rw built.explicit refl;
+      items_rise = rw built.items (λ i j d below inside. absurd (omega arith));
+      items_sound = rw built.items refl;
     }

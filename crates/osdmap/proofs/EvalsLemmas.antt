@@ -1,13 +1,15 @@
 -- What a rule reaches, as a chain of buckets and as a test of 15 steps down.
-use Rattle.std.proofs.Common.{◌≡◌, ◌↔◌, ℕ, zero, suc, ◌+◌, ◌<◌, ◌≤◌, Bool, true, false, ◌||◌, List, [], ◌∷◌, length, get_or, Option, Some, None, ℤ, pos, ◌≤ℤ◌, IsSomeAnd, IsTrue, ◌⊎◌, inl, inr, refl, arith}
+use Rattle.std.proofs.Common.{◌≡◌, ◌↔◌, ℕ, zero, suc, ◌+◌, ◌<◌, ◌≤◌, Bool, true, false, ◌||◌, List, [], ◌∷◌, length, get_or, Option, Some, None, ℤ, pos, ◌≤ℤ◌, IsSomeAnd, IsTrue, ◌⊎◌, inl, inr, refl, ◌∙◌, arith}
 use mathlib.Core.Bool.{false≢true}
-use Rattle.std.specs.List.{list_any}
+use Rattle.std.specs.List.{list_any, count_by, range_with_len}
 use Rattle.std.specs.Option.{option_map_or}
 use Rattle.std.specs.Ordering.{int_eq}
 use Rattle.std.proofs.lemmas.Bool.{false_from_ne_true}
 use Rattle.std.proofs.lemmas.Bool.Decides.{Decides-int_eq}
 use Rattle.std.proofs.lemmas.Int.{ints}
 use Rattle.std.proofs.lemmas.List.Folds.{Any-from_list_any, list_any-from_Any, list_any_at, list_any_none}
+use Rattle.std.proofs.lemmas.List.FromFn.{length-range_with_len}
+use Rattle.std.proofs.lemmas.List.Sums.{sum_by-cons, count_by-le-length}
 use Rattle.crush.specs.declared.bucket.Bucket.{Bucket}
 use Rattle.crush.specs.declared.bucket.Item.{Item}
 use Rattle.crush.specs.declared.rule.Step.{Step}
@@ -20,7 +22,8 @@ use Rattle.crush.proofs.Tests.{same_tests}
 use Rattle.osdmap.specs.declared.change.ChangeParts.{ChangeParts}
 use Rattle.osdmap.specs.Pools.{PoolFacts}
 use Rattle.osdmap.specs.Maps.{ClusterMap, rule_at}
-use Rattle.osdmap.specs.Evals.{is_under, takes_over, is_touched}
+use Rattle.osdmap.specs.Placement.{group_of}
+use Rattle.osdmap.specs.Evals.{is_under, takes_over, reaches, is_touched, concerns, is_evaluated}
 
 -- one of two tests holds
 or-right : (a b : Bool) → b ≡ true → (a || b) ≡ true
@@ -153,7 +156,19 @@ module _ (buckets : List Bucket) (limits : IsWithinLimits buckets 1024) (well : 
       let at = Any-from_list_any (takes_over buckets osd) steps yes in
       far-takes osd at.1 far (takes-above osd at.1 at.4))
 
--- a pool without a rule is not touched
-pub untouched : (m : ClusterMap) (c : ChangeParts) (p : PoolFacts) → rule_at m.rules p.rule ≡ None → is_touched m c p ≡ false
-unfolding is_touched
-untouched m c p none = list_any_none _ c.weight (λ k d below. rw none)
+-- a pool without a rule reaches nothing
+pub no_rule : (m : ClusterMap) (c : ChangeParts) (p : PoolFacts) → rule_at m.rules p.rule ≡ None → reaches m c p ≡ false
+unfolding reaches
+no_rule m c p none = list_any_none _ c.weight (λ k d below. rw none)
+
+-- all numbers of a pool are counted where the pool is touched
+count_of_true : (xs : List ℕ) → count_by (λ (n : ℕ). true) xs ≡ length xs
+count_of_true [] = refl
+count_of_true (x ∷ xs) = rw (sum_by-cons (λ (n : ℕ). 1) x xs, count_of_true xs) (omega arith)
+
+pub all_evaluated : (m : ClusterMap) (c : ChangeParts) (p : PoolFacts) → is_touched m c p ≡ true → count_by (is_evaluated m c p) (range_with_len 0 p.pg_num) ≡ p.pg_num
+all_evaluated m c p touched = rw touched (count_of_true (range_with_len 0 p.pg_num) ∙ length-range_with_len 0 p.pg_num)
+
+-- no more are counted than the pool has
+pub few_concerned : (m : ClusterMap) (c : ChangeParts) (p : PoolFacts) (most : ℕ) → p.pg_num ≤ most → count_by (λ n. concerns m c (group_of p n)) (range_with_len 0 p.pg_num) ≤ most
+few_concerned m c p most few = omega (arith, count_by-le-length (λ n. concerns m c (group_of p n)) (range_with_len 0 p.pg_num), length-range_with_len 0 p.pg_num)

@@ -1,11 +1,14 @@
 -- What numbers within their limits come to as words.
-use Rattle.std.proofs.Common.{◌≡◌, ℕ, ◌≤◌, ◌≤ℤ◌, ℤ, pos, negsuc, nat_abs, true, IsTrue, refl, arith}
+use Rattle.std.proofs.Common.{◌≡◌, ℕ, ◌≤◌, ◌≤ℤ◌, ℤ, pos, negsuc, nat_abs, Bool, true, List, length, IsTrue, refl, arith}
 use mathlib.Core.Bool.{false≢true}
 use Rattle.std.proofs.lemmas.Int.{ints}
 use Rattle.std.proofs.lemmas.Bool.Decides.{nat_tests}
+use Rattle.std.specs.List.{list_all}
 use Rattle.osdmap.specs.declared.parts.PoolPart.{PoolPart}
+use Rattle.osdmap.specs.declared.parts.PairPart.{PairPart}
+use Rattle.osdmap.specs.declared.parts.ExceptionPart.{ExceptionPart}
 use Rattle.osdmap.specs.Pools.{IsWithinLimits}
-use Rattle.osdmap.specs.Parts.{is_between, pool_fits, pool_of}
+use Rattle.osdmap.specs.Parts.{is_between, has_between, is_osd_id, pair_fits, exception_fits, exceptions_fit, pool_fits, pool_of}
 
 -- a number between two naturals is a natural between them
 pub record IsNatural (low high : ℕ) (z : ℤ) : Type 0 where
@@ -61,3 +64,30 @@ pool_within p each few =
       size_some = omega (arith, size.least);
       size_most = size.most;
     }
+
+-- an OSD's id is a word
+pub osd_id_word : (z : ℤ) → is_osd_id z ≡ true → IsTrue (is_between (pos 0) (pos 4294967295) z)
+unfolding is_osd_id
+osd_id_word z h = word_between 0 1023 z (omega arith) h
+
+-- both sides of a pair are OSDs' ids
+pub pair_from : (p : PairPart) → pair_fits p ≡ true → is_osd_id p.from ≡ true
+unfolding pair_fits
+pair_from p h = grind arith
+
+pub pair_to : (p : PairPart) → pair_fits p ≡ true → is_osd_id p.to ≡ true
+unfolding pair_fits
+pair_to p h = grind arith
+
+-- what is within the limits in an exception that is
+pub few_entries : {P : Type 0} (fits : P → Bool) (e : ExceptionPart P) → exception_fits fits e ≡ true → length e.entries ≤ 10
+unfolding exception_fits has_between
+few_entries fits e h = grind (arith, nat_tests)
+
+pub entries_fit : {P : Type 0} (fits : P → Bool) (e : ExceptionPart P) → exception_fits fits e ≡ true → list_all fits e.entries ≡ true
+unfolding exception_fits
+entries_fit fits e h = grind arith
+
+pub each_fits : {P : Type 0} (fits : P → Bool) (es : List (ExceptionPart P)) → exceptions_fit fits es ≡ true → list_all (exception_fits fits) es ≡ true
+unfolding exceptions_fit
+each_fits fits es h = grind arith

@@ -1,7 +1,7 @@
 -- Rows of OSDs, each entered where it is listed.
-use Rattle.std.proofs.Common.{◌≡◌, ◌≢◌, ◌∙◌, ℕ, zero, suc, ◌+◌, ◌<◌, ◌≤◌, Bool, true, false, not, ◌&&◌, cond, eqb, nat_lt, nat_abs, List, [], ◌∷◌, ◌++◌, map, length, get_or, set, take, drop, replicate, Option, Some, None, find, pos, refl, sym, ap, inl, inr, arith, eq-eqb, get_or-set_other, get_or-set_same}
+use Rattle.std.proofs.Common.{◌≡◌, ◌≢◌, ◌∙◌, ℕ, zero, suc, ◌+◌, ◌<◌, ◌≤◌, Bool, true, false, cond, eqb, nat_lt, nat_abs, List, [], ◌∷◌, map, length, get_or, set, take, drop, replicate, Option, Some, None, pos, refl, sym, ap, inl, inr, arith, get_or-set_other, get_or-set_same}
 use Rattle.std.specs.Prelude.{is_some}
-use Rattle.std.specs.List.{list_all, range_with_len}
+use Rattle.std.specs.List.{list_all}
 use Rattle.std.specs.Option.{option_map, option_or}
 use Rattle.std.proofs.lemmas.Bool.{cases_Bool, eqb-true}
 use Rattle.std.proofs.lemmas.Bool.Decides.{nat_tests}
@@ -12,7 +12,7 @@ use Rattle.std.proofs.Math.ListN.{get_or-map}
 use Rattle.crush.proofs.Tests.{list_all-at}
 use Rattle.osdmap.specs.declared.osd.OsdState.{OsdState}
 use Rattle.osdmap.specs.declared.parts.OsdPart.{OsdPart}
-use Rattle.osdmap.specs.Changes.{is_distinct}
+use Rattle.osdmap.specs.Keyed.{is_distinct}
 use Rattle.osdmap.specs.Marks.{are_new}
 use Rattle.osdmap.specs.Stated.{listed}
 use Rattle.osdmap.specs.Built.{state_of, rows_of}

@@ -8,7 +8,7 @@ use Rattle.std.proofs.lemmas.Bool.Decides.{nat_tests}
 use Rattle.std.proofs.lemmas.Grind.{common_steps}
 use Rattle.osdmap.specs.Marks.{are_new, marked, are_below}
 use Rattle.osdmap.proofs.Tests.{and_first, and_second}
-use Rattle.osdmap.specs.Changes.{is_distinct}
+use Rattle.osdmap.specs.Keyed.{is_distinct}
 
 module _ {X : Type 0} (named : X → ℕ) where
   -- from place i on

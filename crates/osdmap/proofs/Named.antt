@@ -1,5 +1,5 @@
 -- The OSDs that a change names.
-use Rattle.std.proofs.Common.{◌≡◌, ℕ, ◌≤◌, Bool, true, false, ◌&&◌, List, [], ◌∷◌, length, refl, arith, nat_lt, slice_get, None, Some}
+use Rattle.std.proofs.Common.{◌≡◌, ℕ, ◌≤◌, Bool, true, false, List, [], ◌∷◌, length, refl, arith, nat_lt, slice_get, None, Some}
 use mathlib.Core.Bool.{false≢true}
 use Rattle.std.specs.List.{list_all}
 use Rattle.std.specs.Option.{option_map_or}
@@ -13,7 +13,7 @@ use Rattle.osdmap.specs.Maps.{ClusterMap, osd_exists}
 use Rattle.osdmap.specs.Changes.{names_osds, change_fault}
 
 -- an OSD that exists is below max_osd
-below_max : (m : ClusterMap) (osd n : ℕ) → length m.presences ≤ n → osd_exists m osd ≡ true → nat_lt osd n ≡ true
+pub below_max : (m : ClusterMap) (osd n : ℕ) → length m.presences ≤ n → osd_exists m osd ≡ true → nat_lt osd n ≡ true
 below_max m osd n most = elim (slice_get m.presences osd) as (λ p. slice_get m.presences osd ≡ p → option_map_or (λ q. q.exists) p false ≡ true → nat_lt osd n ≡ true) [
   | None ↦ λ is h. absurd (false≢true h)
   | Some p ↦ λ is h. grind (arith, nat_tests, slice_get_within m.presences osd p is)
@@ -32,13 +32,11 @@ pub record AllBelow (n : ℕ) (c : ChangeParts) : Type 0 where
 
 pub all_below : (m : ClusterMap) (c : ChangeParts) (n : ℕ) → length m.presences ≤ n → names_osds m c ≡ true → AllBelow n c
 unfolding names_osds
-all_below m c n most h =
-    let both = and_first (list_all (osd_exists m) c.down && list_all (osd_exists m) c.up) (list_all (λ w. osd_exists m w.osd) c.weight) h in
-    record {
-      down = all_more _ _ c.down (λ osd. below_max m osd n most) (and_first (list_all (osd_exists m) c.down) (list_all (osd_exists m) c.up) both);
-      up = all_more _ _ c.up (λ osd. below_max m osd n most) (and_second (list_all (osd_exists m) c.down) (list_all (osd_exists m) c.up) both);
-      weight = all_more _ _ c.weight (λ w. below_max m w.osd n most) (and_second (list_all (osd_exists m) c.down && list_all (osd_exists m) c.up) (list_all (λ w. osd_exists m w.osd) c.weight) h);
-    }
+all_below m c n most h = record {
+  down = all_more _ _ c.down (λ osd. below_max m osd n most) (grind (arith, h));
+  up = all_more _ _ c.up (λ osd. below_max m osd n most) (grind (arith, h));
+  weight = all_more _ _ c.weight (λ w. below_max m w.osd n most) (grind (arith, h));
+}
 
 -- a change that nothing refuses names only OSDs that exist
 pub accepted_names : (m : ClusterMap) (c : ChangeParts) → change_fault m c ≡ None → names_osds m c ≡ true

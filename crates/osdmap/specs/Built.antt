@@ -1,6 +1,7 @@
--- How the map that parts state is built: the forest, the rules, the pools and the OSDs, each with what refuses it.
-use Rattle.std.specs.Prelude.{◌≡◌, ℕ, ◌<◌, ◌&&◌, Bool, false, not, ℤ, nat_abs, List, map, Option, Some, None, if◌then◌else◌}
-use Rattle.std.specs.List.{list_all, range_with_len, AllPairs}
+-- How the map that parts state is built: the forest, the rules, the pools and the OSDs, each with what refuses it; and the
+-- exceptions after these.
+use Rattle.std.specs.Prelude.{◌≡◌, ℕ, ◌&&◌, Bool, false, not, ℤ, nat_abs, List, [], map, Option, Some, None, if◌then◌else◌}
+use Rattle.std.specs.List.{list_all, range_with_len}
 use Rattle.std.specs.List.Sorted.{IsPermutation}
 use Rattle.std.specs.Option.{option_map, option_map_or}
 use Rattle.crush.specs.declared.bucket.Bucket.{Bucket}
@@ -13,19 +14,24 @@ use Rattle.crush.specs.WellFormed.{IsDescending}
 use Rattle.crush.specs.Grammar.{rule_ok}
 use Rattle.osdmap.specs.declared.osd.Presence.{Presence}
 use Rattle.osdmap.specs.declared.osd.OsdState.{OsdState}
+use Rattle.osdmap.specs.declared.parts.MapParts.{MapParts}
 use Rattle.osdmap.specs.declared.parts.RulePart.{RulePart}
 use Rattle.osdmap.specs.declared.parts.PoolPart.{PoolPart}
 use Rattle.osdmap.specs.declared.parts.OsdPart.{OsdPart}
 use Rattle.osdmap.specs.declared.rules.NumberedRule.{NumberedRule}
 use Rattle.osdmap.specs.declared.refusal.Refusal.{Refusal}
 use Rattle.osdmap.specs.declared.refusal.Refusal.TheVariants.{BadLimit, BadForest, BadRule}
-use Rattle.osdmap.specs.Changes.{is_distinct}
+use Rattle.osdmap.specs.Keyed.{is_distinct, IsRising}
 use Rattle.osdmap.specs.Parts.{step_of}
 use Rattle.osdmap.specs.Stated.{pool_ok, osd_ok, listed}
 
 -- what is refused unless a test holds
 abbrev pub refused_unless : Bool → Refusal → Option Refusal
 refused_unless ok refusal = if not ok then Some refusal else None
+
+-- parts without their exceptions
+abbrev pub without_exceptions : MapParts → MapParts
+without_exceptions p = record p { pg_upmap = []; pg_upmap_items = [] }
 
 -- the refusals of a forest and of a rule, as refusals of a map
 abbrev pub forest_refusal : ForestError → Refusal
@@ -42,10 +48,10 @@ pub record IsForestOf (given sorted : List Bucket) : Type 0 where
   pub falling : IsDescending sorted
   pub found : (id : ℤ) → bucket_at sorted id ≡ bucket_at given id
 
--- the same entries by number upwards, none of which has the number of another
-pub record Rises {X : Type 0} (number : X → ℕ) (given sorted : List X) : Type 0 where
+-- the same entries by key upwards, none of which has the key of another
+pub record Rises {X : Type 0} (key : X → ℕ) (given sorted : List X) : Type 0 where
   pub same : IsPermutation given sorted
-  pub rising : AllPairs (λ a b. number a < number b) sorted
+  pub rising : IsRising key sorted
 
 -- a rule over a forest
 abbrev pub is_lawful : List Bucket → RulePart → Bool

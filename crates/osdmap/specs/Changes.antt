@@ -1,13 +1,17 @@
 -- Changes: what refuses one, the map after one, and what makes a journal of them lawful.
-use Rattle.std.specs.Prelude.{◌≡◌, ℕ, ◌+◌, ◌==◌, Bool, true, false, not, ◌&&◌, List, [], ◌∷◌, ◌++◌, length, map, Option, Some, None, slice_get, slice_set, nat_le, if◌then◌else◌}
-use Rattle.std.specs.List.{list_any, list_all, fold}
+use Rattle.std.specs.Prelude.{◌≡◌, ℕ, ◌+◌, Bool, true, false, not, ◌&&◌, List, [], ◌∷◌, ◌++◌, length, map, Option, Some, None, slice_get, slice_set, nat_le, if◌then◌else◌}
+use Rattle.std.specs.List.{list_all, filter, fold}
 use Rattle.std.specs.Option.{option_map_or}
 use Rattle.osdmap.specs.declared.change.ChangeParts.{ChangeParts}
 use Rattle.osdmap.specs.declared.change.Reweight.{Reweight}
 use Rattle.osdmap.specs.declared.osd.Presence.{Presence}
 use Rattle.osdmap.specs.declared.refusal.Refusal.{Refusal}
-use Rattle.osdmap.specs.declared.refusal.Refusal.TheVariants.{UnknownOsd, BadWeight, DuplicatePart}
-use Rattle.osdmap.specs.Maps.{ClusterMap, osd_exists}
+use Rattle.osdmap.specs.declared.refusal.Refusal.TheVariants.{UnknownOsd, BadWeight, UnknownPool, PoolExists, BadPool, UnknownGroup, BadNewException, DuplicatePart}
+use Rattle.osdmap.specs.declared.pg.Pg.{Pg}
+use Rattle.osdmap.specs.Pools.{PoolFacts}
+use Rattle.osdmap.specs.Keyed.{is_distinct, has_key, put}
+use Rattle.osdmap.specs.Exceptions.{place_of, key_of, has_pool, has_pool_of, has_group, target, sides, all_named, is_set, are_pairs, is_sound, exceptions_after}
+use Rattle.osdmap.specs.Maps.{ClusterMap, osd_exists, has_rule}
 
 -- an incremental: a change, and the epoch of the map after it
 pub record Step : Type 0 where
@@ -16,32 +20,69 @@ pub record Step : Type 0 where
 
 -- ---- refusals
 
--- whether no number stands twice
-unfoldable pub is_distinct : List ℕ → Bool
-is_distinct [] = true
-is_distinct (k ∷ ks) = not (list_any (λ j. j == k) ks) && is_distinct ks
-
--- the OSDs that get another reweight
-abbrev pub reweighted : ChangeParts → List ℕ
-reweighted c = map (λ w. w.osd) c.weight
-
 -- each OSD that is named exists
 unfoldable pub names_osds : ClusterMap → ChangeParts → Bool
-names_osds m c = list_all (osd_exists m) c.down && list_all (osd_exists m) c.up && list_all (λ w. osd_exists m w.osd) c.weight
+names_osds m c =
+    list_all (osd_exists m) c.down && list_all (osd_exists m) c.up && list_all (λ w. osd_exists m w.osd) c.weight
+    && list_all (all_named target (osd_exists m)) c.new_upmap && list_all (all_named sides (osd_exists m)) c.new_items
 
 -- each reweight is at most 65,536
 unfoldable pub weighs_rightly : ChangeParts → Bool
 weighs_rightly c = list_all (λ w. nat_le w.weight 65536) c.weight
 
--- no OSD stands twice in a part, nor both in down and in up
-unfoldable pub names_once : ChangeParts → Bool
-names_once c = is_distinct (c.down ++ c.up) && is_distinct (reweighted c)
+-- the pools that stay
+unfoldable pub pools_kept : ClusterMap → ChangeParts → List PoolFacts
+pools_kept m c = filter (λ p. not (has_key (λ id. id) c.old_pools p.id)) m.pools
 
--- the first refusal that applies: an OSD that does not exist, a reweight too great, a key twice
+-- the pools after old_pools and new_pools, of a pool that comes twice the last one
+unfoldable pub pools_after : ClusterMap → ChangeParts → List PoolFacts
+pools_after m c = fold (put (λ p. p.id)) (pools_kept m c) c.new_pools
+
+-- each group that is named passes a test
+unfoldable pub all_groups : (Pg → Bool) → ChangeParts → Bool
+all_groups p c =
+    list_all p c.old_upmap && list_all p c.old_items && list_all (λ e. p e.pg) c.new_upmap && list_all (λ e. p e.pg) c.new_items
+
+-- each pool that is taken away is there, and the pool of each group that is named is there after that and new_pools
+unfoldable pub names_pools : ClusterMap → ChangeParts → Bool
+names_pools m c =
+    list_all (has_pool m.pools) c.old_pools && all_groups (has_pool_of (pools_after m c)) c
+
+-- no pool comes whose id is there
+unfoldable pub brings_new : ClusterMap → ChangeParts → Bool
+brings_new m c = list_all (λ p. not (has_pool (pools_kept m c) p.id)) c.new_pools
+
+-- each pool that comes has a rule of its kind, and there are at most 32 pools then
+unfoldable pub brings_rightly : ClusterMap → ChangeParts → Bool
+brings_rightly m c = list_all (has_rule m.rules) c.new_pools && nat_le (length (pools_after m c)) 32
+
+-- each group that is named is there then
+unfoldable pub names_groups : ClusterMap → ChangeParts → Bool
+names_groups m c = all_groups (has_group (pools_after m c)) c
+
+-- each exception that comes says something, no more than the size of its pool, and that soundly
+unfoldable pub excepts_soundly : ClusterMap → ChangeParts → Bool
+excepts_soundly m c = list_all (is_sound is_set (pools_after m c)) c.new_upmap && list_all (is_sound are_pairs (pools_after m c)) c.new_items
+
+-- no key stands twice in a part, nor in two of which one undoes the other
+unfoldable pub names_once : ChangeParts → Bool
+names_once c =
+    is_distinct (map (λ id. id) c.old_pools ++ map (λ p. p.id) c.new_pools)
+    && is_distinct (map (λ osd. osd) c.down ++ map (λ osd. osd) c.up)
+    && is_distinct (map (λ w. w.osd) c.weight)
+    && is_distinct (map place_of c.old_upmap ++ map key_of c.new_upmap)
+    && is_distinct (map place_of c.old_items ++ map key_of c.new_items)
+
+-- the first refusal that applies, each over all parts
 abbrev pub change_fault : ClusterMap → ChangeParts → Option Refusal
 change_fault m c =
     if not (names_osds m c) then Some UnknownOsd
     else if not (weighs_rightly c) then Some BadWeight
+    else if not (names_pools m c) then Some UnknownPool
+    else if not (brings_new m c) then Some PoolExists
+    else if not (brings_rightly m c) then Some BadPool
+    else if not (names_groups m c) then Some UnknownGroup
+    else if not (excepts_soundly m c) then Some BadNewException
     else if not (names_once c) then Some DuplicatePart
     else None
 
@@ -56,12 +97,16 @@ with_up up presences osd =
 abbrev pub with_weight : List ℕ → Reweight → List ℕ
 with_weight weights w = slice_set weights w.osd w.weight
 
--- the parts in order: down, up, weight; and the new epoch
+-- the parts in order: pools go, with their exceptions, and come; OSDs go down, come up, get their reweights; exceptions go,
+-- and come; and the new epoch
 unfoldable pub apply : ClusterMap → Step → ClusterMap
 apply m step = record m {
   epoch = step.epoch;
+  pools = pools_after m step.change;
   presences = fold (with_up true) (fold (with_up false) m.presences step.change.down) step.change.up;
   weights = fold with_weight m.weights step.change.weight;
+  explicit = exceptions_after step.change.old_pools step.change.old_upmap step.change.new_upmap m.explicit;
+  items = exceptions_after step.change.old_pools step.change.old_items step.change.new_items m.items;
 }
 
 -- ---- journals

@@ -1,6 +1,6 @@
 -- How many groups' placement a change can alter.
-use Rattle.std.specs.Prelude.{ℕ, zero, suc, Bool, false, ◌||◌, ℤ, pos, List, if◌then◌else◌}
-use Rattle.std.specs.List.{list_any, sum_by}
+use Rattle.std.specs.Prelude.{ℕ, zero, suc, Bool, false, ◌||◌, ℤ, pos, List, Option}
+use Rattle.std.specs.List.{list_any, sum_by, count_by, range_with_len}
 use Rattle.std.specs.Option.{option_map_or}
 use Rattle.std.specs.Ordering.{int_eq}
 use Rattle.crush.specs.declared.bucket.Bucket.{Bucket}
@@ -10,7 +10,10 @@ use Rattle.crush.specs.Forest.{bucket_at}
 use Rattle.osdmap.specs.declared.change.ChangeParts.{ChangeParts}
 use Rattle.osdmap.specs.Pools.{PoolFacts}
 use Rattle.osdmap.specs.Maps.{ClusterMap}
-use Rattle.osdmap.specs.Placement.{steps_of}
+use Rattle.osdmap.specs.declared.pg.Pg.{Pg}
+use Rattle.osdmap.specs.Keyed.{has_key}
+use Rattle.osdmap.specs.Exceptions.{place_of, key_of, is_among, said_of, target, sides}
+use Rattle.osdmap.specs.Placement.{group_of, steps_of}
 
 -- whether an item stands at most n steps below a bucket
 unfoldable pub is_under : List Bucket → ℕ → ℤ → ℤ → Bool
@@ -25,9 +28,33 @@ takes_over buckets osd (Chooses c) = false
 takes_over buckets osd Emit = false
 
 -- whether a pool's rule reaches an OSD that gets another reweight
-unfoldable pub is_touched : ClusterMap → ChangeParts → PoolFacts → Bool
-is_touched m c p = list_any (λ w. list_any (takes_over m.buckets w.osd) (steps_of m p)) c.weight
+unfoldable pub reaches : ClusterMap → ChangeParts → PoolFacts → Bool
+reaches m c p = list_any (λ w. list_any (takes_over m.buckets w.osd) (steps_of m p)) c.weight
 
--- the number of groups of the map after the change whose pool's rule reaches an OSD that gets another reweight
+-- whether all groups of a pool are placed anew: it comes with the change, or its rule reaches such an OSD
+unfoldable pub is_touched : ClusterMap → ChangeParts → PoolFacts → Bool
+is_touched m c p = has_key (λ q. q.id) c.new_pools p.id || reaches m c p
+
+-- whether exceptions of a group go or come
+unfoldable pub is_named : ChangeParts → Pg → Bool
+is_named c g =
+    is_among c.old_upmap g || is_among c.old_items g
+    || has_key key_of c.new_upmap (place_of g) || has_key key_of c.new_items (place_of g)
+
+-- whether an exception names an OSD that gets another reweight
+abbrev pub names_reweighted : {E : Type 0} → (E → List ℕ) → ChangeParts → Option (List E) → Bool
+names_reweighted names c said =
+    option_map_or (λ entries. list_any (λ entry. list_any (has_key (λ w. w.osd) c.weight) (names entry)) entries) said false
+
+-- whether a change concerns the exceptions of a group: they go or come, or name an OSD that gets another reweight
+unfoldable pub concerns : ClusterMap → ChangeParts → Pg → Bool
+concerns m c g =
+    is_named c g || names_reweighted target c (said_of m.explicit g) || names_reweighted sides c (said_of m.items g)
+
+-- whether group n of a pool of the map after the change may be placed otherwise than before
+abbrev pub is_evaluated : ClusterMap → ChangeParts → PoolFacts → ℕ → Bool
+is_evaluated m c p n = is_touched m c p || concerns m c (group_of p n)
+
+-- how many groups of the map after the change may be placed otherwise than before
 unfoldable pub evals_of : ClusterMap → ChangeParts → ℕ
-evals_of m c = sum_by (λ p. if is_touched m c p then p.pg_num else 0) m.pools
+evals_of m c = sum_by (λ p. count_by (is_evaluated m c p) (range_with_len 0 p.pg_num)) m.pools

@@ -1,18 +1,24 @@
 -- The map of a cluster as callers see it, and the look-ups in it. A map is finite: rules and pools by id, OSDs by number.
-use Rattle.std.specs.Prelude.{◌≡◌, length, ℕ, ◌==◌, Bool, true, false, List, Option, slice_get, slice_index, ◌≤◌}
-use Rattle.std.specs.List.{find, list_all}
+use Rattle.std.specs.Prelude.{◌≡◌, length, ℕ, ◌==◌, nat_le, Bool, true, false, not, ◌&&◌, ◌||◌, List, Option, slice_get, slice_index, ◌≤◌}
+use Rattle.std.specs.List.{find, list_all, All}
 use Rattle.std.specs.Option.{option_map, option_map_or}
 use Rattle.crush.specs.declared.bucket.Bucket.{Bucket}
 use Rattle.crush.specs.declared.rule.RuleKind.{RuleKind}
 use Rattle.crush.specs.declared.rule.RuleKind.TheVariants.{Replicated, Erasure}
 use Rattle.crush.specs.Rules.{Recipe}
+use Rattle.crush.specs.WellFormed.{forest_ok, IsForest}
+use Rattle.crush.specs.Grammar.{rule_limits_ok, rule_ok}
 use Rattle.osdmap.specs.declared.osd.Presence.{Presence}
 use Rattle.osdmap.specs.declared.osd.OsdState.{OsdState}
 use Rattle.osdmap.specs.declared.rules.NumberedRule.{NumberedRule}
-use Rattle.osdmap.specs.Pools.{PoolFacts}
+use Rattle.osdmap.specs.declared.exception.Exception.{Exception}
+use Rattle.osdmap.specs.declared.exception.Pair.{Pair}
+use Rattle.osdmap.specs.Exceptions.{key_of, is_exception, target, sides, is_set, are_pairs}
+use Rattle.osdmap.specs.Keyed.{IsRising}
+use Rattle.osdmap.specs.Pools.{PoolFacts, IsWithinLimits}
 
 -- what callers see of a map: its epoch, the buckets of its forest by id downwards, its rules and pools by id upwards, and
--- by number whether each OSD exists and is up, and its reweight
+-- by number whether each OSD exists and is up, and its reweight; the explicit sets and the pairs of groups, by group upwards
 pub record ClusterMap : Type 0 where
   pub epoch : ℕ
   pub buckets : List Bucket
@@ -20,6 +26,8 @@ pub record ClusterMap : Type 0 where
   pub pools : List PoolFacts
   pub presences : List Presence
   pub weights : List ℕ
+  pub explicit : List (Exception ℕ)
+  pub items : List (Exception Pair)
 
 -- the rule of an id
 abbrev pub rule_at : List NumberedRule → ℕ → Option Recipe
@@ -53,9 +61,34 @@ is_kind Erasure Erasure = true
 abbrev pub has_rule : List NumberedRule → PoolFacts → Bool
 has_rule rules p = option_map_or (λ r. is_kind r.kind p.kind) (rule_at rules p.rule) false
 
--- what holds in every map: each OSD has a reweight, there are few OSDs and pools, and each pool has a rule of its kind
+-- a rule of an id of at most 255, within the limits, and over a forest
+unfoldable pub is_rule_over : List Bucket → NumberedRule → Bool
+is_rule_over buckets r = nat_le r.id 255 && rule_limits_ok r.rule.steps && rule_ok r.rule.kind r.rule.steps buckets
+
+-- an OSD that is up only where it exists
+abbrev pub is_presence : Presence → Bool
+is_presence p = not p.up || p.exists
+
+-- what holds in every map: there are 1 to 1,024 OSDs, of which only those that exist are up, each with a reweight of at
+-- most 65,536; a forest over them; 1 to 32 rules over it by id upwards; at most 32 pools by id upwards, each within its
+-- limits and with a rule of its kind; and exceptions by group upwards, each of them soundly
 pub record HoldsTogether (m : ClusterMap) : Type 0 where
-  pub weighed : length m.weights ≡ length m.presences
+  pub some : 1 ≤ length m.presences
   pub few : length m.presences ≤ 1024
+  pub present : list_all is_presence m.presences ≡ true
+  pub weighed : length m.weights ≡ length m.presences
+  pub weigh_little : list_all (λ w. nat_le w 65536) m.weights ≡ true
+  pub forest : IsForest m.buckets
+  pub over_osds : forest_ok m.buckets (length m.presences) ≡ true
+  pub some_rules : 1 ≤ length m.rules
+  pub few_rules : length m.rules ≤ 32
+  pub rules_rise : IsRising (λ r. r.id) m.rules
+  pub rules_over : list_all (is_rule_over m.buckets) m.rules ≡ true
   pub few_pools : length m.pools ≤ 32
+  pub pools_rise : IsRising (λ p. p.id) m.pools
+  pub pools_within : All IsWithinLimits m.pools
   pub ruled : list_all (has_rule m.rules) m.pools ≡ true
+  pub explicit_rise : IsRising key_of m.explicit
+  pub explicit_sound : list_all (is_exception target is_set m.pools (osd_exists m)) m.explicit ≡ true
+  pub items_rise : IsRising key_of m.items
+  pub items_sound : list_all (is_exception sides are_pairs m.pools (osd_exists m)) m.items ≡ true

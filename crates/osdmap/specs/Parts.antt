@@ -1,6 +1,7 @@
 -- The parts of a map as a text states them: their limits, what is wrong with them, and the values that they stand for.
-use Rattle.std.specs.Prelude.{◌≡◌, ℕ, Result, MatchResult, ℤ, pos, negsuc, nat_abs, int_le, nat_le, Bool, true, not, ◌&&◌, List, length, map, Option, Some, None, if◌then◌else◌}
+use Rattle.std.specs.Prelude.{◌≡◌, ℕ, is_some, unwrap_or, Result, MatchResult, ℤ, pos, negsuc, nat_abs, int_le, nat_le, Bool, true, false, not, ◌&&◌, List, length, map, Option, Some, None, if◌then◌else◌}
 use Rattle.std.specs.List.{list_all}
+use Rattle.std.specs.Option.{option_map_or}
 use Rattle.crush.specs.declared.bucket.Item.{Item}
 use Rattle.crush.specs.declared.bucket.Bucket.{Bucket}
 use Rattle.crush.specs.declared.rule.Step.{Step}
@@ -14,6 +15,12 @@ use Rattle.osdmap.specs.declared.parts.StepPart.{StepPart}
 use Rattle.osdmap.specs.declared.parts.StepPart.TheVariants.{Take, Choose as Chooses, Emit}
 use Rattle.osdmap.specs.declared.parts.PoolPart.{PoolPart}
 use Rattle.osdmap.specs.declared.parts.OsdPart.{OsdPart}
+use Rattle.osdmap.specs.declared.parts.ExceptionPart.{ExceptionPart}
+use Rattle.osdmap.specs.declared.parts.PairPart.{PairPart}
+use Rattle.osdmap.specs.declared.pg.Pg.{Pg}
+use Rattle.osdmap.specs.declared.pg_text.PgParts.{PgParts}
+use Rattle.osdmap.specs.declared.exception.Exception.{Exception}
+use Rattle.osdmap.specs.declared.exception.Pair.{Pair}
 use Rattle.osdmap.specs.declared.refusal.Refusal.{Refusal}
 use Rattle.osdmap.specs.declared.refusal.Refusal.TheVariants.{BadLimit, BadPool}
 use Rattle.osdmap.specs.Pools.{PoolFacts}
@@ -54,6 +61,25 @@ pool_fits p =
 unfoldable pub osd_fits : OsdPart → Bool
 osd_fits o = is_between (pos 0) (pos 1023) o.id && is_between (pos 0) (pos 65536) o.weight
 
+-- a group: the id of a pool, and a number of at most 32 bits
+unfoldable pub pg_fits : PgParts → Bool
+pg_fits g = option_map_or (λ pool. nat_le 1 pool && nat_le pool 65535) g.pool false && is_some g.number
+
+-- an OSD's id
+unfoldable pub is_osd_id : ℤ → Bool
+is_osd_id z = is_between (pos 0) (pos 1023) z
+
+unfoldable pub pair_fits : PairPart → Bool
+pair_fits p = is_osd_id p.from && is_osd_id p.to
+
+-- an exception: a group, and at most 10 entries, each within its limits
+unfoldable pub exception_fits : {P : Type 0} → (P → Bool) → ExceptionPart P → Bool
+exception_fits fits e = pg_fits e.pg && has_between 0 10 e.entries && list_all fits e.entries
+
+-- at most 131,072 exceptions, each within its limits
+unfoldable pub exceptions_fit : {P : Type 0} → (P → Bool) → List (ExceptionPart P) → Bool
+exceptions_fit fits es = has_between 0 131072 es && list_all (exception_fits fits) es
+
 -- the numbers that stand alone
 unfoldable pub head_fits : MapParts → Bool
 head_fits p =
@@ -68,6 +94,7 @@ unfoldable pub parts_fit : MapParts → Bool
 parts_fit p =
     head_fits p && lists_fit p && list_all bucket_fits p.buckets && list_all rule_fits p.rules
     && list_all pool_fits p.pools && list_all osd_fits p.osds
+    && exceptions_fit is_osd_id p.pg_upmap && exceptions_fit pair_fits p.pg_upmap_items
 
 -- ---- the values that parts within the limits stand for
 
@@ -95,12 +122,21 @@ pool_of p = record {
   size = nat_abs p.size;
 }
 
+abbrev pub pg_of : PgParts → Pg
+pg_of g = record { pool = unwrap_or g.pool 0; number = unwrap_or g.number 0 }
+
+abbrev pub pair_of : PairPart → Pair
+pair_of p = record { from = nat_abs p.from; to = nat_abs p.to }
+
+abbrev pub exception_of : {P E : Type 0} → (P → E) → ExceptionPart P → Exception E
+exception_of entry_of e = record { pg = pg_of e.pg; entries = map entry_of e.entries }
+
 -- ---- what is wrong
 
 -- of a pool by itself: a number outside its limits, else more groups for placement than groups
 abbrev pub pool_fault : PoolPart → Option Refusal
 pool_fault p = if not (pool_fits p) then Some BadLimit else if not (int_le p.pgp_num p.pg_num) then Some BadPool else None
 
--- what a call that may run out of memory answers: the value where there is no fault, else the fault
+-- what a call that takes no memory answers: the value where there is no fault, else the fault
 abbrev pub Outcome : {X : Type 0} → Result X Refusal → Option Refusal → X → Type 0
 Outcome r fault value = MatchResult r (λ x. (fault ≡ None) × (x ≡ value)) (λ e. fault ≡ Some e)

@@ -1,16 +1,18 @@
 -- Where the groups of a map are placed (Ceph, OSDMap.cc: _pg_to_raw_osds, _raw_to_up_osds; osd_types.h: raw_pg_to_pps).
-use Rattle.std.specs.Prelude.{◌≡◌, ℕ, ◌-◌, ◌/◌, ℤ, pos, negsuc, List, [], ◌∷◌, map, nat_lt, nat_le, bit_and, Option, Some, None, option_and_then, unwrap_or, IfSome, if◌then◌else◌}
+use Rattle.std.specs.Prelude.{◌≡◌, ℕ, ◌+◌, ◌-◌, ◌/◌, ◌^◌, min, ℤ, pos, negsuc, List, [], ◌∷◌, map, nat_lt, nat_le, bit_and, Option, Some, None, option_and_then, unwrap_or, IfSome, Result, MatchResult, if◌then◌else◌}
 use Rattle.std.specs.List.{find}
 use Rattle.std.specs.Option.{option_map_or}
 use Rattle.rjenkins.specs.Jenkins.{hash2_of}
 use Rattle.crush.specs.declared.rule.Step.{Step}
 use Rattle.crush.specs.World.{world_of}
-use Rattle.crush.specs.Run.{run_of}
+use Rattle.crush.specs.Run.{Ran, run_of}
 use Rattle.osdmap.specs.declared.pg.Pg.{Pg}
 use Rattle.osdmap.specs.declared.refusal.Refusal.{Refusal}
 use Rattle.osdmap.specs.declared.refusal.Refusal.TheVariants.{UnknownPool, UnknownGroup}
 use Rattle.osdmap.specs.Pools.{PoolFacts}
 use Rattle.osdmap.specs.Sets.{kept}
+use Rattle.osdmap.specs.Exceptions.{said_of}
+use Rattle.osdmap.specs.Mapped.{mapped}
 use Rattle.osdmap.specs.Maps.{ClusterMap, rule_at, pool_at, osd_exists, osd_is_up}
 
 -- the numbers 2 ^ k - 1 up to 4095
@@ -33,6 +35,10 @@ placement_input p n = hash2_of (stable_mod n p.pgp_num (mask_of p.pgp_num)) p.id
 abbrev pub group_fault : ClusterMap → Pg → Option Refusal
 group_fault m pg = elim (pool_at m.pools pg.pool) [ None ↦ Some UnknownPool | Some p ↦ (if nat_lt pg.number p.pg_num then None else Some UnknownGroup) ]
 
+-- group n of a pool
+abbrev pub group_of : PoolFacts → ℕ → Pg
+group_of p n = record { pool = p.id; number = n }
+
 -- the steps of the pool's rule
 abbrev pub steps_of : ClusterMap → PoolFacts → List Step
 steps_of m p = option_map_or (λ r. r.steps) (rule_at m.rules p.rule) []
@@ -54,9 +60,10 @@ upward m osd = if osd_is_up m osd then Some osd else None
 unfoldable pub raw_set : ClusterMap → PoolFacts → ℕ → List (Option ℕ)
 raw_set m p n = kept p.kind (map (option_and_then (existing m)) (placed m p n))
 
--- the mapped set: the raw set, as no group has exceptions
+-- the mapped set: the raw set under the exceptions of the group (_apply_upmap)
 unfoldable pub mapped_set : ClusterMap → PoolFacts → ℕ → List (Option ℕ)
-mapped_set m p n = raw_set m p n
+mapped_set m p n =
+    mapped m.weights (said_of m.explicit (group_of p n)) (said_of m.items (group_of p n)) (raw_set m p n)
 
 -- the up set: the mapped set without OSDs that are down (_raw_to_up_osds)
 unfoldable pub up_set : ClusterMap → PoolFacts → ℕ → List (Option ℕ)
@@ -65,3 +72,7 @@ up_set m p n = kept p.kind (map (option_and_then (upward m)) (mapped_set m p n))
 -- a set of the group is the one that a definition gives, where the group is there, and else a refusal
 pub record Places (set : ClusterMap → PoolFacts → ℕ → List (Option ℕ)) (m : ClusterMap) (pg : Pg) (places : List (Option ℕ)) : Type 0 where
   pub is : IfSome (pool_at m.pools pg.pool) (λ p. places ≡ set m p pg.number)
+
+-- a rule is run once for an answer, and no run is counted without one; the count stays at the greatest number
+abbrev pub RunsOnce : {X E : Type 0} → Ran → Ran → Result X E → Type 0
+RunsOnce old new r = MatchResult r (λ _. new.runs ≡ min (old.runs + 1) (2 ^ 64 - 1)) (λ _. new.runs ≡ old.runs)

@@ -1,7 +1,7 @@
 -- The number and the name of each refusal.
 use Rattle.std.specs.Prelude.{ℕ, List, codes}
 use Rattle.osdmap.specs.declared.refusal.Refusal.{Refusal}
-use Rattle.osdmap.specs.declared.refusal.Refusal.TheVariants.{BadJson, BadField, BadLimit, BadForest, BadRule, BadPool, BadOsd, StaleEpoch, UnknownOsd, BadWeight, UnknownPool, UnknownGroup, DuplicatePart, JournalFull, Memory, BadCommand}
+use Rattle.osdmap.specs.declared.refusal.Refusal.TheVariants.{BadJson, BadField, BadLimit, BadForest, BadRule, BadPool, BadOsd, BadException, StaleEpoch, UnknownOsd, BadWeight, UnknownPool, PoolExists, UnknownGroup, BadNewException, DuplicatePart, JournalFull, Memory, BadCommand}
 
 -- the number
 abbrev pub number_of : Refusal → ℕ
@@ -12,11 +12,14 @@ number_of BadForest = 13
 number_of BadRule = 14
 number_of BadPool = 15
 number_of BadOsd = 16
+number_of BadException = 17
 number_of (StaleEpoch current) = 20
 number_of UnknownOsd = 21
 number_of BadWeight = 22
 number_of UnknownPool = 23
+number_of PoolExists = 24
 number_of UnknownGroup = 25
+number_of BadNewException = 26
 number_of DuplicatePart = 27
 number_of JournalFull = 28
 number_of Memory = 30
@@ -31,11 +34,14 @@ name_of BadForest = codes "BadForest"
 name_of BadRule = codes "BadRule"
 name_of BadPool = codes "BadPool"
 name_of BadOsd = codes "BadOsd"
+name_of BadException = codes "BadException"
 name_of (StaleEpoch current) = codes "StaleEpoch"
 name_of UnknownOsd = codes "UnknownOsd"
 name_of BadWeight = codes "BadWeight"
 name_of UnknownPool = codes "UnknownPool"
+name_of PoolExists = codes "PoolExists"
 name_of UnknownGroup = codes "UnknownGroup"
+name_of BadNewException = codes "BadException"
 name_of DuplicatePart = codes "DuplicatePart"
 name_of JournalFull = codes "JournalFull"
 name_of Memory = codes "Memory"

@@ -13,15 +13,23 @@ use Rattle.osdmap.specs.declared.parts.PoolPart.{PoolPart}
 use Rattle.osdmap.specs.declared.parts.OsdPart.{OsdPart}
 use Rattle.osdmap.specs.declared.rules.NumberedRule.{NumberedRule}
 use Rattle.osdmap.specs.declared.refusal.Refusal.{Refusal}
-use Rattle.osdmap.specs.declared.refusal.Refusal.TheVariants.{BadLimit, BadForest, BadRule, BadPool, BadOsd, Memory as OutOfMemory}
-use Rattle.osdmap.specs.Parts.{parts_fit, bucket_of, step_of, recipe_of, pool_of}
+use Rattle.osdmap.specs.declared.refusal.Refusal.TheVariants.{BadLimit, BadForest, BadRule, BadPool, BadOsd, BadException, Memory as OutOfMemory}
+use Rattle.osdmap.specs.Parts.{parts_fit, bucket_of, step_of, recipe_of, pool_of, exception_of, pair_of}
+use Rattle.osdmap.specs.declared.exception.Exception.{Exception}
+use Rattle.osdmap.specs.declared.exception.Pair.{Pair}
+use Rattle.osdmap.specs.Pools.{PoolFacts}
+use Rattle.osdmap.specs.Exceptions.{key_of, is_exception, target, sides, is_set, are_pairs}
 use Rattle.osdmap.specs.Maps.{ClusterMap, has_rule}
-use Rattle.osdmap.specs.Changes.{is_distinct}
+use Rattle.osdmap.specs.Keyed.{is_distinct, IsRising}
 
 -- what a call that makes a value answers: a value with the fact P exactly where there is no fault, and else the fault; or
 -- that a growth was refused
 abbrev pub Makes : {X : Type 0} → Result X Refusal → Option Refusal → (X → Type 0) → Type 0
 Makes r fault P = MatchResult r (λ x. (fault ≡ None) × P x) (λ e. (e ≡ OutOfMemory) ⊎ (fault ≡ Some e))
+
+-- the same of a call that looks for faults first: a growth is refused only where there is none
+abbrev pub Gives : {X : Type 0} → Result X Refusal → Option Refusal → (X → Type 0) → Type 0
+Gives r fault P = MatchResult r (λ x. (fault ≡ None) × P x) (λ e. ((fault ≡ None) × (e ≡ OutOfMemory)) ⊎ (fault ≡ Some e))
 
 -- ---- what is wrong with parts within the limits
 
@@ -53,7 +61,28 @@ osd_ok max_osd o = nat_lt (nat_abs o.id) max_osd && (not o.up || o.exists)
 unfoldable pub osds_ok : MapParts → Bool
 osds_ok p = is_distinct (map (λ o. nat_abs o.id) p.osds) && list_all (osd_ok (nat_abs p.max_osd)) p.osds
 
--- the first thing that is wrong: a limit, the forest, a rule, a pool, an OSD, each over the whole map
+-- whether an OSD is listed as existing
+abbrev pub is_listed : List OsdPart → ℕ → Bool
+is_listed osds n = option_map_or (λ o. o.exists) (find (λ o. nat_abs o.id == n) osds) false
+
+-- no group twice, and each exception by itself
+abbrev pub exceptions_ok : {E : Type 0} → (E → List ℕ) → (List E → Bool) → List PoolFacts → (ℕ → Bool) → List (Exception E) → Bool
+exceptions_ok names sound pools exists es = is_distinct (map key_of es) && list_all (is_exception names sound pools exists) es
+
+-- the explicit sets and the pairs that parts state, in the order of the text
+abbrev pub explicit_of : MapParts → List (Exception ℕ)
+explicit_of p = map (exception_of nat_abs) p.pg_upmap
+
+abbrev pub items_of : MapParts → List (Exception Pair)
+items_of p = map (exception_of pair_of) p.pg_upmap_items
+
+-- the explicit sets and the pairs are in order
+unfoldable pub all_exceptions_ok : MapParts → Bool
+all_exceptions_ok p =
+    exceptions_ok target is_set (map pool_of p.pools) (is_listed p.osds) (explicit_of p)
+    && exceptions_ok sides are_pairs (map pool_of p.pools) (is_listed p.osds) (items_of p)
+
+-- the first thing that is wrong: a limit, the forest, a rule, a pool, an OSD, an exception, each over the whole map
 unfoldable pub map_fault : MapParts → Option Refusal
 map_fault p =
     if not (parts_fit p) then Some BadLimit
@@ -61,6 +90,7 @@ map_fault p =
     else if not (rules_ok p) then Some BadRule
     else if not (pools_ok p) then Some BadPool
     else if not (osds_ok p) then Some BadOsd
+    else if not (all_exceptions_ok p) then Some BadException
     else None
 
 -- ---- the map that parts state
@@ -76,7 +106,8 @@ presence_in osds n = option_map_or (λ o. record { exists = o.exists; up = o.up 
 abbrev pub weight_in : List OsdPart → ℕ → ℕ
 weight_in osds n = option_map_or (λ o. nat_abs o.weight) (listed osds n) 0
 
--- the map has what the parts state: the buckets by id downwards, rules and pools by id upwards, and each OSD by number
+-- the map has what the parts state: the buckets by id downwards, rules and pools by id upwards, each OSD by number, and the
+-- exceptions by group upwards
 pub record IsStated (p : MapParts) (m : ClusterMap) : Type 0 where
   pub epoch : m.epoch ≡ nat_abs p.epoch
   pub buckets : IsPermutation (buckets_of p) m.buckets
@@ -87,3 +118,7 @@ pub record IsStated (p : MapParts) (m : ClusterMap) : Type 0 where
   pub pools_rise : AllPairs (λ a b. a.id < b.id) m.pools
   pub presences : m.presences ≡ map (presence_in p.osds) (range_with_len 0 (nat_abs p.max_osd))
   pub weights : m.weights ≡ map (weight_in p.osds) (range_with_len 0 (nat_abs p.max_osd))
+  pub explicit : IsPermutation (explicit_of p) m.explicit
+  pub explicit_rise : IsRising key_of m.explicit
+  pub items : IsPermutation (items_of p) m.items
+  pub items_rise : IsRising key_of m.items

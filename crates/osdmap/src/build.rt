@@ -1,3 +1,4 @@
+mod exceptions;
 mod forest;
 mod numbers;
 mod order;
@@ -17,16 +18,16 @@ use rules::rules_of;
 use std::alloc::Global;
 
 impl OsdMap {
+    ghost use Rattle.std.specs.Prelude.{◌≡◌, true};
+    ghost use Rattle.osdmap.specs.Parts.{parts_fit};
     ghost use Rattle.osdmap.specs.Stated.{Makes, map_fault, IsStated};
+    ghost use Rattle.osdmap.specs.Built.{without_exceptions};
 
-    /// The map that parts state: `BadLimit` (12), `BadForest` (13), `BadRule` (14), `BadPool` (15) or `BadOsd` (16)
-    /// where something is wrong, the first of these, each tested over the whole map; `Memory` (30).
-    pub fn new(alloc: Global, parts: MapParts) -> Result<OsdMap, Refusal>
-        ensures { Makes result (map_fault parts) (IsStated parts) }
+    /// The map that parts within the limits state beside their exceptions.
+    fn without_exceptions(alloc: Global, parts: &MapParts) -> Result<OsdMap, Refusal>
+        requires { parts_fit parts.now ≡ true }
+        ensures { Makes result (map_fault (without_exceptions parts.now)) (IsStated (without_exceptions parts.now)) }
     {
-        if !parts_fit(&parts) {
-            return Err(Refusal::BadLimit);
-        }
         let max_osd = word(parts.max_osd);
         let forest = forest_of(alloc, parts.buckets.as_slice(), max_osd)?;
         let rules = rules_of(alloc, parts.rules.as_slice(), &forest)?;
@@ -39,6 +40,26 @@ impl OsdMap {
             pools,
             presences: Entries::new(presences_of(alloc, &rows)?),
             weights: Weights::new(weights_of(alloc, &rows)?),
+            explicit: Vec::new(alloc),
+            items: Vec::new(alloc),
+        })
+    }
+
+    /// The map that parts state: `BadLimit` (12), `BadForest` (13), `BadRule` (14), `BadPool` (15), `BadOsd` (16) or
+    /// `BadException` (17) where something is wrong, the first of these, each tested over the whole map; `Memory` (30).
+    pub fn new(alloc: Global, parts: MapParts) -> Result<OsdMap, Refusal>
+        ensures { Makes result (map_fault parts) (IsStated parts) }
+    {
+        if !parts_fit(&parts) {
+            return Err(Refusal::BadLimit);
+        }
+        let bare = OsdMap::without_exceptions(alloc, &parts)?;
+        let explicit = bare.exceptions_in(alloc, parts.pg_upmap.as_slice())?;
+        let items = bare.exceptions_in(alloc, parts.pg_upmap_items.as_slice())?;
+        Ok(OsdMap {
+            explicit,
+            items,
+            ..bare
         })
     }
 }

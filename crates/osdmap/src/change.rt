@@ -1,15 +1,36 @@
+ghost use Rattle.std.specs.Prelude.{IfOk};
+ghost use Rattle.std.specs.List.{All};
+ghost use Rattle.osdmap.specs.Keyed.{SortsBy};
+ghost use Rattle.osdmap.specs.Pools.{IsWithinLimits};
+
+use crate::exception::{Explicit, Items};
+use crate::keyed::{Keyed, sorted};
+use crate::pg::Pg;
+use crate::pool::Pool;
 use crush::{Entries, Memory};
 use std::marker::Model;
 
-/// The parts of a change, each list in any order.
+/// The parts of a change, each list in any order. They act in the order in which they stand here.
 #[derive(Debug, Drop)]
 pub struct ChangeParts {
+    /// The ids of the pools that are taken away, with their exceptions.
+    pub old_pools: Entries<u32>,
+    /// The pools that come.
+    pub new_pools: Entries<Pool>,
     /// The OSDs that go down.
     pub down: Entries<u32>,
     /// The OSDs that come up.
     pub up: Entries<u32>,
     /// The OSDs that get another reweight.
     pub weight: Entries<Reweight>,
+    /// The groups whose explicit set is taken away.
+    pub old_upmap: Entries<Pg>,
+    /// The groups whose pairs are taken away.
+    pub old_items: Entries<Pg>,
+    /// The explicit sets that groups get.
+    pub new_upmap: Entries<Explicit>,
+    /// The pairs that groups get, in place of those they have.
+    pub new_items: Entries<Items>,
 }
 
 /// An OSD and its new reweight, in parts of 65,536.
@@ -27,54 +48,73 @@ pub struct Change {
 
 impl Model for Change {
     ghost use Rattle.osdmap.specs.declared.change.ChangeParts.{ChangeParts};
+    ghost use Rattle.osdmap.specs.Ordered.{IsChange};
 
     ghost Value = { ChangeParts };
 
     ghost view = { λ c. c.parts };
+
+    ghost invariant = { λ c. IsChange c.parts };
+}
+
+/// The same entries in ascending order of their keys.
+fn ordered<K: Keyed>(entries: Entries<K>) -> Result<Entries<K>, Memory>
+    ensures { IfOk result (SortsBy K.key_of entries) }
+{
+    Ok(Entries::new(sorted(entries.into_vec())?))
+}
+
+/// Each pool is within its limits.
+fn are_within_limits(pools: &[Pool])
+    ensures { All IsWithinLimits pools.now }
+{
+    for pool in pools {
+        pool.is_within_limits();
+    }
 }
 
 impl Change {
     ghost use Rattle.std.specs.Prelude.{◌≡◌, IfOk};
-    ghost use Rattle.osdmap.specs.Ordered.{IsOrdered};
+    ghost use Rattle.std.specs.List.{All};
+    ghost use Rattle.osdmap.specs.Pools.{IsWithinLimits};
+    ghost use Rattle.osdmap.specs.Ordered.{IsOrdered, IsInOrder};
 
     /// The change of these parts, each put into ascending order of its keys, doubles in their order; or `Memory` (30).
     pub fn new(parts: ChangeParts) -> Result<Change, Memory>
         ensures { IfOk result (IsOrdered parts) }
     {
-        let mut down = parts.down.into_vec();
-        down.sort_unstable();
-        let mut up = parts.up.into_vec();
-        up.sort_unstable();
-        let mut weight = parts.weight.into_vec();
-        weight.sort_by_key(|w| w.osd)?;
+        let old_pools = ordered(parts.old_pools)?;
+        let new_pools = ordered(parts.new_pools)?;
+        let down = ordered(parts.down)?;
+        let up = ordered(parts.up)?;
+        let weight = ordered(parts.weight)?;
+        let old_upmap = ordered(parts.old_upmap)?;
+        let old_items = ordered(parts.old_items)?;
+        let new_upmap = ordered(parts.new_upmap)?;
+        let new_items = ordered(parts.new_items)?;
+        are_within_limits(new_pools.as_slice());
         Ok(Change {
             parts: ChangeParts {
-                down: Entries::new(down),
-                up: Entries::new(up),
-                weight: Entries::new(weight),
+                old_pools,
+                new_pools,
+                down,
+                up,
+                weight,
+                old_upmap,
+                old_items,
+                new_upmap,
+                new_items,
             },
         })
     }
 
-    /// The OSDs that go down, ascending.
-    pub fn down(&self) -> &[u32]
-        ensures { result.now ≡ self.now.down }
+    /// The parts, each in ascending order of its keys.
+    pub fn parts(&self) -> &ChangeParts
+        ensures value { result.now ≡ self.now }
+        ensures in_order { IsInOrder self.now }
+        ensures pools_within { All IsWithinLimits self.now.new_pools }
     {
-        self.parts.down.as_slice()
-    }
-
-    /// The OSDs that come up, ascending.
-    pub fn up(&self) -> &[u32]
-        ensures { result.now ≡ self.now.up }
-    {
-        self.parts.up.as_slice()
-    }
-
-    /// The OSDs that get another reweight, ascending.
-    pub fn weight(&self) -> &[Reweight]
-        ensures { result.now ≡ self.now.weight }
-    {
-        self.parts.weight.as_slice()
+        &self.parts
     }
 }
 

@@ -1,12 +1,13 @@
-ghost use Rattle.std.specs.Prelude.{◌≡◌, true, map, ◌++◌};
-ghost use Rattle.std.specs.List.{list_all};
-ghost use Rattle.osdmap.specs.Marks.{are_below};
-ghost use Rattle.osdmap.specs.Changes.{weighs_rightly, is_distinct};
+ghost use Rattle.std.specs.Prelude.{◌≡◌};
+ghost use Rattle.osdmap.specs.Changes.{weighs_rightly, names_once};
 
 use crate::change::{Change, Reweight};
-use crate::limits::FULL_WEIGHT;
+use crate::exception::{Entry, Exception};
+use crate::keyed::{are_apart, are_distinct, has, last_of, put_count};
+use crate::limits::{FULL_WEIGHT, MAX_POOLS};
 use crate::map::OsdMap;
-use crate::marks::Marks;
+use crate::pg::Pg;
+use crate::pool::Pool;
 use crate::refusal::Refusal;
 
 /// Whether each reweight is at most the whole.
@@ -14,34 +15,31 @@ use crate::refusal::Refusal;
 fn weighs_rightly(change: &Change) -> bool
     ensures { result ≡ weighs_rightly change.now }
 {
-    change.weight().iter().all(|w| w.weight <= FULL_WEIGHT)
+    let weight = change.parts().weight.as_slice();
+    weight.iter().all(|w| w.weight <= FULL_WEIGHT)
 }
 
-/// Whether no OSD stands twice in two lists together.
-fn are_apart(some: &[u32], others: &[u32]) -> bool
-    requires some { are_below (λ osd. osd) 1024 some.now ≡ true }
-    requires others { are_below (λ osd. osd) 1024 others.now ≡ true }
-    ensures { result ≡ is_distinct (some.now ++ others.now) }
+/// Whether no key stands twice in a part, or in two parts of which one undoes the other.
+#[tactic(auto, unfolding(crate::specs::Changes::names_once))]
+fn names_once(change: &Change) -> bool
+    ensures { result ≡ names_once change.now }
 {
-    let mut marks = Marks::new();
-    marks.mark_new(some) && marks.mark_new(others)
-}
-
-/// Whether no OSD stands twice.
-fn are_distinct(weight: &[Reweight]) -> bool
-    requires { are_below (λ w. w.osd) 1024 weight.now ≡ true }
-    ensures { result ≡ is_distinct (map (λ w. w.osd) weight.now) }
-{
-    let mut marks = Marks::new();
-    marks.mark_new(weight)
+    let parts = change.parts();
+    are_apart(parts.old_pools.as_slice(), parts.new_pools.as_slice())
+        && are_apart(parts.down.as_slice(), parts.up.as_slice())
+        && are_distinct(parts.weight.as_slice())
+        && are_apart(parts.old_upmap.as_slice(), parts.new_upmap.as_slice())
+        && are_apart(parts.old_items.as_slice(), parts.new_items.as_slice())
 }
 
 impl OsdMap {
-    ghost use Rattle.std.specs.Prelude.{◌≡◌, true};
+    ghost use Rattle.std.specs.Prelude.{◌≡◌, true, length};
     ghost use Rattle.std.specs.Result.{result_err};
     ghost use Rattle.std.specs.List.{list_all};
-    ghost use Rattle.osdmap.specs.Maps.{osd_exists};
-    ghost use Rattle.osdmap.specs.Changes.{names_osds, names_once, change_fault};
+    ghost use Rattle.osdmap.specs.Exceptions.{all_named, has_pool, has_pool_of, has_group, is_sound};
+    ghost use Rattle.osdmap.specs.Keyed.{entry_at};
+    ghost use Rattle.osdmap.specs.Maps.{osd_exists, has_rule};
+    ghost use Rattle.osdmap.specs.Changes.{names_osds, pools_kept, pools_after, names_pools, brings_new, brings_rightly, names_groups, excepts_soundly, change_fault};
 
     /// Whether an OSD exists.
     pub fn exists(&self, osd: u32) -> bool
@@ -67,29 +65,232 @@ impl OsdMap {
         weight.iter().all(|w| self.exists(w.osd))
     }
 
+    /// Whether each OSD that some exceptions name exists.
+    pub(crate) fn all_named_exist<E: Entry>(&self, exceptions: &[Exception<E>]) -> bool
+        ensures { result ≡ list_all (all_named E.names (osd_exists self.now)) exceptions.now }
+    {
+        exceptions.iter().all(
+            |exception: &Exception<E>| -> bool
+                ensures { result ≡ all_named E.names (osd_exists self.entry.now) exception.now }
+            { exception.names_known(self) },
+        )
+    }
+
     /// Whether each OSD that a change names exists.
     #[tactic(auto, unfolding(crate::specs::Changes::names_osds))]
     fn names_osds(&self, change: &Change) -> bool
         ensures { result ≡ names_osds self.now change.now }
     {
-        self.all_exist(change.down())
-            && self.all_exist(change.up())
-            && self.all_reweighted_exist(change.weight())
+        let parts = change.parts();
+        self.all_exist(parts.down.as_slice())
+            && self.all_exist(parts.up.as_slice())
+            && self.all_reweighted_exist(parts.weight.as_slice())
+            && self.all_named_exist(parts.new_upmap.as_slice())
+            && self.all_named_exist(parts.new_items.as_slice())
     }
 
-    /// Whether no OSD that a change names stands twice in a part, or in two parts of which one undoes the other.
-    #[tactic(auto, unfolding(crate::specs::Changes::names_once))]
-    fn names_once(&self, change: &Change) -> bool
-        requires { names_osds self.now change.now ≡ true }
-        ensures { result ≡ names_once change.now }
+    /// The pool of an id, where it stays.
+    fn kept_pool(&self, change: &Change, id: u32) -> Option<Pool>
+        ensures { result ≡ entry_at (λ p. p.id) (pools_kept self.now change.now) id }
     {
-        let _ = &self.presences;
-        are_apart(change.down(), change.up()) && are_distinct(change.weight())
+        if has(change.parts().old_pools.as_slice(), u64::from(id)) {
+            None
+        } else {
+            self.pool(id)
+        }
     }
 
-    /// Whether the map refuses a change: `UnknownOsd` (21) where an OSD of down, up or weight does not exist, else
-    /// `BadWeight` (22) where a reweight is above 65,536, else `DuplicatePart` (27) where an OSD stands twice in a part,
-    /// or both in down and in up.
+    /// The pool of an id after the old pools are taken away and the new ones have come.
+    fn pool_after(&self, change: &Change, id: u32) -> Option<Pool>
+        ensures { result ≡ entry_at (λ p. p.id) (pools_after self.now change.now) id }
+    {
+        match last_of(change.parts().new_pools.as_slice(), u64::from(id)) {
+            Some(pool) => Some(*pool),
+            None => self.kept_pool(change, id),
+        }
+    }
+
+    /// Whether the map has a pool of an id.
+    fn has_pool(&self, id: u32) -> bool
+        ensures { result ≡ has_pool self.now.pools id }
+    {
+        self.pool(id).is_some()
+    }
+
+    /// Whether a pool of an id stays.
+    fn keeps_pool(&self, change: &Change, id: u32) -> bool
+        ensures { result ≡ has_pool (pools_kept self.now change.now) id }
+    {
+        self.kept_pool(change, id).is_some()
+    }
+
+    /// Whether the pool of a group is there after a change.
+    fn has_pool_after(&self, change: &Change, pg: Pg) -> bool
+        ensures { result ≡ has_pool_of (pools_after self.now change.now) pg }
+    {
+        self.pool_after(change, pg.pool).is_some()
+    }
+
+    /// Whether the map has each pool of some ids.
+    fn all_pools(&self, ids: &[u32]) -> bool
+        ensures { result ≡ list_all (has_pool self.now.pools) ids.now }
+    {
+        ids.iter().all(|id| self.has_pool(*id))
+    }
+
+    /// Whether the pool of each of some groups is there after a change.
+    fn all_have_pools(&self, change: &Change, groups: &[Pg]) -> bool
+        ensures { result ≡ list_all (has_pool_of (pools_after self.now change.now)) groups.now }
+    {
+        groups.iter().all(|pg| self.has_pool_after(change, *pg))
+    }
+
+    /// Whether the pool of the group of each of some exceptions is there after a change.
+    fn all_except_pools<E: Entry>(&self, change: &Change, exceptions: &[Exception<E>]) -> bool
+        ensures { result ≡ list_all (λ e. has_pool_of (pools_after self.now change.now) e.pg) exceptions.now }
+    {
+        exceptions.iter().all(
+            |exception: &Exception<E>| -> bool
+                ensures { result ≡ has_pool_of (pools_after self.entry.now change.entry.now) exception.now.pg }
+            { self.has_pool_after(change, exception.pg) },
+        )
+    }
+
+    /// Whether each pool that a change takes away is there, and after it the pool of each group that it names.
+    #[tactic(auto, unfolding(crate::specs::Changes::names_pools, crate::specs::Changes::all_groups))]
+    fn names_pools(&self, change: &Change) -> bool
+        ensures { result ≡ names_pools self.now change.now }
+    {
+        let parts = change.parts();
+        self.all_pools(parts.old_pools.as_slice())
+            && self.all_have_pools(change, parts.old_upmap.as_slice())
+            && self.all_have_pools(change, parts.old_items.as_slice())
+            && self.all_except_pools(change, parts.new_upmap.as_slice())
+            && self.all_except_pools(change, parts.new_items.as_slice())
+    }
+
+    /// Whether no pool comes whose id stays.
+    #[tactic(auto, unfolding(crate::specs::Changes::brings_new))]
+    fn brings_new(&self, change: &Change) -> bool
+        ensures { result ≡ brings_new self.now change.now }
+    {
+        let new = change.parts().new_pools.as_slice();
+        new.iter().all(|pool| !self.keeps_pool(change, pool.id()))
+    }
+
+    /// Whether each of some pools has a rule of its kind.
+    fn have_rules(&self, pools: &[Pool]) -> bool
+        ensures { result ≡ list_all (has_rule self.now.rules) pools.now }
+    {
+        pools.iter().all(|pool| self.has_rule(pool))
+    }
+
+    /// Whether a pool has a rule of its kind.
+    fn has_rule(&self, pool: &Pool) -> bool
+        ensures { result ≡ has_rule self.now.rules pool.now }
+    {
+        self.rule(pool.rule())
+            .is_some_and(|rule| rule.kind() == pool.kind())
+    }
+
+    /// Whether each pool that comes has a rule of its kind, and there are at most 32 pools then.
+    #[tactic(auto, unfolding(crate::specs::Changes::brings_rightly))]
+    fn brings_rightly(&self, change: &Change) -> bool
+        requires { brings_new self.now change.now ≡ true }
+        ensures { result ≡ brings_rightly self.now change.now }
+    {
+        let _ = &self.pools;
+        let new = change.parts().new_pools.as_slice();
+        self.have_rules(new) && put_count(&[], new) <= MAX_POOLS - self.count_kept(change)
+    }
+
+    /// How many pools stay.
+    fn count_kept(&self, change: &Change) -> usize
+        ensures { result ≡ length (pools_kept self.now change.now) }
+    {
+        let old = change.parts().old_pools.as_slice();
+        self.pools
+            .iter()
+            .filter(|pool| !has(old, u64::from(pool.id())))
+            .count()
+    }
+
+    /// Whether a group is there after a change.
+    fn group_after(&self, change: &Change, pg: Pg) -> bool
+        ensures { result ≡ has_group (pools_after self.now change.now) pg }
+    {
+        self.pool_after(change, pg.pool)
+            .is_some_and(|pool| pg.number < pool.pg_num())
+    }
+
+    /// Whether each of some groups is there after a change.
+    fn all_groups_after(&self, change: &Change, groups: &[Pg]) -> bool
+        ensures { result ≡ list_all (has_group (pools_after self.now change.now)) groups.now }
+    {
+        groups.iter().all(|pg| self.group_after(change, *pg))
+    }
+
+    /// Whether the group of each of some exceptions is there after a change.
+    fn all_excepted_after<E: Entry>(&self, change: &Change, exceptions: &[Exception<E>]) -> bool
+        ensures { result ≡ list_all (λ e. has_group (pools_after self.now change.now) e.pg) exceptions.now }
+    {
+        exceptions.iter().all(
+            |exception: &Exception<E>| -> bool
+                ensures { result ≡ has_group (pools_after self.entry.now change.entry.now) exception.now.pg }
+            { self.group_after(change, exception.pg) },
+        )
+    }
+
+    /// Whether each group that a change names is there after it.
+    #[tactic(auto, unfolding(crate::specs::Changes::names_groups, crate::specs::Changes::all_groups))]
+    fn names_groups(&self, change: &Change) -> bool
+        ensures { result ≡ names_groups self.now change.now }
+    {
+        let parts = change.parts();
+        self.all_groups_after(change, parts.old_upmap.as_slice())
+            && self.all_groups_after(change, parts.old_items.as_slice())
+            && self.all_excepted_after(change, parts.new_upmap.as_slice())
+            && self.all_excepted_after(change, parts.new_items.as_slice())
+    }
+
+    /// Whether an exception that comes is sound for its pool after the change.
+    fn is_sound_after<E: Entry>(&self, change: &Change, exception: &Exception<E>) -> bool
+        ensures { result ≡ is_sound E.sound (pools_after self.now change.now) exception.now }
+    {
+        match self.pool_after(change, exception.pg.pool) {
+            Some(pool) => exception.is_sound(&pool),
+            None => false,
+        }
+    }
+
+    /// Whether each of some exceptions is sound for its pool after the change.
+    fn all_sound_after<E: Entry>(&self, change: &Change, exceptions: &[Exception<E>]) -> bool
+        ensures { result ≡ list_all (is_sound E.sound (pools_after self.now change.now)) exceptions.now }
+    {
+        exceptions.iter().all(
+            |exception: &Exception<E>| -> bool
+                ensures { result ≡ is_sound E.sound (pools_after self.entry.now change.entry.now) exception.now }
+            { self.is_sound_after(change, exception) },
+        )
+    }
+
+    /// Whether each exception that comes is sound for its pool.
+    #[tactic(auto, unfolding(crate::specs::Changes::excepts_soundly))]
+    fn excepts_soundly(&self, change: &Change) -> bool
+        ensures { result ≡ excepts_soundly self.now change.now }
+    {
+        let parts = change.parts();
+        self.all_sound_after(change, parts.new_upmap.as_slice())
+            && self.all_sound_after(change, parts.new_items.as_slice())
+    }
+
+    /// Whether the map refuses a change: the first of these over all its parts. `UnknownOsd` (21): an OSD of down, up,
+    /// weight, an explicit set or a pair does not exist. `BadWeight` (22): a reweight is above 65,536. `UnknownPool` (23):
+    /// an old pool is not there, or after the old and the new pools the pool of a group that is named. `PoolExists` (24): a
+    /// new pool's id stays. `BadPool` (15): a new pool has no rule of its kind, or there are more than 32 pools then.
+    /// `UnknownGroup` (25): a group that is named is not there then. `BadNewException` (26): an explicit set or a list of
+    /// pairs is empty, longer than its pool's size, has an OSD twice or a pair with equal sides. `DuplicatePart` (27): a key
+    /// twice in a part, or in both parts of a couple. It takes no memory.
     pub fn check(&self, change: &Change) -> Result<(), Refusal>
         ensures { result_err result ≡ change_fault self.now change.now }
     {
@@ -99,7 +300,22 @@ impl OsdMap {
         if !weighs_rightly(change) {
             return Err(Refusal::BadWeight);
         }
-        if !self.names_once(change) {
+        if !self.names_pools(change) {
+            return Err(Refusal::UnknownPool);
+        }
+        if !self.brings_new(change) {
+            return Err(Refusal::PoolExists);
+        }
+        if !self.brings_rightly(change) {
+            return Err(Refusal::BadPool);
+        }
+        if !self.names_groups(change) {
+            return Err(Refusal::UnknownGroup);
+        }
+        if !self.excepts_soundly(change) {
+            return Err(Refusal::BadNewException);
+        }
+        if !names_once(change) {
             return Err(Refusal::DuplicatePart);
         }
         Ok(())

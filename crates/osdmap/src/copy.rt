@@ -1,12 +1,17 @@
 ghost use Rattle.std.specs.Prelude.{◌≡◌, IfOk};
 
+use crate::exception::{Entry, Exception};
+use crate::keyed::Again;
 use crate::map::OsdMap;
 use crate::rules::NumberedRule;
 use crush::{Entries, Memory};
 use std::alloc::{AllocError, Global};
 
 /// Each of some rules once more.
-fn copied_rules(alloc: Global, rules: &[NumberedRule]) -> Result<Vec<NumberedRule>, Memory>
+pub(crate) fn copied_rules(
+    alloc: Global,
+    rules: &[NumberedRule],
+) -> Result<Vec<NumberedRule>, Memory>
     ensures { IfOk result (λ copies. copies.items ≡ rules.now) }
 {
     let mut copies = Vec::with_capacity(alloc, rules.len())?;
@@ -17,6 +22,17 @@ fn copied_rules(alloc: Global, rules: &[NumberedRule]) -> Result<Vec<NumberedRul
             rule,
         };
         copies.push(copy).map_err(AllocError::from)?;
+    }
+    Ok(copies)
+}
+
+/// Each of some exceptions once more.
+fn copied<E: Entry>(alloc: Global, exceptions: &[Exception<E>]) -> Result<Vec<Exception<E>>, Memory>
+    ensures { IfOk result (λ copies. copies.items ≡ exceptions.now) }
+{
+    let mut copies = Vec::with_capacity(alloc, exceptions.len())?;
+    for exception in exceptions {
+        copies.push(exception.again()).map_err(AllocError::from)?;
     }
     Ok(copies)
 }
@@ -35,6 +51,8 @@ impl OsdMap {
             pools: Vec::from_slice(alloc, &self.pools)?,
             presences: Entries::new(Vec::from_slice(alloc, self.presences.as_slice())?),
             weights: self.weights.copy(alloc)?,
+            explicit: copied(alloc, &self.explicit)?,
+            items: copied(alloc, &self.items)?,
         })
     }
 }

@@ -1,36 +1,112 @@
+ghost use Rattle.std.specs.Prelude.{◌≡◌};
+ghost use Rattle.std.specs.Option.{option_copied};
+ghost use Rattle.osdmap.specs.Evals.{is_named, names_reweighted};
+
 use crate::change::Change;
+use crate::exception::{Entry, name_reweighted};
+use crate::keyed::has;
 use crate::map::OsdMap;
+use crate::pg::Pg;
 use crate::pool::Pool;
 use crush::Rule;
 
-impl OsdMap {
-    ghost use Rattle.std.specs.Prelude.{◌≡◌};
-    ghost use Rattle.std.specs.List.{list_any};
-    ghost use Rattle.osdmap.specs.Evals.{takes_over, is_touched, evals_of};
+/// Whether exceptions of a group go or come with a change.
+#[tactic(auto, unfolding(crate::specs::Evals::is_named))]
+fn is_named(change: &Change, pg: Pg) -> bool
+    ensures { result ≡ is_named change.now pg }
+{
+    let parts = change.parts();
+    let place = pg.place();
+    has(parts.old_upmap.as_slice(), place)
+        || has(parts.old_items.as_slice(), place)
+        || has(parts.new_upmap.as_slice(), place)
+        || has(parts.new_items.as_slice(), place)
+}
 
-    /// How many groups' placement a change can alter: the groups of the pools whose rule reaches an OSD that gets another
-    /// reweight.
+/// Whether an exception names an OSD that gets another reweight.
+fn names_reweighted<E: Entry>(change: &Change, said: Option<&[E]>) -> bool
+    ensures { result ≡ names_reweighted E.names change.now (option_copied said.entry) }
+{
+    let weight = change.parts().weight.as_slice();
+    said.is_some_and(|entries| name_reweighted(entries, weight))
+}
+
+impl OsdMap {
+    ghost use Rattle.std.specs.Prelude.{◌≡◌, ◌≤◌};
+    ghost use Rattle.std.specs.List.{list_any, count_by, range_with_len};
+    ghost use Rattle.osdmap.specs.Placement.{group_of};
+    ghost use Rattle.osdmap.specs.Evals.{takes_over, reaches, is_touched, concerns, is_evaluated, evals_of};
+
+    /// How many groups of the map may be placed otherwise than before a change that led to it: the groups of the pools that
+    /// came with it or whose rule reaches an OSD that got another reweight, those whose exceptions went or came, and those
+    /// whose exceptions name such an OSD.
     #[tactic(auto, unfolding(crate::specs::Evals::evals_of))]
     pub fn evals(&self, change: &Change) -> usize
         ensures { result ≡ evals_of self.now change.now }
     {
         let mut evals = 0;
         for pool in &self.pools {
-            if self.is_touched(pool, change) {
-                evals += pool.pg_num() as usize;
-            }
+            evals += self.evals_in(pool, change);
         }
         evals
     }
 
-    /// Whether the pool's rule reaches an OSD that gets another reweight.
+    /// How many of a pool's groups may be placed otherwise.
+    fn evals_in(&self, pool: &Pool, change: &Change) -> usize
+        ensures value { result ≡ count_by (is_evaluated self.now change.now pool.now) (range_with_len 0 pool.now.pg_num) }
+        ensures few { result ≤ 4096 }
+    {
+        let groups = pool.pg_num();
+        if self.is_touched(pool, change) {
+            groups as usize
+        } else {
+            self.concerned_in(pool, change)
+        }
+    }
+
+    /// How many of a pool's groups have exceptions that a change concerns.
+    fn concerned_in(&self, pool: &Pool, change: &Change) -> usize
+        ensures { result ≡ count_by (λ n. concerns self.now change.now (group_of pool.now n)) (range_with_len 0 pool.now.pg_num) }
+    {
+        (0..pool.pg_num())
+            .filter(|number| self.concerns(pool, *number, change))
+            .count()
+    }
+
+    /// Whether all groups of a pool may be placed otherwise: it came with the change, or its rule reaches an OSD that got
+    /// another reweight.
     #[tactic(auto, unfolding(crate::specs::Evals::is_touched))]
     fn is_touched(&self, pool: &Pool, change: &Change) -> bool
         ensures { result ≡ is_touched self.now change.now pool.now }
     {
+        has(change.parts().new_pools.as_slice(), u64::from(pool.id())) || self.reaches(pool, change)
+    }
+
+    /// Whether a change concerns the exceptions of a group of a pool: they go or come, or name an OSD that gets another
+    /// reweight.
+    #[tactic(auto, unfolding(crate::specs::Evals::concerns))]
+    fn concerns(&self, pool: &Pool, number: u32, change: &Change) -> bool
+        ensures { result ≡ concerns self.now change.now (group_of pool.now number) }
+    {
+        let pg = Pg {
+            pool: pool.id(),
+            number,
+        };
+        is_named(change, pg)
+            || names_reweighted(change, self.explicit(pg))
+            || names_reweighted(change, self.items(pg))
+    }
+
+    /// Whether the pool's rule reaches an OSD that gets another reweight.
+    #[tactic(auto, unfolding(crate::specs::Evals::reaches))]
+    fn reaches(&self, pool: &Pool, change: &Change) -> bool
+        ensures { result ≡ reaches self.now change.now pool.now }
+    {
         match self.rule(pool.rule()) {
             Some(rule) => change
-                .weight()
+                .parts()
+                .weight
+                .as_slice()
                 .iter()
                 .any(|reweight| self.is_reached(rule, reweight.osd)),
             None => false,

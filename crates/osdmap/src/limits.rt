@@ -1,7 +1,8 @@
 ghost use Rattle.std.specs.Prelude.{◌≡◌, length, ◌≤◌, IsTrue, pos, nat_abs};
 ghost use Rattle.std.specs.List.{list_all};
-ghost use Rattle.osdmap.specs.Parts.{is_between, has_between, is_bucket_id, item_fits, bucket_fits, step_fits, rule_fits, pool_fits, osd_fits, head_fits, lists_fit, parts_fit};
+ghost use Rattle.osdmap.specs.Parts.{is_between, has_between, is_bucket_id, is_osd_id, item_fits, bucket_fits, step_fits, rule_fits, pool_fits, osd_fits, head_fits, lists_fit, parts_fit};
 
+use crate::entry_part::exceptions_fit;
 use crate::parts::{BucketPart, ItemPart, MapParts, OsdPart, PoolPart, RulePart, StepPart};
 use crate::up_set::MAX_PLACES;
 use crush::limits;
@@ -36,12 +37,14 @@ pub const MAX_POOLS: usize = 32;
 pub const MAX_POOL_ID: i128 = 65_535;
 /// How many groups a pool has at most.
 pub const MAX_GROUPS: i128 = 4_096;
+/// How many exceptions of one kind a map has at most, and how many entries a list of a change.
+pub const MAX_EXCEPTIONS: usize = 131_072;
 /// The reweight of an OSD that takes its whole share.
 pub const FULL_WEIGHT: u32 = 65_536;
 
 /// Whether a number is among `low` to `high`.
 #[tactic(auto, unfolding(crate::specs::Parts::is_between))]
-fn is_between(low: i128, high: i128, number: i128) -> bool
+pub fn is_between(low: i128, high: i128, number: i128) -> bool
     ensures { result ≡ is_between low high number }
 {
     low <= number && number <= high
@@ -55,9 +58,17 @@ fn is_bucket_id(number: i128) -> bool
     is_between(LOWEST_BUCKET, -1, number)
 }
 
+/// Whether a number can be an OSD's id.
+#[tactic(auto, unfolding(crate::specs::Parts::is_osd_id))]
+pub fn is_osd_id(number: i128) -> bool
+    ensures { result ≡ is_osd_id number }
+{
+    is_between(0, MAX_OSDS - 1, number)
+}
+
 /// Whether a list has `low` to `high` entries.
 #[tactic(auto, unfolding(crate::specs::Parts::has_between))]
-fn has_between<T>(low: usize, high: usize, list: &[T]) -> bool
+pub fn has_between<T>(low: usize, high: usize, list: &[T]) -> bool
     ensures { result ≡ has_between low high list.now }
 {
     low <= list.len() && list.len() <= high
@@ -127,7 +138,7 @@ fn all_rules_fit(rules: &[RulePart]) -> bool
 
 /// Whether each number of a pool is within its limits.
 #[tactic(auto, unfolding(crate::specs::Parts::pool_fits))]
-pub(crate) fn pool_fits(pool: &PoolPart) -> bool
+pub fn pool_fits(pool: &PoolPart) -> bool
     ensures { result ≡ pool_fits pool.now }
 {
     is_between(1, MAX_POOL_ID, pool.id)
@@ -137,7 +148,8 @@ pub(crate) fn pool_fits(pool: &PoolPart) -> bool
         && is_between(1, MAX_SIZE, pool.size)
 }
 
-fn all_pools_fit(pools: &[PoolPart]) -> bool
+/// Whether each number of some pools is within its limits.
+pub fn all_pools_fit(pools: &[PoolPart]) -> bool
     ensures { result ≡ list_all pool_fits pools.now }
 {
     pools.iter().all(|pool| pool_fits(pool))
@@ -185,11 +197,13 @@ pub(crate) fn parts_fit(parts: &MapParts) -> bool
         && all_rules_fit(parts.rules.as_slice())
         && all_pools_fit(parts.pools.as_slice())
         && all_osds_fit(parts.osds.as_slice())
+        && exceptions_fit(parts.pg_upmap.as_slice())
+        && exceptions_fit(parts.pg_upmap_items.as_slice())
 }
 
 /// A number within a word, as a word.
 #[tactic(auto, unfolding(crate::specs::Parts::is_between))]
-pub(crate) fn word(number: i128) -> u32
+pub fn word(number: i128) -> u32
     requires { IsTrue (is_between (pos 0) (pos 4294967295) number) }
     ensures { result ≡ nat_abs number }
 {

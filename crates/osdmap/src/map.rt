@@ -1,4 +1,7 @@
+use crate::exception::{Explicit, Items, Pair};
+use crate::keyed::entry_of;
 use crate::osd::{OsdState, Presence};
+use crate::pg::Pg;
 use crate::pool::Pool;
 use crate::rules::NumberedRule;
 use crush::{Entries, Forest, Rule, Weights};
@@ -14,6 +17,8 @@ pub struct OsdMap {
     pub(crate) pools: Vec<Pool>,
     pub(crate) presences: Entries<Presence>,
     pub(crate) weights: Weights,
+    pub(crate) explicit: Vec<Explicit>,
+    pub(crate) items: Vec<Items>,
 }
 
 impl Model for OsdMap {
@@ -21,14 +26,15 @@ impl Model for OsdMap {
 
     ghost Value = { ClusterMap };
 
-    ghost view = { λ m. record { epoch = m.epoch; buckets = m.forest; rules = m.rules.items; pools = m.pools.items; presences = m.presences; weights = m.weights } };
+    ghost view = { λ m. record { epoch = m.epoch; buckets = m.forest; rules = m.rules.items; pools = m.pools.items; presences = m.presences; weights = m.weights; explicit = m.explicit.items; items = m.items.items } };
 
-    ghost invariant = { λ m. HoldsTogether (record { epoch = m.epoch; buckets = m.forest; rules = m.rules.items; pools = m.pools.items; presences = m.presences; weights = m.weights }) };
+    ghost invariant = { λ m. HoldsTogether (record { epoch = m.epoch; buckets = m.forest; rules = m.rules.items; pools = m.pools.items; presences = m.presences; weights = m.weights; explicit = m.explicit.items; items = m.items.items }) };
 }
 
 impl OsdMap {
-    ghost use Rattle.std.specs.Prelude.{◌≡◌, length};
+    ghost use Rattle.std.specs.Prelude.{◌≡◌, ◌≤◌, length, IfSome};
     ghost use Rattle.std.specs.Option.{option_copied};
+    ghost use Rattle.osdmap.specs.Exceptions.{said_of};
     ghost use Rattle.osdmap.specs.Maps.{rule_at, pool_at, osd_at};
 
     /// The epoch.
@@ -50,6 +56,13 @@ impl OsdMap {
         ensures { result.now ≡ self.now.buckets }
     {
         &self.forest
+    }
+
+    /// The rules, by id upwards.
+    pub fn rules(&self) -> &[NumberedRule]
+        ensures { result.now ≡ self.now.rules }
+    {
+        &self.rules
     }
 
     /// The rule of an id.
@@ -87,5 +100,37 @@ impl OsdMap {
             up: presence.up,
             weight,
         })
+    }
+
+    /// The explicit sets, by group upwards.
+    pub fn explicits(&self) -> &[Explicit]
+        ensures { result.now ≡ self.now.explicit }
+    {
+        &self.explicit
+    }
+
+    /// The pairs of groups, by group upwards.
+    pub fn all_items(&self) -> &[Items]
+        ensures { result.now ≡ self.now.items }
+    {
+        &self.items
+    }
+
+    /// The explicit set of a group: at most 10 OSDs.
+    pub fn explicit(&self, pg: Pg) -> Option<&[u32]>
+        ensures value { option_copied result ≡ said_of self.now.explicit pg }
+        ensures few { IfSome result (λ osds. length osds.now ≤ 10) }
+    {
+        let explicit = entry_of(&self.explicit, pg.place())?;
+        Some(explicit.entries.as_slice())
+    }
+
+    /// The pairs of a group, in order: at most 10.
+    pub fn items(&self, pg: Pg) -> Option<&[Pair]>
+        ensures value { option_copied result ≡ said_of self.now.items pg }
+        ensures few { IfSome result (λ pairs. length pairs.now ≤ 10) }
+    {
+        let items = entry_of(&self.items, pg.place())?;
+        Some(items.entries.as_slice())
     }
 }

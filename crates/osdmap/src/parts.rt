@@ -1,3 +1,4 @@
+use crate::pg_text::PgParts;
 use crush::{BucketKind, Entries, Mode, RuleKind};
 
 /// A map as a text states it, its numbers untested: each is any whole number.
@@ -17,6 +18,10 @@ pub struct MapParts {
     pub pools: Entries<PoolPart>,
     /// The OSDs listed.
     pub osds: Entries<OsdPart>,
+    /// The explicit sets: 0 to 131,072.
+    pub pg_upmap: Entries<ExceptionPart<i128>>,
+    /// The pairs of groups: 0 to 131,072.
+    pub pg_upmap_items: Entries<ExceptionPart<PairPart>>,
 }
 
 /// A bucket as a text states it.
@@ -95,4 +100,22 @@ pub struct OsdPart {
     pub up: bool,
     /// The reweight, in parts of 65,536: 0 to 65,536.
     pub weight: i128,
+}
+
+/// An exception as a text states it.
+#[derive(Debug, Drop)]
+pub struct ExceptionPart<E> {
+    /// The group: its pool is 1 to 65,535, its number has at most 32 bits.
+    pub pg: PgParts,
+    /// What is said of the group, in order: 0 to 10 OSDs or pairs.
+    pub entries: Entries<E>,
+}
+
+/// A pair as a text states it.
+#[derive(Clone, Copy, Debug, PartialEq, Eq)]
+pub struct PairPart {
+    /// 0 to 1,023.
+    pub from: i128,
+    /// 0 to 1,023.
+    pub to: i128,
 }

@@ -71,6 +71,7 @@ fn point(text: &[u8]) -> Option<usize>
 
 impl PgParts {
     ghost use Rattle.osdmap.specs.PgText.{parts_in};
+    ghost use Rattle.osdmap.specs.Parts.{pg_of};
 
     /// The parts that a text states; `None` where it is no text of a group.
     #[tactic(auto, unfolding(crate::specs::PgText::parts_in))]
@@ -81,6 +82,16 @@ impl PgParts {
         let pool = number(POOL_BASE, &text[..point])?;
         let number = number(NUMBER_BASE, &text[point + 1..])?;
         Some(PgParts { pool, number })
+    }
+
+    /// The group of these parts; a part of more than 32 bits counts as 0.
+    pub fn group(&self) -> Pg
+        ensures { result ≡ pg_of self.now }
+    {
+        Pg {
+            pool: self.pool.unwrap_or(0),
+            number: self.number.unwrap_or(0),
+        }
     }
 }
 

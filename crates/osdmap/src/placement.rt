@@ -2,6 +2,7 @@ ghost use Rattle.std.specs.Prelude.{◌≡◌, ◌<◌, unwrap_or, nat_le};
 ghost use Rattle.std.specs.List.{find};
 ghost use Rattle.osdmap.specs.Placement.{mask_of, stable_mod, placement_input};
 
+use crate::exception::Pair;
 use crate::map::OsdMap;
 use crate::pg::Pg;
 use crate::pool::Pool;
@@ -51,11 +52,14 @@ fn placement_input(pool: &Pool, number: u32) -> u32
 }
 
 impl OsdMap {
-    ghost use Rattle.std.specs.Prelude.{◌≡◌, ◌≤◌, ◌<◌, true, length, ℤ, List, Option, Some, None, map, IfOk, MatchResult, option_and_then};
-    ghost use Rattle.osdmap.specs.Stated.{Makes};
+    ghost use Rattle.std.specs.Prelude.{◌≡◌, ◌≤◌, ◌<◌, true, length, List, Option, Some, None, map, IfOk, MatchResult, option_and_then};
+    ghost use Rattle.osdmap.specs.Stated.{Gives};
+    ghost use Rattle.std.specs.List.{list_any, fold};
     ghost use Rattle.osdmap.specs.Maps.{pool_at, has_rule};
+    ghost use Rattle.osdmap.specs.Mapped.{is_weightless, with_pair, mapped};
+    ghost use Rattle.osdmap.specs.Exceptions.{said_of};
     ghost use Rattle.osdmap.specs.Sets.{places_of, kept};
-    ghost use Rattle.osdmap.specs.Placement.{group_fault, existing, upward, placed, raw_set, mapped_set, up_set, Places};
+    ghost use Rattle.osdmap.specs.Placement.{group_fault, existing, upward, placed, raw_set, mapped_set, up_set, Places, RunsOnce};
 
     /// The OSD of a device, where it exists.
     fn existing(&self, device: i32) -> Option<u32>
@@ -113,7 +117,8 @@ impl OsdMap {
     #[tactic(auto, unfolding(crate::specs::Placement::raw_set, crate::specs::Placement::placed))]
     fn raw_in(&self, pool: &Pool, number: u32, work: &mut Work) -> Result<UpSet, Memory>
         requires { has_rule self.now.rules pool.now ≡ true }
-        ensures { IfOk result (λ set. places_of set ≡ raw_set self.now pool.now number) }
+        ensures set { IfOk result (λ set. places_of set ≡ raw_set self.now pool.now number) }
+        ensures run { RunsOnce work.old work.new result }
     {
         let input = placement_input(pool, number);
         let rule = self.rule(pool.rule()).unwrap();
@@ -121,53 +126,103 @@ impl OsdMap {
         Ok(self.existing_set(pool, work.result()))
     }
 
-    /// The raw set of a group: the OSDs that its pool's rule places and that exist (Ceph, `_pg_to_raw_osds`).
-    /// `UnknownPool` (23), `UnknownGroup` (25), or `Memory` (30).
+    /// Whether an OSD is out for good.
+    fn is_weightless(&self, osd: u32) -> bool
+        ensures { result ≡ is_weightless self.now.weights osd }
+    {
+        self.weights.get(osd as usize).unwrap_or(0) == 0
+    }
+
+    /// Whether one of some OSDs is out for good.
+    fn has_weightless(&self, osds: &[u32]) -> bool
+        ensures { result ≡ list_any (is_weightless self.now.weights) osds.now }
+    {
+        osds.iter().any(|osd| self.is_weightless(*osd))
+    }
+
+    /// A pair acts on a set.
+    #[tactic(auto, unfolding(crate::specs::Mapped::with_pair))]
+    fn act(&self, set: &mut UpSet, pair: Pair)
+        ensures { places_of set.new ≡ with_pair self.now.weights (places_of set.old) pair }
+    {
+        if !set.has(pair.to) && !self.is_weightless(pair.to) {
+            set.replace(pair);
+        }
+    }
+
+    /// Some pairs act on a set in order.
+    fn act_all(&self, set: &mut UpSet, pairs: &[Pair])
+        ensures { places_of set.new ≡ fold (with_pair self.now.weights) (places_of set.old) pairs.now }
+    {
+        for pair in pairs {
+            self.act(set, *pair);
+        }
+    }
+
+    /// What exceptions make of the raw set of a group.
+    #[tactic(auto, unfolding(crate::specs::Mapped::mapped))]
+    fn excepted(&self, pg: Pg, raw: UpSet) -> UpSet
+        ensures { places_of result ≡ mapped self.now.weights (said_of self.now.explicit pg) (said_of self.now.items pg) (places_of raw) }
+    {
+        let mut set = match self.explicit(pg) {
+            None => raw,
+            Some(osds) if self.has_weightless(osds) => return raw,
+            Some(osds) => UpSet::of(osds),
+        };
+        if let Some(pairs) = self.items(pg) {
+            self.act_all(&mut set, pairs);
+        }
+        set
+    }
+
+    /// The mapped set of a group of a pool of the map. The rule runs once, also where its set is not wanted.
+    #[tactic(auto, unfolding(crate::specs::Placement::mapped_set))]
+    fn mapped_in(&self, pool: &Pool, number: u32, work: &mut Work) -> Result<UpSet, Memory>
+        requires { has_rule self.now.rules pool.now ≡ true }
+        ensures set { IfOk result (λ set. places_of set ≡ mapped_set self.now pool.now number) }
+        ensures run { RunsOnce work.old work.new result }
+    {
+        let raw = self.raw_in(pool, number, work)?;
+        let pg = Pg {
+            pool: pool.id(),
+            number,
+        };
+        Ok(self.excepted(pg, raw))
+    }
+
+    /// The raw set of a group: the OSDs that its pool's rule places and that exist (Ceph, `_pg_to_raw_osds`). It takes
+    /// one run of the rule, which `work` counts. `UnknownPool` (23), `UnknownGroup` (25), else `Memory` (30).
     pub fn raw_of(&self, pg: Pg, work: &mut Work) -> Result<UpSet, Refusal>
-        ensures { Makes result (group_fault self.now pg) (λ set. Places raw_set self.now pg (places_of set)) }
+        ensures set { Gives result (group_fault self.now pg) (λ set. Places raw_set self.now pg (places_of set)) }
+        ensures run { RunsOnce work.old work.new result }
     {
         let pool = self.pool_of(pg)?;
         Ok(self.raw_in(&pool, pg.number, work)?)
     }
 
-    /// The mapped set of a group: its raw set, as no group has exceptions. `UnknownPool` (23), `UnknownGroup` (25), or
-    /// `Memory` (30).
-    #[tactic(auto, unfolding(crate::specs::Placement::mapped_set))]
+    /// The mapped set of a group: its raw set under its exceptions (Ceph, `_apply_upmap`). Where one of the OSDs of its
+    /// explicit set has reweight 0, neither that set nor its pairs act. It takes one run of the rule, which `work` counts.
+    /// `UnknownPool` (23), `UnknownGroup` (25), else `Memory` (30).
     pub fn mapped_of(&self, pg: Pg, work: &mut Work) -> Result<UpSet, Refusal>
-        ensures { Makes result (group_fault self.now pg) (λ set. Places mapped_set self.now pg (places_of set)) }
-    {
-        self.raw_of(pg, work)
-    }
-
-    /// The up set of a group: its mapped set without OSDs that are down (Ceph, `_raw_to_up_osds`). `UnknownPool` (23),
-    /// `UnknownGroup` (25), or `Memory` (30).
-    #[tactic(auto, unfolding(crate::specs::Placement::mapped_set, crate::specs::Placement::up_set))]
-    pub fn up_of(&self, pg: Pg, work: &mut Work) -> Result<UpSet, Refusal>
-        ensures { Makes result (group_fault self.now pg) (λ set. Places up_set self.now pg (places_of set)) }
+        ensures set { Gives result (group_fault self.now pg) (λ set. Places mapped_set self.now pg (places_of set)) }
+        ensures run { RunsOnce work.old work.new result }
     {
         let pool = self.pool_of(pg)?;
-        let mapped = self.raw_in(&pool, pg.number, work)?;
+        Ok(self.mapped_in(&pool, pg.number, work)?)
+    }
+
+    /// The up set of a group: its mapped set without OSDs that are down (Ceph, `_raw_to_up_osds`). It takes one run of
+    /// the rule, which `work` counts. `UnknownPool` (23), `UnknownGroup` (25), else `Memory` (30).
+    #[tactic(auto, unfolding(crate::specs::Placement::up_set))]
+    pub fn up_of(&self, pg: Pg, work: &mut Work) -> Result<UpSet, Refusal>
+        ensures set { Gives result (group_fault self.now pg) (λ set. Places up_set self.now pg (places_of set)) }
+        ensures run { RunsOnce work.old work.new result }
+    {
+        let pool = self.pool_of(pg)?;
+        let mapped = self.mapped_in(&pool, pg.number, work)?;
         Ok(self.upward_set(&pool, &mapped))
     }
 }
 
 #[cfg(test)]
-mod tests {
-    use super::stable_mod;
-
-    #[test]
-    fn folds_as_published(rt: HostRuntime) {
-        let folded = [
-            (0, 1, 0, 0),
-            (3, 4, 3, 3),
-            (4, 5, 7, 4),
-            (6, 5, 7, 2),
-            (7, 6, 7, 3),
-            (16, 17, 31, 16),
-            (17, 17, 31, 1),
-        ];
-        for (number, count, mask, wanted) in folded {
-            assert_eq!(rt; stable_mod(number, count, mask), wanted);
-        }
-    }
-}
+mod tests;

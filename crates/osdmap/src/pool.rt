@@ -55,6 +55,13 @@ impl Pool {
         })
     }
 
+    /// Its numbers are within their limits.
+    pub(crate) fn is_within_limits(&self)
+        ensures { IsWithinLimits self.now }
+    {
+        let _ = &self.id;
+    }
+
     /// The id.
     pub fn id(&self) -> u32
         ensures { result ≡ self.now.id }

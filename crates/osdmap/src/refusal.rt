@@ -19,10 +19,14 @@ pub enum Refusal {
     BadForest,
     /// 14: a rule's id twice, steps outside the grammar, or a take of an unknown bucket.
     BadRule,
-    /// 15: a pool's id twice, no such rule, a rule of the other kind, or more groups for placement than groups.
+    /// 15: a pool's id twice, no such rule, a rule of the other kind, or more groups for placement than groups; in a change
+    /// also more than 32 pools after it.
     BadPool,
     /// 16: an OSD's id twice, an id not below `max_osd`, or an OSD that is up but does not exist.
     BadOsd,
+    /// 17: in a map a group twice among the explicit sets or among the pairs, no such group, an OSD that does not exist, or
+    /// what 26 names.
+    BadException,
     /// 20: the change is for another epoch than the current one, which it carries.
     StaleEpoch(u64),
     /// 21: an OSD that does not exist.
@@ -31,8 +35,13 @@ pub enum Refusal {
     BadWeight,
     /// 23: no such pool.
     UnknownPool,
+    /// 24: a pool comes whose id is there once the old pools are taken away.
+    PoolExists,
     /// 25: a group's number is not below its pool's number of groups.
     UnknownGroup,
+    /// 26, of the same name as 17: in a change an explicit set that is empty, longer than its pool's size or has an OSD
+    /// twice; or pairs of which there are none, more than the pool's size, or one whose two sides are equal.
+    BadNewException,
     /// 27: one key twice in one part of a change, or in both parts of a couple.
     DuplicatePart,
     /// 28: the journal has its capacity.
@@ -59,11 +68,14 @@ impl Refusal {
             Refusal::BadRule => 14,
             Refusal::BadPool => 15,
             Refusal::BadOsd => 16,
+            Refusal::BadException => 17,
             Refusal::StaleEpoch(_) => 20,
             Refusal::UnknownOsd => 21,
             Refusal::BadWeight => 22,
             Refusal::UnknownPool => 23,
+            Refusal::PoolExists => 24,
             Refusal::UnknownGroup => 25,
+            Refusal::BadNewException => 26,
             Refusal::DuplicatePart => 27,
             Refusal::JournalFull => 28,
             Refusal::Memory => 30,
@@ -83,10 +95,12 @@ impl Refusal {
             Refusal::BadRule => "BadRule",
             Refusal::BadPool => "BadPool",
             Refusal::BadOsd => "BadOsd",
+            Refusal::BadException | Refusal::BadNewException => "BadException",
             Refusal::StaleEpoch(_) => "StaleEpoch",
             Refusal::UnknownOsd => "UnknownOsd",
             Refusal::BadWeight => "BadWeight",
             Refusal::UnknownPool => "UnknownPool",
+            Refusal::PoolExists => "PoolExists",
             Refusal::UnknownGroup => "UnknownGroup",
             Refusal::DuplicatePart => "DuplicatePart",
             Refusal::JournalFull => "JournalFull",
@@ -97,6 +111,11 @@ impl Refusal {
 }
 
 impl fmt::Display for Refusal {
+    ghost use Rattle.std.specs.Prelude.{Some};
+    ghost use Rattle.osdmap.specs.Refusals.{name_of};
+
+    ghost output = { λ refusal. Some (name_of refusal) };
+
     fn fmt<W: fmt::Write>(&self, f: &mut fmt::Formatter<W>) -> fmt::Result {
         f.write_str(self.name())
     }

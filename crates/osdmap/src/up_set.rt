@@ -1,6 +1,9 @@
-ghost use Rattle.std.specs.Prelude.{◌≡◌, ◌≤◌};
+ghost use Rattle.std.specs.Prelude.{◌≡◌, ◌≤◌, position};
+ghost use Rattle.std.specs.List.{list_any};
+ghost use Rattle.osdmap.specs.Mapped.{is_of};
 ghost use Rattle.osdmap.specs.Primary.{primary_of};
 
+use crate::exception::Pair;
 use crush::RuleKind;
 
 /// The greatest size of a pool, and so of a set.
@@ -12,6 +15,20 @@ pub struct UpSet {
     len: usize,
     places: [Option<u32>; MAX_PLACES],
     ghost short: { len ≤ 10 },
+}
+
+/// Whether some places have an OSD.
+fn has_osd(places: &[Option<u32>], osd: u32) -> bool
+    ensures { result ≡ list_any (is_of osd) places.now }
+{
+    places.iter().any(|place| *place == Some(osd))
+}
+
+/// The place where an OSD first stands.
+fn place_of(places: &[Option<u32>], osd: u32) -> Option<usize>
+    ensures { result ≡ position (is_of osd) places.now }
+{
+    places.iter().position(|place| *place == Some(osd))
 }
 
 /// The first OSD of some places.
@@ -28,7 +45,9 @@ fn first_osd(places: &[Option<u32>]) -> Option<u32>
 
 impl UpSet {
     ghost use Rattle.osdmap.specs.Primary.{primary_of};
-    ghost use Rattle.std.specs.Prelude.{◌≡◌, ◌≤◌, ◌<◌, [], ◌∷◌, ◌++◌, length};
+    ghost use Rattle.std.specs.Prelude.{◌≡◌, ◌≤◌, ◌<◌, [], ◌∷◌, ◌++◌, length, map, Some};
+    ghost use Rattle.std.specs.List.{list_any};
+    ghost use Rattle.osdmap.specs.Mapped.{is_of, replaced};
     ghost use Rattle.osdmap.specs.Sets.{places_of, kept_in};
 
     /// The set without a place.
@@ -63,6 +82,34 @@ impl UpSet {
     {
         self.places[self.len] = place;
         self.len += 1;
+    }
+
+    /// The set of some OSDs, in order.
+    pub(crate) fn of(osds: &[u32]) -> UpSet
+        requires { length osds.now ≤ 10 }
+        ensures { places_of result ≡ map (λ osd. Some osd) osds.now }
+    {
+        let mut set = UpSet::new();
+        for osd in osds {
+            set.push(Some(*osd));
+        }
+        set
+    }
+
+    /// Whether an OSD stands in the set.
+    pub(crate) fn has(&self, osd: u32) -> bool
+        ensures { result ≡ list_any (is_of osd) (places_of self.now) }
+    {
+        has_osd(self.places(), osd)
+    }
+
+    /// One OSD goes to another where it first stands.
+    pub(crate) fn replace(&mut self, pair: Pair)
+        ensures { places_of self.new ≡ replaced pair (places_of self.old) }
+    {
+        if let Some(place) = place_of(self.places(), pair.from) {
+            self.places[place] = Some(pair.to);
+        }
     }
 
     /// One more place, in the way of a kind: copies leave out a place without an OSD, coded parts keep it.

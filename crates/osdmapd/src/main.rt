@@ -85,6 +85,8 @@ fn main(rt: HostRuntime) -> ExitCode {
 }
 
 #[cfg(test)]
+mod changed;
+#[cfg(test)]
 mod tests;
 #[cfg(test)]
 mod worked;

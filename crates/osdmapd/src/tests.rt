@@ -4,7 +4,7 @@ ghost use Rattle.std.specs.Prelude.{◌≤◌};
 use crate::choices::LineError;
 use crate::line::options;
 use crate::serving::{Fault, serve};
-use crate::worked;
+use crate::{changed, worked};
 use osdmap::Refusal;
 use session::Buffer;
 use std::alloc::{AllocError, Global};
@@ -23,6 +23,15 @@ const DEVICE_TWICE: &str =
 /// The device with the weight 0.
 const ITEM_WITHOUT_WEIGHT: &str =
     r#"{"buckets":[{"id":-1,"items":[[0,0]],"kind":"uniform","type":10}],"epoch":1,"max_osd":1,"osds":[{"exists":true,"id":0,"up":true,"weight":65536}],"pg_upmap":[],"pg_upmap_items":[],"pools":[{"id":1,"kind":"replicated","pg_num":1,"pgp_num":1,"rule":0,"size":1}],"rules":[{"id":0,"kind":"replicated","steps":[["take",-1],["choose_firstn",0,0],["emit"]]}],"version":1}"#;
+/// What `dump` answers over one device, with the output's first line.
+const ONE_DEVICE_DUMPED: &str = r#"session 1
+dump {"buckets":[{"id":-1,"items":[[0,65536]],"kind":"uniform","type":10}],"epoch":1,"max_osd":1,"osds":[{"exists":true,"id":0,"up":true,"weight":65536}],"pg_upmap":[],"pg_upmap_items":[],"pools":[{"id":1,"kind":"replicated","pg_num":1,"pgp_num":1,"rule":0,"size":1}],"rules":[{"id":0,"kind":"replicated","steps":[["take",-1],["choose_firstn",0,0],["emit"]]}],"version":1}
+"#;
+/// The same after a change that takes the device down and its reweight away.
+const DUMPED_AFTER_A_CHANGE: &str = r#"session 1
+ok 2 evals 1
+dump {"buckets":[{"id":-1,"items":[[0,65536]],"kind":"uniform","type":10}],"epoch":2,"max_osd":1,"osds":[{"exists":true,"id":0,"up":false,"weight":0}],"pg_upmap":[],"pg_upmap_items":[],"pools":[{"id":1,"kind":"replicated","pg_num":1,"pgp_num":1,"rule":0,"size":1}],"rules":[{"id":0,"kind":"replicated","steps":[["take",-1],["choose_firstn",0,0],["emit"]]}],"version":1}
+"#;
 /// A map cut after its tenth byte.
 const CUT: &str = r#"{"buckets""#;
 
@@ -35,7 +44,7 @@ pub(crate) struct Run {
     pub(crate) wanted: Result<&'static str, Refusal>,
 }
 
-const RUNS: [Run; 7] = [
+const RUNS: [Run; 9] = [
     Run {
         name: "a second replica is skipped after 51 collisions",
         map: TWO_REPLICAS,
@@ -71,6 +80,18 @@ const RUNS: [Run; 7] = [
         map: ONE_DEVICE,
         script: "change {\"base\":1,\"up\":[0],\"down\":[0]}\nepoch\n",
         wanted: Ok("session 1\nerr 27 DuplicatePart\nepoch 1\n"),
+    },
+    Run {
+        name: "the written form of a map is that map's text",
+        map: ONE_DEVICE,
+        script: "dump\n",
+        wanted: Ok(ONE_DEVICE_DUMPED),
+    },
+    Run {
+        name: "the written form after a change",
+        map: ONE_DEVICE,
+        script: "change {\"base\":1,\"down\":[0],\"weight\":[[0,0]]}\ndump\n",
+        wanted: Ok(DUMPED_AFTER_A_CHANGE),
     },
     Run {
         name: "a map of one device cut after its tenth byte",
@@ -125,6 +146,25 @@ fn runs_as_worked(rt: HostRuntime) -> Result<(), Fail> {
 fn runs_over_larger_maps_as_worked(rt: HostRuntime) -> Result<(), Fail> {
     for run in worked::RUNS {
         assert_run(&rt, rt.alloc(), run)?;
+    }
+    Ok(())
+}
+
+#[test]
+fn runs_with_exceptions_as_worked(rt: HostRuntime) -> Result<(), Fail> {
+    for run in changed::RUNS {
+        assert_run(&rt, rt.alloc(), run)?;
+    }
+    Ok(())
+}
+
+#[test]
+fn a_journal_of_one_entry_is_full_after_one_change(rt: HostRuntime) -> Result<(), Fail> {
+    let script = "change {\"base\":1,\"down\":[2]}\nchange {\"base\":2,\"up\":[2]}\nup 1.0\n";
+    let wanted = "session 1\nok 2 evals 0\nerr 28 JournalFull\nup 2 1.0 [0,1] 0\n";
+    match put_out(rt.alloc(), 1, changed::FOUR_DEVICES, script)? {
+        Ok(out) => assert_eq!(rt; out.bytes(), wanted.as_bytes()),
+        Err(_) => assert!(rt; false),
     }
     Ok(())
 }

@@ -12,9 +12,9 @@ use Rattle.session.specs.Shown.{CommitsStated}
 -- the commit of a change that a text states
 pub commits_stated : (old new : History) (text : List ℕ) (base : ℕ) (change : ChangeParts) (r : Result (ℕ × ℕ) Refusal)
     → change_text_fault text ≡ None → StatesChange text (base, change) → Commits old new base change r → CommitsStated old text r new
-commits_stated old new text base change (Ok ok) none states (fault, state, epoch, evals) =
+commits_stated old new text base change (Ok ok) none states ((fault, (state, epoch, evals)), _) =
     (none, ((base, change), states, fault, state, epoch, evals))
-commits_stated old new text base change (Err e) none states (inl memory, same) = (same, inl memory)
+commits_stated old new text base change (Err e) none states (inl memory, same) = (same, inl memory.1)
 commits_stated old new text base change (Err e) none states (inr fault, same) =
     (same, inr (inr (none, ((base, change), states, fault))))
 

@@ -7,10 +7,11 @@ use Rattle.osdmap.specs.declared.refusal.Refusal.TheVariants.{Memory as OutOfMem
 use Rattle.osdmap.specs.Maps.{ClusterMap}
 use Rattle.osdmap.specs.Placement.{group_fault, up_set, Places}
 use Rattle.mapjson.specs.ChangeTexts.{change_text_fault, StatesChange}
+use Rattle.mapjson.specs.Written.{written}
 use Rattle.osdmap.specs.Evals.{evals_of}
 use Rattle.monitor.specs.States.{History, commit_fault, committed}
-use Rattle.session.specs.Commands.{Command, up, epoch, change}
-use Rattle.session.specs.Texts.{up_text, epoch_text, ok_text, refusal_text}
+use Rattle.session.specs.Commands.{Command, up, epoch, dump, change}
+use Rattle.session.specs.Texts.{up_text, epoch_text, dump_text, ok_text, refusal_text}
 
 -- a refusal is answered, and nothing is changed
 abbrev pub Refuses : History → Refusal → List ℕ → History → Type 0
@@ -41,5 +42,6 @@ Changes old text answer new =
 abbrev pub AnswersCommand : History → Option Command → List ℕ → History → Type 0
 AnswersCommand old None answer new = Refuses old BadCommand answer new
 AnswersCommand old (Some epoch) answer new = (answer ≡ epoch_text old.map.epoch) × (new ≡ old)
+AnswersCommand old (Some dump) answer new = Refuses old OutOfMemory answer new ⊎ ((answer ≡ dump_text (written old.map)) × (new ≡ old))
 AnswersCommand old (Some (up pg)) answer new = Refuses old OutOfMemory answer new ⊎ (Looks old.map pg answer × (new ≡ old))
 AnswersCommand old (Some (change text)) answer new = Refuses old OutOfMemory answer new ⊎ Changes old text answer new

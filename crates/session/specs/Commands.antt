@@ -6,7 +6,7 @@ use Rattle.std.specs.Str.{bytes_eq}
 use Rattle.osdmap.specs.declared.pg.Pg.{Pg}
 use Rattle.osdmap.specs.PgText.{group_in}
 use Rattle.session.specs.declared.command.Command.{Command as Read}
-use Rattle.session.specs.declared.command.Command.TheVariants.{Up, Epoch, Change}
+use Rattle.session.specs.declared.command.Command.TheVariants.{Up, Epoch, Dump, Change}
 
 -- the byte of a newline
 abbrev pub is_newline : ℕ → Bool
@@ -17,26 +17,29 @@ unfoldable pub lines_in : List ℕ → List (List ℕ)
 lines_in [] = []
 lines_in (c ∷ cs) = if is_newline c then [] ∷ lines_in cs else onto_first c (lines_in cs)
 
--- what a line asks for: the up set of a group, the epoch, or a change that a JSON text states
+-- what a line asks for: the up set of a group, the epoch, the written form of the map, or a change that a JSON text states
 pub data Command : Type 0 where
   up : Pg → Command
   epoch : Command
+  dump : Command
   change : List ℕ → Command
 
 -- the command that was read of a line
 abbrev pub shown : Read → Command
 shown (Up pg) = up pg
 shown Epoch = epoch
+shown Dump = dump
 shown (Change text) = change text.now
 
 -- what stands behind a word and its space
 abbrev pub behind : List ℕ → List ℕ → Option (List ℕ)
 behind word line = if bytes_eq (take (length word) line) word then Some (drop (length word) line) else None
 
--- the command of a line; none where the line is not `epoch`, `change ` and a text, or `up ` and a group
+-- the command of a line; none where the line is not `epoch`, `dump`, `change ` and a text, or `up ` and a group
 unfoldable pub command_in : List ℕ → Option Command
 command_in line =
     if bytes_eq line (codes "epoch") then Some epoch
+    else if bytes_eq line (codes "dump") then Some dump
     else elim (behind (codes "change ") line) [
       | Some text ↦ Some (change text)
       | None ↦ elim (behind (codes "up ") line) [

@@ -3,7 +3,7 @@ use Rattle.std.specs.Prelude.{ℕ, List, [], ◌∷◌, ◌++◌, codes, Option,
 use Rattle.std.specs.Fmt.{decimal}
 use Rattle.osdmap.specs.declared.pg.Pg.{Pg}
 use Rattle.osdmap.specs.declared.refusal.Refusal.{Refusal}
-use Rattle.osdmap.specs.declared.refusal.Refusal.TheVariants.{BadJson, BadField, BadLimit, BadForest, BadRule, BadPool, BadOsd, StaleEpoch, UnknownOsd, BadWeight, UnknownPool, UnknownGroup, DuplicatePart, JournalFull, Memory, BadCommand}
+use Rattle.osdmap.specs.declared.refusal.Refusal.TheVariants.{BadJson, BadField, BadLimit, BadForest, BadRule, BadPool, BadOsd, BadException, StaleEpoch, UnknownOsd, BadWeight, UnknownPool, PoolExists, UnknownGroup, BadNewException, DuplicatePart, JournalFull, Memory, BadCommand}
 use Rattle.osdmap.specs.Refusals.{number_of, name_of}
 use Rattle.osdmap.specs.PgText.{group_text}
 use Rattle.osdmap.specs.Primary.{primary_of}
@@ -45,6 +45,10 @@ up_text epoch pg places =
 unfoldable pub epoch_text : ℕ → List ℕ
 epoch_text epoch = codes "epoch " ++ decimal epoch ++ newline
 
+-- `dump TEXT`
+unfoldable pub dump_text : List ℕ → List ℕ
+dump_text text = codes "dump " ++ text ++ newline
+
 -- `ok EPOCH evals N`
 unfoldable pub ok_text : ℕ → ℕ → List ℕ
 ok_text epoch evals = codes "ok " ++ decimal epoch ++ codes " evals " ++ decimal evals ++ newline
@@ -58,11 +62,14 @@ detail_of BadForest = []
 detail_of BadRule = []
 detail_of BadPool = []
 detail_of BadOsd = []
+detail_of BadException = []
 detail_of (StaleEpoch current) = codes " " ++ decimal current
 detail_of UnknownOsd = []
 detail_of BadWeight = []
 detail_of UnknownPool = []
+detail_of PoolExists = []
 detail_of UnknownGroup = []
+detail_of BadNewException = []
 detail_of DuplicatePart = []
 detail_of JournalFull = []
 detail_of Memory = []

@@ -8,12 +8,14 @@ use osdmap::{Pg, Refusal, UpSet};
 use std::alloc::AllocError;
 
 /// What a command answers.
-#[derive(Clone, Copy, Debug)]
+#[derive(Debug, Drop)]
 pub(crate) enum Answer {
     /// The up set of a group at an epoch.
     Up { epoch: u64, pg: Pg, set: UpSet },
     /// The epoch.
     Epoch(u64),
+    /// The written form of the map.
+    Dump(String),
     /// The epoch after a change, and the number of groups whose placement the change can alter.
     Changed { epoch: u64, evals: usize },
     /// Why the command is refused.
@@ -71,15 +73,16 @@ impl Answer {
     ghost use Rattle.session.specs.Shown.{answer_text};
 
     /// Puts the answer's line behind a text. The one error is out of memory.
-    #[tactic(auto, unfolding(crate::specs::Texts::epoch_text, crate::specs::Texts::ok_text))]
+    #[tactic(auto, unfolding(crate::specs::Texts::epoch_text, crate::specs::Texts::dump_text, crate::specs::Texts::ok_text))]
     pub(crate) fn push_to(&self, text: &mut String) -> Result<(), AllocError>
         ensures { OnOk result (string_bytes text.new ≡ string_bytes text.old ++ answer_text self.now) }
     {
-        match *self {
-            Answer::Up { epoch, pg, set } => push_up(text, epoch, pg, &set),
+        match self {
+            Answer::Up { epoch, pg, set } => push_up(text, *epoch, *pg, set),
             Answer::Epoch(epoch) => writeln!(text, "epoch {epoch}"),
+            Answer::Dump(map) => writeln!(text, "dump {map}"),
             Answer::Changed { epoch, evals } => writeln!(text, "ok {epoch} evals {evals}"),
-            Answer::Refused(refusal) => push_refusal(text, refusal),
+            Answer::Refused(refusal) => push_refusal(text, *refusal),
         }
     }
 }

@@ -7,6 +7,8 @@ use osdmap::Pg;
 
 const EPOCH: &[u8] = b"epoch";
 
+const DUMP: &[u8] = b"dump";
+
 const CHANGE: &[u8] = b"change ";
 
 const UP: &[u8] = b"up ";
@@ -18,6 +20,8 @@ pub(crate) enum Command<'a> {
     Up(Pg),
     /// Asks for the epoch.
     Epoch,
+    /// Asks for the written form of the map.
+    Dump,
     /// Commits the change that a JSON text states.
     Change(&'a [u8]),
 }
@@ -49,6 +53,9 @@ pub(crate) fn read_command(line: &[u8]) -> Option<Command<'_>>
 {
     if line == EPOCH {
         return Some(Command::Epoch);
+    }
+    if line == DUMP {
+        return Some(Command::Dump);
     }
     if let Some(text) = line.strip_prefix(CHANGE) {
         return Some(Command::Change(text));

@@ -1,7 +1,9 @@
 //! A session: each line of a script in turn, and its answer to a sink.
-ghost use Rattle.std.specs.Prelude.{◌≡◌, ◌<◌, ◌++◌, ℕ, List, length, false, true, OnOk, OnErr, IfErr};
+ghost use Rattle.std.specs.Prelude.{◌≡◌, ◌<◌, ◌++◌, ℕ, List, length, false, true, OnOk, OnErr, IfOk, IfErr};
 ghost use Rattle.std.specs.Option.{option_map};
+ghost use Rattle.std.specs.String.{string_bytes};
 ghost use Rattle.session.specs.declared.session.SessionError.TheVariants.{Write as CannotWrite, Memory as OutOfMemory};
+ghost use Rattle.mapjson.specs.Written.{written};
 ghost use Rattle.session.specs.Commands.{lines_in, shown};
 ghost use Rattle.session.specs.Shown.{answer_text, CommitsStated};
 ghost use Rattle.session.specs.Answers.{AnswersCommand};
@@ -12,9 +14,9 @@ use crate::answer::Answer;
 use crate::command::{Command, first_line, read_command};
 use crate::sink::{Sink, WriteFailed, write_whole};
 use crush::{Forest, Memory, Work};
-use mapjson::read_change;
+use mapjson::{read_change, write_map};
 use monitor::State;
-use osdmap::Refusal;
+use osdmap::{OsdMap, Refusal};
 use std::alloc::Global;
 
 /// Why a session stops before its script ends.
@@ -59,12 +61,22 @@ impl Room {
     }
 }
 
+/// The written form of a map.
+fn dump(alloc: Global, map: &OsdMap) -> Result<String, Memory>
+    ensures { IfOk result (λ text. string_bytes text ≡ written map.now) }
+{
+    match String::from_utf8(write_map(alloc, map)?) {
+        Ok(text) => Ok(text),
+        Err(_) => unreachable!(),
+    }
+}
+
 /// Commits the change that a text states: the new epoch, and the number of groups whose placement it can alter.
 fn change(alloc: Global, state: &mut State, text: &[u8]) -> Result<(u64, usize), Refusal>
     ensures { CommitsStated state.old text.now result state.new }
 {
     let (base, change) = read_change(alloc, text)?;
-    state.commit(base, change)
+    state.commit(alloc, base, change)
 }
 
 /// What a command answers; `None` is a line that is no command.
@@ -79,6 +91,10 @@ fn answer_command(
     match command {
         None => Answer::Refused(Refusal::BadCommand),
         Some(Command::Epoch) => Answer::Epoch(state.map().epoch()),
+        Some(Command::Dump) => match dump(alloc, state.map()) {
+            Ok(text) => Answer::Dump(text),
+            Err(Memory) => Answer::Refused(Refusal::Memory),
+        },
         Some(Command::Up(pg)) => match state.answer_up(pg, work) {
             Ok((epoch, set)) => Answer::Up { epoch, pg, set },
             Err(refusal) => Answer::Refused(refusal),

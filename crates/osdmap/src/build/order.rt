@@ -1,51 +1,18 @@
-ghost use Rattle.std.specs.Prelude.{◌≡◌, ◌<◌, map, IsTrue, nat_lt};
-ghost use Rattle.std.specs.List.{AllPairs, IsAllAdjacentAnswer};
-ghost use Rattle.std.specs.List.Sorted.{IsPermutation};
-ghost use Rattle.osdmap.specs.Changes.{is_distinct};
+ghost use Rattle.std.specs.Prelude.{◌≡◌, map};
+ghost use Rattle.osdmap.specs.Keyed.{is_distinct};
+ghost use Rattle.osdmap.specs.Stated.{Makes};
+ghost use Rattle.osdmap.specs.Built.{refused_unless, Rises};
 
-use crate::pool::Pool;
-use crate::rules::NumberedRule;
+use crate::keyed::{Keyed, are_distinct, sorted};
+use crate::refusal::Refusal;
 
-/// What has a number among its like.
-pub(crate) trait Numbered {
-    ghost use Rattle.std.specs.Prelude.{◌≡◌, ℕ};
-
-    ghost number_of: { Self → ℕ };
-
-    /// The number.
-    fn number(&self) -> u32
-        ensures { result ≡ number_of self.now };
-}
-
-impl Numbered for NumberedRule {
-    ghost number_of = { λ rule. rule.id };
-
-    fn number(&self) -> u32 {
-        self.id
-    }
-}
-
-impl Numbered for Pool {
-    ghost number_of = { λ pool. pool.id };
-
-    fn number(&self) -> u32 {
-        self.id()
-    }
-}
-
-/// Whether the numbers rise from each entry to the next.
-fn rise<N: Numbered>(entries: &[N]) -> bool
-    ensures { IsAllAdjacentAnswer (λ a b r. r ≡ nat_lt (N.number_of a) (N.number_of b)) entries.now result }
+/// The entries by key upwards; `refusal` where a key stands twice.
+pub(crate) fn in_order<K: Keyed>(entries: Vec<K>, refusal: Refusal) -> Result<Vec<K>, Refusal>
+    ensures { Makes result (refused_unless (is_distinct (map K.key_of entries.items)) refusal) (λ r. Rises K.key_of entries.items r.items) }
 {
-    entries.is_sorted_by(|a, b| a.number() < b.number())
-}
-
-/// Puts entries in order by their numbers: whether no number stands twice.
-pub(crate) fn sort_by_number<N: Numbered>(entries: &mut Vec<N>) -> bool
-    ensures same { IsPermutation entries.old.items entries.new.items }
-    ensures distinct { result ≡ is_distinct (map N.number_of entries.old.items) }
-    ensures rising { IsTrue result → AllPairs (λ a b. N.number_of a < N.number_of b) entries.new.items }
-{
-    entries.sort_unstable_by_key(|entry| entry.number());
-    rise(entries)
+    let entries = sorted(entries)?;
+    if !are_distinct(&entries) {
+        return Err(refusal);
+    }
+    Ok(entries)
 }

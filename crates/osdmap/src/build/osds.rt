@@ -1,7 +1,7 @@
 ghost use Rattle.std.specs.Prelude.{◌≡◌, true, map, length, nat_abs, nat_lt, None, IfOk, IsTrue, replicate};
 ghost use Rattle.std.specs.List.{list_all};
 ghost use Rattle.osdmap.specs.declared.refusal.Refusal.TheVariants.{BadOsd};
-ghost use Rattle.osdmap.specs.Changes.{is_distinct};
+ghost use Rattle.osdmap.specs.Keyed.{is_distinct};
 ghost use Rattle.osdmap.specs.Parts.{osd_fits};
 ghost use Rattle.osdmap.specs.Stated.{Makes, osd_ok};
 ghost use Rattle.osdmap.specs.Built.{refused_unless, osds_fit, state_of, rows_of, row_presence, row_weight};

@@ -7,7 +7,7 @@ ghost use Rattle.osdmap.specs.Parts.{pool_fits, pool_of};
 ghost use Rattle.osdmap.specs.Stated.{Makes, pool_ok};
 ghost use Rattle.osdmap.specs.Built.{refused_unless, pools_fit, Rises};
 
-use super::order::sort_by_number;
+use super::order::in_order;
 use crate::parts::PoolPart;
 use crate::pool::Pool;
 use crate::refusal::Refusal;
@@ -79,9 +79,6 @@ pub(crate) fn pools_of(
     requires { list_all pool_fits parts.now ≡ true }
     ensures { Makes result (refused_unless (pools_fit rules.now parts.now) BadPool) (λ pools. Rises (λ p. p.id) (map pool_of parts.now) pools.items) }
 {
-    let mut pools = pools_made(alloc, parts, rules)?;
-    if !sort_by_number(&mut pools) {
-        return Err(Refusal::BadPool);
-    }
-    Ok(pools)
+    let pools = pools_made(alloc, parts, rules)?;
+    in_order(pools, Refusal::BadPool)
 }

@@ -7,7 +7,7 @@ ghost use Rattle.osdmap.specs.Stated.{Makes, rule_of};
 ghost use Rattle.osdmap.specs.Built.{refused_unless, is_lawful, rules_fit, Rises};
 
 use super::numbers::{byte, item_id};
-use super::order::sort_by_number;
+use super::order::in_order;
 use crate::limits::word;
 use crate::parts::{ChoosePart, RulePart, StepPart};
 use crate::refusal::Refusal;
@@ -85,9 +85,6 @@ pub(crate) fn rules_of(
     requires { list_all rule_fits parts.now ≡ true }
     ensures { Makes result (refused_unless (rules_fit forest.now parts.now) BadRule) (λ rules. Rises (λ r. r.id) (map rule_of parts.now) rules.items) }
 {
-    let mut rules = rules_made(alloc, parts, forest)?;
-    if !sort_by_number(&mut rules) {
-        return Err(Refusal::BadRule);
-    }
-    Ok(rules)
+    let rules = rules_made(alloc, parts, forest)?;
+    in_order(rules, Refusal::BadRule)
 }

@@ -1,7 +1,9 @@
 use crate::map::OsdMap;
 use crate::parts::{
-    BucketPart, ChoosePart, ItemPart, MapParts, OsdPart, PoolPart, RulePart, StepPart,
+    BucketPart, ChoosePart, ExceptionPart, ItemPart, MapParts, OsdPart, PairPart, PoolPart,
+    RulePart, StepPart,
 };
+use crate::pg_text::PgParts;
 use crate::refusal::Refusal;
 use crush::{BucketKind, Entries, Mode, RuleKind};
 use std::alloc::{AllocError, Global};
@@ -103,6 +105,8 @@ fn parts(alloc: Global, numbers: Numbers) -> Result<MapParts, AllocError> {
         rules: one(alloc, rule(alloc, numbers)?)?,
         pools: one(alloc, pool)?,
         osds: one(alloc, osd)?,
+        pg_upmap: Entries::new(Vec::new(alloc)),
+        pg_upmap_items: Entries::new(Vec::new(alloc)),
     })
 }
 
@@ -238,6 +242,147 @@ fn limits_at_their_edges(rt: HostRuntime) -> Result<(), Fail> {
     ] {
         let made = OsdMap::new(alloc, parts(alloc, numbers)?);
         assert_eq!(rt; made.err(), refusal);
+    }
+    Ok(())
+}
+
+/// A map of OSDs 0 and 1, and 2, which does not exist; its pool 1 has 2 groups of 2 OSDs.
+fn parts_of_three(alloc: Global) -> Result<MapParts, AllocError> {
+    let mut parts = parts(
+        alloc,
+        Numbers {
+            max_osd: 3,
+            pg_num: 2,
+            size: 2,
+            ..GOOD
+        },
+    )?;
+    let here = OsdPart {
+        id: 0,
+        exists: true,
+        up: false,
+        weight: 0,
+    };
+    let osds = [
+        here,
+        OsdPart { id: 1, ..here },
+        OsdPart {
+            id: 2,
+            exists: false,
+            ..here
+        },
+    ];
+    parts.osds = Entries::new(Vec::from_slice(alloc, &osds)?);
+    Ok(parts)
+}
+
+/// The same exception some times over.
+fn times<E: Copy + Drop>(
+    alloc: Global,
+    count: usize,
+    pg: PgParts,
+    entries: &[E],
+) -> Result<Entries<ExceptionPart<E>>, AllocError> {
+    let mut list = Vec::new(alloc);
+    for _ in 0..count {
+        list.push(ExceptionPart {
+            pg,
+            entries: Entries::new(Vec::from_slice(alloc, entries)?),
+        })?;
+    }
+    Ok(Entries::new(list))
+}
+
+fn group(pool: u32, number: u32) -> PgParts {
+    PgParts {
+        pool: Some(pool),
+        number: Some(number),
+    }
+}
+
+#[test]
+fn explicit_sets(rt: HostRuntime) -> Result<(), Fail> {
+    let alloc = rt.alloc();
+    let limit = Some(Refusal::BadLimit);
+    let exception = Some(Refusal::BadException);
+    let great = PgParts {
+        pool: None,
+        number: Some(0),
+    };
+    let far = PgParts {
+        pool: Some(1),
+        number: None,
+    };
+    for (count, pg, osds, refusal) in [
+        (1, group(1, 1), &[1, 0][..], None),
+        (2, group(1, 1), &[1, 0][..], exception),
+        (1, group(2, 0), &[0][..], exception),
+        (1, group(1, 2), &[0][..], exception),
+        (1, group(1, 0), &[2][..], exception),
+        (1, group(1, 0), &[][..], exception),
+        (1, group(1, 0), &[0, 0][..], exception),
+        (1, group(1, 0), &[0, 1, 2][..], exception),
+        (1, group(1, 0), &[0; 10][..], exception),
+        (1, group(1, 0), &[0; 11][..], limit),
+        (1, group(1, 0), &[1_023][..], exception),
+        (1, group(1, 0), &[1_024][..], limit),
+        (1, group(1, 0), &[-1][..], limit),
+        (1, group(1, 4_294_967_295), &[0][..], exception),
+        (1, far, &[0][..], limit),
+        (1, group(65_535, 0), &[0][..], exception),
+        (1, group(65_536, 0), &[0][..], limit),
+        (1, great, &[0][..], limit),
+        (1, group(0, 0), &[0][..], limit),
+        (131_072, group(1, 0), &[0][..], exception),
+        (131_073, group(1, 0), &[0][..], limit),
+    ] {
+        let mut parts = parts_of_three(alloc)?;
+        parts.pg_upmap = times(alloc, count, pg, osds)?;
+        assert_eq!(rt; OsdMap::new(alloc, parts).err(), refusal);
+    }
+    Ok(())
+}
+
+#[test]
+fn pairs_of_groups(rt: HostRuntime) -> Result<(), Fail> {
+    let alloc = rt.alloc();
+    let exception = Some(Refusal::BadException);
+    let there = PairPart { from: 0, to: 1 };
+    let back = PairPart { from: 1, to: 0 };
+    for (count, pg, pairs, refusal) in [
+        (1, group(1, 0), &[there, back][..], None),
+        (2, group(1, 0), &[there][..], exception),
+        (1, group(1, 2), &[there][..], exception),
+        (1, group(1, 0), &[][..], exception),
+        (1, group(1, 0), &[there, back, there][..], exception),
+        (
+            1,
+            group(1, 0),
+            &[PairPart { to: 0, ..there }][..],
+            exception,
+        ),
+        (
+            1,
+            group(1, 0),
+            &[PairPart { to: 2, ..there }][..],
+            exception,
+        ),
+        (
+            1,
+            group(1, 0),
+            &[PairPart { from: 2, ..there }][..],
+            exception,
+        ),
+        (
+            1,
+            group(1, 0),
+            &[PairPart { to: 1_024, ..there }][..],
+            Some(Refusal::BadLimit),
+        ),
+    ] {
+        let mut parts = parts_of_three(alloc)?;
+        parts.pg_upmap_items = times(alloc, count, pg, pairs)?;
+        assert_eq!(rt; OsdMap::new(alloc, parts).err(), refusal);
     }
     Ok(())
 }

@@ -1,4 +1,5 @@
 use Rattle.std.proofs.Common.{◌≡◌, ◌∙◌, sym, ap, subst, refl, None, rules, arith}
+use Rattle.osdmap.specs.Changes.{apply}
 use Rattle.monitor.specs.States.{History, commit_fault, IsKept, committed}
 use Rattle.monitor.proofs.Journals.{accepted, IsKept-committed, epoch-small, step_is, committed_is}
 use Rattle.monitor.proofs.state.State.commit.Goals as goal
@@ -10,11 +11,12 @@ overflow_add-base c =
     let small = epoch-small _ c.self.invariant in
     omega (arith, ok.current, small)
 
-pub apply-requires : goal.apply-requires
-apply-requires c =
+pub after-requires : goal.after-requires
+after-requires c =
     let fine : commit_fault c.args.self.now c.args.base c.args.change ≡ None = search rules in
     let ok = rw (← c.self.view_is) at (accepted _ _ _ fine) in
-    rw c.new-step.ensures.change ok.fine
+    let small = epoch-small _ c.self.invariant in
+    record { lawful = ok.fine; epoch = omega (arith, small) }
 
 pub invariant_of-self-2 : goal.invariant_of-self-2
 invariant_of-self-2 c =
@@ -23,7 +25,8 @@ invariant_of-self-2 c =
     let h : History = record { first = c.self.inside.first; journal = c.self.inside.journal.items; capacity = c.self.inside.capacity; map = c.self.inside.map } in
     let kept = IsKept-committed h c.args.change c.self.invariant ok.fine ok.room in
     let step = step_is h _ c.args.change _ ok.current c.new-step.ensures.epoch c.new-step.ensures.change in
-    subst IsKept (sym (committed_is h c.args.change _ _ _ step (c.push_reserved.ensures.items ∙ rw c.in_ok-reserve.ensures.items refl) c.apply.ensures)) kept
+    let map = c.in_ok-map.ensures ∙ ap (apply h.map) (sym step) in
+    subst IsKept (sym (committed_is h c.args.change _ _ _ step (c.push_reserved.ensures.items ∙ rw c.in_ok-reserve.ensures.items refl) map)) kept
 
 pub returns : goal.returns
 returns c =
@@ -31,5 +34,6 @@ returns c =
     let ok = rw (← c.self.view_is) at (accepted _ _ _ fine) in
     let h : History = record { first = c.self.inside.first; journal = c.self.inside.journal.items; capacity = c.self.inside.capacity; map = c.self.inside.map } in
     let step = step_is h _ c.args.change _ ok.current c.new-step.ensures.epoch c.new-step.ensures.change in
-    let after = committed_is h c.args.change _ _ _ step (c.push_reserved.ensures.items ∙ rw c.in_ok-reserve.ensures.items refl) c.apply.ensures in
-    (fine, after ∙ ap (λ (s : History). committed s c.args.change) c.self.view_is, refl, c.evals-evals.ensures ∙ rw (c.change-2.ensures, c.new-step.ensures.change) refl)
+    let map = c.in_ok-map.ensures ∙ ap (apply h.map) (sym step) in
+    let after = committed_is h c.args.change _ _ _ step (c.push_reserved.ensures.items ∙ rw c.in_ok-reserve.ensures.items refl) map in
+    ((fine, (after ∙ ap (λ (s : History). committed s c.args.change) c.self.view_is, refl, c.evals-evals.ensures)), tt)

@@ -1,169 +1,56 @@
-use Rattle.std.proofs.Common.{◌≡◌, ◌∙◌, sym, ap, map, refl, inr, nat_abs, true, false, rules, arith}
-use Rattle.std.proofs.lemmas.Int.{to_z-of_z}
-use mir.Syntax.{w128}
-use mir.Val.{SFits}
+use Rattle.std.proofs.Common.{◌∙◌, sym, inr, arith}
 use Rattle.osdmap.specs.Stated.{map_fault, IsStated}
-use Rattle.osdmap.specs.Built.{rows_of, row_presence, row_weight}
-use Rattle.osdmap.proofs.Fits.{word_between}
-use Rattle.osdmap.proofs.Built.{IsBuilt, parts_fit_each, some_osds, few_osds, fault_limit, fault_forest, fault_rule, fault_pool, fault_osd, stops, no_fault, is_stated, holds}
+use Rattle.osdmap.proofs.Built.{parts_fit_each, fault_limit, stops}
+use Rattle.osdmap.proofs.Excepted.{fault_bare, fault_explicit, fault_items, no_fault_with, is_stated_with, holds_with}
 use Rattle.osdmap.proofs.map.OsdMap.new.Goals as goal
 
 pub returns-then-not-parts_fit : goal.returns-then-not-parts_fit
 returns-then-not-parts_fit c = inr (fault_limit c.args.parts (sym c.parts_fit.ensures ∙ c.if-not-parts_fit.true))
 
-pub word-max_osd-requires : goal.word-max_osd-requires
-word-max_osd-requires c =
-    let fits : SFits w128 c.args.parts.max_osd = search rules in
-    let each = parts_fit_each c.args.parts (sym c.parts_fit.ensures ∙ c.if-not-parts_fit.false) in
-    rw to_z-of_z (word_between 1 1024 c.args.parts.max_osd (omega arith) each.max_osd)
-
-pub forest_of-requires-clause-fits : goal.forest_of-requires-clause-fits
-forest_of-requires-clause-fits c =
-    let each = parts_fit_each c.args.parts (sym c.parts_fit.ensures ∙ c.if-not-parts_fit.false) in
-    rw c.as_slice.ensures each.buckets
-
-pub forest_of-requires-clause-count : goal.forest_of-requires-clause-count
-forest_of-requires-clause-count c =
-    let each = parts_fit_each c.args.parts (sym c.parts_fit.ensures ∙ c.if-not-parts_fit.false) in
-    rw c.as_slice.ensures each.count
-
-pub forest_of-requires-clause-some : goal.forest_of-requires-clause-some
-forest_of-requires-clause-some c =
-    let fits : SFits w128 c.args.parts.max_osd = search rules in
-    let each = parts_fit_each c.args.parts (sym c.parts_fit.ensures ∙ c.if-not-parts_fit.false) in
-    let max_osd : c.word-max_osd.result ≡ nat_abs c.args.parts.max_osd = rw to_z-of_z at c.word-max_osd.ensures in
-    rw max_osd (some_osds c.args.parts each)
-
-pub forest_of-requires-clause-few : goal.forest_of-requires-clause-few
-forest_of-requires-clause-few c =
-    let fits : SFits w128 c.args.parts.max_osd = search rules in
-    let each = parts_fit_each c.args.parts (sym c.parts_fit.ensures ∙ c.if-not-parts_fit.false) in
-    let max_osd : c.word-max_osd.result ≡ nat_abs c.args.parts.max_osd = rw to_z-of_z at c.word-max_osd.ensures in
-    rw max_osd (few_osds c.args.parts each)
-
-pub rules_of-requires : goal.rules_of-requires
-rules_of-requires c =
-    let each = parts_fit_each c.args.parts (sym c.parts_fit.ensures ∙ c.if-not-parts_fit.false) in
-    rw c.as_slice-2.ensures each.rules
-
-pub pools_of-requires : goal.pools_of-requires
-pools_of-requires c =
-    let each = parts_fit_each c.args.parts (sym c.parts_fit.ensures ∙ c.if-not-parts_fit.false) in
-    rw c.as_slice-3.ensures each.pools
-
-pub rows_of-requires : goal.rows_of-requires
-rows_of-requires c =
-    let each = parts_fit_each c.args.parts (sym c.parts_fit.ensures ∙ c.if-not-parts_fit.false) in
-    rw c.as_slice-4.ensures each.osds
-
-pub word-requires : goal.word-requires
-word-requires c =
-    let fits : SFits w128 c.args.parts.epoch = search rules in
-    let each = parts_fit_each c.args.parts (sym c.parts_fit.ensures ∙ c.if-not-parts_fit.false) in
-    rw to_z-of_z (word_between 1 2147483648 c.args.parts.epoch (omega arith) each.epoch)
-
-pub returns-in_err-forest : goal.returns-in_err-forest
-returns-in_err-forest c =
+pub returns-in_err-bare : goal.returns-in_err-bare
+returns-in_err-bare c =
     let limits = sym c.parts_fit.ensures ∙ c.if-not-parts_fit.false in
-    let fits : SFits w128 c.args.parts.max_osd = search rules in
-    let max_osd : c.word-max_osd.result ≡ nat_abs c.args.parts.max_osd = rw to_z-of_z at c.word-max_osd.ensures in
-    let e = c.in_err-forest.field-0.0 in
-    let found = rw (c.as_slice.ensures, max_osd) at c.in_err-forest.ensures in
-    stops c.from_residual.result (IsStated c.args.parts) (map_fault c.args.parts) _ e (fault_forest c.args.parts e limits) found c.from_residual.ensures.1
+    let e = c.in_err-bare.field-0.0 in
+    stops c.from_residual.result (IsStated c.args.parts) (map_fault c.args.parts) _ e (fault_bare c.args.parts limits e) c.in_err-bare.ensures c.from_residual.ensures.1
 
-pub returns-in_err-rules : goal.returns-in_err-rules
-returns-in_err-rules c =
-    let limits = sym c.parts_fit.ensures ∙ c.if-not-parts_fit.false in
-    let fits : SFits w128 c.args.parts.max_osd = search rules in
-    let max_osd : c.word-max_osd.result ≡ nat_abs c.args.parts.max_osd = rw to_z-of_z at c.word-max_osd.ensures in
-    let grown = rw (c.as_slice.ensures, max_osd) at c.in_ok-forest.ensures.0 in
-    let forest = rw c.as_slice.ensures at c.in_ok-forest.ensures.1 in
-    let e = c.in_err-rules.field-0.0 in
-    let found = rw c.as_slice-2.ensures at c.in_err-rules.ensures in
-    stops c.from_residual-in_err-rules.result (IsStated c.args.parts) (map_fault c.args.parts) _ e (fault_rule c.args.parts c.in_ok-forest.forest e limits grown forest) found c.from_residual-in_err-rules.ensures.1
+pub exceptions_in-requires : goal.exceptions_in-requires
+exceptions_in-requires c =
+    let each = parts_fit_each c.args.parts (sym c.parts_fit.ensures ∙ c.if-not-parts_fit.false) in
+    (omega arith, rw c.as_slice.ensures each.explicit)
 
-pub returns-in_err-pools : goal.returns-in_err-pools
-returns-in_err-pools c =
-    let limits = sym c.parts_fit.ensures ∙ c.if-not-parts_fit.false in
-    let fits : SFits w128 c.args.parts.max_osd = search rules in
-    let max_osd : c.word-max_osd.result ≡ nat_abs c.args.parts.max_osd = rw to_z-of_z at c.word-max_osd.ensures in
-    let grown = rw (c.as_slice.ensures, max_osd) at c.in_ok-forest.ensures.0 in
-    let forest = rw c.as_slice.ensures at c.in_ok-forest.ensures.1 in
-    let lawful = rw c.as_slice-2.ensures at c.in_ok-rules.ensures.0 in
-    let rising = rw c.as_slice-2.ensures at c.in_ok-rules.ensures.1 in
-    let e = c.in_err-pools.field-0.0 in
-    let found = rw (c.deref.ensures.value, c.as_slice-3.ensures) at c.in_err-pools.ensures in
-    stops c.from_residual-in_err-pools.result (IsStated c.args.parts) (map_fault c.args.parts) _ e (fault_pool c.args.parts c.in_ok-forest.forest c.in_ok-rules.rules.items e limits grown forest lawful rising) found c.from_residual-in_err-pools.ensures.1
+pub exceptions_in-requires-2 : goal.exceptions_in-requires-2
+exceptions_in-requires-2 c =
+    let each = parts_fit_each c.args.parts (sym c.parts_fit.ensures ∙ c.if-not-parts_fit.false) in
+    (omega arith, rw c.as_slice-2.ensures each.items)
 
-pub returns-in_err-rows : goal.returns-in_err-rows
-returns-in_err-rows c =
+pub returns-in_err-explicit : goal.returns-in_err-explicit
+returns-in_err-explicit c =
     let limits = sym c.parts_fit.ensures ∙ c.if-not-parts_fit.false in
-    let fits : SFits w128 c.args.parts.max_osd = search rules in
-    let max_osd : c.word-max_osd.result ≡ nat_abs c.args.parts.max_osd = rw to_z-of_z at c.word-max_osd.ensures in
-    let grown = rw (c.as_slice.ensures, max_osd) at c.in_ok-forest.ensures.0 in
-    let forest = rw c.as_slice.ensures at c.in_ok-forest.ensures.1 in
-    let lawful = rw c.as_slice-2.ensures at c.in_ok-rules.ensures.0 in
-    let rising = rw c.as_slice-2.ensures at c.in_ok-rules.ensures.1 in
-    let served = rw (c.deref.ensures.value, c.as_slice-3.ensures) at c.in_ok-pools.ensures.0 in
-    let e = c.in_err-rows.field-0.0 in
-    let found = rw (c.as_slice-4.ensures, max_osd) at c.in_err-rows.ensures in
-    stops c.from_residual-in_err-rows.result (IsStated c.args.parts) (map_fault c.args.parts) _ e (fault_osd c.args.parts c.in_ok-forest.forest c.in_ok-rules.rules.items e limits grown forest lawful rising served) found c.from_residual-in_err-rows.ensures.1
+    let bare = c.in_ok-bare.ensures in
+    let e = c.in_err-explicit.field-0.0 in
+    let found = rw c.as_slice.ensures at c.in_err-explicit.ensures in
+    stops c.from_residual-in_err-explicit.result (IsStated c.args.parts) (map_fault c.args.parts) _ e (fault_explicit c.args.parts limits c.in_ok-bare.bare bare.0 bare.1 e) found c.from_residual-in_err-explicit.ensures.1
 
-pub invariant_of-result-2 : goal.invariant_of-result-2
-invariant_of-result-2 c =
+pub returns-in_err-items : goal.returns-in_err-items
+returns-in_err-items c =
     let limits = sym c.parts_fit.ensures ∙ c.if-not-parts_fit.false in
-    let fits : SFits w128 c.args.parts.max_osd = search rules in
-    let max_osd : c.word-max_osd.result ≡ nat_abs c.args.parts.max_osd = rw to_z-of_z at c.word-max_osd.ensures in
-    let grown = rw (c.as_slice.ensures, max_osd) at c.in_ok-forest.ensures.0 in
-    let forest = rw c.as_slice.ensures at c.in_ok-forest.ensures.1 in
-    let lawful = rw c.as_slice-2.ensures at c.in_ok-rules.ensures.0 in
-    let rising = rw c.as_slice-2.ensures at c.in_ok-rules.ensures.1 in
-    let served = rw (c.deref.ensures.value, c.as_slice-3.ensures) at c.in_ok-pools.ensures.0 in
-    let pools = rw c.as_slice-3.ensures at c.in_ok-pools.ensures.1 in
-    let entered = rw (c.as_slice-4.ensures, max_osd) at c.in_ok-rows.ensures.0 in
-    let rows : c.in_ok-rows.rows.items ≡ rows_of c.args.parts.osds (nat_abs c.args.parts.max_osd) = rw (c.as_slice-4.ensures, max_osd) at c.in_ok-rows.ensures.1 in
-    let epoch_fits : SFits w128 c.args.parts.epoch = search rules in
-    let epoch : c.word.result ≡ nat_abs c.args.parts.epoch = rw to_z-of_z at c.word.ensures in
-    holds c.args.parts _ (record {
-      limits = limits;
-      epoch = c.from.ensures ∙ epoch;
-      grown = grown;
-      forest = rw (← c.forest.view_is) at forest;
-      lawful = rw (← c.forest.view_is) at lawful;
-      rules = rising;
-      served = served;
-      pools = pools;
-      entered = entered;
-      presences = c.new.ensures ∙ c.in_ok-presences_of.ensures ∙ ap (map row_presence) (c.deref-2.ensures.value ∙ rows);
-      weights = c.new-2.ensures ∙ c.in_ok-weights_of.ensures ∙ ap (map row_weight) (c.deref-3.ensures.value ∙ rows);
-    })
+    let bare = c.in_ok-bare.ensures in
+    let e = c.in_err-items.field-0.0 in
+    let found = rw c.as_slice-2.ensures at c.in_err-items.ensures in
+    stops c.from_residual-in_err-items.result (IsStated c.args.parts) (map_fault c.args.parts) _ e (fault_items c.args.parts limits c.in_ok-bare.bare bare.0 bare.1 e) found c.from_residual-in_err-items.ensures.1
+
+pub invariant_of-result : goal.invariant_of-result
+invariant_of-result c =
+    let limits = sym c.parts_fit.ensures ∙ c.if-not-parts_fit.false in
+    let bare = rw (← c.bare.view_is) at c.in_ok-bare.ensures in
+    let explicit = rw (c.as_slice.ensures, ← c.bare.view_is) at c.in_ok-explicit.ensures in
+    let items = rw (c.as_slice-2.ensures, ← c.bare.view_is) at c.in_ok-items.ensures in
+    holds_with c.args.parts limits _ bare.0 bare.1 _ _ explicit.0 items.0 explicit.1 items.1 c.bare.invariant
 
 pub returns : goal.returns
 returns c =
     let limits = sym c.parts_fit.ensures ∙ c.if-not-parts_fit.false in
-    let fits : SFits w128 c.args.parts.max_osd = search rules in
-    let max_osd : c.word-max_osd.result ≡ nat_abs c.args.parts.max_osd = rw to_z-of_z at c.word-max_osd.ensures in
-    let grown = rw (c.as_slice.ensures, max_osd) at c.in_ok-forest.ensures.0 in
-    let forest = rw c.as_slice.ensures at c.in_ok-forest.ensures.1 in
-    let lawful = rw c.as_slice-2.ensures at c.in_ok-rules.ensures.0 in
-    let rising = rw c.as_slice-2.ensures at c.in_ok-rules.ensures.1 in
-    let served = rw (c.deref.ensures.value, c.as_slice-3.ensures) at c.in_ok-pools.ensures.0 in
-    let pools = rw c.as_slice-3.ensures at c.in_ok-pools.ensures.1 in
-    let entered = rw (c.as_slice-4.ensures, max_osd) at c.in_ok-rows.ensures.0 in
-    let rows : c.in_ok-rows.rows.items ≡ rows_of c.args.parts.osds (nat_abs c.args.parts.max_osd) = rw (c.as_slice-4.ensures, max_osd) at c.in_ok-rows.ensures.1 in
-    let epoch_fits : SFits w128 c.args.parts.epoch = search rules in
-    let epoch : c.word.result ≡ nat_abs c.args.parts.epoch = rw to_z-of_z at c.word.ensures in
-    let built : IsBuilt c.args.parts _ = record {
-      limits = limits;
-      epoch = c.from.ensures ∙ epoch;
-      grown = grown;
-      forest = rw (← c.forest.view_is) at forest;
-      lawful = rw (← c.forest.view_is) at lawful;
-      rules = rising;
-      served = served;
-      pools = pools;
-      entered = entered;
-      presences = c.new.ensures ∙ c.in_ok-presences_of.ensures ∙ ap (map row_presence) (c.deref-2.ensures.value ∙ rows);
-      weights = c.new-2.ensures ∙ c.in_ok-weights_of.ensures ∙ ap (map row_weight) (c.deref-3.ensures.value ∙ rows);
-    } in
-    (no_fault c.args.parts _ built, is_stated c.args.parts _ built)
+    let bare = rw (← c.bare.view_is) at c.in_ok-bare.ensures in
+    let explicit = rw (c.as_slice.ensures, ← c.bare.view_is) at c.in_ok-explicit.ensures in
+    let items = rw (c.as_slice-2.ensures, ← c.bare.view_is) at c.in_ok-items.ensures in
+    (no_fault_with c.args.parts limits _ bare.0 bare.1 _ _ explicit.0 items.0 explicit.1 items.1, is_stated_with c.args.parts limits _ bare.0 bare.1 _ _ explicit.0 items.0 explicit.1 items.1)

@@ -1,0 +1,118 @@
+-- What is written of the parts of a map states those parts.
+use Rattle.std.proofs.Common.{All, ◌≡◌, suc, ℤ, pos, negsuc, Bool, true, false, List, [], ◌∷◌, Option, Some, refl, arith}
+use Rattle.std.specs.Prelude.{⊤}
+use Rattle.serde_json.specs.Data.{Data, string}
+use Rattle.crush.specs.declared.bucket.BucketKind.{BucketKind}
+use Rattle.crush.specs.declared.bucket.BucketKind.TheVariants.{Uniform, List as Listed, Tree}
+use Rattle.crush.specs.declared.rule.Mode.{Mode}
+use Rattle.crush.specs.declared.rule.Mode.TheVariants.{Firstn, Indep}
+use Rattle.crush.specs.declared.rule.RuleKind.{RuleKind}
+use Rattle.crush.specs.declared.rule.RuleKind.TheVariants.{Replicated, Erasure}
+use Rattle.osdmap.specs.declared.parts.MapParts.{MapParts}
+use Rattle.osdmap.specs.declared.parts.BucketPart.{BucketPart}
+use Rattle.osdmap.specs.declared.parts.ItemPart.{ItemPart}
+use Rattle.osdmap.specs.declared.parts.RulePart.{RulePart}
+use Rattle.osdmap.specs.declared.parts.StepPart.{StepPart}
+use Rattle.osdmap.specs.declared.parts.StepPart.TheVariants.{Take, Choose, Emit}
+use Rattle.osdmap.specs.declared.parts.PoolPart.{PoolPart}
+use Rattle.osdmap.specs.declared.parts.OsdPart.{OsdPart}
+use Rattle.osdmap.specs.declared.parts.ExceptionPart.{ExceptionPart}
+use Rattle.osdmap.specs.declared.parts.PairPart.{PairPart}
+use Rattle.mapjson.specs.Json.{number_of, list_of}
+use Rattle.mapjson.specs.MapTexts.{item_of, bucket_kind_of, bucket_of, rule_kind_of, step_of, step_by, take_of, choose_of, emit_of, rule_of, pool_of, osd_of, pair_of, exception_of, stated_map}
+use Rattle.mapjson.specs.Written.{number_data, list_data, item_data, kind_word, bucket_data, use_word, step_data, rule_data, pool_data, osd_data, IsNamed, AreNamed, pair_data, exception_data, map_data}
+
+-- ---- values
+
+number_back : (z : ℤ) → number_of (number_data z) ≡ Some z
+number_back (pos n) = refl
+number_back (negsuc n) = refl
+
+-- a list of which each value is read back that has what P says
+entries_back : {X : Type 0} (stated : Data → Option X) (entry : X → Data) (P : X → Type 0) → ((x : X) → P x → stated (entry x) ≡ Some x)
+    → (xs : List X) → All P xs → list_of stated (list_data entry xs) ≡ Some xs
+entries_back stated entry P back [] all = refl
+entries_back stated entry P back (x ∷ xs) all =
+    rw (back x (all 0 x (omega arith)), entries_back stated entry P back xs (λ k d below. all (suc k) d (omega arith)))
+
+list_back : {X : Type 0} (stated : Data → Option X) (entry : X → Data) → ((x : X) → stated (entry x) ≡ Some x) → (xs : List X) → list_of stated (list_data entry xs) ≡ Some xs
+list_back stated entry back xs = entries_back stated entry (λ x. ⊤) (λ x h. back x) xs (λ k d below. tt)
+
+-- ---- the forest
+
+kind_back : (k : BucketKind) → bucket_kind_of (string (kind_word k)) ≡ Some k
+kind_back Uniform = refl
+kind_back Listed = refl
+kind_back Tree = refl
+
+item_back : (i : ItemPart) → item_of (item_data i) ≡ Some i
+unfolding item_of
+item_back i = rw (number_back i.id, number_back i.weight)
+
+bucket_back : (b : BucketPart) → bucket_of (bucket_data b) ≡ Some b
+unfolding bucket_of bucket_data
+bucket_back b = rw (number_back b.id, number_back b.level, kind_back b.kind, list_back item_of item_data item_back b.items)
+
+-- ---- rules
+
+use_back : (k : RuleKind) → rule_kind_of (string (use_word k)) ≡ Some k
+use_back Replicated = refl
+use_back Erasure = refl
+
+choose_back : (mode : Mode) (to_leaf : Bool) (count level : ℤ) → let c : StepPart = Choose (record { mode = mode; to_leaf = to_leaf; count = count; level = level }) in step_of (step_data c) ≡ Some c
+unfolding step_of step_by take_of choose_of emit_of step_data
+choose_back Firstn false count level = rw (number_back count, number_back level)
+choose_back Indep false count level = rw (number_back count, number_back level)
+choose_back Firstn true count level = rw (number_back count, number_back level)
+choose_back Indep true count level = rw (number_back count, number_back level)
+
+step_back : (s : StepPart) → step_of (step_data s) ≡ Some s
+unfolding step_of step_by take_of choose_of emit_of step_data
+step_back (Take id) = rw (number_back id)
+step_back (Choose c) = choose_back c.mode c.to_leaf c.count c.level
+step_back Emit = refl
+
+rule_back : (r : RulePart) → rule_of (rule_data r) ≡ Some r
+unfolding rule_of rule_data
+rule_back r = rw (number_back r.id, use_back r.kind, list_back step_of step_data step_back r.steps)
+
+-- ---- pools and OSDs
+
+pool_back : (p : PoolPart) → pool_of (pool_data p) ≡ Some p
+unfolding pool_of pool_data
+pool_back p = rw (number_back p.id, use_back p.kind, number_back p.pg_num, number_back p.pgp_num, number_back p.rule, number_back p.size)
+
+osd_back : (o : OsdPart) → osd_of (osd_data o) ≡ Some o
+unfolding osd_of osd_data
+osd_back o = rw (number_back o.id, number_back o.weight)
+
+-- ---- exceptions
+
+pair_back : (p : PairPart) → pair_of (pair_data p) ≡ Some p
+unfolding pair_of
+pair_back p = rw (number_back p.from, number_back p.to)
+
+exception_back : {X : Type 0} (stated : Data → Option X) (entry : X → Data) → ((x : X) → stated (entry x) ≡ Some x)
+    → (e : ExceptionPart X) → IsNamed e.pg → exception_of stated (exception_data entry e) ≡ Some e
+unfolding exception_of exception_data
+exception_back stated entry back e named = rw (named, list_back stated entry back e.entries)
+
+exceptions_back : {X : Type 0} (stated : Data → Option X) (entry : X → Data) → ((x : X) → stated (entry x) ≡ Some x)
+    → (es : List (ExceptionPart X)) → AreNamed es → list_of (exception_of stated) (list_data (exception_data entry) es) ≡ Some es
+exceptions_back stated entry back es named = entries_back (exception_of stated) (exception_data entry) (λ e. IsNamed e.pg) (exception_back stated entry back) es named
+
+-- ---- the map
+
+pub map_back : (p : MapParts) → AreNamed p.pg_upmap → AreNamed p.pg_upmap_items → stated_map (map_data p) ≡ Some p
+unfolding stated_map map_data
+map_back p explicit items = rw (
+  number_back p.version,
+  number_back p.epoch,
+  number_back p.max_osd,
+  list_back bucket_of bucket_data bucket_back p.buckets,
+  list_back rule_of rule_data rule_back p.rules,
+  list_back pool_of pool_data pool_back p.pools,
+  list_back osd_of osd_data osd_back p.osds,
+  exceptions_back number_of number_data number_back p.pg_upmap explicit,
+  exceptions_back pair_of pair_data pair_back p.pg_upmap_items items,
+)

@@ -1,0 +1,124 @@
+-- What is written of a map has no float, and nests five deep at most.
+use Rattle.std.proofs.Common.{◌≡◌, ℕ, suc, ◌≤◌, ℤ, pos, negsuc, List, [], ◌∷◌, false, refl, arith}
+use Rattle.serde_json.specs.Data.{Data, depth}
+use Rattle.serde_json.specs.Written.{has_float}
+use Rattle.osdmap.specs.declared.parts.MapParts.{MapParts}
+use Rattle.osdmap.specs.declared.parts.BucketPart.{BucketPart}
+use Rattle.osdmap.specs.declared.parts.ItemPart.{ItemPart}
+use Rattle.osdmap.specs.declared.parts.RulePart.{RulePart}
+use Rattle.osdmap.specs.declared.parts.StepPart.{StepPart}
+use Rattle.osdmap.specs.declared.parts.StepPart.TheVariants.{Take, Choose, Emit}
+use Rattle.osdmap.specs.declared.parts.PoolPart.{PoolPart}
+use Rattle.osdmap.specs.declared.parts.OsdPart.{OsdPart}
+use Rattle.osdmap.specs.declared.parts.ExceptionPart.{ExceptionPart}
+use Rattle.osdmap.specs.declared.parts.PairPart.{PairPart}
+use Rattle.mapjson.specs.Written.{number_data, list_data, item_data, bucket_data, step_data, rule_data, pool_data, osd_data, pair_data, exception_data, map_data}
+
+-- ---- no floats
+
+number_whole : (z : ℤ) → has_float (number_data z) ≡ false
+number_whole (pos n) = refl
+number_whole (negsuc n) = refl
+
+list_whole : {X : Type 0} (entry : X → Data) → ((x : X) → has_float (entry x) ≡ false) → (xs : List X) → has_float (list_data entry xs) ≡ false
+list_whole entry h [] = refl
+list_whole entry h (x ∷ xs) = rw (h x) (list_whole entry h xs)
+
+item_whole : (i : ItemPart) → has_float (item_data i) ≡ false
+item_whole i = rw (number_whole i.id, number_whole i.weight)
+
+bucket_whole : (b : BucketPart) → has_float (bucket_data b) ≡ false
+unfolding bucket_data
+bucket_whole b = rw (number_whole b.id, list_whole item_data item_whole b.items, number_whole b.level)
+
+step_whole : (s : StepPart) → has_float (step_data s) ≡ false
+unfolding step_data
+step_whole (Take id) = rw (number_whole id)
+step_whole (Choose c) = rw (number_whole c.count, number_whole c.level)
+step_whole Emit = refl
+
+rule_whole : (r : RulePart) → has_float (rule_data r) ≡ false
+unfolding rule_data
+rule_whole r = rw (number_whole r.id, list_whole step_data step_whole r.steps)
+
+pool_whole : (p : PoolPart) → has_float (pool_data p) ≡ false
+unfolding pool_data
+pool_whole p = rw (number_whole p.id, number_whole p.pg_num, number_whole p.pgp_num, number_whole p.rule, number_whole p.size)
+
+osd_whole : (o : OsdPart) → has_float (osd_data o) ≡ false
+unfolding osd_data
+osd_whole o = rw (number_whole o.id, number_whole o.weight)
+
+pair_whole : (p : PairPart) → has_float (pair_data p) ≡ false
+pair_whole p = rw (number_whole p.from, number_whole p.to)
+
+exception_whole : {X : Type 0} (entry : X → Data) → ((x : X) → has_float (entry x) ≡ false) → (e : ExceptionPart X) → has_float (exception_data entry e) ≡ false
+unfolding exception_data
+exception_whole entry h e = rw (list_whole entry h e.entries)
+
+pub map_whole : (p : MapParts) → has_float (map_data p) ≡ false
+unfolding map_data
+map_whole p = rw (
+  list_whole bucket_data bucket_whole p.buckets,
+  number_whole p.epoch,
+  number_whole p.max_osd,
+  list_whole osd_data osd_whole p.osds,
+  list_whole (exception_data number_data) (exception_whole number_data number_whole) p.pg_upmap,
+  list_whole (exception_data pair_data) (exception_whole pair_data pair_whole) p.pg_upmap_items,
+  list_whole pool_data pool_whole p.pools,
+  list_whole rule_data rule_whole p.rules,
+  number_whole p.version,
+)
+
+-- ---- how deep
+
+list_flat : {X : Type 0} (n : ℕ) (entry : X → Data) → ((x : X) → depth (entry x) ≤ n) → (xs : List X) → depth (list_data entry xs) ≤ suc n
+list_flat n entry h [] = omega arith
+list_flat n entry h (x ∷ xs) = omega (arith, h x, list_flat n entry h xs)
+
+item_flat : (i : ItemPart) → depth (item_data i) ≤ 1
+item_flat i = omega arith
+
+bucket_flat : (b : BucketPart) → depth (bucket_data b) ≤ 3
+unfolding bucket_data
+bucket_flat b = omega (arith, list_flat 1 item_data item_flat b.items)
+
+step_flat : (s : StepPart) → depth (step_data s) ≤ 1
+unfolding step_data
+step_flat (Take id) = omega arith
+step_flat (Choose c) = omega arith
+step_flat Emit = omega arith
+
+rule_flat : (r : RulePart) → depth (rule_data r) ≤ 3
+unfolding rule_data
+rule_flat r = omega (arith, list_flat 1 step_data step_flat r.steps)
+
+pool_flat : (p : PoolPart) → depth (pool_data p) ≤ 1
+unfolding pool_data
+pool_flat p = omega arith
+
+osd_flat : (o : OsdPart) → depth (osd_data o) ≤ 1
+unfolding osd_data
+osd_flat o = omega arith
+
+number_flat : (z : ℤ) → depth (number_data z) ≤ 0
+number_flat z = omega arith
+
+pair_flat : (p : PairPart) → depth (pair_data p) ≤ 1
+pair_flat p = omega arith
+
+exception_flat : {X : Type 0} (n : ℕ) (entry : X → Data) → ((x : X) → depth (entry x) ≤ n) → (e : ExceptionPart X) → depth (exception_data entry e) ≤ suc (suc n)
+unfolding exception_data
+exception_flat n entry h e = omega (arith, list_flat n entry h e.entries)
+
+pub map_flat : (p : MapParts) → depth (map_data p) ≤ 5
+unfolding map_data
+map_flat p = omega (
+  arith,
+  list_flat 3 bucket_data bucket_flat p.buckets,
+  list_flat 1 osd_data osd_flat p.osds,
+  list_flat 2 (exception_data number_data) (exception_flat 0 number_data number_flat) p.pg_upmap,
+  list_flat 3 (exception_data pair_data) (exception_flat 1 pair_data pair_flat) p.pg_upmap_items,
+  list_flat 1 pool_data pool_flat p.pools,
+  list_flat 3 rule_data rule_flat p.rules,
+)

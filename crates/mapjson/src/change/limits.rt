@@ -1,0 +1,114 @@
+//! The limits of a change as a text states it.
+ghost use Rattle.std.specs.Prelude.{◌≡◌};
+ghost use Rattle.std.specs.List.{list_all};
+ghost use Rattle.osdmap.specs.Parts.{has_between, is_osd_id, pg_fits, pool_fits};
+ghost use Rattle.mapjson.specs.ChangeTexts.{is_pool_id, reweight_fits, entries_fit, change_fits};
+
+use super::{RawChange, RawReweight};
+use osdmap::limits::{
+    MAX_EXCEPTIONS, MAX_POOL_ID, all_pools_fit, has_between, is_between, is_osd_id,
+};
+use osdmap::{PgParts, PoolPart, exceptions_fit, pg_fits};
+
+/// The greatest epoch.
+const MAX_EPOCH: i128 = u64::MAX as i128;
+/// The greatest reweight in a change.
+const MAX_WEIGHT: i128 = u32::MAX as i128;
+
+/// Whether a list of a change is no longer than it may be.
+fn is_short<T>(list: &[T]) -> bool
+    ensures { result ≡ has_between 0 131072 list.now }
+{
+    has_between(0, MAX_EXCEPTIONS, list)
+}
+
+/// Whether a number can be a pool's id.
+#[tactic(auto, unfolding(crate::specs::ChangeTexts::is_pool_id))]
+fn is_pool_id(number: i128) -> bool
+    ensures { result ≡ is_pool_id number }
+{
+    is_between(1, MAX_POOL_ID, number)
+}
+
+#[tactic(auto, unfolding(crate::specs::ChangeTexts::reweight_fits))]
+fn reweight_fits(reweight: &RawReweight) -> bool
+    ensures { result ≡ reweight_fits reweight.now }
+{
+    is_osd_id(reweight.osd) && is_between(0, MAX_WEIGHT, reweight.weight)
+}
+
+fn all_are_pool_ids(ids: &[i128]) -> bool
+    ensures { result ≡ list_all is_pool_id ids.now }
+{
+    ids.iter().all(|id| is_pool_id(*id))
+}
+
+fn all_are_osds(osds: &[i128]) -> bool
+    ensures { result ≡ list_all is_osd_id osds.now }
+{
+    osds.iter().all(|osd| is_osd_id(*osd))
+}
+
+fn all_reweights_fit(reweights: &[RawReweight]) -> bool
+    ensures { result ≡ list_all reweight_fits reweights.now }
+{
+    reweights.iter().all(|reweight| reweight_fits(reweight))
+}
+
+fn all_groups_fit(groups: &[PgParts]) -> bool
+    ensures { result ≡ list_all pg_fits groups.now }
+{
+    groups.iter().all(|group| pg_fits(group))
+}
+
+/// Whether a list of pools' ids is within the limits.
+fn pool_ids_fit(ids: &[i128]) -> bool
+    ensures { result ≡ entries_fit is_pool_id ids.now }
+{
+    is_short(ids) && all_are_pool_ids(ids)
+}
+
+/// Whether a list of new pools is within the limits.
+fn pools_fit(pools: &[PoolPart]) -> bool
+    ensures { result ≡ entries_fit pool_fits pools.now }
+{
+    is_short(pools) && all_pools_fit(pools)
+}
+
+/// Whether a list of OSDs is within the limits.
+fn osds_fit(osds: &[i128]) -> bool
+    ensures { result ≡ entries_fit is_osd_id osds.now }
+{
+    is_short(osds) && all_are_osds(osds)
+}
+
+/// Whether a list of reweights is within the limits.
+fn reweights_fit(reweights: &[RawReweight]) -> bool
+    ensures { result ≡ entries_fit reweight_fits reweights.now }
+{
+    is_short(reweights) && all_reweights_fit(reweights)
+}
+
+/// Whether a list of groups is within the limits.
+fn groups_fit(groups: &[PgParts]) -> bool
+    ensures { result ≡ entries_fit pg_fits groups.now }
+{
+    is_short(groups) && all_groups_fit(groups)
+}
+
+/// Whether every number and every length of a change is within its limits.
+#[tactic(auto, unfolding(crate::specs::ChangeTexts::change_fits))]
+pub(super) fn change_fits(change: &RawChange) -> bool
+    ensures { result ≡ change_fits change.now }
+{
+    is_between(0, MAX_EPOCH, change.base)
+        && pool_ids_fit(change.old_pools.as_slice())
+        && pools_fit(change.new_pools.as_slice())
+        && osds_fit(change.down.as_slice())
+        && osds_fit(change.up.as_slice())
+        && reweights_fit(change.weight.as_slice())
+        && groups_fit(change.old_upmap.as_slice())
+        && groups_fit(change.old_items.as_slice())
+        && exceptions_fit(change.new_upmap.as_slice())
+        && exceptions_fit(change.new_items.as_slice())
+}

@@ -1,0 +1,76 @@
+-- Pools that stay, and pools after a change, by id.
+use Rattle.std.proofs.Common.{◌≡◌, ◌∙◌, refl, arith, ℕ, ◌+◌, ◌-◌, ◌≤◌, leb, Bool, true, false, not, List, [], ◌∷◌, length, Some, None, reverse}
+use Rattle.std.specs.Prelude.{◌||◌, ◌==◌}
+use Rattle.std.specs.List.{list_all, filter, fold}
+use Rattle.std.proofs.lemmas.Bool.Decides.{nat_tests}
+use Rattle.std.proofs.lemmas.List.Filters.{length-filter_both}
+use Rattle.osdmap.specs.declared.change.ChangeParts.{ChangeParts}
+use Rattle.osdmap.specs.Pools.{PoolFacts}
+use Rattle.osdmap.specs.Keyed.{has_key, entry_at, put, IsRising}
+use Rattle.osdmap.specs.Maps.{ClusterMap, has_rule}
+use Rattle.osdmap.specs.Changes.{pools_kept, pools_after, brings_new, brings_rightly}
+use Rattle.osdmap.proofs.Tests.{and_first, and_second, not_true}
+use Rattle.osdmap.proofs.KeyedOrder.{rising-filter}
+use Rattle.osdmap.proofs.KeyedMaps.{entry-puts, entry-without, has-put, length-put, rising-put}
+
+pub kept-gone : (m : ClusterMap) (c : ChangeParts) (id : ℕ) → has_key (λ k. k) c.old_pools id ≡ true → entry_at (λ p. p.id) (pools_kept m c) id ≡ None
+unfolding pools_kept
+kept-gone m c id gone = entry-without (λ (q : PoolFacts). q.id) (λ (k : ℕ). k) c.old_pools m.pools id ∙ rw gone refl
+
+pub kept-stays : (m : ClusterMap) (c : ChangeParts) (id : ℕ) → has_key (λ k. k) c.old_pools id ≡ false → entry_at (λ p. p.id) (pools_kept m c) id ≡ entry_at (λ p. p.id) m.pools id
+unfolding pools_kept
+kept-stays m c id stays = entry-without (λ (q : PoolFacts). q.id) (λ (k : ℕ). k) c.old_pools m.pools id ∙ rw stays refl
+
+pub after-new : (m : ClusterMap) (c : ChangeParts) (id : ℕ) (p : PoolFacts) → entry_at (λ p. p.id) (reverse c.new_pools) id ≡ Some p → entry_at (λ p. p.id) (pools_after m c) id ≡ Some p
+unfolding pools_after
+after-new m c id p new = entry-puts (λ (q : PoolFacts). q.id) (pools_kept m c) c.new_pools id ∙ rw new refl
+
+pub after-old : (m : ClusterMap) (c : ChangeParts) (id : ℕ) → entry_at (λ p. p.id) (reverse c.new_pools) id ≡ None → entry_at (λ p. p.id) (pools_after m c) id ≡ entry_at (λ p. p.id) (pools_kept m c) id
+unfolding pools_after
+after-old m c id new = entry-puts (λ (q : PoolFacts). q.id) (pools_kept m c) c.new_pools id ∙ rw new refl
+
+-- ---- how many pools there are
+
+module _ {X : Type 0} (key : X → ℕ) where
+  -- where some list lacks the keys that come, as many come to a longer one as to none
+  puts-apart : (ys xs zs new : List X) → IsRising key xs → IsRising key zs → ((k : ℕ) → has_key key xs k ≡ (has_key key ys k || has_key key zs k)) → length xs ≡ length ys + length zs
+      → list_all (λ e. not (has_key key ys (key e))) new ≡ true → length (fold (put key) xs new) ≡ length ys + length (fold (put key) zs new)
+  puts-apart ys xs zs [] x_rises z_rises keys long apart = long
+  puts-apart ys xs zs (e ∷ es) x_rises z_rises keys long apart =
+      let here = not_true _ (and_first (not (has_key key ys (key e))) (list_all (λ e'. not (has_key key ys (key e'))) es) apart) in
+      let rest = and_second (not (has_key key ys (key e))) (list_all (λ e'. not (has_key key ys (key e'))) es) apart in
+      let same : has_key key xs (key e) ≡ has_key key zs (key e) = keys (key e) ∙ rw here refl in
+      puts-apart ys (put key xs e) (put key zs e) es (rising-put key xs e x_rises) (rising-put key zs e z_rises)
+      (λ k. has-put key xs e k ∙ rw (has-put key zs e k, keys k) (turn (key e == k) (has_key key ys k) (has_key key zs k)))
+      (length-put key xs e x_rises ∙ rw (length-put key zs e z_rises, same, long) (omega arith))
+      rest
+    where
+      turn : (a b c : Bool) → (a || (b || c)) ≡ (b || (a || c))
+      turn a b c = grind arith
+
+pub length-after : (m : ClusterMap) (c : ChangeParts) → IsRising (λ p. p.id) m.pools → brings_new m c ≡ true
+    → length (pools_after m c) ≡ length (pools_kept m c) + length (fold (put (λ p. p.id)) [] c.new_pools)
+unfolding pools_after brings_new pools_kept
+length-after m c rises new =
+    puts-apart (λ (q : PoolFacts). q.id) _ _ [] c.new_pools (rising-filter (λ (q : PoolFacts). q.id) _ m.pools rises) (λ i j d below inside. absurd (omega arith)) (λ k. or_false _) (omega arith) new
+  where
+    or_false : (b : Bool) → b ≡ (b || false)
+    or_false b = grind arith
+
+-- ---- the pools that stay, as they are counted
+
+pub kept-is : (m : ClusterMap) (c : ChangeParts) → pools_kept m c ≡ filter (λ q. not (has_key (λ k. k) c.old_pools q.id)) m.pools
+unfolding pools_kept
+kept-is m c = refl
+
+pub kept-few : (m : ClusterMap) (c : ChangeParts) → length (pools_kept m c) ≤ length m.pools
+unfolding pools_kept
+kept-few m c =
+    let stays : PoolFacts → Bool = λ q. not (has_key (λ k. k) c.old_pools q.id) in
+    omega (arith, length-filter_both stays (λ q. not (stays q)) (λ q. refl) m.pools)
+
+-- there are at most 32 pools where no more come than have room
+pub rightly-counted : (m : ClusterMap) (c : ChangeParts) (k n : ℕ) → IsRising (λ p. p.id) m.pools → brings_new m c ≡ true → list_all (has_rule m.rules) c.new_pools ≡ true
+    → k ≡ length (pools_kept m c) → n ≡ length (fold (put (λ p. p.id)) [] c.new_pools) → k ≤ 32 → leb n (32 - k) ≡ brings_rightly m c
+unfolding brings_rightly
+rightly-counted m c k n rises new ruled kept come few = rw (ruled, length-after m c rises new, ← kept, ← come) (grind (arith, nat_tests))

@@ -1,0 +1,236 @@
+-- What holds in a map holds after a change that nothing refuses.
+use Rattle.std.proofs.Common.{◌≡◌, ◌∙◌, sym, subst, refl, rules, arith, ℕ, zero, suc, ◌≤◌, Bool, true, false, not, ◌&&◌, eqb, List, [], ◌∷◌, length, set, Option, Some, None}
+use mathlib.Core.Bool.{false≢true}
+use Rattle.std.specs.Prelude.{nat_lt, nat_le, slice_get}
+use Rattle.std.specs.List.{list_all, filter, fold, All}
+use Rattle.std.specs.Option.{option_map_or}
+use Rattle.std.proofs.lemmas.Bool.{false_from_ne_true, eqb-true}
+use Rattle.std.proofs.lemmas.Bool.Decides.{nat_tests}
+use Rattle.std.proofs.lemmas.List.Elements.{All-set, All-filter}
+use Rattle.std.proofs.lemmas.List.Sums.{AllPass-from_list_all, list_all-from_AllPass}
+use Rattle.crush.specs.WellFormed.{forest_ok}
+use Rattle.crush.specs.declared.bucket.Bucket.{Bucket}
+use Rattle.osdmap.specs.declared.osd.Presence.{Presence}
+use Rattle.osdmap.specs.declared.rules.NumberedRule.{NumberedRule}
+use Rattle.osdmap.specs.declared.exception.Pair.{Pair}
+use Rattle.osdmap.specs.declared.pg.Pg.{Pg}
+use Rattle.osdmap.specs.declared.exception.Exception.{Exception}
+use Rattle.osdmap.specs.declared.change.ChangeParts.{ChangeParts}
+use Rattle.osdmap.specs.declared.change.Reweight.{Reweight}
+use Rattle.osdmap.specs.Pools.{PoolFacts, IsWithinLimits}
+use Rattle.osdmap.specs.Keyed.{has_key, entry_at, put, IsRising}
+use Rattle.osdmap.specs.Exceptions.{key_of, has_group, target, sides, all_named, is_set, are_pairs, is_sound, is_exception, stays, is_among, exceptions_after}
+use Rattle.osdmap.specs.Maps.{ClusterMap, osd_exists, has_rule, is_presence, HoldsTogether}
+use Rattle.osdmap.specs.Changes.{Step, names_osds, weighs_rightly, pools_kept, pools_after, all_groups, names_groups, brings_new, brings_rightly, excepts_soundly, change_fault, apply, with_up, with_weight}
+use Rattle.osdmap.proofs.Tests.{and_first, and_second, not_true}
+use Rattle.osdmap.proofs.KeyedOrder.{rising-filter}
+use Rattle.osdmap.proofs.KeyedMaps.{has-entry, entry-put, entry-without, list_all-puts, list_all-filter, All-puts, rising-puts}
+use Rattle.osdmap.proofs.Accepted.{Accepted, accepted}
+use Rattle.osdmap.proofs.AfterLemmas.{length-apply, length-with_weight}
+
+list_all-agree : {X : Type 0} (p q : X → Bool) → ((x : X) → q x ≡ p x) → (xs : List X) → list_all q xs ≡ list_all p xs
+list_all-agree p q same [] = refl
+list_all-agree p q same (x ∷ xs) = rw (same x, list_all-agree p q same xs) refl
+
+-- ---- OSDs
+
+pub exists-up : (up : Bool) (ps : List Presence) (osd n : ℕ) → option_map_or (λ p. p.exists) (slice_get (with_up up ps osd) n) false ≡ option_map_or (λ p. p.exists) (slice_get ps n) false
+exists-up up [] osd n = refl
+exists-up up (p ∷ ps) zero zero = refl
+exists-up up (p ∷ ps) zero (suc n) = refl
+exists-up up (p ∷ ps) (suc osd) zero = refl
+exists-up up (p ∷ ps) (suc osd) (suc n) = exists-up up ps osd n
+
+pub exists-ups : (up : Bool) (ps : List Presence) (osds : List ℕ) (n : ℕ) → option_map_or (λ p. p.exists) (slice_get (fold (with_up up) ps osds) n) false ≡ option_map_or (λ p. p.exists) (slice_get ps n) false
+exists-ups up ps [] n = refl
+exists-ups up ps (osd ∷ osds) n = exists-ups up (with_up up ps osd) osds n ∙ exists-up up ps osd n
+
+-- no OSD begins or ends with a change
+pub exists-after : (m : ClusterMap) (step : Step) (n : ℕ) → osd_exists (apply m step) n ≡ osd_exists m n
+unfolding apply
+exists-after m step n = exists-ups true (fold (with_up false) m.presences step.change.down) step.change.up n ∙ exists-ups false m.presences step.change.down n
+
+list_all-set : {X : Type 0} (p : X → Bool) (xs : List X) (i : ℕ) (x : X) → p x ≡ true → list_all p xs ≡ true → list_all p (set xs i x) ≡ true
+list_all-set p xs i x here all = list_all-from_AllPass p (set xs i x) (All-set (λ y. p y ≡ true) xs i x here (AllPass-from_list_all p xs all))
+
+-- an OSD that goes down, and one that exists and comes up
+present-downs : (ps : List Presence) (osds : List ℕ) → list_all is_presence ps ≡ true → list_all is_presence (fold (with_up false) ps osds) ≡ true
+present-downs ps [] all = all
+present-downs ps (osd ∷ osds) all = present-downs (with_up false ps osd) osds (list_all-set is_presence ps osd _ refl all)
+
+abbrev is_there : List Presence → ℕ → Bool
+is_there ps n = option_map_or (λ p. p.exists) (slice_get ps n) false
+
+present-ups : (ps : List Presence) (osds : List ℕ) → list_all (is_there ps) osds ≡ true → list_all is_presence ps ≡ true
+    → list_all is_presence (fold (with_up true) ps osds) ≡ true
+present-ups ps [] there all = all
+present-ups ps (osd ∷ osds) there all =
+    let rest = list_all-agree (is_there ps) (is_there (with_up true ps osd)) (exists-up true ps osd) osds ∙ and_second (is_there ps osd) (list_all (is_there ps) osds) there in
+    present-ups (with_up true ps osd) osds rest (list_all-set is_presence ps osd _ (rw (and_first (is_there ps osd) (list_all (is_there ps) osds) there) refl) all)
+
+present-after : (m : ClusterMap) (step : Step) → names_osds m step.change ≡ true → list_all is_presence m.presences ≡ true
+    → list_all is_presence (fold (with_up true) (fold (with_up false) m.presences step.change.down) step.change.up) ≡ true
+unfolding names_osds
+present-after m step names all =
+    let down = fold (with_up false) m.presences step.change.down in
+    let there : list_all (osd_exists m) step.change.up ≡ true = grind (arith, names) in
+    present-ups down step.change.up
+    (list_all-agree (osd_exists m) (is_there down) (exists-ups false m.presences step.change.down) step.change.up ∙ there)
+    (present-downs m.presences step.change.down all)
+
+little-weights : (weights : List ℕ) (ws : List Reweight) → list_all (λ w. nat_le w.weight 65536) ws ≡ true → list_all (λ w. nat_le w 65536) weights ≡ true
+    → list_all (λ w. nat_le w 65536) (fold with_weight weights ws) ≡ true
+little-weights weights [] little all = all
+little-weights weights (w ∷ ws) little all =
+    little-weights (with_weight weights w) ws (and_second (nat_le w.weight 65536) (list_all (λ v. nat_le v.weight 65536) ws) little)
+    (list_all-set (λ n. nat_le n 65536) weights w.osd w.weight (and_first (nat_le w.weight 65536) (list_all (λ v. nat_le v.weight 65536) ws) little) all)
+
+little-after : (m : ClusterMap) (c : ChangeParts) → weighs_rightly c ≡ true → list_all (λ w. nat_le w 65536) m.weights ≡ true → list_all (λ w. nat_le w 65536) (fold with_weight m.weights c.weight) ≡ true
+unfolding weighs_rightly
+little-after m c rightly all = little-weights m.weights c.weight rightly all
+
+-- ---- pools
+
+module _ {X : Type 0} (key : X → ℕ) where
+  -- where only entries are put in whose keys some list lacks, what has a key of that list stays
+  pub entry-apart : (xs ys new : List X) (k : ℕ) → list_all (λ e. not (has_key key ys (key e))) new ≡ true → has_key key ys k ≡ true
+      → entry_at key (fold (put key) xs new) k ≡ entry_at key xs k
+  entry-apart xs ys [] k apart has = refl
+  entry-apart xs ys (e ∷ es) k apart has =
+      let here = not_true _ (and_first (not (has_key key ys (key e))) (list_all (λ e'. not (has_key key ys (key e'))) es) apart) in
+      let rest = and_second (not (has_key key ys (key e))) (list_all (λ e'. not (has_key key ys (key e'))) es) apart in
+      let differs : eqb (key e) k ≡ false = false_from_ne_true _ (λ same. absurd (false≢true (sym here ∙ rw (eqb-true (key e) k same) has))) in
+      entry-apart (put key xs e) ys es k rest has ∙ entry-put key xs e k ∙ rw differs refl
+
+-- a pool that stays is there as before, where no pool comes whose id stays
+pub pool-stays : (m : ClusterMap) (c : ChangeParts) (id : ℕ) (p : PoolFacts) → brings_new m c ≡ true → entry_at (λ q. q.id) m.pools id ≡ Some p
+    → has_key (λ k. k) c.old_pools id ≡ false → entry_at (λ q. q.id) (pools_after m c) id ≡ Some p
+unfolding pools_after pools_kept brings_new
+pool-stays m c id p new there stays =
+    let kept : entry_at (λ q. q.id) (filter (λ q. not (has_key (λ k. k) c.old_pools q.id)) m.pools) id ≡ Some p =
+    entry-without (λ (q : PoolFacts). q.id) (λ (k : ℕ). k) c.old_pools m.pools id ∙ rw (stays, there) refl in
+    let has : has_key (λ q. q.id) (filter (λ q. not (has_key (λ k. k) c.old_pools q.id)) m.pools) id ≡ true = has-entry (λ (q : PoolFacts). q.id) _ id ∙ rw kept refl in
+    entry-apart (λ (q : PoolFacts). q.id) _ _ c.new_pools id new has ∙ kept
+
+-- ---- exceptions
+
+all_named-agree : {E : Type 0} (names : E → List ℕ) (p q : ℕ → Bool) → ((n : ℕ) → q n ≡ p n) → (e : Exception E) → all_named names q e ≡ all_named names p e
+all_named-agree names p q same e = list_all-agree _ _ (λ entry. list_all-agree _ _ same (names entry)) e.entries
+
+module _ {E : Type 0} (names : E → List ℕ) (sound : List E → Bool) (m : ClusterMap) (step : Step) (new : brings_new m step.change ≡ true) where
+  -- an exception that stays is sound as before
+  exception-stays : (gone : List Pg) (e : Exception E) → is_exception names sound m.pools (osd_exists m) e ≡ true → stays step.change.old_pools gone e ≡ true
+      → is_exception names sound (pools_after m step.change) (osd_exists (apply m step)) e ≡ true
+  exception-stays gone e holds stay =
+      let open_pool = not_true _ (and_first (not (has_key (λ id. id) step.change.old_pools e.pg.pool)) (not (is_among gone e.pg)) stay) in
+      let there = and_first (has_group m.pools e.pg) (all_named names (osd_exists m) e) (and_first (has_group m.pools e.pg && all_named names (osd_exists m) e) (is_sound sound m.pools e) holds) in
+      let same : entry_at (λ q. q.id) (pools_after m step.change) e.pg.pool ≡ entry_at (λ q. q.id) m.pools e.pg.pool = by_pool (entry_at (λ q. q.id) m.pools e.pg.pool) refl there open_pool in
+      rw (same, all_named-agree names (osd_exists m) (osd_exists (apply m step)) (exists-after m step) e) holds
+    where
+      by_pool : (o : Option PoolFacts) → entry_at (λ q. q.id) m.pools e.pg.pool ≡ o → option_map_or (λ p. nat_lt e.pg.number p.pg_num) (entry_at (λ q. q.id) m.pools e.pg.pool) false ≡ true
+          → has_key (λ id. id) step.change.old_pools e.pg.pool ≡ false → entry_at (λ q. q.id) (pools_after m step.change) e.pg.pool ≡ entry_at (λ q. q.id) m.pools e.pg.pool
+      by_pool None is there open_pool = absurd (false≢true (rw is at there))
+      by_pool (Some p) is there open_pool = pool-stays m step.change e.pg.pool p new is open_pool ∙ sym is
+
+  -- those that come are sound
+  exceptions-come : (es : List (Exception E)) → list_all (all_named names (osd_exists m)) es ≡ true → list_all (λ e. has_group (pools_after m step.change) e.pg) es ≡ true
+      → list_all (is_sound sound (pools_after m step.change)) es ≡ true → list_all (is_exception names sound (pools_after m step.change) (osd_exists (apply m step))) es ≡ true
+  exceptions-come [] named there soundly = refl
+  exceptions-come (e ∷ es) named there soundly =
+      rw (
+        all_named-agree names (osd_exists m) (osd_exists (apply m step)) (exists-after m step) e,
+        and_first (all_named names (osd_exists m) e) (list_all (all_named names (osd_exists m)) es) named,
+        and_first (has_group (pools_after m step.change) e.pg) (list_all (λ e'. has_group (pools_after m step.change) e'.pg) es) there,
+        and_first (is_sound sound (pools_after m step.change) e) (list_all (is_sound sound (pools_after m step.change)) es) soundly,
+        exceptions-come es
+            (and_second (all_named names (osd_exists m) e) (list_all (all_named names (osd_exists m)) es) named)
+            (and_second (has_group (pools_after m step.change) e.pg) (list_all (λ e'. has_group (pools_after m step.change) e'.pg) es) there)
+            (and_second (is_sound sound (pools_after m step.change) e) (list_all (is_sound sound (pools_after m step.change)) es) soundly),
+      ) refl
+
+  pub exceptions-sound : (gone : List Pg) (coming es : List (Exception E)) → list_all (is_exception names sound m.pools (osd_exists m)) es ≡ true
+      → list_all (all_named names (osd_exists m)) coming ≡ true → list_all (λ e. has_group (pools_after m step.change) e.pg) coming ≡ true
+      → list_all (is_sound sound (pools_after m step.change)) coming ≡ true
+      → list_all (is_exception names sound (pools_after m step.change) (osd_exists (apply m step))) (exceptions_after step.change.old_pools gone coming es) ≡ true
+  unfolding exceptions_after
+  exceptions-sound gone coming es all named there soundly =
+      list_all-puts key_of _ _ coming (list_all-filter _ _ _ (exception-stays gone) es all) (exceptions-come coming named there soundly)
+
+-- ---- all of it
+
+few-after : (m : ClusterMap) (c : ChangeParts) → brings_rightly m c ≡ true → length (pools_after m c) ≤ 32
+unfolding brings_rightly
+few-after m c h = let few = and_second (list_all (has_rule m.rules) c.new_pools) (nat_le (length (pools_after m c)) 32) h in grind (arith, nat_tests)
+
+ruled-after : (m : ClusterMap) (c : ChangeParts) → brings_rightly m c ≡ true → list_all (has_rule m.rules) m.pools ≡ true → list_all (has_rule m.rules) (pools_after m c) ≡ true
+unfolding brings_rightly pools_after pools_kept
+ruled-after m c h ruled =
+    list_all-puts (λ (q : PoolFacts). q.id) (has_rule m.rules) _ c.new_pools
+    (list_all-filter (has_rule m.rules) (has_rule m.rules) _ (λ p has kept. has) m.pools ruled)
+    (and_first (list_all (has_rule m.rules) c.new_pools) (nat_le (length (pools_after m c)) 32) h)
+
+within-after : (m : ClusterMap) (c : ChangeParts) → All IsWithinLimits c.new_pools → All IsWithinLimits m.pools → All IsWithinLimits (pools_after m c)
+unfolding pools_after pools_kept
+within-after m c new within = All-puts (λ (q : PoolFacts). q.id) IsWithinLimits _ c.new_pools (All-filter _ IsWithinLimits m.pools within) new
+
+pools-rise : (m : ClusterMap) (c : ChangeParts) → IsRising (λ p. p.id) m.pools → IsRising (λ p. p.id) (pools_after m c)
+unfolding pools_after pools_kept
+pools-rise m c rises = rising-puts (λ (q : PoolFacts). q.id) _ c.new_pools (rising-filter (λ (q : PoolFacts). q.id) _ m.pools rises)
+
+exceptions-rise : {E : Type 0} (old_pools : List ℕ) (gone : List Pg) (coming es : List (Exception E)) → IsRising key_of es → IsRising key_of (exceptions_after old_pools gone coming es)
+unfolding exceptions_after
+exceptions-rise old_pools gone coming es rises = rising-puts key_of _ coming (rising-filter key_of _ es rises)
+
+explicit-after : (m : ClusterMap) (step : Step) → Accepted m step.change → HoldsTogether m
+    → list_all (is_exception target is_set (pools_after m step.change) (osd_exists (apply m step))) (exceptions_after step.change.old_pools step.change.old_upmap step.change.new_upmap m.explicit) ≡ true
+unfolding names_osds names_groups all_groups excepts_soundly
+explicit-after m step ok holds =
+    exceptions-sound target is_set m step ok.new step.change.old_upmap step.change.new_upmap m.explicit holds.explicit_sound (grind (arith, ok.osds)) (grind (arith, ok.groups)) (grind (arith, ok.sound))
+
+items-after : (m : ClusterMap) (step : Step) → Accepted m step.change → HoldsTogether m
+    → list_all (is_exception sides are_pairs (pools_after m step.change) (osd_exists (apply m step))) (exceptions_after step.change.old_pools step.change.old_items step.change.new_items m.items) ≡ true
+unfolding names_osds names_groups all_groups excepts_soundly
+items-after m step ok holds =
+    exceptions-sound sides are_pairs m step ok.new step.change.old_items step.change.new_items m.items holds.items_sound (grind (arith, ok.osds)) (grind (arith, ok.groups)) (grind (arith, ok.sound))
+
+weights-after : (m : ClusterMap) (step : Step) → length (apply m step).weights ≡ length m.weights
+unfolding apply
+weights-after m step = length-with_weight m.weights step.change.weight
+
+pub HoldsTogether-after : (m : ClusterMap) (step : Step) → change_fault m step.change ≡ None → All IsWithinLimits step.change.new_pools → HoldsTogether m → HoldsTogether (apply m step)
+unfolding apply
+HoldsTogether-after m step lawful within holds =
+    let ok = accepted m step.change lawful in
+    record {
+      some = subst (λ n. 1 ≤ n) (sym (length-apply m step)) holds.some;
+      few = subst (λ n. n ≤ 1024) (sym (length-apply m step)) holds.few;
+      present = present-after m step ok.osds holds.present;
+      weighed = weights-after m step ∙ holds.weighed ∙ sym (length-apply m step);
+      weigh_little = little-after m step.change ok.weights holds.weigh_little;
+      forest = holds.forest;
+      over_osds = subst (λ n. forest_ok m.buckets n ≡ true) (sym (length-apply m step)) holds.over_osds;
+      some_rules = holds.some_rules;
+      few_rules = holds.few_rules;
+      rules_rise = holds.rules_rise;
+      rules_over = holds.rules_over;
+      few_pools = few-after m step.change ok.rightly;
+      pools_rise = pools-rise m step.change holds.pools_rise;
+      pools_within = within-after m step.change within holds.pools_within;
+      ruled = ruled-after m step.change ok.rightly holds.ruled;
+      explicit_rise = exceptions-rise step.change.old_pools step.change.old_upmap step.change.new_upmap m.explicit holds.explicit_rise;
+      explicit_sound = explicit-after m step ok holds;
+      items_rise = exceptions-rise step.change.old_pools step.change.old_items step.change.new_items m.items holds.items_rise;
+      items_sound = items-after m step ok holds;
+    }
+
+-- ---- the map after a change, put together
+
+pub assembled : (m : ClusterMap) (step : Step) (epoch : ℕ) (buckets : List Bucket) (rules : List NumberedRule) (pools : List PoolFacts) (presences : List Presence) (weights : List ℕ)
+    (explicit : List (Exception ℕ)) (items : List (Exception Pair))
+    → epoch ≡ step.epoch → buckets ≡ m.buckets → rules ≡ m.rules → pools ≡ pools_after m step.change
+    → presences ≡ fold (with_up true) (fold (with_up false) m.presences step.change.down) step.change.up → weights ≡ fold with_weight m.weights step.change.weight
+    → explicit ≡ exceptions_after step.change.old_pools step.change.old_upmap step.change.new_upmap m.explicit
+    → items ≡ exceptions_after step.change.old_pools step.change.old_items step.change.new_items m.items
+    → ◌≡◌ {A = ClusterMap} (record { epoch = epoch; buckets = buckets; rules = rules; pools = pools; presences = presences; weights = weights; explicit = explicit; items = items }) (apply m step)
+unfolding apply
+assembled m step epoch buckets rules pools presences weights explicit items h1 h2 h3 h4 h5 h6 h7 h8 = rw (h1, h2, h3, h4, h5, h6, h7, h8) refl

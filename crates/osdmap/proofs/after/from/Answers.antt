@@ -1,0 +1,20 @@
+use Rattle.std.proofs.Common.{◌≡◌, ◌∙◌, rules, tests, length, drop, arith, refl}
+use Rattle.std.specs.Prelude.{nat_lt}
+use Rattle.std.specs.List.{prefix_len}
+use Rattle.std.proofs.lemmas.List.{take_all, length-drop}
+use Rattle.std.proofs.lemmas.List.Folds.{length-prefix_len}
+use Rattle.std.proofs.lemmas.Iterator.{YieldsList-from_slice}
+use Rattle.std.proofs.lemmas.Iterator.Consumers.{count_from_yields_List}
+use Rattle.std.proofs.lemmas.Iterator.Search.{YieldsList-from_take_while}
+use Rattle.osdmap.specs.declared.pg.Pg.{Pg}
+use Rattle.osdmap.specs.Exceptions.{place_of}
+use Rattle.osdmap.proofs.StayingLemmas.{prefix_within}
+use Rattle.osdmap.proofs.after.from.Goals as goal
+
+pub returns : goal.returns
+returns c =
+    let test = λ (g : Pg). nat_lt (place_of g) c.args.place in
+    let many : c.count-below.result ≡ prefix_len (λ g. nat_lt (place_of g) c.args.place) c.args.groups.now = count_from_yields_List c.take_while.result _ c.count-below.ensures.ran
+    (YieldsList-from_take_while _ test (YieldsList-from_slice c.args.groups.now cc) c.take_while.ensures.closure c.take_while.ensures.done (λ x b q k. search (rules, tests)))
+    ∙ length-prefix_len test c.args.groups.now in
+    take_all _ _ (omega (arith, length-drop c.count-below.result c.args.groups.now)) ∙ rw many refl

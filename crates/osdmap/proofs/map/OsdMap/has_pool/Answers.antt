@@ -1,0 +1,7 @@
+use Rattle.std.proofs.Common.{rules}
+use Rattle.osdmap.specs.Pools.{PoolFacts}
+use Rattle.osdmap.proofs.KeyedMaps.{has-entry}
+use Rattle.osdmap.proofs.map.OsdMap.has_pool.Goals as goal
+
+pub returns : goal.returns
+returns c = rw (has-entry (λ (q : PoolFacts). q.id) c.args.self.now.pools c.args.id) (search rules)

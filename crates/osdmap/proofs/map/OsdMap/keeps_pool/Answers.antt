@@ -1,0 +1,8 @@
+use Rattle.std.proofs.Common.{rules}
+use Rattle.osdmap.specs.Pools.{PoolFacts}
+use Rattle.osdmap.specs.Changes.{pools_kept}
+use Rattle.osdmap.proofs.KeyedMaps.{has-entry}
+use Rattle.osdmap.proofs.map.OsdMap.keeps_pool.Goals as goal
+
+pub returns : goal.returns
+returns c = rw (has-entry (λ (q : PoolFacts). q.id) (pools_kept c.args.self.now c.args.change.now) c.args.id) (search rules)

@@ -1,0 +1,34 @@
+-- What exceptions make of the set of a group (Ceph, OSDMap.cc: _apply_upmap).
+use Rattle.std.specs.Prelude.{ℕ, ◌==◌, Bool, false, ◌||◌, List, [], ◌∷◌, map, Option, Some, None, slice_index, if◌then◌else◌}
+use Rattle.std.specs.List.{list_any, fold}
+use Rattle.std.specs.Option.{option_map_or}
+use Rattle.osdmap.specs.declared.exception.Pair.{Pair}
+
+-- whether an OSD is out for good: its reweight is 0
+abbrev pub is_weightless : List ℕ → ℕ → Bool
+is_weightless weights osd = slice_index weights osd == 0
+
+-- whether a place has an OSD
+abbrev pub is_of : ℕ → Option ℕ → Bool
+is_of osd place = option_map_or (λ o. o == osd) place false
+
+-- one OSD goes to another where it first stands
+unfoldable pub replaced : Pair → List (Option ℕ) → List (Option ℕ)
+replaced pair [] = []
+replaced pair (place ∷ places) = if is_of pair.from place then Some pair.to ∷ places else place ∷ replaced pair places
+
+-- a pair acts only where the OSD that it brings stands nowhere, and takes a share
+unfoldable pub with_pair : List ℕ → List (Option ℕ) → Pair → List (Option ℕ)
+with_pair weights places pair = if list_any (is_of pair.to) places || is_weightless weights pair.to then places else replaced pair places
+
+-- the pairs act in order
+abbrev pub with_items : List ℕ → List (Option ℕ) → Option (List Pair) → List (Option ℕ)
+with_items weights places None = places
+with_items weights places (Some pairs) = fold (with_pair weights) places pairs
+
+-- the explicit set stands in place of the raw one, and the pairs act on it; but where one of its OSDs is out for good,
+-- neither does
+unfoldable pub mapped : List ℕ → Option (List ℕ) → Option (List Pair) → List (Option ℕ) → List (Option ℕ)
+mapped weights None items raw = with_items weights raw items
+mapped weights (Some osds) items raw =
+    if list_any (is_weightless weights) osds then raw else with_items weights (map (λ osd. Some osd) osds) items

@@ -1,0 +1,89 @@
+-- The parts that state a map.
+use Rattle.std.specs.Prelude.{ℕ, ◌==◌, Bool, not, ◌||◌, pos, List, length, map, filter_map, Option, Some, None, option_and_then, if◌then◌else◌}
+use Rattle.std.specs.List.{range_with_len}
+use Rattle.crush.specs.declared.bucket.Item.{Item}
+use Rattle.crush.specs.declared.bucket.Bucket.{Bucket}
+use Rattle.crush.specs.declared.rule.Step.{Step}
+use Rattle.crush.specs.declared.rule.Step.TheVariants.{Take as TakeBucket, Choose as ChooseBy, Emit as EmitAll}
+use Rattle.osdmap.specs.declared.osd.OsdState.{OsdState}
+use Rattle.osdmap.specs.declared.parts.MapParts.{MapParts}
+use Rattle.osdmap.specs.declared.parts.BucketPart.{BucketPart}
+use Rattle.osdmap.specs.declared.parts.ItemPart.{ItemPart}
+use Rattle.osdmap.specs.declared.parts.RulePart.{RulePart}
+use Rattle.osdmap.specs.declared.parts.StepPart.{StepPart}
+use Rattle.osdmap.specs.declared.parts.StepPart.TheVariants.{Take, Choose as Chooses, Emit}
+use Rattle.osdmap.specs.declared.parts.PoolPart.{PoolPart}
+use Rattle.osdmap.specs.declared.parts.OsdPart.{OsdPart}
+use Rattle.osdmap.specs.declared.parts.ExceptionPart.{ExceptionPart}
+use Rattle.osdmap.specs.declared.parts.PairPart.{PairPart}
+use Rattle.osdmap.specs.declared.pg.Pg.{Pg}
+use Rattle.osdmap.specs.declared.pg_text.PgParts.{PgParts}
+use Rattle.osdmap.specs.declared.exception.Exception.{Exception}
+use Rattle.osdmap.specs.declared.exception.Pair.{Pair}
+use Rattle.osdmap.specs.declared.rules.NumberedRule.{NumberedRule}
+use Rattle.osdmap.specs.Pools.{PoolFacts}
+use Rattle.osdmap.specs.Maps.{ClusterMap, osd_at}
+
+abbrev pub item_part : Item → ItemPart
+item_part i = record { id = i.id; weight = pos i.weight }
+
+abbrev pub bucket_part : Bucket → BucketPart
+bucket_part b = record { id = b.id; level = pos b.level; kind = b.kind; items = map item_part b.items }
+
+abbrev pub step_part : Step → StepPart
+step_part (TakeBucket id) = Take id
+step_part (ChooseBy c) = Chooses (record { mode = c.mode; to_leaf = c.to_leaf; count = pos c.count; level = pos c.level })
+step_part EmitAll = Emit
+
+abbrev pub rule_part : NumberedRule → RulePart
+rule_part r = record { id = pos r.id; kind = r.rule.kind; steps = map step_part r.rule.steps }
+
+abbrev pub pool_part : PoolFacts → PoolPart
+pool_part p = record {
+  id = pos p.id;
+  kind = p.kind;
+  pg_num = pos p.pg_num;
+  pgp_num = pos p.pgp_num;
+  rule = pos p.rule;
+  size = pos p.size;
+}
+
+-- an OSD under its number
+abbrev pub osd_part : ℕ → OsdState → OsdPart
+osd_part n s = record { id = pos n; exists = s.exists; up = s.up; weight = pos s.weight }
+
+-- what is worth a line: an OSD that exists, or has a reweight
+abbrev pub is_notable : OsdState → Bool
+is_notable s = s.exists || not (s.weight == 0)
+
+-- what is listed of an OSD, where it is worth a line
+abbrev pub part_listed : ClusterMap → ℕ → Option OsdPart
+part_listed m n = option_and_then (λ s. if is_notable s then Some (osd_part n s) else None) (osd_at m n)
+
+-- the OSDs by number upwards
+abbrev pub osd_parts : ClusterMap → List OsdPart
+osd_parts m = filter_map (part_listed m) (range_with_len 0 (length m.presences))
+
+abbrev pub pg_part : Pg → PgParts
+pg_part g = record { pool = Some g.pool; number = Some g.number }
+
+abbrev pub pair_part : Pair → PairPart
+pair_part p = record { from = pos p.from; to = pos p.to }
+
+-- an exception of a group, by what states each of its entries
+abbrev pub exception_part : {E P : Type 0} → (E → P) → Exception E → ExceptionPart P
+exception_part entry_part e = record { pg = pg_part e.pg; entries = map entry_part e.entries }
+
+-- each list in the map's order
+unfoldable pub parts_of : ClusterMap → MapParts
+parts_of m = record {
+  version = pos 1;
+  epoch = pos m.epoch;
+  max_osd = pos (length m.presences);
+  buckets = map bucket_part m.buckets;
+  rules = map rule_part m.rules;
+  pools = map pool_part m.pools;
+  osds = osd_parts m;
+  pg_upmap = map (exception_part pos) m.explicit;
+  pg_upmap_items = map (exception_part pair_part) m.items;
+}

@@ -1,0 +1,60 @@
+use super::order::in_order;
+use crate::entry_part::{EntryPart, exceptions_fit, exceptions_of};
+use crate::exception::{Entry, Exception};
+use crate::map::OsdMap;
+use crate::parts::ExceptionPart;
+use crate::refusal::Refusal;
+use std::alloc::Global;
+
+impl OsdMap {
+    ghost use Rattle.std.specs.Prelude.{◌≡◌, true, map};
+    ghost use Rattle.std.specs.List.{list_all};
+    ghost use Rattle.osdmap.specs.declared.refusal.Refusal.TheVariants.{BadException};
+    ghost use Rattle.osdmap.specs.Exceptions.{key_of, is_exception};
+    ghost use Rattle.osdmap.specs.Maps.{osd_exists};
+    ghost use Rattle.osdmap.specs.Parts.{exceptions_fit, exception_of};
+    ghost use Rattle.osdmap.specs.Stated.{Makes, exceptions_ok};
+    ghost use Rattle.osdmap.specs.Built.{refused_unless, Rises};
+
+    /// Whether an exception is of a group that is there, names OSDs that exist, and is sound.
+    fn is_exception<E: Entry>(&self, exception: &Exception<E>) -> bool
+        ensures { result ≡ is_exception E.names E.sound self.now.pools (osd_exists self.now) exception.now }
+    {
+        match self.pool(exception.pg.pool) {
+            Some(pool) => {
+                exception.pg.number < pool.pg_num()
+                    && exception.names_known(self)
+                    && exception.is_sound(&pool)
+            }
+            None => false,
+        }
+    }
+
+    /// Whether each of some exceptions is one of the map.
+    fn are_exceptions<E: Entry>(&self, exceptions: &[Exception<E>]) -> bool
+        ensures { result ≡ list_all (is_exception E.names E.sound self.now.pools (osd_exists self.now)) exceptions.now }
+    {
+        exceptions.iter().all(
+            |exception| -> bool
+                ensures { result ≡ is_exception E.names E.sound self.entry.now.pools (osd_exists self.entry.now) exception.now }
+            { self.is_exception(exception) },
+        )
+    }
+
+    /// The exceptions of the map that parts within the limits state, by group upwards: `BadException` (17) where one of them
+    /// is none, or has the group of another.
+    pub(crate) fn exceptions_in<E: Entry, P: EntryPart<E>>(
+        &self,
+        alloc: Global,
+        parts: &[ExceptionPart<P>],
+    ) -> Result<Vec<Exception<E>>, Refusal>
+        requires { exceptions_fit P.within parts.now ≡ true }
+        ensures { Makes result (refused_unless (exceptions_ok E.names E.sound self.now.pools (osd_exists self.now) (map (exception_of P.entry_of) parts.now)) BadException) (λ es. Rises key_of (map (exception_of P.entry_of) parts.now) es.items) }
+    {
+        let exceptions = exceptions_of(alloc, parts)?;
+        if !self.are_exceptions(&exceptions) {
+            return Err(Refusal::BadException);
+        }
+        in_order(exceptions, Refusal::BadException)
+    }
+}
