@@ -1,7 +1,7 @@
 -- one draw of a uniform bucket, as a swap of the list of places
 use Rattle.std.proofs.Common.{◌≡◌, ◌≢◌, ℕ, zero, suc, ◌+◌, ◌-◌, ◌<◌, ◌≤◌, ◌%◌, List, [], ◌∷◌, ◌++◌, length, get_or, set, take, drop, inl, inr, refl, sym, ap, ◌∙◌, arith}
 use Rattle.std.specs.List.{swap, range_with_len}
-use Rattle.std.proofs.lemmas.List.{take_more, take_more_set, drop_more, take-set-le, get_or-set_same, get_or-set_other, get_or-drop, drop-drop, drop-set, drop-set-add, append_assoc, length-set, length-drop}
+use Rattle.std.proofs.lemmas.List.{take_more, drop_more, take-set-le, get_or-set_same, get_or-set_other, get_or-drop, drop-drop, drop-set, drop-set-add, append_assoc, length-set, length-drop}
 use Rattle.std.proofs.lemmas.Nat.{mod_below}
 use Rattle.std.proofs.lemmas.Bool.{cases_eq}
 use Rattle.std.proofs.lemmas.List.FromFn.{length-range_with_len, get_or-range_with_len}
@@ -111,17 +111,11 @@ uniform_place_below x id n r some =
     let same = length-range_with_len 0 n in
     drawn_below x id 0 n n (range_with_len 0 n) (omega arith) (λ i h. let is = get_or-range_with_len 0 n i 0 (omega arith) in omega arith) (r % n) (mod_below r n some)
 
--- one more number
-pub range-more : (a n : ℕ) → range_with_len a n ++ (a + n) ∷ [] ≡ range_with_len a (n + 1)
-range-more a zero = let e : a + 0 ≡ a = omega arith in let f : zero + 1 ≡ 1 = omega arith in ap (λ x. x ∷ []) e ∙ sym (ap (range_with_len a) f)
-range-more a (suc n) =
-    let e : a + suc n ≡ (a + 1) + n = omega arith in
-    let f : suc (n + 1) ≡ suc n + 1 = omega arith in
-    ap (λ ys. a ∷ ys) (ap (λ x. range_with_len (a + 1) n ++ x ∷ []) e ∙ range-more (a + 1) n) ∙ ap (range_with_len a) f
-
--- the places numbered so far, after a write at the next
-pub numbered_step : (i : ℕ) (xs : List ℕ) → i < length xs → take i xs ≡ range_with_len 0 i → take (i + 1) (set xs i i) ≡ range_with_len 0 (i + 1)
-numbered_step i xs lt h = take_more_set xs i i lt ∙ ap (λ ys. ys ++ i ∷ []) h ∙ (let e : i ≡ 0 + i = omega arith in ap (λ x. range_with_len 0 i ++ x ∷ []) e) ∙ range-more 0 i
+-- the first of the numbers
+pub take-range : (a n m : ℕ) → n ≤ m → take n (range_with_len a m) ≡ range_with_len a n
+take-range a zero m le = refl
+take-range a (suc n) zero le = absurd (omega arith)
+take-range a (suc n) (suc m) le = ap (λ ys. a ∷ ys) (take-range (a + 1) n m (omega arith))
 
 -- what is places_drawn from numbered places is what the bucket picks
 pub drawn-numbered : (x id r m n : ℕ) (xs : List ℕ) → xs ≡ range_with_len 0 m → length xs ≡ n → get_or (places_drawn x id 0 (length xs) xs) (r % n) 0 ≡ uniform_place x id n r

@@ -1,9 +1,11 @@
 -- Each bucket of a forest can be picked from.
-use Rattle.std.proofs.Common.{◌≡◌, ℕ, ◌<◌, ◌≤◌, ◌^◌, Bool, true, List, length, get_or, position, find, Bor, Option, IfSome, Some, None, sym, nat_lt, ℤ, pos, arith}
+use Rattle.std.proofs.Common.{◌≡◌, ℕ, ◌<◌, ◌≤◌, ◌^◌, Bool, true, List, length, get_or, position, find, Bor, Option, IfSome, Some, None, sym, nat_lt, ℤ, pos, refl, arith}
+use Rattle.std.specs.Prelude.{int_le, int_lt}
 use Rattle.std.specs.List.{list_all}
 use Rattle.std.specs.Option.{option_copied}
 use Rattle.std.specs.Ordering.{int_eq}
-use Rattle.std.proofs.lemmas.Bool.Decides.{nat_tests}
+use Rattle.std.proofs.lemmas.Bool.Decides.{nat_tests, Decides-int_eq}
+use Rattle.std.proofs.lemmas.Int.{ints}
 use Rattle.std.proofs.lemmas.Bool.{and_parts, ltb-true}
 use Rattle.std.proofs.lemmas.Option.{gets}
 use Rattle.std.proofs.lemmas.List.Folds.{find_at}
@@ -69,3 +71,19 @@ bucket_at-pickable buckets forest id b e =
 pub IfSome-pickable : (buckets : List Bucket) → IsForest buckets → (id : ℤ) (r : Option (Bor Bucket)) → option_copied r ≡ bucket_at buckets id → IfSome r (λ b. IsPickable b.now)
 IfSome-pickable buckets forest id None e = tt
 IfSome-pickable buckets forest id (Some b) e = bucket_at-pickable buckets forest id b.now (sym e)
+
+below_device : (own id shown : ℤ) → int_lt own (pos 0) ≡ true → own ≡ id → shown ≡ id → int_le (pos 0) shown ≡ true → ⊥
+below_device own id shown below same passed device = grind (arith, ints, nat_tests)
+
+-- no bucket has the id of a device, passed on as `shown`
+pub device-has_none : (buckets : List Bucket) → IsForest buckets → (id shown : ℤ) → shown ≡ id → int_le (pos 0) shown ≡ true → bucket_at buckets id ≡ None
+device-has_none buckets forest id shown passed device = by_case (bucket_at buckets id) refl
+  where
+    by_case : (o : Option Bucket) → bucket_at buckets id ≡ o → o ≡ None
+    by_case None e = refl
+    by_case (Some b) e =
+        let place = find-place (λ c. int_eq c.id id) buckets b e in
+        let within : bucket_limits_ok b ≡ true = rw place.2 at (list_all-at bucket_limits_ok buckets place.0 b place.1 (and_parts _ _ forest.limits).1) in
+        let below : int_lt b.id (pos 0) ≡ true = (and_parts _ _ (and_parts _ _ (and_parts _ _ (and_parts _ _ within).0).0).0).1 in
+        let same : b.id ≡ id = (Decides-int_eq b.id id).0 place.3 in
+        absurd (below_device b.id id shown below same passed device)

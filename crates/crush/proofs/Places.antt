@@ -1,5 +1,5 @@
 -- Where the bucket of an id stands among buckets of falling ids.
-use Rattle.std.proofs.Common.{◌≡◌, ◌≢◌, ℕ, ◌<◌, ◌≤◌, true, false, List, [], length, get_or, position, Ordering, Less, Equal, Greater, Result, Ok, Err, Option, ℤ, pos, ◌<ℤ◌, ◌≤ℤ◌, refl, sym, inl, inr, arith}
+use Rattle.std.proofs.Common.{◌≡◌, ◌≢◌, ℕ, ◌<◌, ◌≤◌, true, false, List, [], length, get_or, position, nat_lt, Ordering, Less, Equal, Greater, Result, Ok, Err, Option, Some, ℤ, pos, ◌<ℤ◌, ◌≤ℤ◌, refl, sym, ap, ◌∙◌, inl, inr, arith}
 use Rattle.std.specs.Ordering.{int_cmp, int_eq, ordering_index, MatchOrdering}
 use Rattle.std.specs.List.{position_or_len}
 use Rattle.std.specs.List.Sorted.{IsSearchInRange, IsBinarySearchResult, IsNonDecreasingBy}
@@ -8,6 +8,7 @@ use Rattle.std.proofs.lemmas.Bool.{cases_lt}
 use Rattle.std.proofs.lemmas.Cmp.{int_ranked}
 use Rattle.std.proofs.lemmas.Bool.Decides.{nat_tests, Decides-int_eq}
 use Rattle.std.proofs.lemmas.Int.{ints}
+use Rattle.std.proofs.lemmas.List.{get_or_default}
 use Rattle.std.proofs.lemmas.List.Sums.{position_or_len_is}
 use Rattle.std.proofs.lemmas.List.Sorted.{IsNonDecreasingBy-from_default}
 use Rattle.crush.specs.declared.bucket.Bucket.{Bucket}
@@ -66,6 +67,14 @@ module _ (buckets : List Bucket) (falls : IsDescending buckets) (id : ℤ) where
   first_at at in_range here = position_or_len_is (λ b. int_eq b.id id) buckets at no_bucket (omega arith)
       (λ k lt. int_eq-no (get_or buckets k no_bucket).id id (λ e. omega (arith, ints, falls k at no_bucket lt in_range, e, here)))
       (λ _. int_eq-yes (get_or buckets at no_bucket).id id here)
+
+  -- a place where the id stands is the one sought
+  pub met : (at : ℕ) (b : Bucket) → true ≡ nat_lt at (length buckets) → b ≡ get_or buckets at b → true ≡ int_eq b.id id → Some at ≡ position (λ c. int_eq c.id id) buckets
+  met at b inside here same =
+      let lt : at < length buckets = grind (arith, nat_tests, inside) in
+      let is : b ≡ get_or buckets at no_bucket = here ∙ get_or_default buckets at b no_bucket lt in
+      let first = first_at at lt (ap (λ c. c.id) (sym is) ∙ (Decides-int_eq b.id id).0 (sym same)) in
+      rw first (grind (arith, nat_tests))
 
   -- an id that stands nowhere
   first_none : ((k : ℕ) → k < length buckets → (get_or buckets k no_bucket).id ≢ id) → position_or_len (λ b. int_eq b.id id) buckets ≡ length buckets

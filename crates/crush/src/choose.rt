@@ -77,6 +77,9 @@ impl Draw {
         ensures value { result ≡ number_in self.numrep self.base self.round bucket.now }
         ensures small { result ≤ self.base + 65280 }
     {
+        if self.round == 0 {
+            return self.base;
+        }
         self.base + self.stride(bucket) * u32::from(self.round)
     }
 }

@@ -83,7 +83,11 @@ impl Forest {
         ensures within { IfSome result (λ b. IsPickable b.now) }
         ensures leads_down { IfSome result (λ b. LeadsDown self.now b.now) }
     {
-        bucket_of(&self.buckets, id)
+        let buckets = &self.buckets;
+        if id >= 0 {
+            return None;
+        }
+        bucket_of(buckets, id)
     }
 
     /// The type of an item: that of its bucket, and 0 for a device.
@@ -168,6 +172,3 @@ fn copies_of(alloc: Global, buckets: &[Bucket]) -> Result<Vec<Bucket>, AllocErro
     }
     Ok(copies)
 }
-
-#[cfg(test)]
-mod tests;

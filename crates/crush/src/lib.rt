@@ -30,6 +30,3 @@ pub use memory::Memory;
 pub use rule::{Choose, Mode, Rule, RuleKind, Step};
 pub use weights::Weights;
 pub use work::Work;
-
-#[cfg(test)]
-mod worked_values;

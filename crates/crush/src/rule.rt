@@ -129,6 +129,3 @@ fn takes_above(step: &Step, forest: &Forest, osd: i32) -> bool
         Step::Choose(_) | Step::Emit => false,
     }
 }
-
-#[cfg(test)]
-mod tests;

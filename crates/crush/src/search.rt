@@ -6,12 +6,23 @@ ghost use Rattle.crush.specs.WellFormed.{is_known, IsDescending};
 
 use crate::bucket::Bucket;
 
-/// Where the bucket of an id stands among buckets of falling ids.
+/// Whether a bucket has an id.
+fn has_id(bucket: &Bucket, id: i32) -> bool
+    ensures { result ≡ int_eq bucket.now.id id }
+{
+    bucket.id == id
+}
+
+/// Where the bucket of an id stands among buckets of falling ids: mostly where it does when they are -1, -2 and so on.
 pub(crate) fn place_of(buckets: &[Bucket], id: i32) -> Option<usize>
     requires { IsDescending buckets.now }
     ensures { result ≡ position (λ b. int_eq b.id id) buckets.now }
 {
-    buckets.binary_search_by(|bucket| id.cmp(&bucket.id)).ok()
+    let guess = (!id).cast_unsigned() as usize;
+    match buckets.get(guess) {
+        Some(bucket) if has_id(bucket, id) => Some(guess),
+        _ => buckets.binary_search_by(|bucket| id.cmp(&bucket.id)).ok(),
+    }
 }
 
 /// The bucket of an id among buckets of falling ids.

@@ -3,7 +3,7 @@ use Rattle.std.proofs.Common.{◌≡◌, ℕ, ◌+◌, List, [], ◌++◌, map, 
 use Rattle.std.specs.List.{range_with_len, cons_option}
 use Rattle.std.proofs.lemmas.List.{map-append}
 use Rattle.std.proofs.lemmas.List.Elements.{filter_map-append}
-use Rattle.crush.proofs.Drawn.{range-more}
+use Rattle.crush.proofs.Rounds.{range-more}
 
 written_one : {V D : Type 0} (f : V → D) (o : Option V) → map f (cons_option o []) ≡ cons_option (option_map f o) []
 written_one f None = refl

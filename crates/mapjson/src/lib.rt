@@ -65,6 +65,3 @@ pub fn written_map_is_read_back(map: &OsdMap)
 {
     map.states_itself();
 }
-
-#[cfg(test)]
-mod tests;

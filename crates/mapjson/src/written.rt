@@ -270,6 +270,3 @@ impl ToJson for OsdMap {
         })
     }
 }
-
-#[cfg(test)]
-mod tests;

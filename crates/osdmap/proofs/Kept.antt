@@ -26,11 +26,8 @@ use Rattle.osdmap.proofs.Tests.{and_first, and_second, not_true}
 use Rattle.osdmap.proofs.KeyedOrder.{rising-filter}
 use Rattle.osdmap.proofs.KeyedMaps.{has-entry, entry-put, entry-without, list_all-puts, list_all-filter, All-puts, rising-puts}
 use Rattle.osdmap.proofs.Accepted.{Accepted, accepted}
+use Rattle.osdmap.proofs.Built.{list_all-agree}
 use Rattle.osdmap.proofs.AfterLemmas.{length-apply, length-with_weight}
-
-list_all-agree : {X : Type 0} (p q : X → Bool) → ((x : X) → q x ≡ p x) → (xs : List X) → list_all q xs ≡ list_all p xs
-list_all-agree p q same [] = refl
-list_all-agree p q same (x ∷ xs) = rw (same x, list_all-agree p q same xs) refl
 
 -- ---- OSDs
 
@@ -65,7 +62,7 @@ present-ups : (ps : List Presence) (osds : List ℕ) → list_all (is_there ps) 
     → list_all is_presence (fold (with_up true) ps osds) ≡ true
 present-ups ps [] there all = all
 present-ups ps (osd ∷ osds) there all =
-    let rest = list_all-agree (is_there ps) (is_there (with_up true ps osd)) (exists-up true ps osd) osds ∙ and_second (is_there ps osd) (list_all (is_there ps) osds) there in
+    let rest = list_all-agree (is_there (with_up true ps osd)) (is_there ps) (exists-up true ps osd) osds ∙ and_second (is_there ps osd) (list_all (is_there ps) osds) there in
     present-ups (with_up true ps osd) osds rest (list_all-set is_presence ps osd _ (rw (and_first (is_there ps osd) (list_all (is_there ps) osds) there) refl) all)
 
 present-after : (m : ClusterMap) (step : Step) → names_osds m step.change ≡ true → list_all is_presence m.presences ≡ true
@@ -75,7 +72,7 @@ present-after m step names all =
     let down = fold (with_up false) m.presences step.change.down in
     let there : list_all (osd_exists m) step.change.up ≡ true = grind (arith, names) in
     present-ups down step.change.up
-    (list_all-agree (osd_exists m) (is_there down) (exists-ups false m.presences step.change.down) step.change.up ∙ there)
+    (list_all-agree (is_there down) (osd_exists m) (exists-ups false m.presences step.change.down) step.change.up ∙ there)
     (present-downs m.presences step.change.down all)
 
 little-weights : (weights : List ℕ) (ws : List Reweight) → list_all (λ w. nat_le w.weight 65536) ws ≡ true → list_all (λ w. nat_le w 65536) weights ≡ true

@@ -1,13 +1,13 @@
 -- Marks on numbers: a step of marking, and what marking finds.
 use Rattle.std.proofs.Math.Seq.{drop-cons}
 use Rattle.std.proofs.Math.ListN.{drop_of_length-le}
-use Rattle.std.proofs.Common.{◌≡◌, ℕ, zero, suc, ◌+◌, ◌<◌, ◌≤◌, Bool, true, false, not, ◌&&◌, List, [], ◌∷◌, ◌++◌, map, length, get_or, set, drop, refl, sym, ap, ◌∙◌, arith, add-one, replicate, ◌==◌, nat_lt}
+use Rattle.std.proofs.Common.{◌≡◌, ℕ, zero, suc, ◌+◌, ◌<◌, ◌≤◌, Bool, true, false, not, ◌&&◌, List, [], ◌∷◌, map, length, get_or, set, drop, refl, arith, add-one, replicate, ◌==◌, nat_lt}
 use Rattle.std.proofs.Math.ListN.{length-set, length-replicate}
 use Rattle.std.specs.List.{list_any, list_all}
 use Rattle.std.proofs.lemmas.Bool.Decides.{nat_tests}
 use Rattle.std.proofs.lemmas.Grind.{common_steps}
-use Rattle.osdmap.specs.Marks.{are_new, marked, are_below}
-use Rattle.osdmap.proofs.Tests.{and_first, and_second}
+use Rattle.osdmap.specs.Marks.{are_new, are_below}
+use Rattle.osdmap.proofs.Tests.{and_second}
 use Rattle.osdmap.specs.Keyed.{is_distinct}
 
 module _ {X : Type 0} (named : X → ℕ) where
@@ -17,19 +17,10 @@ module _ {X : Type 0} (named : X → ℕ) where
   unfolding are_new
   new_step marks xs i x inside is = rw (drop-cons xs i x, ← is, add-one) refl
 
-  pub marked_step : (marks : List Bool) (xs : List X) (i : ℕ) (x : X) → i < length xs → x ≡ get_or xs i x
-      → marked named marks (drop i xs) ≡ marked named (set marks (named x) true) (drop (i + 1) xs)
-  unfolding marked
-  marked_step marks xs i x inside is = rw (drop-cons xs i x, ← is, add-one) refl
-
   -- from the end on
   pub new_end : (marks : List Bool) (xs : List X) (i : ℕ) → length xs ≤ i → are_new named marks (drop i xs) ≡ true
   unfolding are_new
   new_end marks xs i past = rw (drop_of_length-le xs past) refl
-
-  pub marked_end : (marks : List Bool) (xs : List X) (i : ℕ) → length xs ≤ i → marked named marks (drop i xs) ≡ marks
-  unfolding marked
-  marked_end marks xs i past = rw (drop_of_length-le xs past) refl
 
 -- no mark on what any entry names
 abbrev pub are_free : {X : Type 0} → (X → ℕ) → List Bool → List X → Bool
@@ -55,13 +46,6 @@ new_is named marks (e ∷ es) inside =
     let rest : list_all (λ x. nat_lt (named x) (length (set marks (named e) true))) es ≡ true = rw length-set (and_second (nat_lt (named e) (length marks)) _ inside) in
     rw (new_is named (set marks (named e) true) es rest, free_after named marks (named e) es here) (regroup (not (get_or marks (named e) false)) (is_distinct (map named es)) (not (list_any (λ j. j == named e) (map named es))) (are_free named marks es))
 
--- entries one after another
-pub new-append : {X : Type 0} (named : X → ℕ) (marks : List Bool) (xs ys : List X)
-    → are_new named marks (xs ++ ys) ≡ (are_new named marks xs && are_new named (marked named marks xs) ys)
-unfolding are_new marked
-new-append named marks [] ys = refl
-new-append named marks (x ∷ xs) ys = rw (new-append named (set marks (named x) true) xs ys) (grind arith)
-
 -- without a mark everything is free
 free_unmarked : {X : Type 0} (named : X → ℕ) (n : ℕ) (es : List X) → are_free named (replicate n false) es ≡ true
 free_unmarked named n [] = refl
@@ -77,33 +61,3 @@ pub new_unmarked : {X : Type 0} (named : X → ℕ) (n : ℕ) (es : List X) → 
     → are_new named (replicate n false) es ≡ is_distinct (map named es)
 new_unmarked named n es inside =
     rw (new_is named (replicate n false) es (rw length-replicate inside), free_unmarked named n es) (grind arith)
-
--- two lists one after another, below n
-below-append : {X : Type 0} (named : X → ℕ) (n : ℕ) (xs ys : List X) → are_below named n xs ≡ true → are_below named n ys ≡ true
-    → are_below named n (xs ++ ys) ≡ true
-below-append named n [] ys first second = second
-below-append named n (x ∷ xs) ys first second =
-    let p = nat_lt (named x) n in
-    let q = are_below named n xs in
-    rw (and_first p q first, below-append named n xs ys (and_second p q first) second) refl
-
-map_same : (xs : List ℕ) → map (λ x. x) xs ≡ xs
-map_same [] = refl
-map_same (x ∷ xs) = ap (λ ys. x ∷ ys) (map_same xs)
-
--- two lists marked one after the other
-pub apart : (n : ℕ) (xs ys : List ℕ) → are_below (λ k. k) n xs ≡ true → are_below (λ k. k) n ys ≡ true
-    → (are_new (λ k. k) (replicate n false) xs && are_new (λ k. k) (marked (λ k. k) (replicate n false) xs) ys) ≡ is_distinct (xs ++ ys)
-apart n xs ys first second =
-    let same = λ (k : ℕ). k in
-    sym (new-append same (replicate n false) xs ys) ∙ new_unmarked same n (xs ++ ys) (below-append same n xs ys first second) ∙ ap is_distinct (map_same (xs ++ ys))
-
--- what the second list tells where the first is new, and what the first tells where it is not
-pub apart_then : (n : ℕ) (xs ys : List ℕ) (marks : List Bool) → are_below (λ k. k) n xs ≡ true → are_below (λ k. k) n ys ≡ true
-    → true ≡ are_new (λ k. k) (replicate n false) xs → marks ≡ marked (λ k. k) (replicate n false) xs
-    → are_new (λ k. k) marks ys ≡ is_distinct (xs ++ ys)
-apart_then n xs ys marks first second new is = rw is (grind (arith, apart n xs ys first second))
-
-pub apart_else : (n : ℕ) (xs ys : List ℕ) → are_below (λ k. k) n xs ≡ true → are_below (λ k. k) n ys ≡ true
-    → false ≡ are_new (λ k. k) (replicate n false) xs → false ≡ is_distinct (xs ++ ys)
-apart_else n xs ys first second new = grind (arith, apart n xs ys first second)

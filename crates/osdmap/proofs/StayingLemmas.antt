@@ -1,17 +1,17 @@
 -- What a walk beside rising exceptions finds of groups in ascending order.
-use Rattle.std.proofs.Common.{◌≡◌, ◌∙◌, sym, ap, refl, arith, ℕ, zero, suc, ◌+◌, ◌<◌, ◌≤◌, Bool, true, false, not, ◌&&◌, cond, eqb, List, [], ◌∷◌, ◌++◌, length, get_or, drop, add-one, inl, inr}
-use Rattle.std.specs.Prelude.{nat_lt, ◌==◌, ◌||◌}
-use Rattle.std.specs.List.{list_any, filter, prefix_len, All}
+use Rattle.std.proofs.Common.{◌≡◌, ap, refl, arith, ℕ, zero, suc, ◌+◌, ◌<◌, ◌≤◌, Bool, true, false, not, ◌&&◌, cond, eqb, List, [], ◌∷◌, ◌++◌, length, get_or, drop, add-one, inl, inr}
+use Rattle.std.specs.Prelude.{nat_lt, ◌||◌}
+use Rattle.std.specs.List.{filter, prefix_len, All}
 use Rattle.std.specs.List.Sorted.{IsNonDecreasingBy}
 use Rattle.std.proofs.Math.Seq.{drop-cons}
-use Rattle.std.proofs.lemmas.Bool.{cases_Bool, ltb-true, ltb-false, eqb-true}
+use Rattle.std.proofs.lemmas.Bool.{cases_Bool}
 use Rattle.std.proofs.lemmas.Bool.Decides.{nat_tests}
 use Rattle.std.proofs.lemmas.List.Elements.{All-head, All-tail, All-weaker}
 use Rattle.std.proofs.lemmas.List.Sorted.{IsNonDecreasingBy-drop}
 use Rattle.osdmap.specs.declared.pg.Pg.{Pg}
 use Rattle.osdmap.specs.declared.exception.Exception.{Exception}
 use Rattle.osdmap.specs.Keyed.{has_key, IsRising}
-use Rattle.osdmap.specs.Exceptions.{place_of, key_of, is_among, stays}
+use Rattle.osdmap.specs.Exceptions.{place_of, key_of, stays}
 use Rattle.osdmap.specs.Staying.{begins_at, goes}
 use Rattle.osdmap.proofs.KeyedOrder.{rising_head, rising_tail}
 

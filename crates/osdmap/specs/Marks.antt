@@ -7,11 +7,6 @@ unfoldable pub are_new : {X : Type 0} → (X → ℕ) → List Bool → List X �
 are_new named marks [] = true
 are_new named marks (e ∷ es) = not (slice_index_or marks (named e) false) && are_new named (slice_set marks (named e) true) es
 
--- the marks after these numbers are marked
-unfoldable pub marked : {X : Type 0} → (X → ℕ) → List Bool → List X → List Bool
-marked named marks [] = marks
-marked named marks (e ∷ es) = marked named (slice_set marks (named e) true) es
-
 -- whether all entries name numbers below n
 abbrev pub are_below : {X : Type 0} → (X → ℕ) → ℕ → List X → Bool
 are_below named n es = list_all (λ e. nat_lt (named e) n) es

@@ -13,6 +13,7 @@ use crate::refusal::Refusal;
 use crush::{Entries, Weights};
 use forest::forest_of;
 use osds::{presences_of, rows_of, weights_of};
+pub(crate) use pools::has_rule;
 use pools::pools_of;
 use rules::rules_of;
 use std::alloc::Global;
@@ -63,6 +64,3 @@ impl OsdMap {
         })
     }
 }
-
-#[cfg(test)]
-mod tests;

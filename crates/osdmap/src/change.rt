@@ -64,6 +64,17 @@ fn ordered<K: Keyed>(entries: Entries<K>) -> Result<Entries<K>, Memory>
     Ok(Entries::new(sorted(entries.into_vec())?))
 }
 
+/// Two lists, each in ascending order of its keys.
+fn both_ordered<K: Keyed, L: Keyed>(
+    some: Entries<K>,
+    others: Entries<L>,
+) -> Result<(Entries<K>, Entries<L>), Memory>
+    ensures some { IfOk result (λ both. SortsBy K.key_of some both.0) }
+    ensures others { IfOk result (λ both. SortsBy L.key_of others both.1) }
+{
+    Ok((ordered(some)?, ordered(others)?))
+}
+
 /// Each pool is within its limits.
 fn are_within_limits(pools: &[Pool])
     ensures { All IsWithinLimits pools.now }
@@ -83,15 +94,11 @@ impl Change {
     pub fn new(parts: ChangeParts) -> Result<Change, Memory>
         ensures { IfOk result (IsOrdered parts) }
     {
-        let old_pools = ordered(parts.old_pools)?;
-        let new_pools = ordered(parts.new_pools)?;
-        let down = ordered(parts.down)?;
-        let up = ordered(parts.up)?;
+        let (old_pools, new_pools) = both_ordered(parts.old_pools, parts.new_pools)?;
+        let (down, up) = both_ordered(parts.down, parts.up)?;
         let weight = ordered(parts.weight)?;
-        let old_upmap = ordered(parts.old_upmap)?;
-        let old_items = ordered(parts.old_items)?;
-        let new_upmap = ordered(parts.new_upmap)?;
-        let new_items = ordered(parts.new_items)?;
+        let (old_upmap, new_upmap) = both_ordered(parts.old_upmap, parts.new_upmap)?;
+        let (old_items, new_items) = both_ordered(parts.old_items, parts.new_items)?;
         are_within_limits(new_pools.as_slice());
         Ok(Change {
             parts: ChangeParts {

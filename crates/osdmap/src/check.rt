@@ -1,8 +1,9 @@
 ghost use Rattle.std.specs.Prelude.{◌≡◌};
 ghost use Rattle.osdmap.specs.Changes.{weighs_rightly, names_once};
 
+use crate::build::has_rule;
 use crate::change::{Change, Reweight};
-use crate::exception::{Entry, Exception};
+use crate::exception::{Entry, Exception, NamesGroup};
 use crate::keyed::{are_apart, are_distinct, has, last_of, put_count};
 use crate::limits::{FULL_WEIGHT, MAX_POOLS};
 use crate::map::OsdMap;
@@ -138,21 +139,14 @@ impl OsdMap {
         ids.iter().all(|id| self.has_pool(*id))
     }
 
-    /// Whether the pool of each of some groups is there after a change.
-    fn all_have_pools(&self, change: &Change, groups: &[Pg]) -> bool
-        ensures { result ≡ list_all (has_pool_of (pools_after self.now change.now)) groups.now }
+    /// Whether the pool of each group that is named is there after a change.
+    fn have_pools<G: NamesGroup>(&self, change: &Change, groups: &[G]) -> bool
+        ensures { result ≡ list_all (λ g. has_pool_of (pools_after self.now change.now) (G.named g)) groups.now }
     {
-        groups.iter().all(|pg| self.has_pool_after(change, *pg))
-    }
-
-    /// Whether the pool of the group of each of some exceptions is there after a change.
-    fn all_except_pools<E: Entry>(&self, change: &Change, exceptions: &[Exception<E>]) -> bool
-        ensures { result ≡ list_all (λ e. has_pool_of (pools_after self.now change.now) e.pg) exceptions.now }
-    {
-        exceptions.iter().all(
-            |exception: &Exception<E>| -> bool
-                ensures { result ≡ has_pool_of (pools_after self.entry.now change.entry.now) exception.now.pg }
-            { self.has_pool_after(change, exception.pg) },
+        groups.iter().all(
+            |names: &G| -> bool
+                ensures { result ≡ has_pool_of (pools_after self.entry.now change.entry.now) (G.named names.now) }
+            { self.has_pool_after(change, names.group()) },
         )
     }
 
@@ -163,10 +157,10 @@ impl OsdMap {
     {
         let parts = change.parts();
         self.all_pools(parts.old_pools.as_slice())
-            && self.all_have_pools(change, parts.old_upmap.as_slice())
-            && self.all_have_pools(change, parts.old_items.as_slice())
-            && self.all_except_pools(change, parts.new_upmap.as_slice())
-            && self.all_except_pools(change, parts.new_items.as_slice())
+            && self.have_pools(change, parts.old_upmap.as_slice())
+            && self.have_pools(change, parts.old_items.as_slice())
+            && self.have_pools(change, parts.new_upmap.as_slice())
+            && self.have_pools(change, parts.new_items.as_slice())
     }
 
     /// Whether no pool comes whose id stays.
@@ -182,15 +176,7 @@ impl OsdMap {
     fn have_rules(&self, pools: &[Pool]) -> bool
         ensures { result ≡ list_all (has_rule self.now.rules) pools.now }
     {
-        pools.iter().all(|pool| self.has_rule(pool))
-    }
-
-    /// Whether a pool has a rule of its kind.
-    fn has_rule(&self, pool: &Pool) -> bool
-        ensures { result ≡ has_rule self.now.rules pool.now }
-    {
-        self.rule(pool.rule())
-            .is_some_and(|rule| rule.kind() == pool.kind())
+        pools.iter().all(|pool| has_rule(&self.rules, *pool))
     }
 
     /// Whether each pool that comes has a rule of its kind, and there are at most 32 pools then.
@@ -223,21 +209,14 @@ impl OsdMap {
             .is_some_and(|pool| pg.number < pool.pg_num())
     }
 
-    /// Whether each of some groups is there after a change.
-    fn all_groups_after(&self, change: &Change, groups: &[Pg]) -> bool
-        ensures { result ≡ list_all (has_group (pools_after self.now change.now)) groups.now }
+    /// Whether each group that is named is there after a change.
+    fn are_groups<G: NamesGroup>(&self, change: &Change, groups: &[G]) -> bool
+        ensures { result ≡ list_all (λ g. has_group (pools_after self.now change.now) (G.named g)) groups.now }
     {
-        groups.iter().all(|pg| self.group_after(change, *pg))
-    }
-
-    /// Whether the group of each of some exceptions is there after a change.
-    fn all_excepted_after<E: Entry>(&self, change: &Change, exceptions: &[Exception<E>]) -> bool
-        ensures { result ≡ list_all (λ e. has_group (pools_after self.now change.now) e.pg) exceptions.now }
-    {
-        exceptions.iter().all(
-            |exception: &Exception<E>| -> bool
-                ensures { result ≡ has_group (pools_after self.entry.now change.entry.now) exception.now.pg }
-            { self.group_after(change, exception.pg) },
+        groups.iter().all(
+            |names: &G| -> bool
+                ensures { result ≡ has_group (pools_after self.entry.now change.entry.now) (G.named names.now) }
+            { self.group_after(change, names.group()) },
         )
     }
 
@@ -247,10 +226,10 @@ impl OsdMap {
         ensures { result ≡ names_groups self.now change.now }
     {
         let parts = change.parts();
-        self.all_groups_after(change, parts.old_upmap.as_slice())
-            && self.all_groups_after(change, parts.old_items.as_slice())
-            && self.all_excepted_after(change, parts.new_upmap.as_slice())
-            && self.all_excepted_after(change, parts.new_items.as_slice())
+        self.are_groups(change, parts.old_upmap.as_slice())
+            && self.are_groups(change, parts.old_items.as_slice())
+            && self.are_groups(change, parts.new_upmap.as_slice())
+            && self.are_groups(change, parts.new_items.as_slice())
     }
 
     /// Whether an exception that comes is sound for its pool after the change.

@@ -4,9 +4,8 @@ ghost use Rattle.std.specs.List.{list_all};
 ghost use Rattle.osdmap.specs.Parts.{pg_fits, exception_fits, exceptions_fit, exception_of};
 
 use crate::exception::{Exception, Pair};
-use crate::limits::{MAX_EXCEPTIONS, MAX_POOL_ID, has_between, is_osd_id, word};
+use crate::limits::{MAX_ENTRIES, MAX_POOL_ID, has_between, is_osd_id, word};
 use crate::parts::{ExceptionPart, PairPart};
-use crate::pg::Pg;
 use crate::pg_text::PgParts;
 use crate::short::Short;
 use crate::up_set::MAX_PLACES;
@@ -29,9 +28,6 @@ pub trait EntryPart<E>: Copy + Drop {
     fn entry(&self) -> E
         requires { within self.now ≡ true }
         ensures { result ≡ entry_of self.now };
-
-    /// Any entry.
-    fn blank() -> E;
 }
 
 impl EntryPart<u32> for i128 {
@@ -48,10 +44,6 @@ impl EntryPart<u32> for i128 {
 
     fn entry(&self) -> u32 {
         word(*self)
-    }
-
-    fn blank() -> u32 {
-        0
     }
 }
 
@@ -72,10 +64,6 @@ impl EntryPart<Pair> for PairPart {
             from: word(self.from),
             to: word(self.to),
         }
-    }
-
-    fn blank() -> Pair {
-        Pair { from: 0, to: 0 }
     }
 }
 
@@ -118,16 +106,16 @@ fn all_exceptions_fit<E, P: EntryPart<E>>(exceptions: &[ExceptionPart<P>]) -> bo
 pub fn exceptions_fit<E, P: EntryPart<E>>(exceptions: &[ExceptionPart<P>]) -> bool
     ensures { result ≡ exceptions_fit P.within exceptions.now }
 {
-    has_between(0, MAX_EXCEPTIONS, exceptions) && all_exceptions_fit(exceptions)
+    has_between(0, MAX_ENTRIES, exceptions) && all_exceptions_fit(exceptions)
 }
 
 /// The entries that at most 10 parts within their limits stand for, in their order.
-fn entries_of<E: Copy + Drop, P: EntryPart<E>>(parts: &[P]) -> Short<E>
+fn entries_of<E: Copy + Default + Drop, P: EntryPart<E>>(parts: &[P]) -> Short<E>
     requires few { length parts.now ≤ 10 }
     requires fits { list_all P.within parts.now ≡ true }
     ensures { result ≡ map P.entry_of parts.now }
 {
-    let mut entries = Short::new(P::blank());
+    let mut entries = Short::new(E::default());
     for part in parts {
         entries.push(part.entry());
     }
@@ -135,21 +123,18 @@ fn entries_of<E: Copy + Drop, P: EntryPart<E>>(parts: &[P]) -> Short<E>
 }
 
 /// The exception that a part within its limits stands for.
-fn exception_of<E: Copy + Drop, P: EntryPart<E>>(part: &ExceptionPart<P>) -> Exception<E>
+fn exception_of<E: Copy + Default + Drop, P: EntryPart<E>>(part: &ExceptionPart<P>) -> Exception<E>
     requires { exception_fits P.within part.now ≡ true }
     ensures { result ≡ exception_of P.entry_of part.now }
 {
     Exception {
-        pg: Pg {
-            pool: part.pg.pool.unwrap_or(0),
-            number: part.pg.number.unwrap_or(0),
-        },
+        pg: part.pg.group(),
         entries: entries_of(part.entries.as_slice()),
     }
 }
 
 /// The exceptions that parts within their limits stand for, in their order; or `Memory` (30).
-pub fn exceptions_of<E: Copy + Drop, P: EntryPart<E>>(
+pub fn exceptions_of<E: Copy + Default + Drop, P: EntryPart<E>>(
     alloc: Global,
     parts: &[ExceptionPart<P>],
 ) -> Result<Vec<Exception<E>>, Memory>

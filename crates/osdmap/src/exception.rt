@@ -27,14 +27,42 @@ pub type Explicit = Exception<u32>;
 pub type Items = Exception<Pair>;
 
 /// A pair: one OSD goes to another.
-#[derive(Clone, Copy, Debug, PartialEq, Eq)]
+#[derive(Clone, Copy, Debug, Default, PartialEq, Eq)]
 pub struct Pair {
     pub from: u32,
     pub to: u32,
 }
 
+/// What names a group.
+pub(crate) trait NamesGroup {
+    ghost use Rattle.std.specs.Prelude.{◌≡◌};
+    ghost use Rattle.osdmap.specs.declared.pg.Pg.{Pg};
+
+    ghost named: { Self → Pg };
+
+    /// The group.
+    fn group(&self) -> Pg
+        ensures { result ≡ named self.now };
+}
+
+impl NamesGroup for Pg {
+    ghost named = { λ pg. pg };
+
+    fn group(&self) -> Pg {
+        *self
+    }
+}
+
+impl<E> NamesGroup for Exception<E> {
+    ghost named = { λ e. e.pg };
+
+    fn group(&self) -> Pg {
+        self.pg
+    }
+}
+
 /// What an exception says of its group, entry by entry.
-pub(crate) trait Entry: Copy + Drop {
+pub(crate) trait Entry: Copy + Default + Drop {
     ghost use Rattle.std.specs.Prelude.{◌≡◌, ℕ, List, Bool};
     ghost use Rattle.std.specs.List.{list_all, list_any};
     ghost use Rattle.std.specs.List.Sorted.{IsNonDecreasingBy};

@@ -223,6 +223,3 @@ impl OsdMap {
         Ok(self.upward_set(&pool, &mapped))
     }
 }
-
-#[cfg(test)]
-mod tests;

@@ -85,8 +85,4 @@ fn main(rt: HostRuntime) -> ExitCode {
 }
 
 #[cfg(test)]
-mod changed;
-#[cfg(test)]
 mod tests;
-#[cfg(test)]
-mod worked;

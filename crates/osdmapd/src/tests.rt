@@ -1,10 +1,19 @@
 //! Worked runs of the program, and its command lines.
 ghost use Rattle.std.specs.Prelude.{◌≤◌};
 
+mod changed;
+mod forests;
+mod limits;
+mod mapped;
+mod placed;
+mod rules;
+mod texts;
+mod worked;
+mod written;
+
 use crate::choices::LineError;
 use crate::line::options;
 use crate::serving::{Fault, serve};
-use crate::{changed, worked};
 use osdmap::Refusal;
 use session::Buffer;
 use std::alloc::{AllocError, Global};

@@ -7,29 +7,25 @@ ghost use Rattle.crush.specs.Uniform.{places_drawn, uniform_place};
 use crate::limits::MOST_ITEMS;
 use rjenkins::hash3;
 
+/// The places of the greatest bucket, in order.
+const PLACES: [u8; MOST_ITEMS] = [
+    0, 1, 2, 3, 4, 5, 6, 7, 8, 9, 10, 11, 12, 13, 14, 15, 16, 17, 18, 19, 20, 21, 22, 23, 24, 25,
+    26, 27, 28, 29, 30, 31, 32, 33, 34, 35, 36, 37, 38, 39, 40, 41, 42, 43, 44, 45, 46, 47, 48, 49,
+    50, 51, 52, 53, 54, 55, 56, 57, 58, 59, 60, 61, 62, 63,
+];
+
 /// Draws the places one after another up to the one that comes to stand at `last`, which it answers.
-fn draw(places: &mut [u8], x: u32, id: u32, last: usize) -> u8
+fn draw(places: &mut [u8], x: u32, id: u32, last: u32) -> u8
     requires last { last < length places.old }
     requires few { length places.old ≤ 64 }
     ensures { result ≡ slice_index (places_drawn x id 0 (length places.old) places.old) last }
 {
-    let count = places.len();
+    let count = places.len() as u32;
     for p in 0..last + 1 {
-        let member = hash3(x, id, p as u32) as usize % (count - p);
-        places.swap(p, p + member);
+        let member = hash3(x, id, p) % (count - p);
+        places.swap(p as usize, (p + member) as usize);
     }
-    places[last]
-}
-
-/// Numbers the places from 0 on.
-#[tactic(auto, using(crate::proofs::Drawn::numbered_step))]
-fn number(places: &mut [u8])
-    requires { length places.old ≤ 64 }
-    ensures { places.new ≡ range_with_len 0 (length places.old) }
-{
-    for i in 0..places.len() {
-        places[i] = i as u8;
-    }
+    places[last as usize]
 }
 
 /// The place that a uniform bucket of `count` items picks.
@@ -39,8 +35,7 @@ pub(super) fn uniform_pick(count: usize, x: u32, id: u32, r: u32) -> usize
     ensures place { result ≡ uniform_place x id count r }
     ensures within { result < count }
 {
-    let mut places = [0; MOST_ITEMS];
+    let mut places = PLACES;
     let front = &mut places[..count];
-    number(front);
-    draw(front, x, id, r as usize % count) as usize
+    draw(front, x, id, r % count as u32) as usize
 }

@@ -5,9 +5,7 @@ ghost use Rattle.osdmap.specs.Parts.{has_between, is_osd_id, pg_fits, pool_fits}
 ghost use Rattle.mapjson.specs.ChangeTexts.{is_pool_id, reweight_fits, entries_fit, change_fits};
 
 use super::{RawChange, RawReweight};
-use osdmap::limits::{
-    MAX_EXCEPTIONS, MAX_POOL_ID, all_pools_fit, has_between, is_between, is_osd_id,
-};
+use osdmap::limits::{MAX_ENTRIES, MAX_POOL_ID, all_pools_fit, has_between, is_between, is_osd_id};
 use osdmap::{PgParts, PoolPart, exceptions_fit, pg_fits};
 
 /// The greatest epoch.
@@ -19,7 +17,7 @@ const MAX_WEIGHT: i128 = u32::MAX as i128;
 fn is_short<T>(list: &[T]) -> bool
     ensures { result ≡ has_between 0 131072 list.now }
 {
-    has_between(0, MAX_EXCEPTIONS, list)
+    has_between(0, MAX_ENTRIES, list)
 }
 
 /// Whether a number can be a pool's id.

@@ -30,7 +30,7 @@ fn is_kind(kind: RuleKind, other: RuleKind) -> bool
 }
 
 /// Whether the rules have the pool's rule, and it is of the pool's kind.
-fn has_rule(rules: &[NumberedRule], pool: Pool) -> bool
+pub(crate) fn has_rule(rules: &[NumberedRule], pool: Pool) -> bool
     ensures { result ≡ has_rule rules.now pool }
 {
     match rule_at(rules, pool.rule()) {

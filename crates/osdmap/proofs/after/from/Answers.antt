@@ -1,4 +1,4 @@
-use Rattle.std.proofs.Common.{◌≡◌, ◌∙◌, rules, tests, length, drop, arith, refl}
+use Rattle.std.proofs.Common.{◌≡◌, ◌∙◌, rules, tests, arith, refl}
 use Rattle.std.specs.Prelude.{nat_lt}
 use Rattle.std.specs.List.{prefix_len}
 use Rattle.std.proofs.lemmas.List.{take_all, length-drop}
@@ -8,7 +8,6 @@ use Rattle.std.proofs.lemmas.Iterator.Consumers.{count_from_yields_List}
 use Rattle.std.proofs.lemmas.Iterator.Search.{YieldsList-from_take_while}
 use Rattle.osdmap.specs.declared.pg.Pg.{Pg}
 use Rattle.osdmap.specs.Exceptions.{place_of}
-use Rattle.osdmap.proofs.StayingLemmas.{prefix_within}
 use Rattle.osdmap.proofs.after.from.Goals as goal
 
 pub returns : goal.returns

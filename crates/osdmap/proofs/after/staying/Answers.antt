@@ -1,4 +1,4 @@
-use Rattle.std.proofs.Common.{◌≡◌, ◌∙◌, sym, ap, refl, rules, cond, drop, [], ◌∷◌, ◌++◌, ◌+◌, true, false, append_assoc, append-nil}
+use Rattle.std.proofs.Common.{◌≡◌, ◌∙◌, sym, ap, refl, rules, cond, drop, [], ◌∷◌, ◌++◌, ◌+◌, append_assoc, append-nil}
 use Rattle.std.specs.List.{filter}
 use Rattle.osdmap.specs.Exceptions.{place_of, stays}
 use Rattle.osdmap.specs.Staying.{goes}

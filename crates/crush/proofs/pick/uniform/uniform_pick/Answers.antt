@@ -1,11 +1,12 @@
-use Rattle.std.proofs.Common.{◌≡◌, ◌<◌, ℕ, length, subst, sym, ◌∙◌, rules}
-use Rattle.crush.proofs.Drawn.{drawn-numbered, uniform_place_below}
+use Rattle.std.proofs.Common.{◌<◌, ℕ, length, subst, sym, ap, ◌∙◌}
+use Rattle.std.proofs.lemmas.List.FromFn.{length-range_with_len}
+use Rattle.crush.proofs.Drawn.{take-range, drawn-numbered, uniform_place_below}
 use Rattle.crush.proofs.pick.uniform.uniform_pick.Goals as goal
 
 pub returns-clause-place : goal.returns-clause-place
 returns-clause-place c =
-    let len : length c.number.new.places ≡ c.args.count = search rules in
-    c.draw.ensures ∙ drawn-numbered c.args.x c.args.id c.args.r _ c.args.count c.number.new.places c.number.ensures len
+    let is = take-range 0 c.args.count 64 c.requires.few in
+    c.draw.ensures ∙ drawn-numbered c.args.x c.args.id c.args.r c.args.count c.args.count _ is (ap length is ∙ length-range_with_len 0 c.args.count)
 
 pub returns-clause-within : goal.returns-clause-within
 returns-clause-within c =

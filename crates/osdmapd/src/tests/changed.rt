@@ -1,11 +1,31 @@
 //! Worked runs with exceptions and whole changes.
-use crate::tests::{ONE_DEVICE, Run};
+use super::{ONE_DEVICE, Run};
 
 /// Four devices, and an explicit set for the one group.
 pub(crate) const FOUR_DEVICES: &str =
     r#"{"buckets":[{"id":-1,"items":[[0,65536],[1,65536],[2,65536],[3,65536]],"kind":"uniform","type":10}],"epoch":1,"max_osd":4,"osds":[{"exists":true,"id":0,"up":true,"weight":65536},{"exists":true,"id":1,"up":true,"weight":65536},{"exists":true,"id":2,"up":true,"weight":65536},{"exists":true,"id":3,"up":true,"weight":65536}],"pg_upmap":[["1.0",[2,0,1]]],"pg_upmap_items":[],"pools":[{"id":1,"kind":"replicated","pg_num":1,"pgp_num":1,"rule":0,"size":3}],"rules":[{"id":0,"kind":"replicated","steps":[["take",-1],["choose_firstn",0,0],["emit"]]}],"version":1}"#;
 
-pub(crate) const RUNS: [Run; 14] = [
+/// Four devices, one of them down; two pools, one of them of four groups; exceptions of three groups.
+const TWO_POOLS: &str =
+    r#"{"buckets":[{"id":-1,"items":[[0,65536],[1,65536],[2,65536],[3,65536]],"kind":"uniform","type":10}],"epoch":1,"max_osd":4,"osds":[{"exists":true,"id":0,"up":true,"weight":65536},{"exists":true,"id":1,"up":true,"weight":65536},{"exists":true,"id":2,"up":false,"weight":65536},{"exists":true,"id":3,"up":true,"weight":65536}],"pg_upmap":[["1.0",[0,1]],["3.0",[1]]],"pg_upmap_items":[["1.1",[[0,1]]]],"pools":[{"id":1,"kind":"replicated","pg_num":4,"pgp_num":4,"rule":0,"size":2},{"id":3,"kind":"replicated","pg_num":1,"pgp_num":1,"rule":0,"size":1}],"rules":[{"id":0,"kind":"replicated","steps":[["take",-1],["choose_firstn",0,0],["emit"]]}],"version":1}"#;
+/// A change of every part, and the map after it.
+const WHOLE_CHANGE: &str =
+    r#"change {"weight":[[3,0]],"up":[2],"down":[1],"old_pools":[3],"new_pools":[{"id":2,"kind":"replicated","pg_num":2,"pgp_num":1,"rule":0,"size":2}],"old_upmap":["1.0"],"old_items":["1.1"],"new_upmap":[["2.1",[1,0]]],"new_items":[["1.2",[[0,3]]]],"base":1}
+dump
+"#;
+/// What these answer: a reweight of an OSD that the rule reaches alters all six groups.
+const WHOLLY_CHANGED: &str = r#"session 1
+ok 2 evals 6
+dump {"buckets":[{"id":-1,"items":[[0,65536],[1,65536],[2,65536],[3,65536]],"kind":"uniform","type":10}],"epoch":2,"max_osd":4,"osds":[{"exists":true,"id":0,"up":true,"weight":65536},{"exists":true,"id":1,"up":false,"weight":65536},{"exists":true,"id":2,"up":true,"weight":65536},{"exists":true,"id":3,"up":true,"weight":0}],"pg_upmap":[["2.1",[1,0]]],"pg_upmap_items":[["1.2",[[0,3]]]],"pools":[{"id":1,"kind":"replicated","pg_num":4,"pgp_num":4,"rule":0,"size":2},{"id":2,"kind":"replicated","pg_num":2,"pgp_num":1,"rule":0,"size":2}],"rules":[{"id":0,"kind":"replicated","steps":[["take",-1],["choose_firstn",0,0],["emit"]]}],"version":1}
+"#;
+
+pub(crate) const RUNS: [Run; 15] = [
+    Run {
+        name: "a change of every part",
+        map: TWO_POOLS,
+        script: WHOLE_CHANGE,
+        wanted: Ok(WHOLLY_CHANGED),
+    },
     Run {
         name: "an explicit set replaces the raw set",
         map: FOUR_DEVICES,

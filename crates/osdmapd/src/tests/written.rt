@@ -1,9 +1,9 @@
-use crate::{read_map, write_map};
+//! Maps in another order and form, and their written form.
+use super::ONE_DEVICE;
+use super::changed::FOUR_DEVICES;
+use mapjson::{read_map, write_map};
 use std::test::Fail;
 
-/// One device.
-const ONE_DEVICE: &str =
-    r#"{"buckets":[{"id":-1,"items":[[0,65536]],"kind":"uniform","type":10}],"epoch":1,"max_osd":1,"osds":[{"exists":true,"id":0,"up":true,"weight":65536}],"pg_upmap":[],"pg_upmap_items":[],"pools":[{"id":1,"kind":"replicated","pg_num":1,"pgp_num":1,"rule":0,"size":1}],"rules":[{"id":0,"kind":"replicated","steps":[["take",-1],["choose_firstn",0,0],["emit"]]}],"version":1}"#;
 /// Keys, buckets, rules, pools and OSDs in another order, with spaces. OSD 3 does not exist and has a reweight, OSD 2
 /// neither exists nor has one, OSD 1 is down.
 const SHUFFLED: &str =
@@ -11,9 +11,6 @@ const SHUFFLED: &str =
 /// Its written form.
 const IN_ORDER: &str =
     r#"{"buckets":[{"id":-1,"items":[[-65536,4294967295]],"kind":"list","type":2},{"id":-65536,"items":[[3,5],[0,6]],"kind":"tree","type":1}],"epoch":2147483648,"max_osd":4,"osds":[{"exists":true,"id":0,"up":true,"weight":65536},{"exists":true,"id":1,"up":false,"weight":0},{"exists":false,"id":3,"up":false,"weight":7}],"pg_upmap":[],"pg_upmap_items":[],"pools":[{"id":2,"kind":"replicated","pg_num":1,"pgp_num":1,"rule":4,"size":10},{"id":65535,"kind":"erasure","pg_num":4096,"pgp_num":17,"rule":9,"size":2}],"rules":[{"id":4,"kind":"replicated","steps":[["take",-1],["choose_firstn",10,2],["chooseleaf_firstn",0,1],["emit"]]},{"id":9,"kind":"erasure","steps":[["take",-1],["chooseleaf_indep",3,1],["emit"]]}],"version":1}"#;
-/// Four devices, and the explicit set of the one group.
-const EXPLICIT_SET: &str =
-    r#"{"buckets":[{"id":-1,"items":[[0,65536],[1,65536],[2,65536],[3,65536]],"kind":"uniform","type":10}],"epoch":1,"max_osd":4,"osds":[{"exists":true,"id":0,"up":true,"weight":65536},{"exists":true,"id":1,"up":true,"weight":65536},{"exists":true,"id":2,"up":true,"weight":65536},{"exists":true,"id":3,"up":true,"weight":65536}],"pg_upmap":[["1.0",[2,0,1]]],"pg_upmap_items":[],"pools":[{"id":1,"kind":"replicated","pg_num":1,"pgp_num":1,"rule":0,"size":3}],"rules":[{"id":0,"kind":"replicated","steps":[["take",-1],["choose_firstn",0,0],["emit"]]}],"version":1}"#;
 /// Two devices, and an explicit set for each of four groups.
 const EXPLICIT_SETS: &str =
     r#"{"buckets":[{"id":-1,"items":[[0,65536],[1,65536]],"kind":"uniform","type":10}],"epoch":1,"max_osd":2,"osds":[{"exists":true,"id":0,"up":true,"weight":65536},{"exists":true,"id":1,"up":true,"weight":65536}],"pg_upmap":[["1.0",[0]],["1.1",[0]],["1.2",[0]],["1.3",[0]]],"pg_upmap_items":[],"pools":[{"id":1,"kind":"replicated","pg_num":4,"pgp_num":4,"rule":0,"size":1}],"rules":[{"id":0,"kind":"replicated","steps":[["take",-1],["choose_firstn",0,0],["emit"]]}],"version":1}"#;
@@ -31,7 +28,7 @@ fn writes_maps(rt: HostRuntime) -> Result<(), Fail> {
         (ONE_DEVICE, ONE_DEVICE),
         (SHUFFLED, IN_ORDER),
         (IN_ORDER, IN_ORDER),
-        (EXPLICIT_SET, EXPLICIT_SET),
+        (FOUR_DEVICES, FOUR_DEVICES),
         (EXPLICIT_SETS, EXPLICIT_SETS),
         (EXCEPTIONS, EXCEPTIONS_IN_ORDER),
         (EXCEPTIONS_IN_ORDER, EXCEPTIONS_IN_ORDER),

@@ -1,16 +1,9 @@
-use crate::change::change_of;
-use crate::read_map;
-use crate::stated::stated_by;
-use crush::{BucketKind, Mode, RuleKind};
-use osdmap::{
-    ChoosePart, ItemPart, MapParts, Pair, PairPart, Pg, PgParts, PoolPart, Refusal, Reweight,
-    StepPart,
-};
+//! Texts that state a map or a change, and texts that do not.
+use super::ONE_DEVICE;
+use mapjson::{read_change, read_map};
+use osdmap::Refusal;
 use std::alloc::Global;
 use std::test::Fail;
-
-const ONE_DEVICE: &str =
-    r#"{"buckets":[{"id":-1,"items":[[0,65536]],"kind":"uniform","type":10}],"epoch":1,"max_osd":1,"osds":[{"exists":true,"id":0,"up":true,"weight":65536}],"pg_upmap":[],"pg_upmap_items":[],"pools":[{"id":1,"kind":"replicated","pg_num":1,"pgp_num":1,"rule":0,"size":1}],"rules":[{"id":0,"kind":"replicated","steps":[["take",-1],["choose_firstn",0,0],["emit"]]}],"version":1}"#;
 
 /// Edits of the map after which the text still states one, whatever its numbers.
 const STATES_A_MAP: [(&str, &str); 18] = [
@@ -287,98 +280,25 @@ const CUT_CHANGES: [&str; 5] = [
 /// Lists of a change, each with an entry within the limits.
 const LISTS: [(&str, &str); 2] = [("down", "0"), ("new_items", r#"["1.0",[]]"#)];
 
+/// Why a text states no map, whatever its numbers.
 fn map_refusal(alloc: Global, text: &[u8]) -> Option<Refusal> {
-    stated_by::<MapParts>(alloc, text).err()
+    match read_map(alloc, text) {
+        Err(Refusal::BadJson) => Some(Refusal::BadJson),
+        Err(Refusal::BadField) => Some(Refusal::BadField),
+        _ => None,
+    }
 }
 
 fn change_refusal(alloc: Global, text: &[u8]) -> Option<Refusal> {
-    change_of(alloc, text).err()
+    read_change(alloc, text).err()
 }
 
-fn pg(pool: Option<u32>, number: Option<u32>) -> PgParts {
-    PgParts { pool, number }
-}
-
-fn group(pool: u32, number: u32) -> Pg {
-    Pg { pool, number }
-}
-
-#[test]
-fn states_a_map(rt: HostRuntime) -> Result<(), Fail> {
-    let parts = stated_by::<MapParts>(rt.alloc(), ONE_DEVICE.as_bytes())?;
-    assert!(rt; parts.version == 1 && parts.epoch == 1 && parts.max_osd == 1);
-    let [bucket] = parts.buckets.as_slice() else {
-        return Err(Fail::from("one bucket"));
-    };
-    assert!(rt; bucket.id == -1 && bucket.level == 10 && bucket.kind == BucketKind::Uniform);
-    assert!(rt;
-        bucket.items.as_slice()
-            == [ItemPart {
-                id: 0,
-                weight: 65_536
-            }]
-            .as_slice()
-    );
-    let [rule] = parts.rules.as_slice() else {
-        return Err(Fail::from("one rule"));
-    };
-    let choose = ChoosePart {
-        mode: Mode::Firstn,
-        to_leaf: false,
-        count: 0,
-        level: 0,
-    };
-    let steps = [StepPart::Take(-1), StepPart::Choose(choose), StepPart::Emit];
-    assert!(rt;
-        rule.id == 0
-            && rule.kind == RuleKind::Replicated
-            && rule.steps.as_slice() == steps.as_slice()
-    );
-    let pool = PoolPart {
-        id: 1,
-        kind: RuleKind::Replicated,
-        pg_num: 1,
-        pgp_num: 1,
-        rule: 0,
-        size: 1,
-    };
-    assert!(rt; parts.pools.as_slice() == [pool].as_slice());
-    let [osd] = parts.osds.as_slice() else {
-        return Err(Fail::from("one OSD"));
-    };
-    assert!(rt; osd.id == 0 && osd.exists && osd.up && osd.weight == 65_536);
-    Ok(())
-}
-
-/// The map with one text in it replaced.
-fn edited(alloc: Global, old: &str, new: &str) -> Result<String, Fail> {
-    let Some((front, back)) = ONE_DEVICE.split_once(old) else {
+/// A map with one text in it replaced.
+pub(super) fn edited(alloc: Global, map: &str, old: &str, new: &str) -> Result<String, Fail> {
+    let Some((front, back)) = map.split_once(old) else {
         return Err(Fail::from("a text to replace"));
     };
     Ok(format!(in alloc; "{front}{new}{back}")?)
-}
-
-#[test]
-fn states_exceptions(rt: HostRuntime) -> Result<(), Fail> {
-    let alloc = rt.alloc();
-    let text = edited(
-        alloc,
-        r#""pg_upmap":[],"pg_upmap_items":[]"#,
-        r#""pg_upmap":[["1.ff",[3,2]],["65536.100000000",[]]],"pg_upmap_items":[["2.0",[[4,5]]]]"#,
-    )?;
-    let parts = stated_by::<MapParts>(alloc, text.as_bytes())?;
-    let [first, second] = parts.pg_upmap.as_slice() else {
-        return Err(Fail::from("two explicit sets"));
-    };
-    assert!(rt; first.pg == pg(Some(1), Some(255)));
-    assert!(rt; first.entries.as_slice() == [3, 2].as_slice());
-    assert!(rt; second.pg == pg(Some(65_536), None) && second.entries.len() == 0);
-    let [items] = parts.pg_upmap_items.as_slice() else {
-        return Err(Fail::from("the pairs of one group"));
-    };
-    assert!(rt; items.pg == pg(Some(2), Some(0)));
-    assert!(rt; items.entries.as_slice() == [PairPart { from: 4, to: 5 }].as_slice());
-    Ok(())
 }
 
 #[test]
@@ -390,7 +310,7 @@ fn refuses_what_states_no_map(rt: HostRuntime) -> Result<(), Fail> {
         (NO_JSON.as_slice(), Some(Refusal::BadJson)),
     ] {
         for (old, new) in edits {
-            let text = edited(alloc, old, new)?;
+            let text = edited(alloc, ONE_DEVICE, old, new)?;
             assert_eq!(rt;
                 map_refusal(alloc, text.as_bytes()),
                 wanted,
@@ -405,7 +325,7 @@ fn refuses_what_states_no_map(rt: HostRuntime) -> Result<(), Fail> {
 fn refuses_exceptions_beyond_limits(rt: HostRuntime) -> Result<(), Fail> {
     let alloc = rt.alloc();
     for (old, new) in EXCEPTIONS_BEYOND_LIMITS {
-        let text = edited(alloc, old, new)?;
+        let text = edited(alloc, ONE_DEVICE, old, new)?;
         assert_eq!(rt;
             read_map(alloc, text.as_bytes()).err(),
             Some(Refusal::BadLimit),
@@ -495,67 +415,6 @@ fn refuses_long_numbers(rt: HostRuntime) -> Result<(), Fail> {
     Ok(())
 }
 
-/// A change of every part.
-const WHOLE_CHANGE: &str =
-    r#" {"weight":[[5,4294967295],[0,0]],"up":[2,1],"down":[1023],"old_pools":[7,1],
-    "new_pools":[{"id":2,"kind":"erasure","pg_num":256,"pgp_num":128,"rule":3,"size":4}],"old_upmap":["2.b"],
-    "old_items":["2.a","1.0"],"new_upmap":[["2.0",[9,8]],["2.1",[]]],"new_items":[["2.ff",[[3,4],[5,6]]]],"base":7} "#;
-
-#[test]
-fn states_a_change(rt: HostRuntime) -> Result<(), Fail> {
-    let alloc = rt.alloc();
-    let (base, parts) = change_of(alloc, WHOLE_CHANGE.as_bytes())?;
-    assert!(rt; base == 7);
-    assert!(rt; parts.old_pools.as_slice() == [7, 1].as_slice());
-    assert!(rt; parts.down.as_slice() == [1023].as_slice());
-    assert!(rt; parts.up.as_slice() == [2, 1].as_slice());
-    let reweights = [
-        Reweight {
-            osd: 5,
-            weight: 4_294_967_295,
-        },
-        Reweight { osd: 0, weight: 0 },
-    ];
-    assert!(rt; parts.weight.as_slice() == reweights.as_slice());
-    let [pool] = parts.new_pools.as_slice() else {
-        return Err(Fail::from("one pool"));
-    };
-    assert!(rt; pool.id() == 2 && pool.kind() == RuleKind::Erasure && pool.rule() == 3);
-    assert!(rt; pool.pg_num() == 256 && pool.pgp_num() == 128 && pool.size() == 4);
-    Ok(())
-}
-
-#[test]
-fn states_exceptions_of_a_change(rt: HostRuntime) -> Result<(), Fail> {
-    let alloc = rt.alloc();
-    let (_, parts) = change_of(alloc, WHOLE_CHANGE.as_bytes())?;
-    let old_items = [group(2, 10), group(1, 0)];
-    assert!(rt; parts.old_upmap.as_slice() == [group(2, 11)].as_slice());
-    assert!(rt; parts.old_items.as_slice() == old_items.as_slice());
-    let [first, second] = parts.new_upmap.as_slice() else {
-        return Err(Fail::from("two explicit sets"));
-    };
-    assert!(rt; first.pg == group(2, 0) && first.entries.as_slice() == [9, 8].as_slice());
-    assert!(rt; second.pg == group(2, 1) && second.entries.as_slice().is_empty());
-    let [items] = parts.new_items.as_slice() else {
-        return Err(Fail::from("the pairs of one group"));
-    };
-    let pairs = [Pair { from: 3, to: 4 }, Pair { from: 5, to: 6 }];
-    assert!(rt; items.pg == group(2, 255) && items.entries.as_slice() == pairs.as_slice());
-    Ok(())
-}
-
-#[test]
-fn missing_lists_of_a_change_are_empty(rt: HostRuntime) -> Result<(), Fail> {
-    let (base, parts) = change_of(rt.alloc(), br#"{"base":18446744073709551615}"#)?;
-    assert!(rt; base == u64::MAX);
-    assert!(rt; parts.old_pools.len() == 0 && parts.new_pools.len() == 0);
-    assert!(rt; parts.down.len() == 0 && parts.up.len() == 0 && parts.weight.len() == 0);
-    assert!(rt; parts.old_upmap.len() == 0 && parts.old_items.len() == 0);
-    assert!(rt; parts.new_upmap.len() == 0 && parts.new_items.len() == 0);
-    Ok(())
-}
-
 #[test]
 fn refuses_what_states_no_change(rt: HostRuntime) -> Result<(), Fail> {
     let alloc = rt.alloc();
@@ -573,21 +432,40 @@ fn refuses_what_states_no_change(rt: HostRuntime) -> Result<(), Fail> {
     Ok(())
 }
 
-/// A change that has one list, of an entry as often as said.
-fn change_of_one_list(
+/// A text, an entry as often as said with commas behind it, and another text.
+pub(super) fn repeated(
+    alloc: Global,
+    front: &str,
+    entry: &str,
+    count: usize,
+    back: &str,
+) -> Result<Vec<u8>, Fail> {
+    let mut text = Vec::from_slice(alloc, front.as_bytes())?;
+    for _ in 0..count {
+        text.extend_from_slice(entry.as_bytes())?;
+        text.push(b',')?;
+    }
+    text.extend_from_slice(back.as_bytes())?;
+    Ok(text)
+}
+
+/// Why a change is refused that has one list, of an entry as often as said.
+fn refusal_of_list(
     alloc: Global,
     key: &str,
     entry: &str,
     count: usize,
-) -> Result<Vec<u8>, Fail> {
-    let front = format!(in alloc; "{{\"base\":1,\"{key}\":[{entry}")?;
-    let mut text = Vec::from_slice(alloc, front.as_bytes())?;
-    for _ in 1..count {
-        text.push(b',')?;
-        text.extend_from_slice(entry.as_bytes())?;
-    }
-    text.extend_from_slice(b"]}")?;
-    Ok(text)
+) -> Result<Option<Refusal>, Fail> {
+    let front = format!(in alloc; "{{\"base\":1,\"{key}\":[")?;
+    let back = format!(in alloc; "{entry}]}}")?;
+    let text = repeated(
+        alloc,
+        front.as_str(),
+        entry,
+        count.saturating_sub(1),
+        back.as_str(),
+    )?;
+    Ok(change_refusal(alloc, text.as_slice()))
 }
 
 #[test]
@@ -595,12 +473,8 @@ fn lists_of_a_change_have_a_limit(rt: HostRuntime) -> Result<(), Fail> {
     let alloc = rt.alloc();
     for (key, entry) in LISTS {
         for (count, wanted) in [(131_072, None), (131_073, Some(Refusal::BadLimit))] {
-            let text = change_of_one_list(alloc, key, entry, count)?;
-            assert_eq!(rt;
-                change_refusal(alloc, text.as_slice()),
-                wanted,
-                "{count} entries of {key}"
-            );
+            let refusal = refusal_of_list(alloc, key, entry, count)?;
+            assert_eq!(rt; refusal, wanted, "{count} entries of {key}");
         }
     }
     Ok(())

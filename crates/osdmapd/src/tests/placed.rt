@@ -1,42 +1,13 @@
-//! What rules place, against values that a program apart from this crate computed from the published rules.
+//! What rules place, against values that a program apart from this one computed from the published rules.
 
 ghost use Rattle.std.specs.Prelude.{◌≤◌};
 
-use super::*;
+use super::forests::bucket;
+use super::rules::firstn;
+use crush::{Bucket, BucketKind, Choose, Forest, Mode, Rule, RuleKind, Step, Weights, Work};
 use std::alloc::{AllocError, Global};
 
 const ALL: u32 = 65536;
-
-fn bucket(
-    alloc: Global,
-    id: i32,
-    level: u8,
-    kind: BucketKind,
-    items: &[(i32, u32)],
-) -> Result<Bucket, AllocError> {
-    let mut list = Vec::new(alloc);
-    for (id, weight) in items {
-        list.push(Item {
-            id: *id,
-            weight: *weight,
-        })?;
-    }
-    Ok(Bucket {
-        id,
-        level,
-        kind,
-        items: Entries::new(list),
-    })
-}
-
-fn firstn(to_leaf: bool, count: u8, level: u8) -> Step {
-    Step::Choose(Choose {
-        mode: Mode::Firstn,
-        to_leaf,
-        count,
-        level,
-    })
-}
 
 fn indep(to_leaf: bool, count: u8, level: u8) -> Step {
     Step::Choose(Choose {

@@ -1,5 +1,5 @@
 //! Worked runs over larger forests, erasure pools and reweights.
-use crate::tests::{ONE_DEVICE, Run};
+use super::{ONE_DEVICE, Run};
 use osdmap::Refusal;
 
 /// An erasure pool of two places over one device.
