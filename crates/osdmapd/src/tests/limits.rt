@@ -23,7 +23,7 @@ const WITHIN: [(&str, &str); 19] = [
     (r#""choose_firstn",0,0"#, r#""chooseleaf_firstn",0,15"#),
     (
         r#"["emit"]"#,
-        r#"["emit"],["take",-1],["choose_firstn",0,0],["emit"],["take",-1],["choose_firstn",0,0],["emit"],["take",-1],["choose_firstn",0,0],["emit"],["take",-1],["choose_firstn",0,0],["emit"]"#,
+        r#"["emit"],["take",-1],["choose_firstn",0,0],["emit"],["take",-1],["choose_firstn",0,0],["emit"],["take",-1],["choose_firstn",0,0],["emit"],["take",-1],["choose_firstn",0,1],["choose_firstn",0,0],["emit"]"#,
     ),
     (
         r#"["choose_firstn",0,0]"#,
@@ -46,7 +46,7 @@ const WITHIN: [(&str, &str); 19] = [
 ];
 
 /// Edits past a limit.
-const PAST: [(&str, &str); 42] = [
+const PAST: [(&str, &str); 40] = [
     (r#""version":1"#, r#""version":0"#),
     (r#""version":1"#, r#""version":2"#),
     (r#""epoch":1"#, r#""epoch":0"#),
@@ -68,7 +68,7 @@ const PAST: [(&str, &str); 42] = [
     (r#"["take",-1],["choose_firstn",0,0],["emit"]"#, ""),
     (
         r#"["emit"]"#,
-        r#"["emit"],["take",-1],["choose_firstn",0,0],["emit"],["take",-1],["choose_firstn",0,0],["emit"],["take",-1],["choose_firstn",0,0],["emit"],["take",-1],["choose_firstn",0,0],["emit"],["take",-1],["choose_firstn",0,0],["emit"]"#,
+        r#"["emit"],["take",-1],["choose_firstn",0,0],["emit"],["take",-1],["choose_firstn",0,0],["emit"],["take",-1],["choose_firstn",0,1],["choose_firstn",0,0],["emit"],["take",-1],["choose_firstn",0,1],["choose_firstn",0,0],["emit"]"#,
     ),
     (r#"["take",-1]"#, r#"["take",0]"#),
     (r#"["take",-1]"#, r#"["take",-65537]"#),
@@ -90,14 +90,6 @@ const PAST: [(&str, &str); 42] = [
     (r#""id":0,"up""#, r#""id":1024,"up""#),
     (r#""weight":65536"#, r#""weight":-1"#),
     (r#""weight":65536"#, r#""weight":65537"#),
-    (
-        r#""pg_upmap":[]"#,
-        r#""pg_upmap":[["1.0",[0,0,0,0,0,0,0,0,0,0,0]]]"#,
-    ),
-    (
-        r#""pg_upmap_items":[]"#,
-        r#""pg_upmap_items":[["1.0",[[1024,0]]]]"#,
-    ),
 ];
 
 /// Edits within the limits after which the buckets are no forest.
