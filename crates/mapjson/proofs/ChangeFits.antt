@@ -1,8 +1,8 @@
 -- What a change within its limits comes to.
 use Rattle.std.proofs.Common.{◌≡◌, ℤ, pos, Bool, true, IsTrue, All, List, slice_index_or, arith}
 use Rattle.std.specs.List.{list_all}
-use Rattle.osdmap.specs.Parts.{is_between, is_osd_id, pool_fits, pair_fits, exceptions_fit}
-use Rattle.osdmap.proofs.Fits.{word_between}
+use Rattle.stated.specs.Parts.{is_between, is_osd_id, pool_fits, pair_fits, exceptions_fit}
+use Rattle.stated.proofs.Within.{word_between}
 use Rattle.mapjson.specs.declared.change.RawChange.{RawChange}
 use Rattle.mapjson.specs.ChangeTexts.{is_pool_id, reweight_fits, change_fits}
 use Rattle.mapjson.proofs.Lists.{all_from_test}

@@ -5,18 +5,18 @@ use Rattle.std.specs.Option.{option_map_or}
 use Rattle.std.specs.Prelude.{unwrap_or}
 use Rattle.std.proofs.lemmas.Bool.{and_parts}
 use Rattle.std.proofs.lemmas.Bool.Decides.{nat_tests}
-use Rattle.osdmap.specs.declared.parts.PoolPart.{PoolPart}
-use Rattle.osdmap.specs.declared.parts.ExceptionPart.{ExceptionPart}
-use Rattle.osdmap.specs.declared.pg.Pg.{Pg}
-use Rattle.osdmap.specs.declared.pg_text.PgParts.{PgParts}
-use Rattle.osdmap.specs.Exceptions.{has_group, is_exception}
-use Rattle.osdmap.specs.Keyed.{entry_at}
-use Rattle.osdmap.specs.Pools.{PoolFacts}
-use Rattle.osdmap.specs.Parts.{pg_fits, pool_fits, exception_fits, pool_of, exception_of}
+use Rattle.stated.specs.declared.parts.PoolPart.{PoolPart}
+use Rattle.stated.specs.declared.parts.ExceptionPart.{ExceptionPart}
+use Rattle.stated.specs.declared.pg.Pg.{Pg}
+use Rattle.stated.specs.declared.pg_text.PgParts.{PgParts}
+use Rattle.stated.specs.Exceptions.{has_group, is_exception}
+use Rattle.keylist.specs.Keys.{entry_at}
+use Rattle.stated.specs.Pools.{PoolFacts}
+use Rattle.stated.specs.Parts.{pg_fits, pool_fits, exception_fits, pool_of, exception_of}
 use Rattle.osdmap.specs.PartsOf.{pg_part}
-use Rattle.osdmap.specs.PgText.{parts_in, group_of, group_text}
-use Rattle.osdmap.proofs.Fits.{natural_between, pool_fits_each}
-use Rattle.osdmap.proofs.GroupTexts.{group_in-text}
+use Rattle.stated.specs.PgText.{parts_in, group_of, group_text}
+use Rattle.stated.proofs.Within.{natural_between, pool_fits_each}
+use Rattle.stated.proofs.GroupTexts.{group_in-text}
 use Rattle.mapjson.specs.Written.{IsNamed, AreNamed}
 
 -- ---- one group

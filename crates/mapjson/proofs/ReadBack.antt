@@ -8,16 +8,16 @@ use Rattle.crush.specs.declared.rule.Mode.{Mode}
 use Rattle.crush.specs.declared.rule.Mode.TheVariants.{Firstn, Indep}
 use Rattle.crush.specs.declared.rule.RuleKind.{RuleKind}
 use Rattle.crush.specs.declared.rule.RuleKind.TheVariants.{Replicated, Erasure}
-use Rattle.osdmap.specs.declared.parts.MapParts.{MapParts}
-use Rattle.osdmap.specs.declared.parts.BucketPart.{BucketPart}
-use Rattle.osdmap.specs.declared.parts.ItemPart.{ItemPart}
-use Rattle.osdmap.specs.declared.parts.RulePart.{RulePart}
-use Rattle.osdmap.specs.declared.parts.StepPart.{StepPart}
-use Rattle.osdmap.specs.declared.parts.StepPart.TheVariants.{Take, Choose, Emit}
-use Rattle.osdmap.specs.declared.parts.PoolPart.{PoolPart}
-use Rattle.osdmap.specs.declared.parts.OsdPart.{OsdPart}
-use Rattle.osdmap.specs.declared.parts.ExceptionPart.{ExceptionPart}
-use Rattle.osdmap.specs.declared.parts.PairPart.{PairPart}
+use Rattle.stated.specs.declared.parts.MapParts.{MapParts}
+use Rattle.stated.specs.declared.parts.BucketPart.{BucketPart}
+use Rattle.stated.specs.declared.parts.ItemPart.{ItemPart}
+use Rattle.stated.specs.declared.parts.RulePart.{RulePart}
+use Rattle.stated.specs.declared.parts.StepPart.{StepPart}
+use Rattle.stated.specs.declared.parts.StepPart.TheVariants.{Take, Choose, Emit}
+use Rattle.stated.specs.declared.parts.PoolPart.{PoolPart}
+use Rattle.stated.specs.declared.parts.OsdPart.{OsdPart}
+use Rattle.stated.specs.declared.parts.ExceptionPart.{ExceptionPart}
+use Rattle.stated.specs.declared.parts.PairPart.{PairPart}
 use Rattle.mapjson.specs.Json.{number_of, list_of}
 use Rattle.mapjson.specs.MapTexts.{item_of, bucket_kind_of, bucket_of, rule_kind_of, step_of, step_by, take_of, choose_of, emit_of, rule_of, pool_of, osd_of, pair_of, exception_of, stated_map}
 use Rattle.mapjson.specs.Written.{number_data, list_data, item_data, kind_word, bucket_data, use_word, step_data, rule_data, pool_data, osd_data, IsNamed, AreNamed, pair_data, exception_data, map_data}

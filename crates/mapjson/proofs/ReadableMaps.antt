@@ -15,19 +15,19 @@ use Rattle.crush.specs.declared.rule.Mode.{Mode}
 use Rattle.crush.specs.declared.rule.Mode.TheVariants.{Firstn, Indep}
 use Rattle.crush.specs.declared.rule.RuleKind.{RuleKind}
 use Rattle.crush.specs.declared.rule.RuleKind.TheVariants.{Replicated, Erasure}
-use Rattle.osdmap.specs.declared.parts.MapParts.{MapParts}
-use Rattle.osdmap.specs.declared.parts.BucketPart.{BucketPart}
-use Rattle.osdmap.specs.declared.parts.ItemPart.{ItemPart}
-use Rattle.osdmap.specs.declared.parts.RulePart.{RulePart}
-use Rattle.osdmap.specs.declared.parts.StepPart.{StepPart}
-use Rattle.osdmap.specs.declared.parts.StepPart.TheVariants.{Take, Choose, Emit}
-use Rattle.osdmap.specs.declared.parts.PoolPart.{PoolPart}
-use Rattle.osdmap.specs.declared.parts.OsdPart.{OsdPart}
-use Rattle.osdmap.specs.declared.parts.ExceptionPart.{ExceptionPart}
-use Rattle.osdmap.specs.declared.parts.PairPart.{PairPart}
-use Rattle.osdmap.specs.declared.pg.Pg.{Pg}
-use Rattle.osdmap.specs.PgText.{group_text}
-use Rattle.osdmap.specs.Parts.{pg_of, is_osd_id, pair_fits, exception_fits, exceptions_fit, is_between, has_between, is_bucket_id, item_fits, bucket_fits, step_fits, rule_fits, pool_fits, osd_fits, head_fits, lists_fit, parts_fit}
+use Rattle.stated.specs.declared.parts.MapParts.{MapParts}
+use Rattle.stated.specs.declared.parts.BucketPart.{BucketPart}
+use Rattle.stated.specs.declared.parts.ItemPart.{ItemPart}
+use Rattle.stated.specs.declared.parts.RulePart.{RulePart}
+use Rattle.stated.specs.declared.parts.StepPart.{StepPart}
+use Rattle.stated.specs.declared.parts.StepPart.TheVariants.{Take, Choose, Emit}
+use Rattle.stated.specs.declared.parts.PoolPart.{PoolPart}
+use Rattle.stated.specs.declared.parts.OsdPart.{OsdPart}
+use Rattle.stated.specs.declared.parts.ExceptionPart.{ExceptionPart}
+use Rattle.stated.specs.declared.parts.PairPart.{PairPart}
+use Rattle.stated.specs.declared.pg.Pg.{Pg}
+use Rattle.stated.specs.PgText.{group_text}
+use Rattle.stated.specs.Parts.{pg_of, is_osd_id, pair_fits, exception_fits, exceptions_fit, is_between, has_between, is_bucket_id, item_fits, bucket_fits, step_fits, rule_fits, pool_fits, osd_fits, head_fits, lists_fit, parts_fit}
 use Rattle.crush.proofs.Judging.{decides-le}
 use Rattle.mapjson.specs.Written.{number_data, kind_word, item_data, bucket_data, use_word, choose_word, step_data, rule_data, pool_data, osd_data, pair_data, exception_data, map_data}
 use Rattle.mapjson.proofs.Readable.{IsReadable, ItemsReadable}

@@ -7,12 +7,12 @@ use Rattle.std.proofs.lemmas.Bool.{and_parts}
 use Rattle.serde_json.specs.Data.{Data, depth}
 use Rattle.serde_json.specs.Read.{read, max_depth}
 use Rattle.serde_json.specs.Written.{has_float, compact_text}
-use Rattle.osdmap.specs.declared.parts.MapParts.{MapParts}
-use Rattle.osdmap.specs.declared.refusal.Refusal.TheVariants.{BadJson, BadField, BadLimit, BadForest, BadRule, BadPool, BadOsd, BadException}
+use Rattle.stated.specs.declared.parts.MapParts.{MapParts}
+use Rattle.refusal.specs.declared.refused.Refusal.TheVariants.{BadJson, BadField, BadLimit, BadForest, BadRule, BadPool, BadOsd, BadException}
 use Rattle.osdmap.specs.Maps.{ClusterMap}
 use Rattle.crush.specs.WellFormed.{forest_ok}
-use Rattle.osdmap.specs.Exceptions.{target, sides, is_set, are_pairs}
-use Rattle.osdmap.specs.Parts.{is_osd_id, pair_fits, osd_fits, pool_fits, exception_fits, exceptions_fit, parts_fit, pool_of, pair_of}
+use Rattle.stated.specs.Exceptions.{target, sides, is_set, are_pairs}
+use Rattle.stated.specs.Parts.{is_osd_id, pair_fits, osd_fits, pool_fits, exception_fits, exceptions_fit, parts_fit, pool_of, pair_of}
 use Rattle.osdmap.specs.Stated.{buckets_of, rules_ok, pools_ok, osds_ok, is_listed, exceptions_ok, explicit_of, all_exceptions_ok, map_fault, IsStated}
 use Rattle.osdmap.specs.PartsOf.{parts_of}
 use Rattle.mapjson.specs.Json.{stated_by}

@@ -2,13 +2,13 @@
 use Rattle.std.specs.Prelude.{◌≡◌, ℕ, ℤ, pos, nat_abs, int_le, ◌&&◌, Bool, not, List, [], ◌∷◌, map, codes, Option, Some, None, option_map, Result, Ok, Err, IfOk, if◌then◌else◌}
 use Rattle.std.specs.List.{list_all}
 use Rattle.serde_json.specs.Data.{Data}
-use Rattle.osdmap.specs.declared.change.ChangeParts.{ChangeParts}
-use Rattle.osdmap.specs.declared.change.Reweight.{Reweight}
-use Rattle.osdmap.specs.declared.parts.PoolPart.{PoolPart}
-use Rattle.osdmap.specs.declared.refusal.Refusal.{Refusal}
-use Rattle.osdmap.specs.declared.refusal.Refusal.TheVariants.{BadLimit, BadPool}
-use Rattle.osdmap.specs.Ordered.{IsOrdered}
-use Rattle.osdmap.specs.Parts.{is_between, has_between, is_osd_id, pool_fits, pg_fits, pair_fits, exceptions_fit, pool_of, pg_of, pair_of, exception_of}
+use Rattle.stated.specs.declared.change.ChangeParts.{ChangeParts}
+use Rattle.stated.specs.declared.change.Reweight.{Reweight}
+use Rattle.stated.specs.declared.parts.PoolPart.{PoolPart}
+use Rattle.refusal.specs.declared.refused.Refusal.{Refusal}
+use Rattle.refusal.specs.declared.refused.Refusal.TheVariants.{BadLimit, BadPool}
+use Rattle.stated.specs.Ordered.{IsOrdered}
+use Rattle.stated.specs.Parts.{is_between, has_between, is_osd_id, pool_fits, pg_fits, pair_fits, exceptions_fit, pool_of, pg_of, pair_of, exception_of}
 use Rattle.mapjson.specs.declared.change.RawChange.{RawChange}
 use Rattle.mapjson.specs.declared.change.RawReweight.{RawReweight}
 use Rattle.mapjson.specs.Json.{◌>>=◌, number_of, both_of, has_only, field, optional_list, stated_by, and_then, fault_in}

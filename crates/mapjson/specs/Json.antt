@@ -6,8 +6,8 @@ use Rattle.std.specs.Str.{bytes_eq, is_utf8}
 use Rattle.serde_json.specs.Data.{Data, Items, no_items, item, Members, no_members, member}
 use Rattle.serde_json.specs.Find.{get, at, as_number, as_integer, as_array, as_object}
 use Rattle.serde_json.specs.Read.{read}
-use Rattle.osdmap.specs.declared.refusal.Refusal.{Refusal}
-use Rattle.osdmap.specs.declared.refusal.Refusal.TheVariants.{BadJson, BadField, Memory as OutOfMemory}
+use Rattle.refusal.specs.declared.refused.Refusal.{Refusal}
+use Rattle.refusal.specs.declared.refused.Refusal.TheVariants.{BadJson, BadField, Memory as OutOfMemory}
 use Rattle.mapjson.specs.declared.fault.Fault.{Fault}
 use Rattle.mapjson.specs.declared.fault.Fault.TheVariants.{Field, Memory}
 

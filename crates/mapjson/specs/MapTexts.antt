@@ -9,19 +9,19 @@ use Rattle.crush.specs.declared.rule.Mode.{Mode}
 use Rattle.crush.specs.declared.rule.Mode.TheVariants.{Firstn, Indep}
 use Rattle.crush.specs.declared.rule.RuleKind.{RuleKind}
 use Rattle.crush.specs.declared.rule.RuleKind.TheVariants.{Replicated, Erasure}
-use Rattle.osdmap.specs.declared.parts.MapParts.{MapParts}
-use Rattle.osdmap.specs.declared.parts.BucketPart.{BucketPart}
-use Rattle.osdmap.specs.declared.parts.ItemPart.{ItemPart}
-use Rattle.osdmap.specs.declared.parts.RulePart.{RulePart}
-use Rattle.osdmap.specs.declared.parts.StepPart.{StepPart}
-use Rattle.osdmap.specs.declared.parts.StepPart.TheVariants.{Take, Choose, Emit}
-use Rattle.osdmap.specs.declared.parts.PoolPart.{PoolPart}
-use Rattle.osdmap.specs.declared.parts.OsdPart.{OsdPart}
-use Rattle.osdmap.specs.declared.parts.ExceptionPart.{ExceptionPart}
-use Rattle.osdmap.specs.declared.parts.PairPart.{PairPart}
-use Rattle.osdmap.specs.declared.pg_text.PgParts.{PgParts}
-use Rattle.osdmap.specs.PgText.{parts_in}
-use Rattle.osdmap.specs.declared.refusal.Refusal.{Refusal}
+use Rattle.stated.specs.declared.parts.MapParts.{MapParts}
+use Rattle.stated.specs.declared.parts.BucketPart.{BucketPart}
+use Rattle.stated.specs.declared.parts.ItemPart.{ItemPart}
+use Rattle.stated.specs.declared.parts.RulePart.{RulePart}
+use Rattle.stated.specs.declared.parts.StepPart.{StepPart}
+use Rattle.stated.specs.declared.parts.StepPart.TheVariants.{Take, Choose, Emit}
+use Rattle.stated.specs.declared.parts.PoolPart.{PoolPart}
+use Rattle.stated.specs.declared.parts.OsdPart.{OsdPart}
+use Rattle.stated.specs.declared.parts.ExceptionPart.{ExceptionPart}
+use Rattle.stated.specs.declared.parts.PairPart.{PairPart}
+use Rattle.stated.specs.declared.pg_text.PgParts.{PgParts}
+use Rattle.stated.specs.PgText.{parts_in}
+use Rattle.refusal.specs.declared.refused.Refusal.{Refusal}
 use Rattle.osdmap.specs.Maps.{ClusterMap}
 use Rattle.osdmap.specs.Stated.{map_fault, IsStated}
 use Rattle.mapjson.specs.Json.{◌>>=◌, number_of, list_of, has_count, place, both_of, has_only, field, optional_list, stated_by}

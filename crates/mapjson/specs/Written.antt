@@ -11,19 +11,19 @@ use Rattle.crush.specs.declared.rule.Mode.{Mode}
 use Rattle.crush.specs.declared.rule.Mode.TheVariants.{Firstn, Indep}
 use Rattle.crush.specs.declared.rule.RuleKind.{RuleKind}
 use Rattle.crush.specs.declared.rule.RuleKind.TheVariants.{Replicated, Erasure}
-use Rattle.osdmap.specs.declared.parts.MapParts.{MapParts}
-use Rattle.osdmap.specs.declared.parts.BucketPart.{BucketPart}
-use Rattle.osdmap.specs.declared.parts.ItemPart.{ItemPart}
-use Rattle.osdmap.specs.declared.parts.RulePart.{RulePart}
-use Rattle.osdmap.specs.declared.parts.StepPart.{StepPart}
-use Rattle.osdmap.specs.declared.parts.StepPart.TheVariants.{Take, Choose, Emit}
-use Rattle.osdmap.specs.declared.parts.PoolPart.{PoolPart}
-use Rattle.osdmap.specs.declared.parts.OsdPart.{OsdPart}
-use Rattle.osdmap.specs.declared.parts.ExceptionPart.{ExceptionPart}
-use Rattle.osdmap.specs.declared.parts.PairPart.{PairPart}
-use Rattle.osdmap.specs.Parts.{pg_of}
-use Rattle.osdmap.specs.declared.pg_text.PgParts.{PgParts}
-use Rattle.osdmap.specs.PgText.{parts_in, group_text}
+use Rattle.stated.specs.declared.parts.MapParts.{MapParts}
+use Rattle.stated.specs.declared.parts.BucketPart.{BucketPart}
+use Rattle.stated.specs.declared.parts.ItemPart.{ItemPart}
+use Rattle.stated.specs.declared.parts.RulePart.{RulePart}
+use Rattle.stated.specs.declared.parts.StepPart.{StepPart}
+use Rattle.stated.specs.declared.parts.StepPart.TheVariants.{Take, Choose, Emit}
+use Rattle.stated.specs.declared.parts.PoolPart.{PoolPart}
+use Rattle.stated.specs.declared.parts.OsdPart.{OsdPart}
+use Rattle.stated.specs.declared.parts.ExceptionPart.{ExceptionPart}
+use Rattle.stated.specs.declared.parts.PairPart.{PairPart}
+use Rattle.stated.specs.Parts.{pg_of}
+use Rattle.stated.specs.declared.pg_text.PgParts.{PgParts}
+use Rattle.stated.specs.PgText.{parts_in, group_text}
 use Rattle.osdmap.specs.Maps.{ClusterMap}
 use Rattle.osdmap.specs.Laws.{IsTextEpoch}
 use Rattle.osdmap.specs.PartsOf.{parts_of}

@@ -3,7 +3,7 @@
 
 ghost use Rattle.std.specs.Prelude.{◌≡◌, Ok, IfOk};
 ghost use Rattle.std.specs.Str.{IsUtf8};
-ghost use Rattle.osdmap.specs.Stated.{Makes};
+ghost use Rattle.refusal.specs.Outcomes.{Makes};
 ghost use Rattle.osdmap.specs.PartsOf.{parts_of};
 ghost use Rattle.mapjson.specs.Json.{stated_by};
 ghost use Rattle.mapjson.specs.MapTexts.{stated_map, map_text_fault, StatesMap};

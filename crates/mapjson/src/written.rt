@@ -2,14 +2,14 @@ ghost use Rattle.std.specs.Prelude.{◌≡◌, ◌++◌, IfOk, map, option_map, 
 ghost use Rattle.std.specs.List.{range_with_len, All};
 ghost use Rattle.serde_json.specs.Data.{Data};
 ghost use Rattle.serde_json.specs.View.{view};
-ghost use Rattle.osdmap.specs.declared.parts.MapParts.{MapParts};
-ghost use Rattle.osdmap.specs.declared.parts.BucketPart.{BucketPart};
-ghost use Rattle.osdmap.specs.declared.parts.ItemPart.{ItemPart};
-ghost use Rattle.osdmap.specs.declared.parts.RulePart.{RulePart};
-ghost use Rattle.osdmap.specs.declared.parts.StepPart.{StepPart};
-ghost use Rattle.osdmap.specs.declared.parts.PoolPart.{PoolPart};
-ghost use Rattle.osdmap.specs.declared.parts.ExceptionPart.{ExceptionPart};
-ghost use Rattle.osdmap.specs.declared.parts.PairPart.{PairPart};
+ghost use Rattle.stated.specs.declared.parts.MapParts.{MapParts};
+ghost use Rattle.stated.specs.declared.parts.BucketPart.{BucketPart};
+ghost use Rattle.stated.specs.declared.parts.ItemPart.{ItemPart};
+ghost use Rattle.stated.specs.declared.parts.RulePart.{RulePart};
+ghost use Rattle.stated.specs.declared.parts.StepPart.{StepPart};
+ghost use Rattle.stated.specs.declared.parts.PoolPart.{PoolPart};
+ghost use Rattle.stated.specs.declared.parts.ExceptionPart.{ExceptionPart};
+ghost use Rattle.stated.specs.declared.parts.PairPart.{PairPart};
 ghost use Rattle.osdmap.specs.PartsOf.{item_part, bucket_part, step_part, rule_part, pool_part, osd_part, part_listed, osd_parts, pg_part, pair_part, exception_part, parts_of};
 ghost use Rattle.mapjson.specs.Written.{list_data, kind_word, item_data, bucket_data, use_word, choose_word, step_data, rule_data, pool_data, osd_data, number_data, IsNamed, AreNamed, pair_data, exception_data, map_data};
 

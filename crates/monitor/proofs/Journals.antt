@@ -1,10 +1,10 @@
 -- Journals: what one more change does to a lawful one.
 use Rattle.std.proofs.Common.{◌≡◌, ◌∙◌, sym, ap, ℕ, ◌+◌, ◌≤◌, ◌<◌, List, [], ◌∷◌, ◌++◌, length, refl, arith, None, Some, subst, true, false, not, nat_lt, ◌==◌, if◌then◌else◌, length-append}
-use Rattle.osdmap.specs.declared.change.ChangeParts.{ChangeParts}
+use Rattle.stated.specs.declared.change.ChangeParts.{ChangeParts}
 use Rattle.osdmap.specs.Maps.{ClusterMap}
 use Rattle.osdmap.specs.Changes.{Step, apply, after, change_fault, IsLawful, epoch_after}
 use Rattle.std.proofs.lemmas.Bool.{eqb-true, ltb-true}
-use Rattle.osdmap.specs.declared.refusal.Refusal.TheVariants.{StaleEpoch, JournalFull}
+use Rattle.refusal.specs.declared.refused.Refusal.TheVariants.{StaleEpoch, JournalFull}
 use Rattle.monitor.specs.States.{History, IsKept, opened, committed, next_step, commit_fault, unless}
 
 -- the map after one more

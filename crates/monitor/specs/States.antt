@@ -1,12 +1,12 @@
 -- The state of a monitor, and what a commit answers.
 use Rattle.std.specs.Prelude.{◌≡◌, ℕ, ◌+◌, ◌≤◌, ◌==◌, not, List, [], ◌∷◌, ◌++◌, length, nat_lt, nat_le, ◌&&◌, Option, Some, None, Result, OnErr, if◌then◌else◌}
-use Rattle.osdmap.specs.declared.change.ChangeParts.{ChangeParts}
-use Rattle.osdmap.specs.declared.refusal.Refusal.{Refusal}
-use Rattle.osdmap.specs.declared.refusal.Refusal.TheVariants.{BadLimit, StaleEpoch, JournalFull}
+use Rattle.stated.specs.declared.change.ChangeParts.{ChangeParts}
+use Rattle.refusal.specs.declared.refused.Refusal.{Refusal}
+use Rattle.refusal.specs.declared.refused.Refusal.TheVariants.{BadLimit, StaleEpoch, JournalFull}
 use Rattle.osdmap.specs.Maps.{ClusterMap}
 use Rattle.osdmap.specs.Evals.{evals_of}
 use Rattle.osdmap.specs.Changes.{Step, change_fault, apply, after, IsLawful}
-use Rattle.osdmap.specs.Stated.{Gives}
+use Rattle.refusal.specs.Outcomes.{Gives}
 
 -- what callers see of a state: the first map, the changes since, how many there may be, and the present map
 pub record History : Type 0 where

@@ -32,7 +32,7 @@ impl State {
     ghost use Rattle.std.specs.Result.{result_err};
     ghost use Rattle.osdmap.specs.Changes.{epoch_after};
     ghost use Rattle.osdmap.specs.Sets.{places_of};
-    ghost use Rattle.osdmap.specs.Stated.{Gives};
+    ghost use Rattle.refusal.specs.Outcomes.{Gives};
     ghost use Rattle.osdmap.specs.Placement.{group_fault, up_set, Places, RunsOnce};
     ghost use Rattle.monitor.specs.States.{opened, IsKept, Commits, commit_fault, open_fault};
 

@@ -4,11 +4,11 @@ use Rattle.std.proofs.Common.{◌≡◌, ◌∙◌, nat_lt, zero, suc, arith, �
 use Rattle.std.proofs.Math.ListN.{length-set}
 use Rattle.std.specs.List.{fold}
 use Rattle.std.proofs.lemmas.Option.{slice_get-get_or}
-use Rattle.osdmap.specs.declared.osd.Presence.{Presence}
-use Rattle.osdmap.specs.declared.change.Reweight.{Reweight}
+use Rattle.stated.specs.declared.osd.Presence.{Presence}
+use Rattle.stated.specs.declared.change.Reweight.{Reweight}
 use Rattle.std.proofs.lemmas.Bool.Decides.{nat_tests}
 use Rattle.osdmap.specs.Marks.{are_below}
-use Rattle.osdmap.proofs.Tests.{and_first, and_second}
+use Rattle.keylist.proofs.Tests.{and_first, and_second}
 use Rattle.osdmap.specs.Maps.{ClusterMap}
 use Rattle.osdmap.specs.Changes.{Step, apply, with_up, with_weight}
 

@@ -11,13 +11,16 @@ use Rattle.crush.specs.declared.fault.RuleError.{RuleError}
 use Rattle.crush.specs.declared.fault.RuleError.TheVariants as rule
 use Rattle.crush.specs.WellFormed.{forest_limits_ok, forest_ok, forest_fault}
 use Rattle.crush.specs.Grammar.{rule_limits_ok, rule_ok, rule_fault}
-use Rattle.osdmap.specs.declared.parts.OsdPart.{OsdPart}
-use Rattle.osdmap.specs.declared.refusal.Refusal.{Refusal}
-use Rattle.osdmap.specs.declared.refusal.Refusal.TheVariants.{BadForest, BadRule}
-use Rattle.osdmap.specs.Keyed.{is_distinct}
-use Rattle.osdmap.specs.Stated.{Makes, osd_ok}
-use Rattle.osdmap.specs.Built.{refused_unless, forest_refusal, rule_refusal, Rises}
-use Rattle.osdmap.proofs.Tests.{and_first}
+use Rattle.stated.specs.declared.parts.OsdPart.{OsdPart}
+use Rattle.refusal.specs.declared.refused.Refusal.{Refusal}
+use Rattle.refusal.specs.declared.refused.Refusal.TheVariants.{BadForest, BadRule}
+use Rattle.keylist.specs.Keys.{is_distinct}
+use Rattle.refusal.specs.Outcomes.{Makes}
+use Rattle.osdmap.specs.Stated.{osd_ok}
+use Rattle.refusal.specs.Outcomes.{refused_unless}
+use Rattle.keylist.specs.Order.{Rises}
+use Rattle.osdmap.specs.Built.{forest_refusal, rule_refusal}
+use Rattle.keylist.proofs.Tests.{and_first}
 use Rattle.osdmap.proofs.Named.{all_more}
 
 -- ---- refusals

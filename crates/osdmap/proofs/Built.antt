@@ -17,25 +17,28 @@ use Rattle.crush.specs.declared.rule.Step.TheVariants as step
 use Rattle.crush.specs.WellFormed.{forest_ok, IsForest}
 use Rattle.crush.specs.Grammar.{takes_known}
 use Rattle.crush.proofs.Sorted.{forest_ok-moved}
-use Rattle.osdmap.specs.declared.parts.MapParts.{MapParts}
-use Rattle.osdmap.specs.declared.parts.RulePart.{RulePart}
-use Rattle.osdmap.specs.declared.parts.PoolPart.{PoolPart}
-use Rattle.osdmap.specs.declared.parts.OsdPart.{OsdPart}
-use Rattle.osdmap.specs.declared.rules.NumberedRule.{NumberedRule}
-use Rattle.osdmap.specs.declared.refusal.Refusal.{Refusal}
-use Rattle.osdmap.specs.declared.refusal.Refusal.TheVariants.{BadLimit, BadForest, BadRule, BadPool, BadOsd, Memory as OutOfMemory}
+use Rattle.stated.specs.declared.parts.MapParts.{MapParts}
+use Rattle.stated.specs.declared.parts.RulePart.{RulePart}
+use Rattle.stated.specs.declared.parts.PoolPart.{PoolPart}
+use Rattle.stated.specs.declared.parts.OsdPart.{OsdPart}
+use Rattle.stated.specs.declared.rules.NumberedRule.{NumberedRule}
+use Rattle.refusal.specs.declared.refused.Refusal.{Refusal}
+use Rattle.refusal.specs.declared.refused.Refusal.TheVariants.{BadLimit, BadForest, BadRule, BadPool, BadOsd, Memory as OutOfMemory}
 use Rattle.osdmap.specs.Maps.{ClusterMap, has_rule, is_kind, is_rule_over, is_presence, HoldsTogether}
-use Rattle.osdmap.specs.Parts.{is_between, has_between, bucket_fits, rule_fits, pool_fits, osd_fits, is_osd_id, pair_fits, exceptions_fit, head_fits, lists_fit, parts_fit, pool_of}
-use Rattle.osdmap.specs.Pools.{PoolFacts, IsWithinLimits}
-use Rattle.osdmap.specs.Keyed.{is_distinct}
-use Rattle.osdmap.specs.Stated.{Makes, buckets_of, rule_of, rules_ok, pool_ok, pools_ok, osd_ok, osds_ok, explicit_of, items_of, all_exceptions_ok, map_fault, listed, presence_in, weight_in, IsStated}
-use Rattle.osdmap.specs.Built.{refused_unless, IsForestOf, Rises, is_lawful, rules_fit, pools_fit, osds_fit, state_of, rows_of, row_presence, row_weight}
-use Rattle.osdmap.proofs.Tests.{and_first, and_second}
+use Rattle.stated.specs.Parts.{is_between, has_between, bucket_fits, rule_fits, pool_fits, osd_fits, is_osd_id, pair_fits, exceptions_fit, head_fits, lists_fit, parts_fit, pool_of}
+use Rattle.stated.specs.Pools.{PoolFacts, IsWithinLimits}
+use Rattle.keylist.specs.Keys.{is_distinct}
+use Rattle.refusal.specs.Outcomes.{Makes}
+use Rattle.osdmap.specs.Stated.{buckets_of, rule_of, rules_ok, pool_ok, pools_ok, osd_ok, osds_ok, explicit_of, items_of, all_exceptions_ok, map_fault, listed, presence_in, weight_in, IsStated}
+use Rattle.refusal.specs.Outcomes.{refused_unless}
+use Rattle.keylist.specs.Order.{Rises}
+use Rattle.osdmap.specs.Built.{IsForestOf, is_lawful, rules_fit, pools_fit, osds_fit, state_of, rows_of, row_presence, row_weight}
+use Rattle.keylist.proofs.Tests.{and_first, and_second}
 use Rattle.osdmap.proofs.Named.{all_more}
-use Rattle.osdmap.proofs.Fits.{natural_between, pool_fits_each, pool_within}
-use Rattle.osdmap.proofs.BuildFits.{rule_id_fits, rule_limits, osd_weight_fits}
+use Rattle.stated.proofs.Within.{natural_between, pool_fits_each, pool_within}
+use Rattle.stated.proofs.BuildFits.{rule_id_fits, rule_limits, osd_weight_fits}
 use Rattle.osdmap.proofs.PlacementLemmas.{found_passes}
-use Rattle.osdmap.proofs.Distinct.{distinct-moved, rising_distinct, find-moved, list_all-moved}
+use Rattle.keylist.proofs.Distinct.{distinct-moved, rising_distinct, find-moved, list_all-moved}
 use Rattle.osdmap.proofs.BuildLemmas.{passed, error_is, map_twice}
 
 -- ---- parts within the limits

@@ -4,14 +4,16 @@ use Rattle.std.specs.Prelude.{◌||◌, ◌==◌}
 use Rattle.std.specs.List.{list_all, filter, fold}
 use Rattle.std.proofs.lemmas.Bool.Decides.{nat_tests}
 use Rattle.std.proofs.lemmas.List.Filters.{length-filter_both}
-use Rattle.osdmap.specs.declared.change.ChangeParts.{ChangeParts}
-use Rattle.osdmap.specs.Pools.{PoolFacts}
-use Rattle.osdmap.specs.Keyed.{has_key, entry_at, put, IsRising}
+use Rattle.stated.specs.declared.change.ChangeParts.{ChangeParts}
+use Rattle.stated.specs.Pools.{PoolFacts}
+use Rattle.keylist.specs.Keys.{has_key, entry_at}
+use Rattle.keylist.specs.Order.{IsRising}
+use Rattle.keylist.specs.Puts.{put}
 use Rattle.osdmap.specs.Maps.{ClusterMap, has_rule}
 use Rattle.osdmap.specs.Changes.{pools_kept, pools_after, brings_new, brings_rightly}
-use Rattle.osdmap.proofs.Tests.{and_first, and_second, not_true}
-use Rattle.osdmap.proofs.KeyedOrder.{rising-filter}
-use Rattle.osdmap.proofs.KeyedMaps.{entry-puts, entry-without, has-put, length-put, rising-put}
+use Rattle.keylist.proofs.Tests.{and_first, and_second, not_true}
+use Rattle.keylist.proofs.KeyedOrder.{rising-filter}
+use Rattle.keylist.proofs.KeyedMaps.{entry-puts, entry-without, has-put, length-put, rising-put}
 
 pub kept-gone : (m : ClusterMap) (c : ChangeParts) (id : ℕ) → has_key (λ k. k) c.old_pools id ≡ true → entry_at (λ p. p.id) (pools_kept m c) id ≡ None
 unfolding pools_kept

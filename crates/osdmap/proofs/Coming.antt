@@ -1,15 +1,16 @@
 -- The entries that come with a change that nothing refuses have rising keys.
 use Rattle.std.proofs.Common.{◌≡◌, ℕ, true, List, ◌++◌, map, arith}
-use Rattle.osdmap.specs.declared.change.ChangeParts.{ChangeParts}
-use Rattle.osdmap.specs.Pools.{PoolFacts}
-use Rattle.osdmap.specs.Keyed.{is_distinct, IsRising}
-use Rattle.osdmap.specs.Exceptions.{place_of, key_of}
+use Rattle.stated.specs.declared.change.ChangeParts.{ChangeParts}
+use Rattle.stated.specs.Pools.{PoolFacts}
+use Rattle.keylist.specs.Keys.{is_distinct}
+use Rattle.keylist.specs.Order.{IsRising}
+use Rattle.stated.specs.Exceptions.{place_of, key_of}
 use Rattle.osdmap.specs.Maps.{ClusterMap}
-use Rattle.osdmap.specs.Ordered.{IsInOrder}
+use Rattle.stated.specs.Ordered.{IsInOrder}
 use Rattle.osdmap.specs.Changes.{names_once}
 use Rattle.osdmap.proofs.Accepted.{Accepted}
-use Rattle.osdmap.proofs.KeyedDistinct.{distinct-append}
-use Rattle.osdmap.proofs.KeyedOrder.{distinct_rises}
+use Rattle.keylist.proofs.KeyedDistinct.{distinct-append}
+use Rattle.keylist.proofs.KeyedOrder.{distinct_rises}
 
 second_distinct : (ks js : List ℕ) → is_distinct (ks ++ js) ≡ true → is_distinct js ≡ true
 second_distinct ks js h = let parts = distinct-append ks js in grind (arith, parts, h)

@@ -17,10 +17,10 @@ use Rattle.crush.specs.declared.rule.Step.TheVariants.{Take, Choose as Chooses, 
 use Rattle.crush.specs.Facts.{IsItemWithin, IsItemLawful, IsWithinLimits, IsWellFormed}
 use Rattle.crush.specs.Forest.{bucket_at, level_of}
 use Rattle.crush.specs.Paths.{has_item, IsItemOf, IsPath, IsAbove, TakesAbove, Reaches}
-use Rattle.crush.proofs.Counts.{find-place}
+use Rattle.keylist.proofs.Counts.{find-place}
 use Rattle.crush.proofs.Tests.{same_tests}
-use Rattle.osdmap.specs.declared.change.ChangeParts.{ChangeParts}
-use Rattle.osdmap.specs.Pools.{PoolFacts}
+use Rattle.stated.specs.declared.change.ChangeParts.{ChangeParts}
+use Rattle.stated.specs.Pools.{PoolFacts}
 use Rattle.osdmap.specs.Maps.{ClusterMap, rule_at}
 use Rattle.osdmap.specs.Placement.{group_of}
 use Rattle.osdmap.specs.Evals.{is_under, takes_over, reaches, is_touched, concerns, is_evaluated}

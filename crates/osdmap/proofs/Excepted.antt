@@ -7,24 +7,27 @@ use Rattle.std.proofs.lemmas.Bool.Decides.{nat_tests}
 use Rattle.std.proofs.lemmas.List.FromFn.{length-map-range_with_len, get_or-map-range_with_len}
 use Rattle.std.proofs.lemmas.Option.{slice_get-get_or}
 use Rattle.crush.specs.WellFormed.{forest_ok}
-use Rattle.crush.proofs.Counts.{find-place}
+use Rattle.keylist.proofs.Counts.{find-place}
 use Rattle.crush.proofs.Tests.{list_all-at}
-use Rattle.osdmap.specs.declared.exception.Exception.{Exception}
-use Rattle.osdmap.specs.declared.exception.Pair.{Pair}
-use Rattle.osdmap.specs.declared.osd.Presence.{Presence}
-use Rattle.osdmap.specs.declared.parts.MapParts.{MapParts}
-use Rattle.osdmap.specs.declared.parts.OsdPart.{OsdPart}
-use Rattle.osdmap.specs.declared.refusal.Refusal.{Refusal}
-use Rattle.osdmap.specs.declared.refusal.Refusal.TheVariants.{BadLimit, BadForest, BadRule, BadPool, BadOsd, BadException}
-use Rattle.osdmap.specs.Exceptions.{key_of, all_named, is_exception, target, sides, is_set, are_pairs}
-use Rattle.osdmap.specs.Keyed.{is_distinct, entry_at, IsRising}
+use Rattle.stated.specs.declared.exception.Exception.{Exception}
+use Rattle.stated.specs.declared.exception.Pair.{Pair}
+use Rattle.stated.specs.declared.osd.Presence.{Presence}
+use Rattle.stated.specs.declared.parts.MapParts.{MapParts}
+use Rattle.stated.specs.declared.parts.OsdPart.{OsdPart}
+use Rattle.refusal.specs.declared.refused.Refusal.{Refusal}
+use Rattle.refusal.specs.declared.refused.Refusal.TheVariants.{BadLimit, BadForest, BadRule, BadPool, BadOsd, BadException}
+use Rattle.stated.specs.Exceptions.{key_of, all_named, is_exception, target, sides, is_set, are_pairs}
+use Rattle.keylist.specs.Keys.{is_distinct, entry_at}
+use Rattle.keylist.specs.Order.{IsRising}
 use Rattle.osdmap.specs.Maps.{ClusterMap, osd_exists, HoldsTogether}
-use Rattle.osdmap.specs.Parts.{has_between, exceptions_fit, head_fits, lists_fit, parts_fit, pool_of}
-use Rattle.osdmap.specs.Pools.{PoolFacts}
+use Rattle.stated.specs.Parts.{has_between, exceptions_fit, head_fits, lists_fit, parts_fit, pool_of}
+use Rattle.stated.specs.Pools.{PoolFacts}
 use Rattle.osdmap.specs.Stated.{buckets_of, osd_ok, rules_ok, pools_ok, osds_ok, is_listed, exceptions_ok, explicit_of, items_of, all_exceptions_ok, map_fault, listed, presence_in, IsStated}
-use Rattle.osdmap.specs.Built.{refused_unless, without_exceptions, Rises}
-use Rattle.osdmap.proofs.Tests.{and_second}
-use Rattle.osdmap.proofs.Distinct.{distinct-moved, rising_distinct, find-moved, list_all-moved}
+use Rattle.refusal.specs.Outcomes.{refused_unless}
+use Rattle.keylist.specs.Order.{Rises}
+use Rattle.osdmap.specs.Built.{without_exceptions}
+use Rattle.keylist.proofs.Tests.{and_second}
+use Rattle.keylist.proofs.Distinct.{distinct-moved, rising_distinct, find-moved, list_all-moved}
 use Rattle.osdmap.proofs.BuildLemmas.{passed, osds_below}
 use Rattle.osdmap.proofs.Built.{list_all-agree}
 

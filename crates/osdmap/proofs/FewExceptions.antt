@@ -7,13 +7,13 @@ use Rattle.std.proofs.lemmas.Bool.{eqb-true}
 use Rattle.std.proofs.lemmas.Bool.Decides.{nat_tests}
 use Rattle.std.proofs.lemmas.List.Elements.{All-head, All-tail, All-weaker, All-filter, filter_passes}
 use Rattle.std.proofs.lemmas.List.Filters.{length-filter_both}
-use Rattle.osdmap.specs.declared.exception.Exception.{Exception}
-use Rattle.osdmap.specs.declared.pg.Pg.{Pg}
-use Rattle.osdmap.specs.Pools.{PoolFacts, IsWithinLimits}
-use Rattle.osdmap.specs.Keyed.{IsRising}
-use Rattle.osdmap.specs.Exceptions.{key_of, has_group}
-use Rattle.osdmap.proofs.Tests.{not_true}
-use Rattle.osdmap.proofs.KeyedOrder.{rising_head, rising_tail, rising-filter}
+use Rattle.stated.specs.declared.exception.Exception.{Exception}
+use Rattle.stated.specs.declared.pg.Pg.{Pg}
+use Rattle.stated.specs.Pools.{PoolFacts, IsWithinLimits}
+use Rattle.keylist.specs.Order.{IsRising}
+use Rattle.stated.specs.Exceptions.{key_of, has_group}
+use Rattle.keylist.proofs.Tests.{not_true}
+use Rattle.keylist.proofs.KeyedOrder.{rising_head, rising_tail, rising-filter}
 
 -- rising keys from `low` to below `high` are no more than there are numbers
 rising_room : {X : Type 0} (key : X → ℕ) (low high : ℕ) (xs : List X) → IsRising key xs → All (λ x. low ≤ key x) xs → All (λ x. key x < high) xs → low ≤ high → low + length xs ≤ high

@@ -8,21 +8,23 @@ use Rattle.crush.specs.declared.bucket.Bucket.{Bucket}
 use Rattle.crush.specs.WellFormed.{bucket_limits_ok, forest_ok, forest_limits_ok, IsForest, IsDescending, IsNotAscending}
 use Rattle.crush.proofs.Made.{forest-passed, own-ok}
 use Rattle.crush.proofs.Sorted.{bucket_at-moved, forest_ok-moved}
-use Rattle.osdmap.specs.declared.parts.MapParts.{MapParts}
-use Rattle.osdmap.specs.declared.refusal.Refusal.TheVariants.{BadForest, BadRule, BadPool, BadOsd, BadException}
-use Rattle.osdmap.specs.Pools.{IsWithinLimits}
-use Rattle.osdmap.specs.Parts.{parts_fit}
-use Rattle.osdmap.specs.Exceptions.{target, sides, is_set, are_pairs}
+use Rattle.stated.specs.declared.parts.MapParts.{MapParts}
+use Rattle.refusal.specs.declared.refused.Refusal.TheVariants.{BadForest, BadRule, BadPool, BadOsd, BadException}
+use Rattle.stated.specs.Pools.{IsWithinLimits}
+use Rattle.stated.specs.Parts.{parts_fit}
+use Rattle.stated.specs.Exceptions.{target, sides, is_set, are_pairs}
 use Rattle.osdmap.specs.Maps.{ClusterMap, osd_exists, HoldsTogether}
 use Rattle.osdmap.specs.Stated.{buckets_of, rule_of, rules_ok, pools_ok, osds_ok, exceptions_ok, explicit_of, items_of, all_exceptions_ok, map_fault, IsStated}
-use Rattle.osdmap.specs.Built.{refused_unless, IsForestOf, Rises, without_exceptions}
+use Rattle.refusal.specs.Outcomes.{refused_unless}
+use Rattle.keylist.specs.Order.{Rises}
+use Rattle.osdmap.specs.Built.{IsForestOf, without_exceptions}
 use Rattle.osdmap.specs.Changes.{Step, apply, after, IsLawful}
 use Rattle.osdmap.specs.Laws.{BringsPools, JournalsKeepMaps}
-use Rattle.osdmap.proofs.Tests.{and_first, and_second}
+use Rattle.keylist.proofs.Tests.{and_first, and_second}
 use Rattle.osdmap.proofs.Accepted.{passes}
 use Rattle.osdmap.proofs.Built.{IsBuilt, parts_fit_each, some_osds, few_osds, rules_same, pools_same, osds_same, presences_same, weights_same, no_fault, is_stated, holds}
-use Rattle.osdmap.proofs.BuildFits.{forest_limits}
-use Rattle.osdmap.proofs.Distinct.{list_all-moved}
+use Rattle.stated.proofs.BuildFits.{forest_limits}
+use Rattle.keylist.proofs.Distinct.{list_all-moved}
 use Rattle.osdmap.proofs.Excepted.{bare_fits, bare_exceptions, all_same, holds_with}
 use Rattle.osdmap.proofs.Kept.{HoldsTogether-after}
 use Rattle.osdmap.proofs.OwnParts.{states_itself}

@@ -10,21 +10,23 @@ use Rattle.std.proofs.lemmas.List.Elements.{All-set, All-filter}
 use Rattle.std.proofs.lemmas.List.Sums.{AllPass-from_list_all, list_all-from_AllPass}
 use Rattle.crush.specs.WellFormed.{forest_ok}
 use Rattle.crush.specs.declared.bucket.Bucket.{Bucket}
-use Rattle.osdmap.specs.declared.osd.Presence.{Presence}
-use Rattle.osdmap.specs.declared.rules.NumberedRule.{NumberedRule}
-use Rattle.osdmap.specs.declared.exception.Pair.{Pair}
-use Rattle.osdmap.specs.declared.pg.Pg.{Pg}
-use Rattle.osdmap.specs.declared.exception.Exception.{Exception}
-use Rattle.osdmap.specs.declared.change.ChangeParts.{ChangeParts}
-use Rattle.osdmap.specs.declared.change.Reweight.{Reweight}
-use Rattle.osdmap.specs.Pools.{PoolFacts, IsWithinLimits}
-use Rattle.osdmap.specs.Keyed.{has_key, entry_at, put, IsRising}
-use Rattle.osdmap.specs.Exceptions.{key_of, has_group, target, sides, all_named, is_set, are_pairs, is_sound, is_exception, stays, is_among, exceptions_after}
+use Rattle.stated.specs.declared.osd.Presence.{Presence}
+use Rattle.stated.specs.declared.rules.NumberedRule.{NumberedRule}
+use Rattle.stated.specs.declared.exception.Pair.{Pair}
+use Rattle.stated.specs.declared.pg.Pg.{Pg}
+use Rattle.stated.specs.declared.exception.Exception.{Exception}
+use Rattle.stated.specs.declared.change.ChangeParts.{ChangeParts}
+use Rattle.stated.specs.declared.change.Reweight.{Reweight}
+use Rattle.stated.specs.Pools.{PoolFacts, IsWithinLimits}
+use Rattle.keylist.specs.Keys.{has_key, entry_at}
+use Rattle.keylist.specs.Order.{IsRising}
+use Rattle.keylist.specs.Puts.{put}
+use Rattle.stated.specs.Exceptions.{key_of, has_group, target, sides, all_named, is_set, are_pairs, is_sound, is_exception, stays, is_among, exceptions_after}
 use Rattle.osdmap.specs.Maps.{ClusterMap, osd_exists, has_rule, is_presence, HoldsTogether}
 use Rattle.osdmap.specs.Changes.{Step, names_osds, weighs_rightly, pools_kept, pools_after, all_groups, names_groups, brings_new, brings_rightly, excepts_soundly, change_fault, apply, with_up, with_weight}
-use Rattle.osdmap.proofs.Tests.{and_first, and_second, not_true}
-use Rattle.osdmap.proofs.KeyedOrder.{rising-filter}
-use Rattle.osdmap.proofs.KeyedMaps.{has-entry, entry-put, entry-without, list_all-puts, list_all-filter, All-puts, rising-puts}
+use Rattle.keylist.proofs.Tests.{and_first, and_second, not_true}
+use Rattle.keylist.proofs.KeyedOrder.{rising-filter}
+use Rattle.keylist.proofs.KeyedMaps.{has-entry, entry-put, entry-without, list_all-puts, list_all-filter, All-puts, rising-puts}
 use Rattle.osdmap.proofs.Accepted.{Accepted, accepted}
 use Rattle.osdmap.proofs.Built.{list_all-agree}
 use Rattle.osdmap.proofs.AfterLemmas.{length-apply, length-with_weight}

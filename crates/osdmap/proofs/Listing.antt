@@ -10,9 +10,9 @@ use Rattle.std.proofs.lemmas.List.Folds.{find-append}
 use Rattle.std.proofs.lemmas.List.FromFn.{fill_by_all}
 use Rattle.std.proofs.Math.ListN.{get_or-map}
 use Rattle.crush.proofs.Tests.{list_all-at}
-use Rattle.osdmap.specs.declared.osd.OsdState.{OsdState}
-use Rattle.osdmap.specs.declared.parts.OsdPart.{OsdPart}
-use Rattle.osdmap.specs.Keyed.{is_distinct}
+use Rattle.stated.specs.declared.osd.OsdState.{OsdState}
+use Rattle.stated.specs.declared.parts.OsdPart.{OsdPart}
+use Rattle.keylist.specs.Keys.{is_distinct}
 use Rattle.osdmap.specs.Marks.{are_new}
 use Rattle.osdmap.specs.Stated.{listed}
 use Rattle.osdmap.specs.Built.{state_of, rows_of}

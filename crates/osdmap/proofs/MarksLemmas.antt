@@ -7,8 +7,8 @@ use Rattle.std.specs.List.{list_any, list_all}
 use Rattle.std.proofs.lemmas.Bool.Decides.{nat_tests}
 use Rattle.std.proofs.lemmas.Grind.{common_steps}
 use Rattle.osdmap.specs.Marks.{are_new, are_below}
-use Rattle.osdmap.proofs.Tests.{and_second}
-use Rattle.osdmap.specs.Keyed.{is_distinct}
+use Rattle.keylist.proofs.Tests.{and_second}
+use Rattle.keylist.specs.Keys.{is_distinct}
 
 module _ {X : Type 0} (named : X → ℕ) where
   -- from place i on

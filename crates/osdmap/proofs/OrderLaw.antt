@@ -5,8 +5,8 @@ use Rattle.std.specs.Prelude.{slice_get}
 use Rattle.std.specs.List.{fold}
 use Rattle.std.specs.Option.{option_map_or}
 use Rattle.std.proofs.lemmas.Bool.{cases_Bool, eqb-true}
-use Rattle.osdmap.specs.declared.osd.Presence.{Presence}
-use Rattle.osdmap.specs.Keyed.{has_key}
+use Rattle.stated.specs.declared.osd.Presence.{Presence}
+use Rattle.keylist.specs.Keys.{has_key}
 use Rattle.osdmap.specs.Changes.{apply, with_up}
 use Rattle.osdmap.specs.Laws.{UpAfterDown}
 use Rattle.osdmap.proofs.Kept.{exists-up, exists-ups}

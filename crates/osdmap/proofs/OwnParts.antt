@@ -13,24 +13,25 @@ use Rattle.crush.specs.declared.rule.Step.{Step as RuleStep}
 use Rattle.crush.specs.declared.rule.Step.TheVariants as step
 use Rattle.crush.specs.WellFormed.{forest_ok}
 use Rattle.crush.specs.Grammar.{rule_ok}
-use Rattle.crush.proofs.Counts.{find-place}
-use Rattle.osdmap.specs.declared.exception.Exception.{Exception}
-use Rattle.osdmap.specs.declared.exception.Pair.{Pair}
-use Rattle.osdmap.specs.declared.parts.PoolPart.{PoolPart}
-use Rattle.osdmap.specs.declared.parts.RulePart.{RulePart}
-use Rattle.osdmap.specs.declared.rules.NumberedRule.{NumberedRule}
-use Rattle.osdmap.specs.Exceptions.{key_of, has_group, all_named, is_sound, is_exception, target, sides, is_set, are_pairs}
-use Rattle.osdmap.specs.Keyed.{is_distinct, entry_at, IsRising}
+use Rattle.keylist.proofs.Counts.{find-place}
+use Rattle.stated.specs.declared.exception.Exception.{Exception}
+use Rattle.stated.specs.declared.exception.Pair.{Pair}
+use Rattle.stated.specs.declared.parts.PoolPart.{PoolPart}
+use Rattle.stated.specs.declared.parts.RulePart.{RulePart}
+use Rattle.stated.specs.declared.rules.NumberedRule.{NumberedRule}
+use Rattle.stated.specs.Exceptions.{key_of, has_group, all_named, is_sound, is_exception, target, sides, is_set, are_pairs}
+use Rattle.keylist.specs.Keys.{is_distinct, entry_at}
+use Rattle.keylist.specs.Order.{IsRising}
 use Rattle.osdmap.specs.Maps.{ClusterMap, osd_exists, has_rule, is_rule_over, HoldsTogether}
-use Rattle.osdmap.specs.Parts.{pg_fits, is_osd_id, pair_fits, exception_fits, exceptions_fit, head_fits, lists_fit, parts_fit, item_of, bucket_of, step_of, pool_of, pair_of, exception_of}
+use Rattle.stated.specs.Parts.{pg_fits, is_osd_id, pair_fits, exception_fits, exceptions_fit, head_fits, lists_fit, parts_fit, item_of, bucket_of, step_of, pool_of, pair_of, exception_of}
 use Rattle.osdmap.specs.PartsOf.{item_part, bucket_part, step_part, rule_part, pool_part, pair_part, exception_part, parts_of}
 use Rattle.osdmap.specs.Changes.{Step, change_fault, apply}
 use Rattle.osdmap.specs.Laws.{IsTextEpoch, StatesItself}
-use Rattle.osdmap.specs.Pools.{PoolFacts, IsWithinLimits}
+use Rattle.stated.specs.Pools.{PoolFacts, IsWithinLimits}
 use Rattle.osdmap.specs.Stated.{buckets_of, rule_of, rules_ok, pool_ok, pools_ok, osds_ok, is_listed, exceptions_ok, explicit_of, items_of, all_exceptions_ok, map_fault, IsStated}
-use Rattle.osdmap.proofs.Tests.{and_first, and_second}
+use Rattle.keylist.proofs.Tests.{and_first, and_second}
 use Rattle.osdmap.proofs.Named.{below_max, all_more}
-use Rattle.osdmap.proofs.Distinct.{rising_distinct}
+use Rattle.keylist.proofs.Distinct.{rising_distinct}
 use Rattle.osdmap.proofs.BuildLemmas.{map_twice}
 use Rattle.osdmap.proofs.Excepted.{exists_same, exceptions_same}
 use Rattle.osdmap.proofs.Kept.{HoldsTogether-after}

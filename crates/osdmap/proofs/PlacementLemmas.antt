@@ -9,8 +9,8 @@ use Rattle.crush.specs.declared.rule.Step.TheVariants.{Take, Choose as Chooses, 
 use Rattle.crush.specs.World.{World}
 use Rattle.crush.specs.Run.{Progress, after_step, progress_of, run_of, all_tries}
 use Rattle.crush.specs.declared.choose.Tries.{Tries}
-use Rattle.osdmap.specs.declared.rules.NumberedRule.{NumberedRule}
-use Rattle.osdmap.specs.Pools.{PoolFacts}
+use Rattle.stated.specs.declared.rules.NumberedRule.{NumberedRule}
+use Rattle.stated.specs.Pools.{PoolFacts}
 use Rattle.osdmap.specs.Maps.{has_rule, rule_at, is_kind}
 
 -- what is found passes a test that all pass

@@ -6,7 +6,7 @@ use Rattle.std.specs.List.{position_or_len}
 use Rattle.std.proofs.lemmas.Grind.{common_steps}
 use Rattle.std.proofs.lemmas.List.{set_past}
 use Rattle.std.proofs.lemmas.List.Quantifiers.{position-Some}
-use Rattle.osdmap.specs.declared.exception.Pair.{Pair}
+use Rattle.stated.specs.declared.exception.Pair.{Pair}
 use Rattle.osdmap.specs.Mapped.{is_of, replaced}
 
 -- the first place is written, if there is one

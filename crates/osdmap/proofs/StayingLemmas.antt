@@ -8,12 +8,13 @@ use Rattle.std.proofs.lemmas.Bool.{cases_Bool}
 use Rattle.std.proofs.lemmas.Bool.Decides.{nat_tests}
 use Rattle.std.proofs.lemmas.List.Elements.{All-head, All-tail, All-weaker}
 use Rattle.std.proofs.lemmas.List.Sorted.{IsNonDecreasingBy-drop}
-use Rattle.osdmap.specs.declared.pg.Pg.{Pg}
-use Rattle.osdmap.specs.declared.exception.Exception.{Exception}
-use Rattle.osdmap.specs.Keyed.{has_key, IsRising}
-use Rattle.osdmap.specs.Exceptions.{place_of, key_of, stays}
+use Rattle.stated.specs.declared.pg.Pg.{Pg}
+use Rattle.stated.specs.declared.exception.Exception.{Exception}
+use Rattle.keylist.specs.Keys.{has_key}
+use Rattle.keylist.specs.Order.{IsRising}
+use Rattle.stated.specs.Exceptions.{place_of, key_of, stays}
 use Rattle.osdmap.specs.Staying.{begins_at, goes}
-use Rattle.osdmap.proofs.KeyedOrder.{rising_head, rising_tail}
+use Rattle.keylist.proofs.KeyedOrder.{rising_head, rising_tail}
 
 abbrev pub rest_of : List Pg → ℕ → List Pg
 rest_of gs place = drop (prefix_len (λ g. nat_lt (place_of g) place) gs) gs

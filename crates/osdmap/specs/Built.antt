@@ -12,17 +12,18 @@ use Rattle.crush.specs.declared.fault.RuleError.TheVariants as rule
 use Rattle.crush.specs.Forest.{bucket_at}
 use Rattle.crush.specs.WellFormed.{IsDescending}
 use Rattle.crush.specs.Grammar.{rule_ok}
-use Rattle.osdmap.specs.declared.osd.Presence.{Presence}
-use Rattle.osdmap.specs.declared.osd.OsdState.{OsdState}
-use Rattle.osdmap.specs.declared.parts.MapParts.{MapParts}
-use Rattle.osdmap.specs.declared.parts.RulePart.{RulePart}
-use Rattle.osdmap.specs.declared.parts.PoolPart.{PoolPart}
-use Rattle.osdmap.specs.declared.parts.OsdPart.{OsdPart}
-use Rattle.osdmap.specs.declared.rules.NumberedRule.{NumberedRule}
-use Rattle.osdmap.specs.declared.refusal.Refusal.{Refusal}
-use Rattle.osdmap.specs.declared.refusal.Refusal.TheVariants.{BadLimit, BadForest, BadRule}
-use Rattle.osdmap.specs.Keyed.{is_distinct, IsRising}
-use Rattle.osdmap.specs.Parts.{step_of}
+use Rattle.stated.specs.declared.osd.Presence.{Presence}
+use Rattle.stated.specs.declared.osd.OsdState.{OsdState}
+use Rattle.stated.specs.declared.parts.MapParts.{MapParts}
+use Rattle.stated.specs.declared.parts.RulePart.{RulePart}
+use Rattle.stated.specs.declared.parts.PoolPart.{PoolPart}
+use Rattle.stated.specs.declared.parts.OsdPart.{OsdPart}
+use Rattle.stated.specs.declared.rules.NumberedRule.{NumberedRule}
+use Rattle.refusal.specs.declared.refused.Refusal.{Refusal}
+use Rattle.refusal.specs.declared.refused.Refusal.TheVariants.{BadLimit, BadForest, BadRule}
+use Rattle.keylist.specs.Keys.{is_distinct}
+use Rattle.keylist.specs.Order.{IsRising}
+use Rattle.stated.specs.Parts.{step_of}
 use Rattle.osdmap.specs.Stated.{pool_ok, osd_ok, listed}
 
 -- what is refused unless a test holds

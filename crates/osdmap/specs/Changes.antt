@@ -2,15 +2,16 @@
 use Rattle.std.specs.Prelude.{◌≡◌, ℕ, ◌+◌, Bool, true, false, not, ◌&&◌, List, [], ◌∷◌, ◌++◌, length, map, Option, Some, None, slice_get, slice_set, nat_le, if◌then◌else◌}
 use Rattle.std.specs.List.{list_all, filter, fold}
 use Rattle.std.specs.Option.{option_map_or}
-use Rattle.osdmap.specs.declared.change.ChangeParts.{ChangeParts}
-use Rattle.osdmap.specs.declared.change.Reweight.{Reweight}
-use Rattle.osdmap.specs.declared.osd.Presence.{Presence}
-use Rattle.osdmap.specs.declared.refusal.Refusal.{Refusal}
-use Rattle.osdmap.specs.declared.refusal.Refusal.TheVariants.{UnknownOsd, BadWeight, UnknownPool, PoolExists, BadPool, UnknownGroup, BadNewException, DuplicatePart}
-use Rattle.osdmap.specs.declared.pg.Pg.{Pg}
-use Rattle.osdmap.specs.Pools.{PoolFacts}
-use Rattle.osdmap.specs.Keyed.{is_distinct, has_key, put}
-use Rattle.osdmap.specs.Exceptions.{place_of, key_of, has_pool, has_pool_of, has_group, target, sides, all_named, is_set, are_pairs, is_sound, exceptions_after}
+use Rattle.stated.specs.declared.change.ChangeParts.{ChangeParts}
+use Rattle.stated.specs.declared.change.Reweight.{Reweight}
+use Rattle.stated.specs.declared.osd.Presence.{Presence}
+use Rattle.refusal.specs.declared.refused.Refusal.{Refusal}
+use Rattle.refusal.specs.declared.refused.Refusal.TheVariants.{UnknownOsd, BadWeight, UnknownPool, PoolExists, BadPool, UnknownGroup, BadNewException, DuplicatePart}
+use Rattle.stated.specs.declared.pg.Pg.{Pg}
+use Rattle.stated.specs.Pools.{PoolFacts}
+use Rattle.keylist.specs.Keys.{is_distinct, has_key}
+use Rattle.keylist.specs.Puts.{put}
+use Rattle.stated.specs.Exceptions.{place_of, key_of, has_pool, has_pool_of, has_group, target, sides, all_named, is_set, are_pairs, is_sound, exceptions_after}
 use Rattle.osdmap.specs.Maps.{ClusterMap, osd_exists, has_rule}
 
 -- an incremental: a change, and the epoch of the map after it

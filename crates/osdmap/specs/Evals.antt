@@ -7,12 +7,12 @@ use Rattle.crush.specs.declared.bucket.Bucket.{Bucket}
 use Rattle.crush.specs.declared.rule.Step.{Step}
 use Rattle.crush.specs.declared.rule.Step.TheVariants.{Take, Choose as Chooses, Emit}
 use Rattle.crush.specs.Forest.{bucket_at}
-use Rattle.osdmap.specs.declared.change.ChangeParts.{ChangeParts}
-use Rattle.osdmap.specs.Pools.{PoolFacts}
+use Rattle.stated.specs.declared.change.ChangeParts.{ChangeParts}
+use Rattle.stated.specs.Pools.{PoolFacts}
 use Rattle.osdmap.specs.Maps.{ClusterMap}
-use Rattle.osdmap.specs.declared.pg.Pg.{Pg}
-use Rattle.osdmap.specs.Keyed.{has_key}
-use Rattle.osdmap.specs.Exceptions.{place_of, key_of, is_among, said_of, target, sides}
+use Rattle.stated.specs.declared.pg.Pg.{Pg}
+use Rattle.keylist.specs.Keys.{has_key}
+use Rattle.stated.specs.Exceptions.{place_of, key_of, is_among, said_of, target, sides}
 use Rattle.osdmap.specs.Placement.{group_of, steps_of}
 
 -- whether an item stands at most n steps below a bucket

@@ -1,11 +1,11 @@
 -- What follows from the definitions of maps and changes.
 use Rattle.std.specs.Prelude.{◌≡◌, ◌≤◌, ℕ, true, false, List, None}
 use Rattle.std.specs.List.{fold, All}
-use Rattle.osdmap.specs.declared.parts.MapParts.{MapParts}
-use Rattle.osdmap.specs.Pools.{IsWithinLimits}
-use Rattle.osdmap.specs.Keyed.{has_key}
+use Rattle.stated.specs.declared.parts.MapParts.{MapParts}
+use Rattle.stated.specs.Pools.{IsWithinLimits}
+use Rattle.keylist.specs.Keys.{has_key}
 use Rattle.osdmap.specs.Maps.{ClusterMap, osd_exists, osd_is_up}
-use Rattle.osdmap.specs.declared.change.ChangeParts.{ChangeParts}
+use Rattle.stated.specs.declared.change.ChangeParts.{ChangeParts}
 use Rattle.osdmap.specs.Stated.{map_fault, IsStated}
 use Rattle.osdmap.specs.PartsOf.{parts_of}
 use Rattle.osdmap.specs.Changes.{Step, change_fault, apply, with_up, after, IsLawful}

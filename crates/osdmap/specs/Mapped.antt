@@ -2,7 +2,7 @@
 use Rattle.std.specs.Prelude.{ℕ, ◌==◌, Bool, false, ◌||◌, List, [], ◌∷◌, map, Option, Some, None, slice_index, if◌then◌else◌}
 use Rattle.std.specs.List.{list_any, fold}
 use Rattle.std.specs.Option.{option_map_or}
-use Rattle.osdmap.specs.declared.exception.Pair.{Pair}
+use Rattle.stated.specs.declared.exception.Pair.{Pair}
 
 -- whether an OSD is out for good: its reweight is 0
 abbrev pub is_weightless : List ℕ → ℕ → Bool

@@ -8,14 +8,14 @@ use Rattle.crush.specs.declared.rule.RuleKind.TheVariants.{Replicated, Erasure}
 use Rattle.crush.specs.Rules.{Recipe}
 use Rattle.crush.specs.WellFormed.{forest_ok, IsForest}
 use Rattle.crush.specs.Grammar.{rule_limits_ok, rule_ok}
-use Rattle.osdmap.specs.declared.osd.Presence.{Presence}
-use Rattle.osdmap.specs.declared.osd.OsdState.{OsdState}
-use Rattle.osdmap.specs.declared.rules.NumberedRule.{NumberedRule}
-use Rattle.osdmap.specs.declared.exception.Exception.{Exception}
-use Rattle.osdmap.specs.declared.exception.Pair.{Pair}
-use Rattle.osdmap.specs.Exceptions.{key_of, is_exception, target, sides, is_set, are_pairs}
-use Rattle.osdmap.specs.Keyed.{IsRising}
-use Rattle.osdmap.specs.Pools.{PoolFacts, IsWithinLimits}
+use Rattle.stated.specs.declared.osd.Presence.{Presence}
+use Rattle.stated.specs.declared.osd.OsdState.{OsdState}
+use Rattle.stated.specs.declared.rules.NumberedRule.{NumberedRule}
+use Rattle.stated.specs.declared.exception.Exception.{Exception}
+use Rattle.stated.specs.declared.exception.Pair.{Pair}
+use Rattle.stated.specs.Exceptions.{key_of, is_exception, target, sides, is_set, are_pairs}
+use Rattle.keylist.specs.Order.{IsRising}
+use Rattle.stated.specs.Pools.{PoolFacts, IsWithinLimits}
 
 -- what callers see of a map: its epoch, the buckets of its forest by id downwards, its rules and pools by id upwards, and
 -- by number whether each OSD exists and is up, and its reweight; the explicit sets and the pairs of groups, by group upwards

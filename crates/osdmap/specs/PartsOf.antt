@@ -5,23 +5,23 @@ use Rattle.crush.specs.declared.bucket.Item.{Item}
 use Rattle.crush.specs.declared.bucket.Bucket.{Bucket}
 use Rattle.crush.specs.declared.rule.Step.{Step}
 use Rattle.crush.specs.declared.rule.Step.TheVariants.{Take as TakeBucket, Choose as ChooseBy, Emit as EmitAll}
-use Rattle.osdmap.specs.declared.osd.OsdState.{OsdState}
-use Rattle.osdmap.specs.declared.parts.MapParts.{MapParts}
-use Rattle.osdmap.specs.declared.parts.BucketPart.{BucketPart}
-use Rattle.osdmap.specs.declared.parts.ItemPart.{ItemPart}
-use Rattle.osdmap.specs.declared.parts.RulePart.{RulePart}
-use Rattle.osdmap.specs.declared.parts.StepPart.{StepPart}
-use Rattle.osdmap.specs.declared.parts.StepPart.TheVariants.{Take, Choose as Chooses, Emit}
-use Rattle.osdmap.specs.declared.parts.PoolPart.{PoolPart}
-use Rattle.osdmap.specs.declared.parts.OsdPart.{OsdPart}
-use Rattle.osdmap.specs.declared.parts.ExceptionPart.{ExceptionPart}
-use Rattle.osdmap.specs.declared.parts.PairPart.{PairPart}
-use Rattle.osdmap.specs.declared.pg.Pg.{Pg}
-use Rattle.osdmap.specs.declared.pg_text.PgParts.{PgParts}
-use Rattle.osdmap.specs.declared.exception.Exception.{Exception}
-use Rattle.osdmap.specs.declared.exception.Pair.{Pair}
-use Rattle.osdmap.specs.declared.rules.NumberedRule.{NumberedRule}
-use Rattle.osdmap.specs.Pools.{PoolFacts}
+use Rattle.stated.specs.declared.osd.OsdState.{OsdState}
+use Rattle.stated.specs.declared.parts.MapParts.{MapParts}
+use Rattle.stated.specs.declared.parts.BucketPart.{BucketPart}
+use Rattle.stated.specs.declared.parts.ItemPart.{ItemPart}
+use Rattle.stated.specs.declared.parts.RulePart.{RulePart}
+use Rattle.stated.specs.declared.parts.StepPart.{StepPart}
+use Rattle.stated.specs.declared.parts.StepPart.TheVariants.{Take, Choose as Chooses, Emit}
+use Rattle.stated.specs.declared.parts.PoolPart.{PoolPart}
+use Rattle.stated.specs.declared.parts.OsdPart.{OsdPart}
+use Rattle.stated.specs.declared.parts.ExceptionPart.{ExceptionPart}
+use Rattle.stated.specs.declared.parts.PairPart.{PairPart}
+use Rattle.stated.specs.declared.pg.Pg.{Pg}
+use Rattle.stated.specs.declared.pg_text.PgParts.{PgParts}
+use Rattle.stated.specs.declared.exception.Exception.{Exception}
+use Rattle.stated.specs.declared.exception.Pair.{Pair}
+use Rattle.stated.specs.declared.rules.NumberedRule.{NumberedRule}
+use Rattle.stated.specs.Pools.{PoolFacts}
 use Rattle.osdmap.specs.Maps.{ClusterMap, osd_at}
 
 abbrev pub item_part : Item → ItemPart

@@ -6,12 +6,12 @@ use Rattle.rjenkins.specs.Jenkins.{hash2_of}
 use Rattle.crush.specs.declared.rule.Step.{Step}
 use Rattle.crush.specs.World.{world_of}
 use Rattle.crush.specs.Run.{Ran, run_of}
-use Rattle.osdmap.specs.declared.pg.Pg.{Pg}
-use Rattle.osdmap.specs.declared.refusal.Refusal.{Refusal}
-use Rattle.osdmap.specs.declared.refusal.Refusal.TheVariants.{UnknownPool, UnknownGroup}
-use Rattle.osdmap.specs.Pools.{PoolFacts}
+use Rattle.stated.specs.declared.pg.Pg.{Pg}
+use Rattle.refusal.specs.declared.refused.Refusal.{Refusal}
+use Rattle.refusal.specs.declared.refused.Refusal.TheVariants.{UnknownPool, UnknownGroup}
+use Rattle.stated.specs.Pools.{PoolFacts}
 use Rattle.osdmap.specs.Sets.{kept}
-use Rattle.osdmap.specs.Exceptions.{said_of}
+use Rattle.stated.specs.Exceptions.{said_of}
 use Rattle.osdmap.specs.Mapped.{mapped}
 use Rattle.osdmap.specs.Maps.{ClusterMap, rule_at, pool_at, osd_exists, osd_is_up}
 

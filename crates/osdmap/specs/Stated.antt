@@ -6,21 +6,22 @@ use Rattle.std.specs.Option.{option_map_or}
 use Rattle.crush.specs.declared.bucket.Bucket.{Bucket}
 use Rattle.crush.specs.WellFormed.{forest_ok, IsDescending}
 use Rattle.crush.specs.Grammar.{rule_ok}
-use Rattle.osdmap.specs.declared.osd.Presence.{Presence}
-use Rattle.osdmap.specs.declared.parts.MapParts.{MapParts}
-use Rattle.osdmap.specs.declared.parts.RulePart.{RulePart}
-use Rattle.osdmap.specs.declared.parts.PoolPart.{PoolPart}
-use Rattle.osdmap.specs.declared.parts.OsdPart.{OsdPart}
-use Rattle.osdmap.specs.declared.rules.NumberedRule.{NumberedRule}
-use Rattle.osdmap.specs.declared.refusal.Refusal.{Refusal}
-use Rattle.osdmap.specs.declared.refusal.Refusal.TheVariants.{BadLimit, BadForest, BadRule, BadPool, BadOsd, BadException, Memory as OutOfMemory}
-use Rattle.osdmap.specs.Parts.{parts_fit, bucket_of, step_of, recipe_of, pool_of, exception_of, pair_of}
-use Rattle.osdmap.specs.declared.exception.Exception.{Exception}
-use Rattle.osdmap.specs.declared.exception.Pair.{Pair}
-use Rattle.osdmap.specs.Pools.{PoolFacts}
-use Rattle.osdmap.specs.Exceptions.{key_of, is_exception, target, sides, is_set, are_pairs}
+use Rattle.stated.specs.declared.osd.Presence.{Presence}
+use Rattle.stated.specs.declared.parts.MapParts.{MapParts}
+use Rattle.stated.specs.declared.parts.RulePart.{RulePart}
+use Rattle.stated.specs.declared.parts.PoolPart.{PoolPart}
+use Rattle.stated.specs.declared.parts.OsdPart.{OsdPart}
+use Rattle.stated.specs.declared.rules.NumberedRule.{NumberedRule}
+use Rattle.refusal.specs.declared.refused.Refusal.{Refusal}
+use Rattle.refusal.specs.declared.refused.Refusal.TheVariants.{BadLimit, BadForest, BadRule, BadPool, BadOsd, BadException, Memory as OutOfMemory}
+use Rattle.stated.specs.Parts.{parts_fit, bucket_of, step_of, recipe_of, pool_of, exception_of, pair_of}
+use Rattle.stated.specs.declared.exception.Exception.{Exception}
+use Rattle.stated.specs.declared.exception.Pair.{Pair}
+use Rattle.stated.specs.Pools.{PoolFacts}
+use Rattle.stated.specs.Exceptions.{key_of, is_exception, target, sides, is_set, are_pairs}
 use Rattle.osdmap.specs.Maps.{ClusterMap, has_rule}
-use Rattle.osdmap.specs.Keyed.{is_distinct, IsRising}
+use Rattle.keylist.specs.Keys.{is_distinct}
+use Rattle.keylist.specs.Order.{IsRising}
 
 -- what a call that makes a value answers: a value with the fact P exactly where there is no fault, and else the fault; or
 -- that a growth was refused

@@ -1,8 +1,8 @@
 -- Groups in ascending order, walked beside exceptions.
 use Rattle.std.specs.Prelude.{ℕ, ◌==◌, Bool, false, ◌||◌, List, [], ◌∷◌}
-use Rattle.osdmap.specs.declared.pg.Pg.{Pg}
-use Rattle.osdmap.specs.Exceptions.{place_of}
-use Rattle.osdmap.specs.Keyed.{has_key}
+use Rattle.stated.specs.declared.pg.Pg.{Pg}
+use Rattle.stated.specs.Exceptions.{place_of}
+use Rattle.keylist.specs.Keys.{has_key}
 
 -- whether the first group stands at a place
 abbrev pub begins_at : ℕ → List Pg → Bool

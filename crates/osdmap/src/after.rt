@@ -3,20 +3,21 @@ ghost use Rattle.std.specs.List.{fold, filter, prefix_len};
 ghost use Rattle.osdmap.specs.Staying.{goes};
 ghost use Rattle.std.specs.List.Sorted.{IsNonDecreasingBy};
 ghost use Rattle.osdmap.specs.Changes.{with_up, with_weight};
-ghost use Rattle.osdmap.specs.Exceptions.{place_of, key_of, stays, exceptions_after};
-ghost use Rattle.osdmap.specs.Keyed.{IsRising};
+ghost use Rattle.stated.specs.Exceptions.{place_of, key_of, stays, exceptions_after};
+ghost use Rattle.keylist.specs.Order.{IsRising};
 ghost use Rattle.osdmap.specs.Marks.{are_below};
 
-use crate::change::{Change, Reweight};
+use stated::{Change, Reweight};
 use crate::copy::copied_rules;
-use crate::exception::{Entry, Exception, Explicit, Items};
-use crate::keyed::{Again, has, merged};
+use stated::{Entry, Exception, Explicit, Items};
+use keylist::{Again, has, merged};
 use crate::map::OsdMap;
-use crate::osd::Presence;
-use crate::pg::Pg;
-use crate::pool::Pool;
-use crush::{Entries, Memory, Weights};
-use std::alloc::{AllocError, Global};
+use stated::Presence;
+use stated::Pg;
+use stated::Pool;
+use keylist::Entries;
+use refusal::Memory;
+use std::alloc::Global;
 
 /// Each OSD of a list goes up or down.
 fn set_up(presences: &mut Entries<Presence>, osds: &[u32], up: bool)
@@ -80,7 +81,7 @@ fn staying<E: Entry>(
     for exception in exceptions {
         rest = from(rest, exception.pg.place());
         if !goes(exception.pg, old_pools, rest) {
-            kept.push(exception.again()).map_err(AllocError::from)?;
+            kept.push(exception.again())?;
         }
     }
     Ok(kept)
@@ -108,8 +109,8 @@ fn exceptions_after<E: Entry>(
 impl OsdMap {
     ghost use Rattle.std.specs.Prelude.{◌≡◌, ◌+◌, ◌^◌, ◌<◌, None, IfOk, true, false};
     ghost use Rattle.std.specs.List.{fold, All};
-    ghost use Rattle.osdmap.specs.Pools.{IsWithinLimits};
-    ghost use Rattle.osdmap.specs.Exceptions.{exceptions_after};
+    ghost use Rattle.stated.specs.Pools.{IsWithinLimits};
+    ghost use Rattle.stated.specs.Exceptions.{exceptions_after};
     ghost use Rattle.osdmap.specs.Changes.{apply, change_fault, pools_kept, pools_after, with_up, with_weight};
 
     /// The pools that stay.
@@ -117,7 +118,7 @@ impl OsdMap {
     fn pools_kept(&self, alloc: Global, change: &Change) -> Result<Vec<Pool>, Memory>
         ensures { IfOk result (λ pools. pools.items ≡ pools_kept self.now change.now) }
     {
-        let old = change.parts().old_pools.as_slice();
+        let old = &change.parts().old_pools;
         Ok(
             self.pools
                 .iter()
@@ -134,7 +135,7 @@ impl OsdMap {
         ensures value { IfOk result (λ pools. pools.items ≡ pools_after self.now change.now) }
         ensures within { All IsWithinLimits change.now.new_pools }
     {
-        let new = change.parts().new_pools.as_slice();
+        let new = &change.parts().new_pools;
         let kept = self.pools_kept(alloc, change)?;
         merged(alloc, &kept, new)
     }
@@ -146,8 +147,8 @@ impl OsdMap {
     {
         let parts = change.parts();
         let mut presences = Entries::new(Vec::from_slice(alloc, self.presences.as_slice())?);
-        set_up(&mut presences, parts.down.as_slice(), false);
-        set_up(&mut presences, parts.up.as_slice(), true);
+        set_up(&mut presences, &parts.down, false);
+        set_up(&mut presences, &parts.up, true);
         Ok(presences)
     }
 
@@ -158,7 +159,7 @@ impl OsdMap {
     {
         let _ = &self.presences;
         let mut weights = self.weights.copy(alloc)?;
-        set_weights(&mut weights, change.parts().weight.as_slice());
+        set_weights(&mut weights, &change.parts().weight);
         Ok(weights)
     }
 
@@ -171,9 +172,9 @@ impl OsdMap {
         exceptions_after(
             alloc,
             &self.explicit,
-            parts.old_pools.as_slice(),
-            parts.old_upmap.as_slice(),
-            parts.new_upmap.as_slice(),
+            &parts.old_pools,
+            &parts.old_upmap,
+            &parts.new_upmap,
         )
     }
 
@@ -186,9 +187,9 @@ impl OsdMap {
         exceptions_after(
             alloc,
             &self.items,
-            parts.old_pools.as_slice(),
-            parts.old_items.as_slice(),
-            parts.new_items.as_slice(),
+            &parts.old_pools,
+            &parts.old_items,
+            &parts.new_items,
         )
     }
 

@@ -6,11 +6,11 @@ mod osds;
 mod pools;
 mod rules;
 
-use crate::limits::{parts_fit, word};
+use stated::limits::{parts_fit, word};
 use crate::map::OsdMap;
-use crate::parts::MapParts;
-use crate::refusal::Refusal;
-use crush::{Entries, Weights};
+use stated::MapParts;
+use refusal::Refusal;
+use keylist::Entries;
 use forest::forest_of;
 use osds::{presences_of, rows_of, weights_of};
 pub(crate) use pools::has_rule;
@@ -20,8 +20,9 @@ use std::alloc::Global;
 
 impl OsdMap {
     ghost use Rattle.std.specs.Prelude.{◌≡◌, true};
-    ghost use Rattle.osdmap.specs.Parts.{parts_fit};
-    ghost use Rattle.osdmap.specs.Stated.{Makes, map_fault, IsStated};
+    ghost use Rattle.stated.specs.Parts.{parts_fit};
+    ghost use Rattle.refusal.specs.Outcomes.{Makes};
+    ghost use Rattle.osdmap.specs.Stated.{map_fault, IsStated};
     ghost use Rattle.osdmap.specs.Built.{without_exceptions};
 
     /// The map that parts within the limits state beside their exceptions.
@@ -30,10 +31,10 @@ impl OsdMap {
         ensures { Makes result (map_fault (without_exceptions parts.now)) (IsStated (without_exceptions parts.now)) }
     {
         let max_osd = word(parts.max_osd);
-        let forest = forest_of(alloc, parts.buckets.as_slice(), max_osd)?;
-        let rules = rules_of(alloc, parts.rules.as_slice(), &forest)?;
-        let pools = pools_of(alloc, parts.pools.as_slice(), &rules)?;
-        let rows = rows_of(alloc, parts.osds.as_slice(), max_osd)?;
+        let forest = forest_of(alloc, &parts.buckets, max_osd)?;
+        let rules = rules_of(alloc, &parts.rules, &forest)?;
+        let pools = pools_of(alloc, &parts.pools, &rules)?;
+        let rows = rows_of(alloc, &parts.osds, max_osd)?;
         Ok(OsdMap {
             epoch: u64::from(word(parts.epoch)),
             forest,
@@ -55,8 +56,8 @@ impl OsdMap {
             return Err(Refusal::BadLimit);
         }
         let bare = OsdMap::without_exceptions(alloc, &parts)?;
-        let explicit = bare.exceptions_in(alloc, parts.pg_upmap.as_slice())?;
-        let items = bare.exceptions_in(alloc, parts.pg_upmap_items.as_slice())?;
+        let explicit = bare.exceptions_in(alloc, &parts.pg_upmap)?;
+        let items = bare.exceptions_in(alloc, &parts.pg_upmap_items)?;
         Ok(OsdMap {
             explicit,
             items,

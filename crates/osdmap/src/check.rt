@@ -2,21 +2,21 @@ ghost use Rattle.std.specs.Prelude.{◌≡◌};
 ghost use Rattle.osdmap.specs.Changes.{weighs_rightly, names_once};
 
 use crate::build::has_rule;
-use crate::change::{Change, Reweight};
-use crate::exception::{Entry, Exception, NamesGroup};
-use crate::keyed::{are_apart, are_distinct, has, last_of, put_count};
-use crate::limits::{FULL_WEIGHT, MAX_POOLS};
+use stated::{Change, Reweight};
+use stated::{Entry, Exception, NamesGroup};
+use keylist::{are_apart, are_distinct, has, last_of, put_count};
+use stated::limits::{FULL_WEIGHT, MAX_POOLS};
 use crate::map::OsdMap;
-use crate::pg::Pg;
-use crate::pool::Pool;
-use crate::refusal::Refusal;
+use stated::Pg;
+use stated::Pool;
+use refusal::Refusal;
 
 /// Whether each reweight is at most the whole.
 #[tactic(auto, unfolding(crate::specs::Changes::weighs_rightly))]
 fn weighs_rightly(change: &Change) -> bool
     ensures { result ≡ weighs_rightly change.now }
 {
-    let weight = change.parts().weight.as_slice();
+    let weight: &[Reweight] = &change.parts().weight;
     weight.iter().all(|w| w.weight <= FULL_WEIGHT)
 }
 
@@ -26,19 +26,19 @@ fn names_once(change: &Change) -> bool
     ensures { result ≡ names_once change.now }
 {
     let parts = change.parts();
-    are_apart(parts.old_pools.as_slice(), parts.new_pools.as_slice())
-        && are_apart(parts.down.as_slice(), parts.up.as_slice())
-        && are_distinct(parts.weight.as_slice())
-        && are_apart(parts.old_upmap.as_slice(), parts.new_upmap.as_slice())
-        && are_apart(parts.old_items.as_slice(), parts.new_items.as_slice())
+    are_apart(&parts.old_pools, &parts.new_pools)
+        && are_apart(&parts.down, &parts.up)
+        && are_distinct(&parts.weight)
+        && are_apart(&parts.old_upmap, &parts.new_upmap)
+        && are_apart(&parts.old_items, &parts.new_items)
 }
 
 impl OsdMap {
     ghost use Rattle.std.specs.Prelude.{◌≡◌, true, length};
     ghost use Rattle.std.specs.Result.{result_err};
     ghost use Rattle.std.specs.List.{list_all};
-    ghost use Rattle.osdmap.specs.Exceptions.{all_named, has_pool, has_pool_of, has_group, is_sound};
-    ghost use Rattle.osdmap.specs.Keyed.{entry_at};
+    ghost use Rattle.stated.specs.Exceptions.{all_named, has_pool, has_pool_of, has_group, is_sound};
+    ghost use Rattle.keylist.specs.Keys.{entry_at};
     ghost use Rattle.osdmap.specs.Maps.{osd_exists, has_rule};
     ghost use Rattle.osdmap.specs.Changes.{names_osds, pools_kept, pools_after, names_pools, brings_new, brings_rightly, names_groups, excepts_soundly, change_fault};
 
@@ -83,18 +83,18 @@ impl OsdMap {
         ensures { result ≡ names_osds self.now change.now }
     {
         let parts = change.parts();
-        self.all_exist(parts.down.as_slice())
-            && self.all_exist(parts.up.as_slice())
-            && self.all_reweighted_exist(parts.weight.as_slice())
-            && self.all_named_exist(parts.new_upmap.as_slice())
-            && self.all_named_exist(parts.new_items.as_slice())
+        self.all_exist(&parts.down)
+            && self.all_exist(&parts.up)
+            && self.all_reweighted_exist(&parts.weight)
+            && self.all_named_exist(&parts.new_upmap)
+            && self.all_named_exist(&parts.new_items)
     }
 
     /// The pool of an id, where it stays.
     fn kept_pool(&self, change: &Change, id: u32) -> Option<Pool>
         ensures { result ≡ entry_at (λ p. p.id) (pools_kept self.now change.now) id }
     {
-        if has(change.parts().old_pools.as_slice(), u64::from(id)) {
+        if has(&change.parts().old_pools, u64::from(id)) {
             None
         } else {
             self.pool(id)
@@ -105,7 +105,7 @@ impl OsdMap {
     fn pool_after(&self, change: &Change, id: u32) -> Option<Pool>
         ensures { result ≡ entry_at (λ p. p.id) (pools_after self.now change.now) id }
     {
-        match last_of(change.parts().new_pools.as_slice(), u64::from(id)) {
+        match last_of(&change.parts().new_pools, u64::from(id)) {
             Some(pool) => Some(*pool),
             None => self.kept_pool(change, id),
         }
@@ -156,11 +156,11 @@ impl OsdMap {
         ensures { result ≡ names_pools self.now change.now }
     {
         let parts = change.parts();
-        self.all_pools(parts.old_pools.as_slice())
-            && self.have_pools(change, parts.old_upmap.as_slice())
-            && self.have_pools(change, parts.old_items.as_slice())
-            && self.have_pools(change, parts.new_upmap.as_slice())
-            && self.have_pools(change, parts.new_items.as_slice())
+        self.all_pools(&parts.old_pools)
+            && self.have_pools(change, &parts.old_upmap)
+            && self.have_pools(change, &parts.old_items)
+            && self.have_pools(change, &parts.new_upmap)
+            && self.have_pools(change, &parts.new_items)
     }
 
     /// Whether no pool comes whose id stays.
@@ -168,7 +168,7 @@ impl OsdMap {
     fn brings_new(&self, change: &Change) -> bool
         ensures { result ≡ brings_new self.now change.now }
     {
-        let new = change.parts().new_pools.as_slice();
+        let new = &change.parts().new_pools;
         new.iter().all(|pool| !self.keeps_pool(change, pool.id()))
     }
 
@@ -186,7 +186,7 @@ impl OsdMap {
         ensures { result ≡ brings_rightly self.now change.now }
     {
         let _ = &self.pools;
-        let new = change.parts().new_pools.as_slice();
+        let new = &change.parts().new_pools;
         self.have_rules(new) && put_count(&[], new) <= MAX_POOLS - self.count_kept(change)
     }
 
@@ -194,7 +194,7 @@ impl OsdMap {
     fn count_kept(&self, change: &Change) -> usize
         ensures { result ≡ length (pools_kept self.now change.now) }
     {
-        let old = change.parts().old_pools.as_slice();
+        let old = &change.parts().old_pools;
         self.pools
             .iter()
             .filter(|pool| !has(old, u64::from(pool.id())))
@@ -226,10 +226,10 @@ impl OsdMap {
         ensures { result ≡ names_groups self.now change.now }
     {
         let parts = change.parts();
-        self.are_groups(change, parts.old_upmap.as_slice())
-            && self.are_groups(change, parts.old_items.as_slice())
-            && self.are_groups(change, parts.new_upmap.as_slice())
-            && self.are_groups(change, parts.new_items.as_slice())
+        self.are_groups(change, &parts.old_upmap)
+            && self.are_groups(change, &parts.old_items)
+            && self.are_groups(change, &parts.new_upmap)
+            && self.are_groups(change, &parts.new_items)
     }
 
     /// Whether an exception that comes is sound for its pool after the change.
@@ -259,8 +259,8 @@ impl OsdMap {
         ensures { result ≡ excepts_soundly self.now change.now }
     {
         let parts = change.parts();
-        self.all_sound_after(change, parts.new_upmap.as_slice())
-            && self.all_sound_after(change, parts.new_items.as_slice())
+        self.all_sound_after(change, &parts.new_upmap)
+            && self.all_sound_after(change, &parts.new_items)
     }
 
     /// Whether the map refuses a change: the first of these over all its parts. `UnknownOsd` (21): an OSD of down, up,

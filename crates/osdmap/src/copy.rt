@@ -1,11 +1,12 @@
 ghost use Rattle.std.specs.Prelude.{◌≡◌, IfOk};
 
-use crate::exception::{Entry, Exception};
-use crate::keyed::Again;
+use stated::{Entry, Exception};
+use keylist::Again;
 use crate::map::OsdMap;
-use crate::rules::NumberedRule;
-use crush::{Entries, Memory};
-use std::alloc::{AllocError, Global};
+use stated::NumberedRule;
+use keylist::Entries;
+use refusal::Memory;
+use std::alloc::Global;
 
 /// Each of some rules once more.
 pub(crate) fn copied_rules(
@@ -21,7 +22,7 @@ pub(crate) fn copied_rules(
             id: numbered.id,
             rule,
         };
-        copies.push(copy).map_err(AllocError::from)?;
+        copies.push(copy)?;
     }
     Ok(copies)
 }
@@ -32,7 +33,7 @@ fn copied<E: Entry>(alloc: Global, exceptions: &[Exception<E>]) -> Result<Vec<Ex
 {
     let mut copies = Vec::with_capacity(alloc, exceptions.len())?;
     for exception in exceptions {
-        copies.push(exception.again()).map_err(AllocError::from)?;
+        copies.push(exception.again())?;
     }
     Ok(copies)
 }

@@ -2,12 +2,12 @@ ghost use Rattle.std.specs.Prelude.{◌≡◌};
 ghost use Rattle.std.specs.Option.{option_copied};
 ghost use Rattle.osdmap.specs.Evals.{is_named, names_reweighted};
 
-use crate::change::Change;
-use crate::exception::{Entry, name_reweighted};
-use crate::keyed::has;
+use stated::Change;
+use stated::{Entry, name_reweighted};
+use keylist::has;
 use crate::map::OsdMap;
-use crate::pg::Pg;
-use crate::pool::Pool;
+use stated::Pg;
+use stated::Pool;
 use crush::Rule;
 
 /// Whether exceptions of a group go or come with a change.
@@ -17,17 +17,17 @@ fn is_named(change: &Change, pg: Pg) -> bool
 {
     let parts = change.parts();
     let place = pg.place();
-    has(parts.old_upmap.as_slice(), place)
-        || has(parts.old_items.as_slice(), place)
-        || has(parts.new_upmap.as_slice(), place)
-        || has(parts.new_items.as_slice(), place)
+    has(&parts.old_upmap, place)
+        || has(&parts.old_items, place)
+        || has(&parts.new_upmap, place)
+        || has(&parts.new_items, place)
 }
 
 /// Whether an exception names an OSD that gets another reweight.
 fn names_reweighted<E: Entry>(change: &Change, said: Option<&[E]>) -> bool
     ensures { result ≡ names_reweighted E.names change.now (option_copied said.entry) }
 {
-    let weight = change.parts().weight.as_slice();
+    let weight: &[Reweight] = &change.parts().weight;
     said.is_some_and(|entries| name_reweighted(entries, weight))
 }
 
@@ -79,7 +79,7 @@ impl OsdMap {
     fn is_touched(&self, pool: &Pool, change: &Change) -> bool
         ensures { result ≡ is_touched self.now change.now pool.now }
     {
-        has(change.parts().new_pools.as_slice(), u64::from(pool.id())) || self.reaches(pool, change)
+        has(&change.parts().new_pools, u64::from(pool.id())) || self.reaches(pool, change)
     }
 
     /// Whether a change concerns the exceptions of a group of a pool: they go or come, or name an OSD that gets another

@@ -2,7 +2,7 @@
 
 ghost use Rattle.osdmap.specs.Laws.{UpAfterDown, JournalsKeepMaps};
 
-use crate::change::Change;
+use stated::Change;
 use crate::map::OsdMap;
 
 /// The order of a change's parts is part of what it says: an OSD that it names among those that go down and among those

@@ -1,9 +1,9 @@
-use crate::exception::{Explicit, Items, Pair};
-use crate::keyed::entry_of;
-use crate::osd::{OsdState, Presence};
-use crate::pg::Pg;
-use crate::pool::Pool;
-use crate::rules::NumberedRule;
+use stated::{Explicit, Items, Pair};
+use keylist::entry_of;
+use stated::{OsdState, Presence};
+use stated::Pg;
+use stated::Pool;
+use stated::NumberedRule;
 use crush::{Entries, Forest, Rule, Weights};
 use std::marker::Model;
 
@@ -34,7 +34,7 @@ impl Model for OsdMap {
 impl OsdMap {
     ghost use Rattle.std.specs.Prelude.{◌≡◌, ◌≤◌, length, IfSome};
     ghost use Rattle.std.specs.Option.{option_copied};
-    ghost use Rattle.osdmap.specs.Exceptions.{said_of};
+    ghost use Rattle.stated.specs.Exceptions.{said_of};
     ghost use Rattle.osdmap.specs.Maps.{rule_at, pool_at, osd_at};
 
     /// The epoch.

@@ -2,13 +2,14 @@ ghost use Rattle.std.specs.Prelude.{◌≡◌, ◌<◌, unwrap_or, nat_le};
 ghost use Rattle.std.specs.List.{find};
 ghost use Rattle.osdmap.specs.Placement.{mask_of, stable_mod, placement_input};
 
-use crate::exception::Pair;
+use stated::Pair;
 use crate::map::OsdMap;
-use crate::pg::Pg;
-use crate::pool::Pool;
-use crate::refusal::Refusal;
+use stated::Pg;
+use stated::Pool;
+use refusal::Refusal;
 use crate::up_set::UpSet;
-use crush::{Memory, Work};
+use crush::Work;
+use refusal::Memory;
 use rjenkins::hash2;
 
 /// The numbers one less than a power of two, up to the greatest number of groups.
@@ -53,11 +54,11 @@ fn placement_input(pool: &Pool, number: u32) -> u32
 
 impl OsdMap {
     ghost use Rattle.std.specs.Prelude.{◌≡◌, ◌≤◌, ◌<◌, true, length, List, Option, Some, None, map, IfOk, MatchResult, option_and_then};
-    ghost use Rattle.osdmap.specs.Stated.{Gives};
+    ghost use Rattle.refusal.specs.Outcomes.{Gives};
     ghost use Rattle.std.specs.List.{list_any, fold};
     ghost use Rattle.osdmap.specs.Maps.{pool_at, has_rule};
     ghost use Rattle.osdmap.specs.Mapped.{is_weightless, with_pair, mapped};
-    ghost use Rattle.osdmap.specs.Exceptions.{said_of};
+    ghost use Rattle.stated.specs.Exceptions.{said_of};
     ghost use Rattle.osdmap.specs.Sets.{places_of, kept};
     ghost use Rattle.osdmap.specs.Placement.{group_fault, existing, upward, placed, raw_set, mapped_set, up_set, Places, RunsOnce};
 

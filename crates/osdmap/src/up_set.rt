@@ -3,7 +3,7 @@ ghost use Rattle.std.specs.List.{list_any};
 ghost use Rattle.osdmap.specs.Mapped.{is_of};
 ghost use Rattle.osdmap.specs.Primary.{primary_of};
 
-use crate::exception::Pair;
+use stated::Pair;
 use crush::RuleKind;
 
 /// The greatest size of a pool, and so of a set.

@@ -1,6 +1,6 @@
 //! What the program does with its files.
 ghost use Rattle.std.specs.Prelude.{◌≡◌, ◌≢◌, ◌≤◌, length, false, IfSome, slice_get};
-ghost use Rattle.osdmap.specs.declared.refusal.Refusal.TheVariants.{Memory as OutOfMemory};
+ghost use Rattle.refusal.specs.declared.refused.Refusal.TheVariants.{Memory as OutOfMemory};
 ghost use Rattle.osdmapd.specs.declared.serving.Fault.TheVariants.{Output as NoOutput};
 ghost use Rattle.osdmapd.specs.Serving.{Answered, Serves};
 

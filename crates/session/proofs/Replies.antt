@@ -1,7 +1,7 @@
 -- What a commit and a line answer, from what the calls answer.
 use Rattle.std.proofs.Common.{◌≡◌, ◌<◌, ℕ, List, [], ◌∷◌, length, Option, None, Result, Ok, Err, inl, inr, arith, subst}
-use Rattle.osdmap.specs.declared.change.ChangeParts.{ChangeParts}
-use Rattle.osdmap.specs.declared.refusal.Refusal.{Refusal}
+use Rattle.stated.specs.declared.change.ChangeParts.{ChangeParts}
+use Rattle.refusal.specs.declared.refused.Refusal.{Refusal}
 use Rattle.mapjson.specs.ChangeTexts.{change_text_fault, StatesChange}
 use Rattle.monitor.specs.States.{History, Commits}
 use Rattle.session.specs.Commands.{Command, command_in}

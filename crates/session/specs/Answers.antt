@@ -1,9 +1,9 @@
 -- What a command answers at a state, and the state that it leaves.
 use Rattle.std.specs.Prelude.{◌≡◌, ℕ, ◌⊎◌, List, Option, Some, None, MatchOption, ◌+◌}
-use Rattle.osdmap.specs.declared.pg.Pg.{Pg}
-use Rattle.osdmap.specs.declared.change.ChangeParts.{ChangeParts}
-use Rattle.osdmap.specs.declared.refusal.Refusal.{Refusal}
-use Rattle.osdmap.specs.declared.refusal.Refusal.TheVariants.{Memory as OutOfMemory, BadCommand}
+use Rattle.stated.specs.declared.pg.Pg.{Pg}
+use Rattle.stated.specs.declared.change.ChangeParts.{ChangeParts}
+use Rattle.refusal.specs.declared.refused.Refusal.{Refusal}
+use Rattle.refusal.specs.declared.refused.Refusal.TheVariants.{Memory as OutOfMemory, BadCommand}
 use Rattle.osdmap.specs.Maps.{ClusterMap}
 use Rattle.osdmap.specs.Placement.{group_fault, up_set, Places}
 use Rattle.mapjson.specs.ChangeTexts.{change_text_fault, StatesChange}

@@ -3,9 +3,9 @@ use Rattle.std.specs.Prelude.{◌≡◌, ◌⊎◌, ℕ, ◌+◌, List, Some, No
 use Rattle.osdmap.specs.Sets.{places_of}
 use Rattle.session.specs.declared.answer.Answer.{Answer}
 use Rattle.session.specs.declared.answer.Answer.TheVariants.{Up, Epoch, Dump, Changed, Refused}
-use Rattle.osdmap.specs.declared.change.ChangeParts.{ChangeParts}
-use Rattle.osdmap.specs.declared.refusal.Refusal.{Refusal}
-use Rattle.osdmap.specs.declared.refusal.Refusal.TheVariants.{Memory as OutOfMemory}
+use Rattle.stated.specs.declared.change.ChangeParts.{ChangeParts}
+use Rattle.refusal.specs.declared.refused.Refusal.{Refusal}
+use Rattle.refusal.specs.declared.refused.Refusal.TheVariants.{Memory as OutOfMemory}
 use Rattle.mapjson.specs.ChangeTexts.{change_text_fault, StatesChange}
 use Rattle.osdmap.specs.Evals.{evals_of}
 use Rattle.monitor.specs.States.{History, commit_fault, committed}

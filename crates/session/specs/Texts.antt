@@ -1,11 +1,11 @@
 -- The bytes of each answer.
 use Rattle.std.specs.Prelude.{ℕ, List, [], ◌∷◌, ◌++◌, codes, Option, Some, None}
 use Rattle.std.specs.Fmt.{decimal}
-use Rattle.osdmap.specs.declared.pg.Pg.{Pg}
-use Rattle.osdmap.specs.declared.refusal.Refusal.{Refusal}
-use Rattle.osdmap.specs.declared.refusal.Refusal.TheVariants.{BadJson, BadField, BadLimit, BadForest, BadRule, BadPool, BadOsd, BadException, StaleEpoch, UnknownOsd, BadWeight, UnknownPool, PoolExists, UnknownGroup, BadNewException, DuplicatePart, JournalFull, Memory, BadCommand}
+use Rattle.stated.specs.declared.pg.Pg.{Pg}
+use Rattle.refusal.specs.declared.refused.Refusal.{Refusal}
+use Rattle.refusal.specs.declared.refused.Refusal.TheVariants.{BadJson, BadField, BadLimit, BadForest, BadRule, BadPool, BadOsd, BadException, StaleEpoch, UnknownOsd, BadWeight, UnknownPool, PoolExists, UnknownGroup, BadNewException, DuplicatePart, JournalFull, Memory, BadCommand}
 use Rattle.osdmap.specs.Refusals.{number_of, name_of}
-use Rattle.osdmap.specs.PgText.{group_text}
+use Rattle.stated.specs.PgText.{group_text}
 use Rattle.osdmap.specs.Primary.{primary_of}
 
 -- what ends each answer

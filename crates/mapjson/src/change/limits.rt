@@ -1,7 +1,7 @@
 //! The limits of a change as a text states it.
 ghost use Rattle.std.specs.Prelude.{◌≡◌};
 ghost use Rattle.std.specs.List.{list_all};
-ghost use Rattle.osdmap.specs.Parts.{has_between, is_osd_id, pg_fits, pool_fits};
+ghost use Rattle.stated.specs.Parts.{has_between, is_osd_id, pg_fits, pool_fits};
 ghost use Rattle.mapjson.specs.ChangeTexts.{is_pool_id, reweight_fits, entries_fit, change_fits};
 
 use super::{RawChange, RawReweight};

@@ -1,10 +1,10 @@
 //! The change that stated parts within their limits stand for.
 ghost use Rattle.std.specs.Prelude.{◌≡◌, true, IsTrue, All, IfOk, map, pos, nat_abs};
 ghost use Rattle.std.specs.List.{list_all};
-ghost use Rattle.osdmap.specs.declared.refusal.Refusal.TheVariants.{BadPool};
-ghost use Rattle.osdmap.specs.Built.{refused_unless};
-ghost use Rattle.osdmap.specs.Parts.{is_between, is_osd_id, pool_fits, pool_of, pg_of};
-ghost use Rattle.osdmap.specs.Stated.{Makes};
+ghost use Rattle.refusal.specs.declared.refused.Refusal.TheVariants.{BadPool};
+ghost use Rattle.refusal.specs.Outcomes.{refused_unless};
+ghost use Rattle.stated.specs.Parts.{is_between, is_osd_id, pool_fits, pool_of, pg_of};
+ghost use Rattle.refusal.specs.Outcomes.{Makes};
 ghost use Rattle.mapjson.specs.ChangeTexts.{has_enough_groups, reweight_fits, change_fits, reweight_within, parts_within};
 
 use super::{RawChange, RawReweight};

@@ -1,20 +1,22 @@
 use super::order::in_order;
-use crate::entry_part::{EntryPart, exceptions_fit, exceptions_of};
-use crate::exception::{Entry, Exception};
+use stated::{EntryPart, exceptions_fit, exceptions_of};
+use stated::{Entry, Exception};
 use crate::map::OsdMap;
-use crate::parts::ExceptionPart;
-use crate::refusal::Refusal;
+use stated::ExceptionPart;
+use refusal::Refusal;
 use std::alloc::Global;
 
 impl OsdMap {
     ghost use Rattle.std.specs.Prelude.{◌≡◌, true, map};
     ghost use Rattle.std.specs.List.{list_all};
-    ghost use Rattle.osdmap.specs.declared.refusal.Refusal.TheVariants.{BadException};
-    ghost use Rattle.osdmap.specs.Exceptions.{key_of, is_exception};
+    ghost use Rattle.refusal.specs.declared.refused.Refusal.TheVariants.{BadException};
+    ghost use Rattle.stated.specs.Exceptions.{key_of, is_exception};
     ghost use Rattle.osdmap.specs.Maps.{osd_exists};
-    ghost use Rattle.osdmap.specs.Parts.{exceptions_fit, exception_of};
-    ghost use Rattle.osdmap.specs.Stated.{Makes, exceptions_ok};
-    ghost use Rattle.osdmap.specs.Built.{refused_unless, Rises};
+    ghost use Rattle.stated.specs.Parts.{exceptions_fit, exception_of};
+    ghost use Rattle.refusal.specs.Outcomes.{Makes};
+    ghost use Rattle.osdmap.specs.Stated.{exceptions_ok};
+    ghost use Rattle.refusal.specs.Outcomes.{refused_unless};
+    ghost use Rattle.keylist.specs.Order.{Rises};
 
     /// Whether an exception is of a group that is there, names OSDs that exist, and is sound.
     fn is_exception<E: Entry>(&self, exception: &Exception<E>) -> bool

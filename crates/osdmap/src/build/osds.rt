@@ -1,15 +1,17 @@
 ghost use Rattle.std.specs.Prelude.{◌≡◌, true, map, length, nat_abs, nat_lt, None, IfOk, IsTrue, replicate};
 ghost use Rattle.std.specs.List.{list_all};
-ghost use Rattle.osdmap.specs.declared.refusal.Refusal.TheVariants.{BadOsd};
-ghost use Rattle.osdmap.specs.Keyed.{is_distinct};
-ghost use Rattle.osdmap.specs.Parts.{osd_fits};
-ghost use Rattle.osdmap.specs.Stated.{Makes, osd_ok};
-ghost use Rattle.osdmap.specs.Built.{refused_unless, osds_fit, state_of, rows_of, row_presence, row_weight};
+ghost use Rattle.refusal.specs.declared.refused.Refusal.TheVariants.{BadOsd};
+ghost use Rattle.keylist.specs.Keys.{is_distinct};
+ghost use Rattle.stated.specs.Parts.{osd_fits};
+ghost use Rattle.refusal.specs.Outcomes.{Makes};
+ghost use Rattle.osdmap.specs.Stated.{osd_ok};
+ghost use Rattle.refusal.specs.Outcomes.{refused_unless};
+ghost use Rattle.osdmap.specs.Built.{osds_fit, state_of, rows_of, row_presence, row_weight};
 
-use crate::limits::word;
-use crate::osd::{OsdState, Presence};
-use crate::parts::OsdPart;
-use crate::refusal::Refusal;
+use stated::limits::word;
+use stated::{OsdState, Presence};
+use stated::OsdPart;
+use refusal::Refusal;
 use std::alloc::{AllocError, Global};
 
 /// Whether an OSD is below `max_osd`, and exists where it is up.

@@ -1,17 +1,20 @@
 ghost use Rattle.std.specs.Prelude.{◌≡◌, ◌==◌, true, map};
 ghost use Rattle.std.specs.List.{find, list_all};
 ghost use Rattle.std.specs.Option.{option_copied};
-ghost use Rattle.osdmap.specs.declared.refusal.Refusal.TheVariants.{BadPool};
+ghost use Rattle.refusal.specs.declared.refused.Refusal.TheVariants.{BadPool};
 ghost use Rattle.osdmap.specs.Maps.{is_kind, has_rule};
-ghost use Rattle.osdmap.specs.Parts.{pool_fits, pool_of};
-ghost use Rattle.osdmap.specs.Stated.{Makes, pool_ok};
-ghost use Rattle.osdmap.specs.Built.{refused_unless, pools_fit, Rises};
+ghost use Rattle.stated.specs.Parts.{pool_fits, pool_of};
+ghost use Rattle.refusal.specs.Outcomes.{Makes};
+ghost use Rattle.osdmap.specs.Stated.{pool_ok};
+ghost use Rattle.refusal.specs.Outcomes.{refused_unless};
+ghost use Rattle.keylist.specs.Order.{Rises};
+ghost use Rattle.osdmap.specs.Built.{pools_fit};
 
 use super::order::in_order;
-use crate::parts::PoolPart;
-use crate::pool::Pool;
-use crate::refusal::Refusal;
-use crate::rules::NumberedRule;
+use stated::PoolPart;
+use stated::Pool;
+use refusal::Refusal;
+use stated::NumberedRule;
 use crush::RuleKind;
 use std::alloc::Global;
 

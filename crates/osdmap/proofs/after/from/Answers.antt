@@ -6,8 +6,8 @@ use Rattle.std.proofs.lemmas.List.Folds.{length-prefix_len}
 use Rattle.std.proofs.lemmas.Iterator.{YieldsList-from_slice}
 use Rattle.std.proofs.lemmas.Iterator.Consumers.{count_from_yields_List}
 use Rattle.std.proofs.lemmas.Iterator.Search.{YieldsList-from_take_while}
-use Rattle.osdmap.specs.declared.pg.Pg.{Pg}
-use Rattle.osdmap.specs.Exceptions.{place_of}
+use Rattle.stated.specs.declared.pg.Pg.{Pg}
+use Rattle.stated.specs.Exceptions.{place_of}
 use Rattle.osdmap.proofs.after.from.Goals as goal
 
 pub returns : goal.returns

@@ -1,6 +1,6 @@
 use Rattle.std.proofs.Common.{◌≡◌, ◌∙◌, sym, ap, refl, rules, cond, drop, [], ◌∷◌, ◌++◌, ◌+◌, append_assoc, append-nil}
 use Rattle.std.specs.List.{filter}
-use Rattle.osdmap.specs.Exceptions.{place_of, stays}
+use Rattle.stated.specs.Exceptions.{place_of, stays}
 use Rattle.osdmap.specs.Staying.{goes}
 use Rattle.osdmap.proofs.StayingLemmas.{rest_of, next_stays, rest_ascends}
 use Rattle.osdmap.proofs.after.staying.Goals.{then-not-goes+in_ok-map_err, else-not-goes}

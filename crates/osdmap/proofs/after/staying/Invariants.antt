@@ -1,7 +1,7 @@
 use Rattle.std.proofs.Common.{◌≡◌, ◌++◌, drop}
 use Rattle.std.specs.List.{filter}
 use Rattle.std.specs.List.Sorted.{IsNonDecreasingBy}
-use Rattle.osdmap.specs.Exceptions.{place_of, stays}
+use Rattle.stated.specs.Exceptions.{place_of, stays}
 use Rattle.osdmap.proofs.after.staying.Given as goal
 
 -- those that stay of the ones so far, and of the rest those that stay by the groups that are left

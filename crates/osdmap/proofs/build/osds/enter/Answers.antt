@@ -3,8 +3,8 @@ use Rattle.std.proofs.lemmas.Int.{to_z-of_z}
 use mir.Syntax.{w128}
 use mir.Val.{SFits}
 use Rattle.crush.proofs.Tests.{list_all-at}
-use Rattle.osdmap.specs.Parts.{osd_fits}
-use Rattle.osdmap.proofs.BuildFits.{osd_id}
+use Rattle.stated.specs.Parts.{osd_fits}
+use Rattle.stated.proofs.BuildFits.{osd_id}
 use Rattle.std.proofs.Math.ListN.{length-set}
 use Rattle.std.proofs.lemmas.List.{get_or_default}
 use Rattle.osdmap.specs.Built.{state_of}

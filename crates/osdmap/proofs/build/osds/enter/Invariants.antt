@@ -1,8 +1,8 @@
 use Rattle.std.proofs.Common.{◌≡◌, ℕ, ◌<◌, map, take, drop, get_or, length, nat_abs, None}
 use Rattle.std.specs.Prelude.{is_some}
 use Rattle.std.specs.Option.{option_map}
-use Rattle.osdmap.specs.declared.parts.OsdPart.{OsdPart}
-use Rattle.osdmap.specs.Keyed.{is_distinct}
+use Rattle.stated.specs.declared.parts.OsdPart.{OsdPart}
+use Rattle.keylist.specs.Keys.{is_distinct}
 use Rattle.osdmap.specs.Marks.{are_new}
 use Rattle.osdmap.specs.Stated.{listed}
 use Rattle.osdmap.specs.Built.{state_of}

@@ -1,8 +1,8 @@
 use Rattle.std.proofs.Common.{nat_abs, refl}
-use Rattle.osdmap.specs.declared.refusal.Refusal.TheVariants.{BadPool}
-use Rattle.osdmap.specs.declared.parts.PoolPart.{PoolPart}
-use Rattle.osdmap.specs.Pools.{PoolFacts}
-use Rattle.osdmap.specs.Parts.{pool_of}
+use Rattle.refusal.specs.declared.refused.Refusal.TheVariants.{BadPool}
+use Rattle.stated.specs.declared.parts.PoolPart.{PoolPart}
+use Rattle.stated.specs.Pools.{PoolFacts}
+use Rattle.stated.specs.Parts.{pool_of}
 use Rattle.osdmap.proofs.BuildLemmas.{ordered}
 use Rattle.osdmap.proofs.build.pools.pools_of.Goals as goal
 

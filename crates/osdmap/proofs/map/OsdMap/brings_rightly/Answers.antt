@@ -1,5 +1,5 @@
 use Rattle.std.proofs.Common.{rules, arith, subst, ◌≤◌, length}
-use Rattle.osdmap.specs.Keyed.{IsRising}
+use Rattle.keylist.specs.Order.{IsRising}
 use Rattle.osdmap.specs.Maps.{ClusterMap}
 use Rattle.osdmap.proofs.CheckLemmas.{kept-few, rightly-counted}
 use Rattle.osdmap.proofs.map.OsdMap.brings_rightly.Goals as goal

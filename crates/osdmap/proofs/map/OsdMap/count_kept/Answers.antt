@@ -1,9 +1,9 @@
 use Rattle.std.proofs.Common.{rules, tests}
-use Rattle.osdmap.specs.Pools.{PoolFacts}
+use Rattle.stated.specs.Pools.{PoolFacts}
 use Rattle.std.specs.Prelude.{ℕ, not}
 use Rattle.std.proofs.lemmas.Iterator.{YieldsList-from_slice}
 use Rattle.std.proofs.lemmas.Iterator.Consumers.{YieldsList-from_filter, count_from_yields_List}
-use Rattle.osdmap.specs.Keyed.{has_key}
+use Rattle.keylist.specs.Keys.{has_key}
 use Rattle.osdmap.proofs.CheckLemmas.{kept-is}
 use Rattle.osdmap.proofs.map.OsdMap.count_kept.Goals as goal
 

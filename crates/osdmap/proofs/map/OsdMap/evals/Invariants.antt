@@ -1,6 +1,6 @@
 use Rattle.std.proofs.Common.{◌≡◌, ◌*◌, ◌≤◌, take}
 use Rattle.std.specs.List.{sum_by, count_by, range_with_len}
-use Rattle.osdmap.specs.Pools.{PoolFacts}
+use Rattle.stated.specs.Pools.{PoolFacts}
 use Rattle.osdmap.specs.Evals.{is_evaluated}
 use Rattle.osdmap.proofs.map.OsdMap.evals.Given as goal
 

@@ -1,6 +1,6 @@
 use Rattle.std.proofs.Common.{◌∙◌, sym, inr}
-use Rattle.osdmap.specs.Exceptions.{key_of}
-use Rattle.osdmap.specs.declared.refusal.Refusal.TheVariants.{BadException}
+use Rattle.stated.specs.Exceptions.{key_of}
+use Rattle.refusal.specs.declared.refused.Refusal.TheVariants.{BadException}
 use Rattle.osdmap.proofs.BuildLemmas.{ordered_itself, fails_both}
 use Rattle.osdmap.proofs.map.OsdMap.exceptions_in.Goals as goal
 

@@ -1,6 +1,6 @@
 use Rattle.std.proofs.Common.{rules}
-use Rattle.osdmap.specs.Pools.{PoolFacts}
-use Rattle.osdmap.proofs.KeyedMaps.{has-entry}
+use Rattle.stated.specs.Pools.{PoolFacts}
+use Rattle.keylist.proofs.KeyedMaps.{has-entry}
 use Rattle.osdmap.proofs.map.OsdMap.has_pool.Goals as goal
 
 pub returns : goal.returns

@@ -1,8 +1,8 @@
 use Rattle.std.proofs.Common.{rules}
-use Rattle.osdmap.specs.Exceptions.{has_pool_of}
-use Rattle.osdmap.specs.Pools.{PoolFacts}
+use Rattle.stated.specs.Exceptions.{has_pool_of}
+use Rattle.stated.specs.Pools.{PoolFacts}
 use Rattle.osdmap.specs.Changes.{pools_after}
-use Rattle.osdmap.proofs.KeyedMaps.{has-entry}
+use Rattle.keylist.proofs.KeyedMaps.{has-entry}
 use Rattle.osdmap.proofs.map.OsdMap.has_pool_after.Goals as goal
 
 pub returns : goal.returns

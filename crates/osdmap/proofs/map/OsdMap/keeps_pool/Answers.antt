@@ -1,7 +1,7 @@
 use Rattle.std.proofs.Common.{rules}
-use Rattle.osdmap.specs.Pools.{PoolFacts}
+use Rattle.stated.specs.Pools.{PoolFacts}
 use Rattle.osdmap.specs.Changes.{pools_kept}
-use Rattle.osdmap.proofs.KeyedMaps.{has-entry}
+use Rattle.keylist.proofs.KeyedMaps.{has-entry}
 use Rattle.osdmap.proofs.map.OsdMap.keeps_pool.Goals as goal
 
 pub returns : goal.returns

@@ -1,6 +1,6 @@
 use Rattle.std.proofs.Common.{◌==◌, subst, rules}
 use Rattle.osdmap.specs.Maps.{HoldsTogether, has_rule}
-use Rattle.osdmap.specs.Pools.{PoolFacts}
+use Rattle.stated.specs.Pools.{PoolFacts}
 use Rattle.osdmap.proofs.PlacementLemmas.{found_passes}
 use Rattle.osdmap.proofs.map.OsdMap.pool_of.Goals as goal
 

@@ -4,7 +4,7 @@ use mir.Syntax.{w128}
 use mir.Val.{SFits}
 use Rattle.osdmap.specs.Stated.{map_fault, IsStated}
 use Rattle.osdmap.specs.Built.{without_exceptions, rows_of, row_presence, row_weight}
-use Rattle.osdmap.proofs.Fits.{word_between}
+use Rattle.stated.proofs.Within.{word_between}
 use Rattle.osdmap.proofs.Built.{IsBuilt, parts_fit_each, some_osds, few_osds, fault_forest, fault_rule, fault_pool, fault_osd, stops, no_fault, is_stated, holds}
 use Rattle.osdmap.proofs.Excepted.{bare_fits, bare_exceptions}
 use Rattle.osdmap.proofs.map.OsdMap.without_exceptions.Goals as goal

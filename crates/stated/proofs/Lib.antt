@@ -1,0 +1,4 @@
+pub mod Within
+mod PgTexts
+pub mod GroupTexts
+mod Shorts

@@ -1,0 +1,17 @@
+use Rattle.stated.proofs.change.Change.new.Goals as goal
+
+pub invariant_of-result : goal.invariant_of-result
+invariant_of-result c = record {
+  in_order = record {
+    old_pools = c.in_ok-old_pools.ensures.some.ascending;
+    new_pools = c.in_ok-old_pools.ensures.others.ascending;
+    down = c.in_ok-down.ensures.some.ascending;
+    up = c.in_ok-down.ensures.others.ascending;
+    weight = c.in_ok-weight.ensures.ascending;
+    old_upmap = c.in_ok-old_upmap.ensures.some.ascending;
+    old_items = c.in_ok-old_items.ensures.some.ascending;
+    new_upmap = c.in_ok-old_upmap.ensures.others.ascending;
+    new_items = c.in_ok-old_items.ensures.others.ascending;
+  };
+  pools_within = rw c.deref.ensures at c.are_within_limits.ensures;
+}

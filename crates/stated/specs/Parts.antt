@@ -1,0 +1,146 @@
+-- The parts of a map as a text states them: their limits, what is wrong with them, and the values that they stand for.
+use Rattle.std.specs.Prelude.{ℕ, is_some, unwrap_or, ℤ, pos, negsuc, nat_abs, int_le, nat_le, Bool, true, false, not, ◌&&◌, List, length, map, Option, Some, None, if◌then◌else◌}
+use Rattle.std.specs.List.{list_all}
+use Rattle.std.specs.Option.{option_map_or}
+use Rattle.crush.specs.declared.bucket.Item.{Item}
+use Rattle.crush.specs.declared.bucket.Bucket.{Bucket}
+use Rattle.crush.specs.declared.rule.Step.{Step}
+use Rattle.crush.specs.declared.rule.Step.TheVariants.{Take as TakeBucket, Choose as ChooseBy, Emit as EmitAll}
+use Rattle.crush.specs.Rules.{Recipe}
+use Rattle.stated.specs.declared.parts.MapParts.{MapParts}
+use Rattle.stated.specs.declared.parts.BucketPart.{BucketPart}
+use Rattle.stated.specs.declared.parts.ItemPart.{ItemPart}
+use Rattle.stated.specs.declared.parts.RulePart.{RulePart}
+use Rattle.stated.specs.declared.parts.StepPart.{StepPart}
+use Rattle.stated.specs.declared.parts.StepPart.TheVariants.{Take, Choose as Chooses, Emit}
+use Rattle.stated.specs.declared.parts.PoolPart.{PoolPart}
+use Rattle.stated.specs.declared.parts.OsdPart.{OsdPart}
+use Rattle.stated.specs.declared.parts.ExceptionPart.{ExceptionPart}
+use Rattle.stated.specs.declared.parts.PairPart.{PairPart}
+use Rattle.stated.specs.declared.pg.Pg.{Pg}
+use Rattle.stated.specs.declared.pg_text.PgParts.{PgParts}
+use Rattle.stated.specs.declared.exception.Exception.{Exception}
+use Rattle.stated.specs.declared.exception.Pair.{Pair}
+use Rattle.refusal.specs.declared.refused.Refusal.{Refusal}
+use Rattle.refusal.specs.declared.refused.Refusal.TheVariants.{BadLimit, BadPool}
+use Rattle.refusal.specs.Outcomes.{refused_unless}
+use Rattle.stated.specs.Limits.{max_first_epoch, max_osds, max_osd_id, max_buckets, max_items, lowest_bucket, max_level, max_item_weight, max_rules, max_rule_id, max_steps, max_size, max_pools, max_pool_id, max_groups, full_weight, max_entries}
+use Rattle.stated.specs.Pools.{PoolFacts}
+
+-- ---- limits
+
+-- from `low` to `high`, both among them
+unfoldable pub is_between : ℤ → ℤ → ℤ → Bool
+is_between low high z = int_le low z && int_le z high
+
+-- at least `low` and at most `high` entries
+unfoldable pub has_between : {X : Type 0} → ℕ → ℕ → List X → Bool
+has_between low high xs = nat_le low (length xs) && nat_le (length xs) high
+
+-- a bucket's id: -1 down to -65,536
+unfoldable pub is_bucket_id : ℤ → Bool
+is_bucket_id z = is_between lowest_bucket (negsuc 0) z
+
+unfoldable pub item_fits : ItemPart → Bool
+item_fits i = is_between lowest_bucket (pos max_osd_id) i.id && is_between (pos 1) (pos max_item_weight) i.weight
+
+unfoldable pub bucket_fits : BucketPart → Bool
+bucket_fits b = is_bucket_id b.id && is_between (pos 1) (pos max_level) b.level && has_between 1 max_items b.items && list_all item_fits b.items
+
+unfoldable pub step_fits : StepPart → Bool
+step_fits (Take id) = is_bucket_id id
+step_fits (Chooses c) = is_between (pos 0) (pos max_size) c.count && is_between (pos 0) (pos max_level) c.level
+step_fits Emit = true
+
+unfoldable pub rule_fits : RulePart → Bool
+rule_fits r = is_between (pos 0) (pos max_rule_id) r.id && has_between 1 max_steps r.steps && list_all step_fits r.steps
+
+unfoldable pub pool_fits : PoolPart → Bool
+pool_fits p =
+    is_between (pos 1) (pos max_pool_id) p.id && is_between (pos 1) (pos max_groups) p.pg_num
+    && is_between (pos 1) (pos max_groups) p.pgp_num && is_between (pos 0) (pos max_rule_id) p.rule
+    && is_between (pos 1) (pos max_size) p.size
+
+unfoldable pub osd_fits : OsdPart → Bool
+osd_fits o = is_between (pos 0) (pos max_osd_id) o.id && is_between (pos 0) (pos full_weight) o.weight
+
+-- a group: the id of a pool, and a number of at most 32 bits
+unfoldable pub pg_fits : PgParts → Bool
+pg_fits g = option_map_or (λ pool. nat_le 1 pool && nat_le pool max_pool_id) g.pool false && is_some g.number
+
+-- an OSD's id
+unfoldable pub is_osd_id : ℤ → Bool
+is_osd_id z = is_between (pos 0) (pos max_osd_id) z
+
+unfoldable pub pair_fits : PairPart → Bool
+pair_fits p = is_osd_id p.from && is_osd_id p.to
+
+-- an exception: a group, and at most 10 entries, each within its limits
+unfoldable pub exception_fits : {P : Type 0} → (P → Bool) → ExceptionPart P → Bool
+exception_fits fits e = pg_fits e.pg && has_between 0 max_size e.entries && list_all fits e.entries
+
+-- at most 131,072 exceptions, each within its limits
+unfoldable pub exceptions_fit : {P : Type 0} → (P → Bool) → List (ExceptionPart P) → Bool
+exceptions_fit fits es = has_between 0 max_entries es && list_all (exception_fits fits) es
+
+-- the numbers that stand alone
+unfoldable pub head_fits : MapParts → Bool
+head_fits p =
+    is_between (pos 1) (pos 1) p.version && is_between (pos 1) (pos max_first_epoch) p.epoch
+    && is_between (pos 1) (pos max_osds) p.max_osd
+
+-- how many buckets, rules and pools there are
+unfoldable pub lists_fit : MapParts → Bool
+lists_fit p = has_between 1 max_buckets p.buckets && has_between 1 max_rules p.rules && has_between 0 max_pools p.pools
+
+-- every number and every length of the map
+unfoldable pub parts_fit : MapParts → Bool
+parts_fit p =
+    head_fits p && lists_fit p && list_all bucket_fits p.buckets && list_all rule_fits p.rules
+    && list_all pool_fits p.pools && list_all osd_fits p.osds
+    && exceptions_fit is_osd_id p.pg_upmap && exceptions_fit pair_fits p.pg_upmap_items
+
+-- ---- the values that parts within the limits stand for
+
+abbrev pub item_of : ItemPart → Item
+item_of i = record { id = i.id; weight = nat_abs i.weight }
+
+abbrev pub bucket_of : BucketPart → Bucket
+bucket_of b = record { id = b.id; level = nat_abs b.level; kind = b.kind; items = map item_of b.items }
+
+abbrev pub step_of : StepPart → Step
+step_of (Take id) = TakeBucket id
+step_of (Chooses c) = ChooseBy (record { mode = c.mode; to_leaf = c.to_leaf; count = nat_abs c.count; level = nat_abs c.level })
+step_of Emit = EmitAll
+
+abbrev pub recipe_of : RulePart → Recipe
+recipe_of r = record { kind = r.kind; steps = map step_of r.steps }
+
+abbrev pub pool_of : PoolPart → PoolFacts
+pool_of p = record {
+  id = nat_abs p.id;
+  kind = p.kind;
+  pg_num = nat_abs p.pg_num;
+  pgp_num = nat_abs p.pgp_num;
+  rule = nat_abs p.rule;
+  size = nat_abs p.size;
+}
+
+abbrev pub pg_of : PgParts → Pg
+pg_of g = record { pool = unwrap_or g.pool 0; number = unwrap_or g.number 0 }
+
+abbrev pub pair_of : PairPart → Pair
+pair_of p = record { from = nat_abs p.from; to = nat_abs p.to }
+
+abbrev pub exception_of : {P E : Type 0} → (P → E) → ExceptionPart P → Exception E
+exception_of entry_of e = record { pg = pg_of e.pg; entries = map entry_of e.entries }
+
+-- ---- what is wrong
+
+-- no more groups for placement than groups
+unfoldable pub has_enough_groups : PoolPart → Bool
+has_enough_groups p = int_le p.pgp_num p.pg_num
+
+-- of a pool by itself: a number outside its limits, else more groups for placement than groups
+abbrev pub pool_fault : PoolPart → Option Refusal
+pool_fault p = if not (pool_fits p) then Some BadLimit else refused_unless (has_enough_groups p) BadPool

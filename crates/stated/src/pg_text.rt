@@ -1,0 +1,129 @@
+//! The text of a group: the pool's id in decimal, a point, and the number in lower hexadecimal, both without leading
+//! zeros (Ceph, `pg_t::print`).
+ghost use Rattle.std.specs.Prelude.{◌≡◌, ◌<◌, ◌≤◌, IfSome, length, position};
+ghost use Rattle.std.specs.Option.{option_map};
+ghost use Rattle.stated.specs.PgText.{digit_of, value_after, part_in, within, is_point, IsReadBack};
+
+use crate::pg::Pg;
+use std::fmt;
+
+/// The base of a pool's id in a text.
+const POOL_BASE: u32 = 10;
+/// The base of a group's number in a text.
+const NUMBER_BASE: u32 = 16;
+/// The least number that has more than 32 bits.
+const TOO_GREAT: u64 = 0x1_0000_0000;
+
+/// The parts of a group as a text states them. Each is `None` where it has more than 32 bits.
+#[derive(Clone, Copy, Debug, PartialEq, Eq)]
+pub struct PgParts {
+    /// The id of the pool.
+    pub pool: Option<u32>,
+    /// The number within the pool.
+    pub number: Option<u32>,
+}
+
+/// The digit that a byte is in a base of at most 16, in lower case.
+#[tactic(auto, unfolding(crate::specs::PgText::digit_of))]
+fn digit(base: u32, byte: u8) -> Option<u32>
+    ensures { result ≡ digit_of base byte }
+{
+    let digit = match byte {
+        b'0'..=b'9' => u32::from(byte - b'0'),
+        b'a'..=b'f' => u32::from(byte - b'a') + 10,
+        _ => return None,
+    };
+    if digit < base { Some(digit) } else { None }
+}
+
+/// The number that digits write, `Some(None)` where it has more than 32 bits.
+fn value(base: u32, digits: &[u8]) -> Option<Option<u32>>
+    requires some { 0 < base }
+    requires most { base ≤ 16 }
+    ensures { result ≡ option_map within (value_after base 0 digits.now) }
+{
+    let mut value: u64 = 0;
+    for byte in digits {
+        let digit = digit(base, *byte)?;
+        value = (value * u64::from(base) + u64::from(digit)).min(TOO_GREAT);
+    }
+    Some(u32::try_from(value).ok())
+}
+
+/// The number that a text is, without leading zeros: `Some(None)` where it has more than 32 bits.
+#[tactic(auto, unfolding(crate::specs::PgText::number_in))]
+fn number(base: u32, text: &[u8]) -> Option<Option<u32>>
+    requires some { 0 < base }
+    requires most { base ≤ 16 }
+    ensures { result ≡ part_in base text.now }
+{
+    match text {
+        [] | [b'0', _, ..] => None,
+        _ => value(base, text),
+    }
+}
+
+/// The place of the first point.
+fn point(text: &[u8]) -> Option<usize>
+    ensures place { result ≡ position is_point text.now }
+    ensures within { IfSome result (λ at. at < length text.now) }
+{
+    text.iter().position(|byte| *byte == b'.')
+}
+
+impl PgParts {
+    ghost use Rattle.stated.specs.PgText.{parts_in};
+    ghost use Rattle.stated.specs.Parts.{pg_of};
+
+    /// The parts that a text states; `None` where it is no text of a group.
+    #[tactic(auto, unfolding(crate::specs::PgText::parts_in))]
+    pub fn read(text: &[u8]) -> Option<PgParts>
+        ensures { result ≡ parts_in text.now }
+    {
+        let point = point(text)?;
+        let pool = number(POOL_BASE, &text[..point])?;
+        let number = number(NUMBER_BASE, &text[point + 1..])?;
+        Some(PgParts { pool, number })
+    }
+
+    /// The group of these parts; a part of more than 32 bits counts as 0.
+    pub fn group(&self) -> Pg
+        ensures { result ≡ pg_of self.now }
+    {
+        Pg {
+            pool: self.pool.unwrap_or(0),
+            number: self.number.unwrap_or(0),
+        }
+    }
+}
+
+impl Pg {
+    ghost use Rattle.stated.specs.PgText.{group_in};
+
+    /// The group that a text names; `None` where it is no text of a group, or a part of it has more than 32 bits.
+    pub fn parse(text: &[u8]) -> Option<Pg>
+        ensures { result ≡ group_in text.now }
+    {
+        let parts = PgParts::read(text)?;
+        Some(Pg {
+            pool: parts.pool?,
+            number: parts.number?,
+        })
+    }
+}
+
+/// A law: the text of a group names that group.
+pub fn group_text_is_read_back(_pool: u32, _number: u32)
+    ensures { IsReadBack _pool _number }
+{}
+
+impl fmt::Display for Pg {
+    ghost use Rattle.std.specs.Prelude.{Some};
+    ghost use Rattle.stated.specs.PgText.{group_text};
+
+    ghost output = { λ pg. Some (group_text pg) };
+
+    fn fmt<W: fmt::Write>(&self, f: &mut fmt::Formatter<W>) -> fmt::Result {
+        write!(f, "{}.{:x}", self.pool, self.number)
+    }
+}
