@@ -23,14 +23,5 @@ pub mod Places
 pub mod RuleLemmas
 pub mod Sorted
 pub mod Tests
-pub mod Sought
-pub mod Packed
-pub mod Positions
-pub mod Picked
-pub mod Within
-pub mod Alike
-pub mod Runs
 pub mod Weighing
-pub mod Reached
-pub mod Ends
 pub mod Settled

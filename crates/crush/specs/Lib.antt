@@ -17,7 +17,6 @@ pub mod Descent
 pub mod Firstn
 pub mod Indep
 pub mod Run
-pub mod Laws
 pub mod Slots
 pub mod WellFormed
 pub mod Verdict

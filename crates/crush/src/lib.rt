@@ -9,7 +9,6 @@ mod firstn;
 pub mod forest;
 mod grammar;
 mod indep;
-pub mod laws;
 pub mod limits;
 pub mod memory;
 mod met;
