@@ -1,0 +1,51 @@
+//! The refusal of calls that nothing but want of memory refuses.
+
+ghost use Rattle.std.specs.Prelude.{◌≡◌, codes};
+
+use std::alloc::{AllocError, AllocFailed};
+use std::error::Error;
+use std::fmt;
+
+/// 30: a growth was refused. It is the error of calls that nothing else refuses.
+#[derive(Clone, Copy, Debug, PartialEq, Eq)]
+pub struct Memory;
+
+impl Memory {
+    /// The number.
+    pub fn number(&self) -> u8
+        ensures { result ≡ 30 }
+    {
+        30
+    }
+
+    /// The name.
+    pub fn name(&self) -> &'static str
+        ensures { result.now ≡ codes "Memory" }
+    {
+        "Memory"
+    }
+}
+
+impl fmt::Display for Memory {
+    ghost use Rattle.std.specs.Prelude.{Some, codes};
+
+    ghost output = { λ _. Some (codes "Memory") };
+
+    fn fmt<W: fmt::Write>(&self, f: &mut fmt::Formatter<W>) -> fmt::Result {
+        f.write_str(self.name())
+    }
+}
+
+impl Error for Memory {}
+
+impl From<AllocError> for Memory {
+    fn from(_error: AllocError) -> Memory {
+        Memory
+    }
+}
+
+impl<T: Drop> From<AllocFailed<T>> for Memory {
+    fn from(_failed: AllocFailed<T>) -> Memory {
+        Memory
+    }
+}
