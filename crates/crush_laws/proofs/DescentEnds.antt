@@ -12,8 +12,8 @@ use Rattle.crush.specs.Pick.{place_of, pick_of}
 use Rattle.crush.specs.World.{World}
 use Rattle.crush.specs.Descent.{descent}
 use Rattle.crush.specs.WellFormed.{is_known, IsForest}
-use Rattle.crush_laws.specs.Laws.{LeadsAstray, LeadsToWanted, DescentEnds}
-use Rattle.crush.proofs.Counts.{find-place}
+use Rattle.crush_laws.specs.Descents.{LeadsAstray, LeadsToWanted, DescentEnds}
+use Rattle.keylist.proofs.Counts.{find-place}
 use Rattle.crush.proofs.Pickable.{bucket_at-pickable}
 use Rattle.crush_laws.proofs.RunsReached.{typed, item_known}
 use Rattle.crush_laws.proofs.DescentsWithin.{IsDevice, within_by}

@@ -16,7 +16,7 @@ use Rattle.crush.specs.declared.rule.Choose.{Choose}
 use Rattle.crush.specs.World.{World, is_out}
 use Rattle.crush.specs.Descent.{leaf_below, item_below}
 use Rattle.crush.specs.Firstn.{numbers_from, is_free, with_leaf, attempt_with, attempt_at, attempt_of, is_failed, replica_of, with_attempt, firstn_from}
-use Rattle.crush_laws.specs.Laws.{takes_devices, IsSegment, FirstnIsSegment}
+use Rattle.crush_laws.specs.Choices.{takes_devices, IsSegment, FirstnIsSegment}
 use Rattle.crush_laws.proofs.LeafSearches.{leaf_accepted, neither, other_holds, no_device, other_key}
 
 -- an attempt, by the tests that it makes

@@ -1,5 +1,5 @@
 -- what choosing for positions leaves: no item twice, nothing that is out, and what is decided stays
-use Rattle.std.proofs.Common.{◌≡◌, ◌≢◌, ℕ, suc, zero, ◌+◌, ◌<◌, ℤ, Bool, true, false, not, cond, ◌&&◌, eqb, List, [], ◌∷◌, ◌++◌, length, get_or, set, replicate, Option, Some, None, inl, inr, sym, ap, refl, ◌∙◌, subst, arith, length-set}
+use Rattle.std.proofs.Common.{◌≡◌, ◌≢◌, ℕ, ◌+◌, ◌<◌, ℤ, Bool, true, false, not, cond, ◌&&◌, eqb, List, [], ◌∷◌, length, get_or, set, replicate, Option, Some, None, inl, inr, sym, ap, refl, ◌∙◌, subst, arith, length-set}
 use Rattle.std.specs.List.{All, AllPairs, range_with_len, list_any, fold}
 use Rattle.std.proofs.lemmas.Bool.{cases_Bool, cases_eq, false≢true}
 use Rattle.std.proofs.lemmas.Bool.Decides.{Decides-int_eq}
@@ -18,7 +18,7 @@ use Rattle.crush.specs.World.{World, is_out}
 use Rattle.crush.specs.Descent.{leaf_below, item_below}
 use Rattle.crush.proofs.Settled.{range_append}
 use Rattle.crush.specs.Indep.{number_in, numbers_in, holds_item, is_open, filled_with, position_with, position_at, position_of, after_turn, after_round, indep}
-use Rattle.crush_laws.specs.Laws.{takes_devices, AreApart, HoldsNoneOut, ArePositions, IndepIsPositions, IndepKeepsPositions}
+use Rattle.crush_laws.specs.Choices.{takes_devices, AreApart, HoldsNoneOut, ArePositions, IndepIsPositions, IndepKeepsPositions}
 use Rattle.crush_laws.proofs.LeafSearches.{leaf_accepted, other_holds, no_device, not_true}
 
 -- what a position becomes, by the tests that are made

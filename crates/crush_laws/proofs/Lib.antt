@@ -7,3 +7,5 @@ pub mod ChoicesWithin
 pub mod RunsWithin
 pub mod RunsReached
 pub mod DescentEnds
+pub mod ItemsLeadDown
+pub mod RuleBlocks

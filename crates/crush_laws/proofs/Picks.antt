@@ -18,7 +18,7 @@ use Rattle.crush.specs.Uniform.{places_drawn}
 use Rattle.crush.specs.Listed.{wins, wins_at, last_place}
 use Rattle.crush.specs.Tree.{weight_between, goes_left, height_of, tree_place}
 use Rattle.crush.specs.Pick.{place_by}
-use Rattle.crush_laws.specs.Laws.{IsGreatestWinner, DrawsEachPlaceOnce, ListPicksGreatestWinner, TreePicksWeight}
+use Rattle.crush_laws.specs.Picks.{IsGreatestWinner, DrawsEachPlaceOnce, ListPicksGreatestWinner, TreePicksWeight}
 use Rattle.crush.proofs.Trees.{height_holds, draw_below, halves, goes_left_some}
 use Rattle.crush.proofs.Words.{hash4-lt}
 

@@ -18,17 +18,17 @@ use Rattle.crush.specs.declared.rule.Step.{Step}
 use Rattle.crush.specs.declared.rule.Step.TheVariants.{Take, Choose as Chooses, Emit}
 use Rattle.crush.specs.Forest.{bucket_at, level_of}
 use Rattle.crush.specs.Grammar.{step_limits_ok, IsLawful}
-use Rattle.crush_laws.specs.Laws.{RunPlacesReached, RunReadsReached}
+use Rattle.crush_laws.specs.Runs.{RunPlacesReached, RunReadsReached}
 use Rattle.crush.specs.Paths.{has_item, IsItemOf, IsPath, IsAbove, TakesAbove, Reaches}
 use Rattle.crush.specs.Run.{run_of}
 use Rattle.crush.specs.WellFormed.{is_within, bucket_limits_ok, is_known, IsForest}
 use Rattle.crush.specs.World.{world_of, is_out}
 use Rattle.crush.proofs.Bounds.{limits-each}
 use Rattle.crush.proofs.Chains.{and-some}
-use Rattle.crush.proofs.Counts.{find-place}
+use Rattle.keylist.proofs.Counts.{find-place}
 use Rattle.crush.proofs.Pickable.{bucket_at-pickable}
 use Rattle.crush.proofs.Places.{int_eq-yes}
-use Rattle.crush.proofs.Tests.{list_all-at}
+use Rattle.keylist.proofs.Each.{list_all-at}
 use Rattle.crush_laws.proofs.RunsWithin.{IsIn, TakesIn, run_same, run_in}
 use Rattle.crush_laws.proofs.DescentsWithin.{other, IsDevice, HasIn, AreAlike}
 

@@ -2,7 +2,22 @@
 //! nothing calls.
 #![tactic(auto)]
 
-ghost use Rattle.crush_laws.specs.Laws.{DrawsEachPlaceOnce, ListPicksGreatestWinner, TreePicksWeight, TreesHaveShapes, DescentEnds, FirstnIsSegment, IndepIsPositions, IndepKeepsPositions, RunPlacesReached, RunReadsReached};
+ghost use Rattle.crush_laws.specs.Forests.{BucketsLeadDown};
+ghost use Rattle.crush_laws.specs.Rules.{RulesAreBlocks};
+ghost use Rattle.crush_laws.specs.Picks.{DrawsEachPlaceOnce, ListPicksGreatestWinner, TreePicksWeight, TreesHaveShapes};
+ghost use Rattle.crush_laws.specs.Descents.{DescentEnds};
+ghost use Rattle.crush_laws.specs.Choices.{FirstnIsSegment, IndepIsPositions, IndepKeepsPositions};
+ghost use Rattle.crush_laws.specs.Runs.{RunPlacesReached, RunReadsReached};
+
+/// Each item of a bucket of a forest is a device, or a bucket of a lower type.
+pub fn buckets_lead_down()
+    ensures { BucketsLeadDown }
+{}
+
+/// The lists of steps that are rules are those of one or more blocks.
+pub fn rules_are_blocks()
+    ensures { RulesAreBlocks }
+{}
 
 /// A uniform bucket draws each of its places once, so it picks all of its items at n replica numbers in a row.
 pub fn uniform_draws_each_place_once()

@@ -1,32 +1,16 @@
--- A rule by its last step, and by its blocks.
-use Rattle.std.proofs.Common.{◌≡◌, ◌<◌, ◌-◌, ◌&&◌, true, false, List, [], ◌∷◌, ◌++◌, length, take, Some, All, Decides, refl, sym, ap, ◌∙◌, inl, inr, arith, length-append, append_assoc}
-use Rattle.std.specs.List.{slice_get, slice_split, onto_first, AllByRecursion}
+-- The steps of a rule are those of its blocks.
+use Rattle.std.proofs.Common.{◌≡◌, ◌<◌, true, false, List, [], ◌∷◌, ◌++◌, length, All, refl, sym, ap, ◌∙◌, inl, inr, arith, append_assoc}
+use Rattle.std.specs.List.{slice_split, onto_first, AllByRecursion}
 use Rattle.std.proofs.lemmas.Bool.{and_parts, cases_Bool, false≢true}
-use Rattle.std.proofs.lemmas.Grind.{common_steps}
 use Rattle.std.proofs.lemmas.List.Elements.{All-from_recursion, recursion_from_All}
 use Rattle.std.proofs.lemmas.List.Splits.{slice_split-cons_yes, slice_split-cons_no, slice_split_none, slice_split_at, length-slice_split}
 use Rattle.std.proofs.lemmas.List.Sums.{AllPass-from_list_all, list_all-from_AllPass}
 use Rattle.crush.specs.declared.rule.RuleKind.{RuleKind}
 use Rattle.crush.specs.declared.rule.Step.TheVariants as step
 use Rattle.crush.specs.declared.rule.Step.{Step}
-use Rattle.crush.specs.Grammar.{is_emit, is_block, are_blocks, is_rule, steps_of, IsGrammatical}
-
--- the last step is where the length says
-get_last : (rest : List Step) (x : Step) → slice_get (rest ++ x ∷ []) (length rest) ≡ Some x
-get_last [] x = refl
-get_last (y ∷ ys) x = get_last ys x
-
-take_rest : (rest : List Step) (x : Step) → take (length rest) (rest ++ x ∷ []) ≡ rest
-take_rest rest x = grind (arith, common_steps)
-
--- a rule ends with an emit, and has blocks before it
-pub is_rule-push : (kind : RuleKind) (rest : List Step) (x : Step) → is_rule kind (rest ++ x ∷ []) ≡ (is_emit x && are_blocks kind rest)
-is_rule-push kind rest x =
-    let n : length (rest ++ x ∷ []) - 1 ≡ length rest = omega (arith, length-append rest (x ∷ [])) in
-    rw (n, get_last rest x, take_rest rest x)
-
-pub is_rule-at_last : (kind : RuleKind) (steps rest : List Step) (x : Step) → steps ≡ rest ++ x ∷ [] → is_rule kind steps ≡ (is_emit x && are_blocks kind rest)
-is_rule-at_last kind steps rest x e = rw e (is_rule-push kind rest x)
+use Rattle.crush.specs.Grammar.{is_emit, is_block, are_blocks, is_rule}
+use Rattle.crush.proofs.LastSteps.{is_rule-at_last}
+use Rattle.crush_laws.specs.Rules.{steps_of, IsGrammatical, RulesAreBlocks}
 
 -- a step that emits is an emit
 emit-is : (x : Step) → is_emit x ≡ true → x ≡ step.Emit
@@ -96,6 +80,6 @@ lawful-rule kind (b ∷ bs) some lawful =
     let parts = split-front kind b bs (recursion_from_All (λ block. is_block kind block ≡ true) (b ∷ bs) lawful) in
     is_rule-at_last kind (steps_of (b ∷ bs)) front step.Emit (steps_of-front b bs) ∙ rw parts (list_all-from_AllPass (is_block kind) (b ∷ bs) lawful)
 
--- the test of the grammar decides the fact
-pub decides-grammar : (kind : RuleKind) (steps : List Step) → Decides (is_rule kind steps) (IsGrammatical kind steps)
-decides-grammar kind steps = (grammatical kind steps, λ h. rw h.made (lawful-rule kind h.blocks h.some h.lawful))
+-- the test of the grammar holds of the steps of blocks alone
+pub rules_are_blocks : RulesAreBlocks
+rules_are_blocks kind steps = (grammatical kind steps, λ h. rw h.made (lawful-rule kind h.blocks h.some h.lawful))
