@@ -8,7 +8,7 @@ use Rattle.crush.specs.Forest.{level_of}
 use Rattle.crush.specs.WellFormed.{is_within, bucket_limits_ok, forest_limits_ok, is_known, has_items_below}
 use Rattle.crush.proofs.Marks.{no_item}
 use Rattle.crush.proofs.Places.{no_bucket}
-use Rattle.crush.proofs.Tests.{list_all-at, list_all-from}
+use Rattle.keylist.proofs.Each.{list_all-at, list_all-from}
 
 within : (low high n : ℕ) → is_within low high n ≡ true → (low ≤ n) × (n ≤ high)
 within low high n ok = grind (arith, nat_tests)

@@ -13,9 +13,9 @@ use Rattle.crush.specs.Forest.{bucket_at, level_of}
 use Rattle.crush.specs.Paths.{has_item, IsItemOf, IsPath, IsAbove, IsAncestor}
 use Rattle.crush.specs.WellFormed.{bucket_limits_ok, buckets_with, times_in, is_known, IsForest}
 use Rattle.crush.proofs.Bounds.{limits-each, limits-level}
-use Rattle.crush.proofs.Counts.{count_by-some, find-place, find-one}
+use Rattle.keylist.proofs.Counts.{count_by-some, find-place, find-one}
 use Rattle.crush.proofs.Places.{int_eq-yes}
-use Rattle.crush.proofs.Tests.{list_all-at}
+use Rattle.keylist.proofs.Each.{list_all-at}
 
 -- a list with an element that passes counts one at least
 any-counted : {X : Type 0} (p : X → Bool) (xs : List X) → cond (list_any p xs) 1 0 ≤ count_by p xs

@@ -9,9 +9,9 @@ use Rattle.std.proofs.lemmas.Int.{ints}
 use Rattle.std.proofs.lemmas.List.Folds.{list_all_at}
 use Rattle.crush.specs.declared.bucket.Bucket.{Bucket}
 use Rattle.crush.specs.WellFormed.{buckets_with, has_own_ids, IsDescending, IsNotAscending}
-use Rattle.crush.proofs.Counts.{count_by-two, count_by-one}
+use Rattle.keylist.proofs.Counts.{count_by-two, count_by-one}
 use Rattle.crush.proofs.Places.{no_bucket, int_eq-yes, int_eq-no}
-use Rattle.crush.proofs.Tests.{list_all-from}
+use Rattle.keylist.proofs.Each.{list_all-from}
 
 -- falling ids are the buckets' own
 pub own_ids-descending : (buckets : List Bucket) → IsDescending buckets → has_own_ids buckets ≡ true

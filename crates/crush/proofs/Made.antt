@@ -4,8 +4,9 @@ use Rattle.std.proofs.lemmas.Bool.{and_parts, and_from, both_ways}
 use Rattle.std.proofs.lemmas.Int.{ints, by_lt_z}
 use Rattle.std.proofs.lemmas.List.{get_or_default}
 use Rattle.crush.specs.declared.bucket.Bucket.{Bucket}
-use Rattle.crush.specs.declared.fault.ForestError.TheVariants.{BadLimit, BadForest}
-use Rattle.crush.specs.WellFormed.{forest_limits_ok, has_own_ids, forest_ok, forest_fault, IsForest, IsDescending, IsNotAscending}
+use Rattle.refusal.specs.declared.refused.Refusal.TheVariants.{BadForest}
+use Rattle.refusal.specs.Outcomes.{refused_unless}
+use Rattle.crush.specs.WellFormed.{forest_limits_ok, has_own_ids, forest_ok, IsForest, IsDescending, IsNotAscending}
 use Rattle.crush.proofs.Bounds.{limits-devices, limits-most, has_items_below-more}
 use Rattle.crush.proofs.Ids.{own_ids-twice}
 use Rattle.crush.proofs.Places.{no_bucket}
@@ -37,12 +38,9 @@ forest-passed buckets max_osd sorted limits ok =
     }
 
 -- what is wrong with buckets, by what is wrong with them in order
-pub fault-limit : (given : List Bucket) (max_osd : ℕ) → forest_limits_ok given max_osd ≡ false → Some BadLimit ≡ forest_fault given max_osd
-fault-limit given max_osd bad = rw bad
-
 module _ (given ordered : List Bucket) (moved : IsPermutation given ordered) (max_osd : ℕ) where
-  pub fault-forest : forest_limits_ok given max_osd ≡ true → forest_ok ordered max_osd ≡ false → Some BadForest ≡ forest_fault given max_osd
-  fault-forest limits bad = rw (limits, sym (forest_ok-moved given ordered moved max_osd) ∙ bad)
+  pub fault-forest : forest_ok ordered max_osd ≡ false → refused_unless (forest_ok given max_osd) BadForest ≡ Some BadForest
+  fault-forest bad = rw (sym (forest_ok-moved given ordered moved max_osd) ∙ bad)
 
-  pub fault-none : forest_limits_ok given max_osd ≡ true → forest_ok ordered max_osd ≡ true → None ≡ forest_fault given max_osd
-  fault-none limits ok = rw (limits, sym (forest_ok-moved given ordered moved max_osd) ∙ ok)
+  pub fault-none : forest_ok ordered max_osd ≡ true → refused_unless (forest_ok given max_osd) BadForest ≡ None
+  fault-none ok = rw (sym (forest_ok-moved given ordered moved max_osd) ∙ ok)

@@ -16,9 +16,9 @@ use Rattle.crush.specs.declared.bucket.Item.{Item}
 use Rattle.crush.specs.Forest.{bucket_at, level_of}
 use Rattle.crush.specs.Slots.{slot, marks}
 use Rattle.crush.specs.WellFormed.{is_known, times_in, has_items_below, has_items_once}
-use Rattle.crush.proofs.Counts.{count_by-some}
+use Rattle.keylist.proofs.Counts.{count_by-some}
 use Rattle.crush.proofs.Places.{no_bucket, int_eq-yes}
-use Rattle.crush.proofs.Tests.{list_all-at, list_all-from}
+use Rattle.keylist.proofs.Each.{list_all-at, list_all-from}
 
 -- an element that was found has a place
 pub found_within : {X : Type 0} (p : X → Bool) (xs : List X) → is_some (find p xs) ≡ true → position_or_len p xs < length xs

@@ -16,8 +16,8 @@ use Rattle.crush.specs.declared.bucket.BucketKind.TheVariants.{Uniform, List as 
 use Rattle.crush.specs.declared.bucket.Item.{Item}
 use Rattle.crush.specs.Forest.{bucket_at, weight_of, IsPickable}
 use Rattle.crush.specs.WellFormed.{item_limits_ok, bucket_limits_ok, weights_ok, is_within, IsForest}
-use Rattle.crush.proofs.Counts.{find-place}
-use Rattle.crush.proofs.Tests.{list_all-at}
+use Rattle.keylist.proofs.Counts.{find-place}
+use Rattle.keylist.proofs.Each.{list_all-at}
 
 -- the element at the first place that passes is the one found
 pub found : {X : Type 0} (p : X → Bool) (xs : List X) (k : ℕ) (x : X) → Some k ≡ position p xs → x ≡ get_or xs k x → find p xs ≡ Some x

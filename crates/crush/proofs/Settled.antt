@@ -1,5 +1,5 @@
 -- where no position is open, further rounds change nothing
-use Rattle.std.proofs.Common.{◌≡◌, ℕ, zero, suc, ◌+◌, ◌-◌, ◌≤◌, Bool, true, false, cond, ◌||◌, List, [], ◌∷◌, length, get_or, set, sym, ap, refl, ◌∙◌, arith}
+use Rattle.std.proofs.Common.{◌≡◌, ℕ, zero, suc, ◌+◌, ◌-◌, ◌≤◌, Bool, true, false, cond, ◌||◌, List, [], ◌∷◌, ◌++◌, length, get_or, set, sym, ap, refl, ◌∙◌, arith}
 use Rattle.std.specs.List.{fold, list_any, range_with_len}
 use Rattle.std.proofs.lemmas.List.Sums.{fold-append}
 use Rattle.crush.specs.declared.bucket.Bucket.{Bucket}
@@ -9,7 +9,14 @@ use Rattle.crush.specs.declared.choose.Tries.{Tries}
 use Rattle.crush.specs.declared.rule.Choose.{Choose}
 use Rattle.crush.specs.World.{World}
 use Rattle.crush.specs.Indep.{is_open, position_of, after_turn, after_round}
-use Rattle.crush.proofs.Positions.{range_append}
+
+-- a range in two parts
+pub range_append : (a m n : ℕ) → range_with_len a (m + n) ≡ range_with_len a m ++ range_with_len (a + m) n
+range_append a zero n = (let e : zero + n ≡ n = omega arith in let f : a ≡ a + zero = omega arith in ap (range_with_len a) e ∙ ap (λ b. range_with_len b n) f)
+range_append a (suc m) n =
+    let e : suc m + n ≡ suc (m + n) = omega arith in
+    let f : (a + 1) + m ≡ a + suc m = omega arith in
+    ap (range_with_len a) e ∙ ap (λ ys. a ∷ ys) (range_append (a + 1) m n ∙ ap (λ b. range_with_len (a + 1) m ++ range_with_len b n) f)
 
 both_false : (a b : Bool) → (a || b) ≡ false → (a ≡ false) × (b ≡ false)
 both_false true b h = absurd (cc)

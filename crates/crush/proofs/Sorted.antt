@@ -12,8 +12,8 @@ use Rattle.std.specs.List.Sorted.{IsSortedBy}
 use Rattle.crush.specs.declared.bucket.Bucket.{Bucket}
 use Rattle.crush.specs.Forest.{bucket_at}
 use Rattle.crush.specs.WellFormed.{bucket_limits_ok, forest_limits_ok, buckets_with, times_in, has_own_ids, is_known, has_items_below, has_items_once, weights_ok, forest_ok, IsNotAscending}
-use Rattle.crush.proofs.Counts.{find-place, find-one}
-use Rattle.crush.proofs.Tests.{list_all-at, same_tests}
+use Rattle.keylist.proofs.Counts.{find-place, find-one}
+use Rattle.keylist.proofs.Each.{list_all-at, same_tests}
 
 -- a test of each element does not hang on the order
 list_all-IsPermutation : {X : Type 0} (p : X → Bool) (xs ys : List X) → IsPermutation xs ys → list_all p ys ≡ list_all p xs

@@ -4,7 +4,7 @@ use Rattle.std.specs.List.{list_all}
 use Rattle.std.proofs.lemmas.Bool.{eqb-true}
 use Rattle.crush.specs.declared.bucket.Item.{Item}
 use Rattle.crush.specs.WellFormed.{is_even}
-use Rattle.crush.proofs.Tests.{list_all-at, list_all-from, same_tests}
+use Rattle.keylist.proofs.Each.{list_all-at, list_all-from, same_tests}
 
 -- no two items differ just where none differs from the first
 pub is_even-first : (items : List Item) (d : Item) → 0 < length items → list_all (λ i. eqb i.weight (get_or items 0 d).weight) items ≡ is_even items

@@ -7,6 +7,7 @@ use Rattle.std.specs.Ordering.{int_eq}
 use Rattle.std.specs.List.{find, sum_by}
 use Rattle.crush.specs.declared.bucket.Item.{Item}
 use Rattle.crush.specs.declared.bucket.Bucket.{Bucket}
+use Rattle.crush.specs.Limits.{max_items}
 
 -- an id as a word that can be hashed, a negative one as its two's complement
 abbrev pub word : ℤ → ℕ
@@ -24,9 +25,9 @@ level_of buckets item = option_map_or (λ b. b.level) (bucket_at buckets item) 0
 abbrev pub weight_of : List Item → ℕ
 weight_of items = sum_by (λ i. i.weight) items
 
--- a bucket from which an item can be picked: 1 to 64 items, whose weights add up to a word
+-- a bucket from which an item can be picked: it has items, no more than the most, whose weights add up to a word
 pub record IsPickable (b : Bucket) : Type 0 where
   pub some : 0 < length b.items
-  pub few : length b.items ≤ 64
+  pub few : length b.items ≤ max_items
   pub weighs : 0 < weight_of b.items
   pub fits : weight_of b.items < 2 ^ 32

@@ -1,6 +1,6 @@
 -- Which lists of steps are rules: the limits, the grammar, and the buckets that they take (CRUSH paper, SC 2006,
 -- section 3.2; Ceph, crush.h). The grammar is narrower than Ceph's.
-use Rattle.std.specs.Prelude.{◌≡◌, ◌<◌, All, ◌++◌, Bool, true, false, IsTrue, ◌&&◌, nat_le, nat_lt, ◌-◌, ◌==◌, not, slice_get, take, List, [], ◌∷◌, length, if◌then◌else◌, Option, Some, None, is_some}
+use Rattle.std.specs.Prelude.{Bool, true, false, IsTrue, ◌&&◌, nat_le, nat_lt, ◌-◌, ◌==◌, not, slice_get, take, List, [], ◌∷◌, length, if◌then◌else◌, Option, Some, is_some}
 use Rattle.std.specs.List.{list_all, slice_split}
 use Rattle.std.specs.Option.{option_map_or}
 use Rattle.crush.specs.declared.bucket.Bucket.{Bucket}
@@ -11,20 +11,23 @@ use Rattle.crush.specs.declared.rule.RuleKind.{RuleKind}
 use Rattle.crush.specs.declared.rule.RuleKind.TheVariants.{Replicated, Erasure}
 use Rattle.crush.specs.declared.rule.Step.{Step}
 use Rattle.crush.specs.declared.rule.Step.TheVariants as step
-use Rattle.crush.specs.declared.fault.RuleError.{RuleError}
-use Rattle.crush.specs.declared.fault.RuleError.TheVariants.{BadLimit, BadRule}
+use Rattle.refusal.specs.declared.refused.Refusal.{Refusal}
+use Rattle.refusal.specs.declared.refused.Refusal.TheVariants.{BadLimit, BadRule}
+use Rattle.refusal.specs.Outcomes.{refused_unless}
 use Rattle.crush.specs.Forest.{bucket_at}
+use Rattle.crush.specs.Limits.{max_level, max_steps, max_count}
 use Rattle.crush.specs.WellFormed.{is_within, is_bucket_id}
 
--- a step within the limits: it takes a bucket's id, or chooses 0 to 10 items of type 0 to 15
+-- a step within the limits: it takes an id that a bucket may have, or chooses items, no more than the most, of a type up
+-- to the highest
 abbrev pub step_limits_ok : Step → Bool
 step_limits_ok (step.Take bucket) = is_bucket_id bucket
-step_limits_ok (step.Choose c) = nat_le c.count 10 && nat_le c.level 15
+step_limits_ok (step.Choose c) = nat_le c.count max_count && nat_le c.level max_level
 step_limits_ok step.Emit = true
 
--- a rule within the limits: 1 to 16 steps
+-- a rule within the limits: steps, no more than the most
 abbrev pub rule_limits_ok : List Step → Bool
-rule_limits_ok steps = is_within 1 16 (length steps) && list_all step_limits_ok steps
+rule_limits_ok steps = is_within 1 max_steps (length steps) && list_all step_limits_ok steps
 
 -- a replicated rule packs what it chooses, an erasure rule keeps positions
 abbrev pub serves : RuleKind → Mode → Bool
@@ -65,18 +68,6 @@ ends steps = option_map_or is_emit (slice_get steps (length steps - 1)) false
 abbrev pub is_rule : RuleKind → List Step → Bool
 is_rule kind steps = ends steps && are_blocks kind (take (length steps - 1) steps)
 
--- the steps of blocks, one after another, each ended by an emit
-abbrev pub steps_of : List (List Step) → List Step
-steps_of [] = []
-steps_of (block ∷ blocks) = block ++ step.Emit ∷ steps_of blocks
-
--- the grammar as a fact: the steps are those of one or more blocks
-pub record IsGrammatical (kind : RuleKind) (steps : List Step) : Type 0 where
-  pub blocks : List (List Step)
-  pub some : 0 < length blocks
-  pub lawful : All (λ block. IsTrue (is_block kind block)) blocks
-  pub made : steps ≡ steps_of blocks
-
 -- a step takes no bucket that the forest has not
 abbrev pub takes_known : List Bucket → Step → Bool
 takes_known buckets (step.Take bucket) = is_some (bucket_at buckets bucket)
@@ -88,8 +79,8 @@ abbrev pub rule_ok : RuleKind → List Step → List Bucket → Bool
 rule_ok kind steps buckets = is_rule kind steps && list_all (takes_known buckets) steps
 
 -- why a list of steps is no rule over a forest: a limit first
-abbrev pub rule_fault : RuleKind → List Step → List Bucket → Option RuleError
-rule_fault kind steps buckets = if rule_limits_ok steps then if rule_ok kind steps buckets then None else Some BadRule else Some BadLimit
+abbrev pub rule_fault : RuleKind → List Step → List Bucket → Option Refusal
+rule_fault kind steps buckets = if rule_limits_ok steps then refused_unless (rule_ok kind steps buckets) BadRule else Some BadLimit
 
 -- what each rule is, over whatever forest
 pub record IsLawful (kind : RuleKind) (steps : List Step) : Type 0 where

@@ -1,10 +1,8 @@
-pub mod Facts
-pub mod Fault
+pub mod Limits
 pub mod Forest
 pub mod Grammar
 pub mod Order
 pub mod Paths
-pub mod RuleFacts
 pub mod Rules
 pub mod Items
 pub mod Uniform
@@ -17,7 +15,5 @@ pub mod Descent
 pub mod Firstn
 pub mod Indep
 pub mod Run
-pub mod Laws
 pub mod Slots
 pub mod WellFormed
-pub mod Verdict

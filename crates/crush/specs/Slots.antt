@@ -3,11 +3,16 @@ use Rattle.std.specs.Prelude.{ℕ, ◌+◌, Bool, false, ℤ, pos, negsuc, List,
 use Rattle.std.specs.Ordering.{int_eq}
 use Rattle.std.specs.List.{position_or_len}
 use Rattle.crush.specs.declared.bucket.Bucket.{Bucket}
+use Rattle.crush.specs.Limits.{max_buckets, max_devices}
 
--- a device has its own number, and the buckets follow after the 1,024 devices in their order
+-- how many numbers there are
+abbrev pub slots : ℕ
+slots = max_devices + max_buckets
+
+-- a device has its own number, and the buckets follow after the devices in their order
 abbrev pub slot : List Bucket → ℤ → ℕ
 slot buckets (pos n) = n
-slot buckets (negsuc n) = 1024 + position_or_len (λ b. int_eq b.id (negsuc n)) buckets
+slot buckets (negsuc n) = max_devices + position_or_len (λ b. int_eq b.id (negsuc n)) buckets
 
 -- 1 for an item that is marked, else 0
 abbrev pub marks : List Bucket → List Bool → ℤ → ℕ

@@ -1,36 +1,38 @@
 -- Which lists of buckets are forests: the limits, and when a forest is well formed (CRUSH paper, SC 2006, section 3.3;
 -- Ceph, crush.h and builder.c).
-use Rattle.std.specs.Prelude.{ℕ, ◌^◌, Bool, IsTrue, ◌&&◌, ◌<ℤ◌, ◌≤ℤ◌, ℤ, pos, negsuc, neg_ℤ, int_le, int_lt, nat_le, nat_lt, ◌==◌, List, length, count_by, if◌then◌else◌, Option, Some, None, is_some}
+use Rattle.std.specs.Prelude.{ℕ, ◌^◌, Bool, IsTrue, ◌&&◌, ◌<ℤ◌, ◌≤ℤ◌, ℤ, pos, negsuc, int_le, int_lt, nat_le, nat_lt, ◌==◌, List, length, count_by, if◌then◌else◌, Option, Some, is_some}
 use Rattle.std.specs.Ordering.{int_eq}
 use Rattle.std.specs.List.{sum_by, list_all, AllPairs}
 use Rattle.crush.specs.declared.bucket.Item.{Item}
 use Rattle.crush.specs.declared.bucket.Bucket.{Bucket}
 use Rattle.crush.specs.declared.bucket.BucketKind.{BucketKind}
 use Rattle.crush.specs.declared.bucket.BucketKind.TheVariants.{Uniform, List as InList, Tree}
-use Rattle.crush.specs.declared.fault.ForestError.{ForestError}
-use Rattle.crush.specs.declared.fault.ForestError.TheVariants.{BadLimit, BadForest}
+use Rattle.refusal.specs.declared.refused.Refusal.{Refusal}
+use Rattle.refusal.specs.declared.refused.Refusal.TheVariants.{BadLimit, BadForest}
+use Rattle.refusal.specs.Outcomes.{refused_unless}
 use Rattle.crush.specs.Forest.{bucket_at, level_of, weight_of}
+use Rattle.crush.specs.Limits.{max_buckets, lowest_bucket, max_level, max_items, max_devices}
 
 -- a number from low to high
 abbrev pub is_within : ℕ → ℕ → ℕ → Bool
 is_within low high n = nat_le low n && nat_le n high
 
--- an id that a bucket may have: -1 down to -65,536
+-- an id that a bucket may have: from -1 down to the lowest
 abbrev pub is_bucket_id : ℤ → Bool
-is_bucket_id id = int_le (neg_ℤ (pos 65536)) id && int_lt id (pos 0)
+is_bucket_id id = int_le lowest_bucket id && int_lt id (pos 0)
 
--- an item within the limits: an id that a bucket may have or a device up to 1,023, of a weight from 1 on; its type
--- ends the weight at 4,294,967,295
+-- an item within the limits: an id that a bucket or a device may have, of a weight from 1 on; its type ends the weight
+-- at 4,294,967,295
 abbrev pub item_limits_ok : Item → Bool
-item_limits_ok i = int_le (neg_ℤ (pos 65536)) i.id && int_le i.id (pos 1023) && nat_lt 0 i.weight
+item_limits_ok i = int_le lowest_bucket i.id && int_lt i.id (pos max_devices) && nat_lt 0 i.weight
 
--- a bucket within the limits: of type 1 to 15, with 1 to 64 items
+-- a bucket within the limits: of a type from 1 to the highest, with items, no more than the most
 abbrev pub bucket_limits_ok : Bucket → Bool
-bucket_limits_ok b = is_bucket_id b.id && is_within 1 15 b.level && is_within 1 64 (length b.items) && list_all item_limits_ok b.items
+bucket_limits_ok b = is_bucket_id b.id && is_within 1 max_level b.level && is_within 1 max_items (length b.items) && list_all item_limits_ok b.items
 
--- a forest within the limits: 1 to 512 buckets, over 1 to 1,024 devices
+-- a forest within the limits: buckets, no more than the most, over devices, no more than the most
 abbrev pub forest_limits_ok : List Bucket → ℕ → Bool
-forest_limits_ok buckets max_osd = is_within 1 512 (length buckets) && is_within 1 1024 max_osd && list_all bucket_limits_ok buckets
+forest_limits_ok buckets max_osd = is_within 1 max_buckets (length buckets) && is_within 1 max_devices max_osd && list_all bucket_limits_ok buckets
 
 -- how many buckets have an id
 abbrev pub buckets_with : List Bucket → ℤ → ℕ
@@ -86,9 +88,9 @@ IsNotAscending buckets = AllPairs (λ a b. b.id ≤ℤ a.id) buckets
 -- what each forest is, over whatever number of devices
 pub record IsForest (buckets : List Bucket) : Type 0 where
   pub descending : IsDescending buckets
-  pub limits : IsTrue (forest_limits_ok buckets 1024)
-  pub lawful : IsTrue (forest_ok buckets 1024)
+  pub limits : IsTrue (forest_limits_ok buckets max_devices)
+  pub lawful : IsTrue (forest_ok buckets max_devices)
 
 -- why a list of buckets is no forest: a limit first
-abbrev pub forest_fault : List Bucket → ℕ → Option ForestError
-forest_fault buckets max_osd = if forest_limits_ok buckets max_osd then if forest_ok buckets max_osd then None else Some BadForest else Some BadLimit
+abbrev pub forest_fault : List Bucket → ℕ → Option Refusal
+forest_fault buckets max_osd = if forest_limits_ok buckets max_osd then refused_unless (forest_ok buckets max_osd) BadForest else Some BadLimit

@@ -1,4 +1,6 @@
-use crate::entries::Entries;
+//! Buckets and their items.
+
+use keylist::Entries;
 
 /// An item of a bucket: a device where `id` is not negative, else the bucket of that id.
 #[derive(Clone, Copy, Debug, PartialEq, Eq)]

@@ -1,13 +1,13 @@
+//! Forests of buckets.
+
 ghost use Rattle.std.specs.Prelude.{◌≡◌, IfOk};
 ghost use Rattle.crush.specs.Paths.{has_item};
 
 use crate::bucket::Bucket;
-use crate::entries::Entries;
-use crate::fault::ForestError;
-use crate::memory::Memory;
 use crate::search::{bucket_of, level_of};
 use crate::well_formed::{is_well_formed, is_within_limits};
-use std::alloc::{AllocError, Global};
+use refusal::{Memory, Refusal};
+use std::alloc::Global;
 use std::cmp::Reverse;
 use std::marker::Model;
 
@@ -33,36 +33,44 @@ impl Forest {
     ghost use Rattle.std.specs.Prelude.{◌≡◌, ◌↔◌, ℤ, IfSome, IfOk, IsTrue, IsPermutation};
     ghost use Rattle.std.specs.List.{find};
     ghost use Rattle.std.specs.Option.{option_copied};
-    ghost use Rattle.std.specs.Result.{result_err};
-    ghost use Rattle.crush.specs.Facts.{IsWithinLimits, IsWellFormed, LeadsDown};
+    ghost use Rattle.refusal.specs.Outcomes.{Judges, refused_unless};
     ghost use Rattle.crush.specs.Forest.{bucket_at, level_of, IsPickable};
     ghost use Rattle.crush.specs.Order.{by_id};
     ghost use Rattle.crush.specs.Paths.{has_item, IsAbove, IsAncestor};
-    ghost use Rattle.crush.specs.Verdict.{IsVerdict};
-    ghost use Rattle.crush.specs.WellFormed.{forest_fault, IsForest, IsDescending};
+    ghost use Rattle.crush.specs.WellFormed.{forest_limits_ok, forest_ok, forest_fault, IsForest, IsDescending};
 
     /// The forest of these buckets over the devices from 0 up to below `max_osd`, its buckets by id from -1 downwards.
-    /// It is refused with 12 (BadLimit) where it has no bucket or more than 512, `max_osd` is not in 1 to 1,024, or a
+    /// It is refused with 12 (`BadLimit`) where it has no bucket or more than 512, `max_osd` is not in 1 to 1,024, or a
     /// bucket has an id outside -1 to -65,536, a type outside 1 to 15, no item or more than 64, or an item outside
-    /// -65,536 to 1,023 or of weight 0; else with 13 (BadForest) where two buckets have one id, an item is no bucket of
+    /// -65,536 to 1,023 or of weight 0; else with 13 (`BadForest`) where two buckets have one id, an item is no bucket of
     /// the forest and no device below `max_osd`, an item's type is not below its bucket's, an item stands in the forest
     /// twice, or the weights of a bucket come to more than 4,294,967,295 or differ in a uniform bucket.
-    pub fn new(buckets: Vec<Bucket>, max_osd: u32) -> Result<Self, ForestError>
-        ensures fault { result_err result ≡ forest_fault buckets.items max_osd }
-        ensures verdict { IsVerdict result ForestError.BadLimit ForestError.BadForest
-            (IsWithinLimits buckets.items max_osd) (IsWellFormed buckets.items max_osd) }
-        ensures value { IfOk result (λ f. f ≡ by_id buckets.items) }
+    pub fn new(buckets: Vec<Bucket>, max_osd: u32) -> Result<Self, Refusal>
+        ensures value { Judges result (forest_fault buckets.items max_osd) (λ f. f ≡ by_id buckets.items) }
+        ensures same { IfOk result (IsPermutation buckets.items) }
+        ensures descending { IfOk result IsDescending }
+        ensures buckets { IfOk result (λ f. (id : ℤ) → bucket_at f id ≡ bucket_at buckets.items id) }
+    {
+        if !is_within_limits(&buckets, max_osd) {
+            return Err(Refusal::BadLimit);
+        }
+        Forest::of_fitting(buckets, max_osd)
+    }
+
+    /// The same for buckets and a `max_osd` that are known to be within the limits: they are refused with 13
+    /// (`BadForest`) alone.
+    pub fn of_fitting(buckets: Vec<Bucket>, max_osd: u32) -> Result<Self, Refusal>
+        requires { IsTrue (forest_limits_ok buckets.items max_osd) }
+        ensures value { Judges result (refused_unless (forest_ok buckets.items max_osd) Refusal.BadForest)
+            (λ f. f ≡ by_id buckets.items) }
         ensures same { IfOk result (IsPermutation buckets.items) }
         ensures descending { IfOk result IsDescending }
         ensures buckets { IfOk result (λ f. (id : ℤ) → bucket_at f id ≡ bucket_at buckets.items id) }
     {
         let mut buckets = buckets;
-        if !is_within_limits(&buckets, max_osd) {
-            return Err(ForestError::BadLimit);
-        }
         buckets.sort_unstable_by_key(|bucket| Reverse(bucket.id));
         if !is_well_formed(&buckets, max_osd) {
-            return Err(ForestError::BadForest);
+            return Err(Refusal::BadForest);
         }
         Ok(Forest { buckets })
     }
@@ -70,9 +78,7 @@ impl Forest {
     /// The buckets, by id from -1 downwards.
     pub fn buckets(&self) -> &[Bucket]
         ensures value { result.now ≡ self.now }
-        ensures descending { IsDescending self.now }
-        ensures limits { IsWithinLimits self.now 1024 }
-        ensures well_formed { IsWellFormed self.now 1024 }
+        ensures forest { IsForest self.now }
     {
         &self.buckets
     }
@@ -81,7 +87,6 @@ impl Forest {
     pub fn bucket(&self, id: i32) -> Option<&Bucket>
         ensures value { option_copied result ≡ bucket_at self.now id }
         ensures within { IfSome result (λ b. IsPickable b.now) }
-        ensures leads_down { IfSome result (λ b. LeadsDown self.now b.now) }
     {
         let buckets = &self.buckets;
         if id >= 0 {
@@ -133,7 +138,7 @@ impl Forest {
         self.buckets.iter().find(|bucket| has_item(item, bucket))
     }
 
-    /// The same forest once more, or 30 (Memory).
+    /// The same forest once more, or `Memory` (30).
     pub fn copy(&self, alloc: Global) -> Result<Self, Memory>
         ensures { IfOk result (λ f. f ≡ self.now) }
     {
@@ -147,23 +152,23 @@ impl Forest {
 fn has_item(item: i32, bucket: &Bucket) -> bool
     ensures { result ≡ has_item item bucket.now }
 {
-    bucket.items.as_slice().iter().any(|i| i.id == item)
+    bucket.items.iter().any(|i| i.id == item)
 }
 
 /// The same bucket once more.
-fn copy_of(alloc: Global, bucket: &Bucket) -> Result<Bucket, AllocError>
+fn copy_of(alloc: Global, bucket: &Bucket) -> Result<Bucket, Memory>
     ensures { IfOk result (λ b. b ≡ bucket.now) }
 {
     Ok(Bucket {
         id: bucket.id,
         level: bucket.level,
         kind: bucket.kind,
-        items: Entries::new(Vec::from_slice(alloc, bucket.items.as_slice())?),
+        items: bucket.items.copy(alloc)?,
     })
 }
 
 /// The same buckets once more.
-fn copies_of(alloc: Global, buckets: &[Bucket]) -> Result<Vec<Bucket>, AllocError>
+fn copies_of(alloc: Global, buckets: &[Bucket]) -> Result<Vec<Bucket>, Memory>
     ensures { IfOk result (λ v. v.items ≡ buckets.now) }
 {
     let mut copies = Vec::with_capacity(alloc, buckets.len())?;

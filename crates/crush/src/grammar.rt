@@ -1,10 +1,12 @@
+//! The tests that a list of steps has to pass to be a rule.
+
 ghost use Rattle.std.specs.Prelude.{◌≡◌};
 ghost use Rattle.std.specs.List.{list_all};
 ghost use Rattle.crush.specs.Grammar.{step_limits_ok, rule_limits_ok, serves, is_last, is_earlier, is_block, is_emit, are_blocks, is_rule, takes_known};
 ghost use Rattle.crush.specs.WellFormed.{is_bucket_id};
 
 use crate::forest::Forest;
-use crate::limits::{HIGHEST_COUNT, HIGHEST_LEVEL, LOWEST_BUCKET, MOST_STEPS};
+use crate::limits::{LOWEST_BUCKET, MAX_COUNT, MAX_LEVEL, MAX_STEPS};
 use crate::rule::{Choose, Mode, RuleKind, Step};
 
 /// Whether a bucket may have this id.
@@ -20,7 +22,7 @@ fn is_step_within(step: &Step) -> bool
 {
     match step {
         Step::Take(bucket) => is_bucket_id(*bucket),
-        Step::Choose(choose) => choose.count <= HIGHEST_COUNT && choose.level <= HIGHEST_LEVEL,
+        Step::Choose(choose) => choose.count <= MAX_COUNT && choose.level <= MAX_LEVEL,
         Step::Emit => true,
     }
 }
@@ -37,7 +39,7 @@ fn are_steps_within(steps: &[Step]) -> bool
 pub(crate) fn is_within_limits(steps: &[Step]) -> bool
     ensures { result ≡ rule_limits_ok steps.now }
 {
-    1 <= steps.len() && steps.len() <= MOST_STEPS && are_steps_within(steps)
+    1 <= steps.len() && steps.len() <= MAX_STEPS && are_steps_within(steps)
 }
 
 /// Whether a kind of rule chooses in this mode.

@@ -29,6 +29,7 @@ fn has_open(positions: &[Position]) -> bool
 impl Placement<'_> {
     ghost use Rattle.std.specs.Prelude.{◌≡◌, ◌+◌, ◌^◌, ◌<◌, ◌≤◌, not, length};
     ghost use Rattle.crush.specs.Forest.{IsPickable};
+    ghost use Rattle.crush.specs.Limits.{max_size};
     ghost use Rattle.crush.specs.World.{is_out};
     ghost use Rattle.crush.specs.Placed.{world};
     ghost use Rattle.crush.specs.Descent.{leaf_below};
@@ -139,7 +140,7 @@ impl Placement<'_> {
     )
         requires within { IsPickable start.now }
         requires some { 0 < numrep }
-        requires few { length positions.old ≤ 10 }
+        requires few { length positions.old ≤ max_size }
         requires place { rep < length positions.old }
         ensures { positions.new ≡ after_turn (world self.now) choose tries numrep start.now round positions.old rep }
     {
@@ -164,7 +165,7 @@ impl Placement<'_> {
     )
         requires within { IsPickable start.now }
         requires some { 0 < numrep }
-        requires few { length positions.old ≤ 10 }
+        requires few { length positions.old ≤ max_size }
         ensures { positions.new ≡ after_round (world self.now) choose tries numrep start.now positions.old round }
     {
         for rep in 0..positions.len() {
@@ -184,7 +185,7 @@ impl Placement<'_> {
     )
         requires within { IsPickable start.now }
         requires some { 0 < numrep }
-        requires few { length positions.old ≤ 10 }
+        requires few { length positions.old ≤ max_size }
         ensures { positions.new ≡ indep (world self.now) choose tries start.now numrep (length positions.old) }
     {
         positions.fill(Position::Open);

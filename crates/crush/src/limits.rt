@@ -1,22 +1,26 @@
-//! The limits of a forest and of its rules.
+//! The limits of forests, of rules, and of the pools that rules serve. The contracts cite each by the name of its own
+//! in specs/Limits.antt; the tests that use these constants are proved to test those.
 
 /// The most buckets of a forest, which has at least 1.
-pub const MOST_BUCKETS: usize = 512;
+pub const MAX_BUCKETS: usize = 512;
 
-/// The least id of a bucket. The greatest is -1.
+/// The lowest id of a bucket. The highest is -1.
 pub const LOWEST_BUCKET: i32 = -65_536;
 
-/// The greatest type of a bucket. The least is 1, and 0 is the type of a device.
-pub const HIGHEST_LEVEL: u8 = 15;
+/// The highest type of a bucket. The lowest is 1, and 0 is the type of a device.
+pub const MAX_LEVEL: u8 = 15;
 
 /// The most items of a bucket, which has at least 1.
-pub const MOST_ITEMS: usize = 64;
+pub const MAX_ITEMS: usize = 64;
 
 /// The most devices, which are numbered from 0 on. A map has room for at least 1.
-pub const MOST_DEVICES: u32 = 1024;
+pub const MAX_DEVICES: u32 = 1024;
 
 /// The most steps of a rule, which has at least 1.
-pub const MOST_STEPS: usize = 16;
+pub const MAX_STEPS: usize = 16;
 
-/// The greatest count of a choose step. The least is 0.
-pub const HIGHEST_COUNT: u8 = 10;
+/// The greatest count of a choose step. The least is 0, which stands for the size of the pool.
+pub const MAX_COUNT: u8 = 10;
+
+/// The most places of a pool, which has at least 1.
+pub const MAX_SIZE: usize = 10;

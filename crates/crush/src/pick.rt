@@ -30,7 +30,7 @@ impl Bucket {
         requires { IsPickable self.now }
         ensures { result ≡ pick_of self.now x r }
     {
-        self.items.as_slice()[self.place(x, r)].id
+        self.items[self.place(x, r)].id
     }
 
     /// The place of that item.
@@ -41,7 +41,7 @@ impl Bucket {
         ensures within { result < length self.now.items }
     {
         let id = self.id.cast_unsigned();
-        let items = self.items.as_slice();
+        let items: &[Item] = &self.items;
         match self.kind {
             BucketKind::Uniform => uniform_pick(items.len(), x, id, r),
             BucketKind::List => list_pick(items, x, id, r),

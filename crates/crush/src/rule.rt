@@ -1,10 +1,11 @@
+//! Rules: what they serve, and their steps.
+
 ghost use Rattle.std.specs.Prelude.{◌↔◌, IsTrue};
 ghost use Rattle.crush.specs.Paths.{TakesAbove};
 
-use crate::fault::RuleError;
 use crate::forest::Forest;
 use crate::grammar::{is_rule, is_within_limits, takes_known};
-use crate::memory::Memory;
+use refusal::{Memory, Refusal};
 use std::alloc::Global;
 use std::marker::Model;
 
@@ -62,26 +63,31 @@ impl Model for Rule {
 
 impl Rule {
     ghost use Rattle.std.specs.Prelude.{◌≡◌, ◌↔◌, IfOk, IsTrue};
-    ghost use Rattle.std.specs.Result.{result_err};
-    ghost use Rattle.crush.specs.Grammar.{IsLawful, IsGrammatical, rule_fault};
+    ghost use Rattle.refusal.specs.Outcomes.{Judges, refused_unless};
+    ghost use Rattle.crush.specs.Grammar.{rule_limits_ok, rule_ok, rule_fault, IsLawful};
     ghost use Rattle.crush.specs.Paths.{Reaches};
-    ghost use Rattle.crush.specs.RuleFacts.{IsRuleWithin, IsRuleOver};
-    ghost use Rattle.crush.specs.Verdict.{IsVerdict};
 
-    /// The rule of these steps over a forest. It is refused with 12 (BadLimit) where it has no step or more than 16,
-    /// takes a bucket outside -1 to -65,536, or chooses a type above 15 or more than 10 items; else with 14 (BadRule)
+    /// The rule of these steps over a forest. It is refused with 12 (`BadLimit`) where it has no step or more than 16,
+    /// takes a bucket outside -1 to -65,536, or chooses a type above 15 or more than 10 items; else with 14 (`BadRule`)
     /// where the steps are not in the grammar, or take a bucket that the forest has not.
-    pub fn new(kind: RuleKind, steps: Vec<Step>, forest: &Forest) -> Result<Self, RuleError>
-        ensures value { IfOk result (λ r. r ≡ record { kind = kind; steps = steps.items }) }
-        ensures fault { result_err result ≡ rule_fault kind steps.items forest.now }
-        ensures verdict { IsVerdict result RuleError.BadLimit RuleError.BadRule
-            (IsRuleWithin steps.items) (IsRuleOver kind steps.items forest.now) }
+    pub fn new(kind: RuleKind, steps: Vec<Step>, forest: &Forest) -> Result<Self, Refusal>
+        ensures { Judges result (rule_fault kind steps.items forest.now)
+            (λ r. r ≡ record { kind = kind; steps = steps.items }) }
     {
         if !is_within_limits(&steps) {
-            return Err(RuleError::BadLimit);
+            return Err(Refusal::BadLimit);
         }
+        Rule::of_fitting(kind, steps, forest)
+    }
+
+    /// The same for steps that are known to be within the limits: they are refused with 14 (`BadRule`) alone.
+    pub fn of_fitting(kind: RuleKind, steps: Vec<Step>, forest: &Forest) -> Result<Self, Refusal>
+        requires { IsTrue (rule_limits_ok steps.items) }
+        ensures { Judges result (refused_unless (rule_ok kind steps.items forest.now) Refusal.BadRule)
+            (λ r. r ≡ record { kind = kind; steps = steps.items }) }
+    {
         if !is_rule(kind, &steps) || !takes_known(&steps, forest) {
-            return Err(RuleError::BadRule);
+            return Err(Refusal::BadRule);
         }
         Ok(Rule { kind, steps })
     }
@@ -97,7 +103,6 @@ impl Rule {
     pub fn steps(&self) -> &[Step]
         ensures value { result.now ≡ self.now.steps }
         ensures lawful { IsLawful self.now.kind self.now.steps }
-        ensures grammar { IsGrammatical self.now.kind self.now.steps }
     {
         &self.steps
     }
@@ -109,7 +114,7 @@ impl Rule {
         self.steps.iter().any(|step| takes_above(step, forest, osd))
     }
 
-    /// The same rule once more, or 30 (Memory).
+    /// The same rule once more, or `Memory` (30).
     pub fn copy(&self, alloc: Global) -> Result<Self, Memory>
         ensures { IfOk result (λ r. r ≡ self.now) }
     {

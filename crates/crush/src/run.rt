@@ -6,11 +6,11 @@ ghost use Rattle.crush.specs.Run.{numrep_of};
 use crate::bucket::Bucket;
 use crate::choose::{Choice, Position, Tries};
 use crate::forest::Forest;
-use crate::memory::Memory;
+use crate::limits::MAX_SIZE;
 use crate::placement::Placement;
 use crate::rule::{Choose, Mode, Rule, Step};
-use crate::weights::Weights;
-use crate::work::{Lists, MOST_PLACES, Work};
+use crate::work::{Lists, Work};
+use refusal::Memory;
 use std::alloc::AllocError;
 use std::mem;
 
@@ -35,6 +35,7 @@ impl Placement<'_> {
     ghost use Rattle.std.specs.Prelude.{◌≡◌, ◌-◌, ◌≤◌, length, OnOk, ◌++◌, []};
     ghost use Rattle.std.specs.List.{fold};
     ghost use Rattle.crush.specs.Forest.{IsPickable};
+    ghost use Rattle.crush.specs.Limits.{max_size};
     ghost use Rattle.crush.specs.Placed.{world};
     ghost use Rattle.crush.specs.Run.{segment_of, chosen_from, after_step, progress_of};
 
@@ -73,13 +74,13 @@ impl Placement<'_> {
         requires within { IsPickable start.now }
         requires kept { choose.mode ≡ Mode.Indep }
         requires some { 1 ≤ size }
-        requires few { size ≤ 10 }
+        requires few { size ≤ max_size }
         ensures { OnOk result (found.new.items ≡ found.old.items
             ++ segment_of (world self.now) choose tries size (size - length found.old.items) start.now) }
     {
         let numrep = numrep(choose, size);
         let room = usize::from(size).saturating_sub(found.len());
-        let mut all = [Position::Open; MOST_PLACES];
+        let mut all = [Position::Open; MAX_SIZE];
         let positions = &mut all[..room.min(usize::from(numrep))];
         self.indep(choose, tries, start, numrep, positions);
         for position in positions.iter() {
@@ -100,7 +101,7 @@ impl Placement<'_> {
     ) -> Result<(), AllocError>
         requires within { IsPickable start.now }
         requires some { 1 ≤ size }
-        requires few { size ≤ 10 }
+        requires few { size ≤ max_size }
         ensures { OnOk result (found.new.items ≡ found.old.items
             ++ segment_of (world self.now) choose tries size (size - length found.old.items) start.now) }
     {
@@ -121,7 +122,7 @@ impl Placement<'_> {
         found: &mut Vec<Option<i32>>,
     ) -> Result<(), AllocError>
         requires some { 1 ≤ size }
-        requires few { size ≤ 10 }
+        requires few { size ≤ max_size }
         ensures { OnOk result (found.new.items ≡ chosen_from (world self.now) choose tries size working.now) }
     {
         found.clear();
@@ -139,7 +140,7 @@ impl Placement<'_> {
     #[tactic(auto, unfolding(crate::specs::Run::after_step))]
     fn step(&self, step: Step, tries: Tries, size: u8, lists: &mut Lists) -> Result<(), AllocError>
         requires some { 1 ≤ size }
-        requires few { size ≤ 10 }
+        requires few { size ≤ max_size }
         ensures { let before = progress_of lists.old.working.items lists.old.emitted.items in
             OnOk result (progress_of lists.new.working.items lists.new.emitted.items
             ≡ after_step (world self.now) tries size before step) }
@@ -178,7 +179,7 @@ impl Placement<'_> {
         lists: &mut Lists,
     ) -> Result<(), AllocError>
         requires some { 1 ≤ size }
-        requires few { size ≤ 10 }
+        requires few { size ≤ max_size }
         ensures { OnOk result (progress_of lists.new.working.items lists.new.emitted.items
             ≡ fold (after_step (world self.now) tries size) (progress_of [] []) steps.now) }
     {
@@ -193,32 +194,29 @@ impl Placement<'_> {
 
 impl Rule {
     ghost use Rattle.std.specs.Prelude.{◌≡◌, ◌+◌, ◌-◌, ◌^◌, ◌≤◌, min, OnOk, OnErr};
+    ghost use Rattle.crush.specs.Limits.{max_size};
     ghost use Rattle.crush.specs.World.{world_of};
     ghost use Rattle.crush.specs.Run.{run_of};
 
     /// Places `x` by the rule in a pool of `size` places, 1 to 10. An OSD without a reweight is out. The one error is
-    /// out of memory. After it the result is open, and the run is not counted.
+    /// `Memory` (30): after it the result is open, and the run is not counted.
     #[tactic(auto, unfolding(crate::specs::Run::run_of))]
     pub fn run(
         &self,
         forest: &Forest,
-        weights: &Weights,
+        weights: &[u32],
         x: u32,
         size: u8,
         work: &mut Work,
     ) -> Result<(), Memory>
         requires some { 1 ≤ size }
-        requires few { size ≤ 10 }
+        requires few { size ≤ max_size }
         ensures placed { let world = world_of forest.now weights.now x in
             OnOk result (work.new.result ≡ run_of world self.now.steps size) }
         ensures counted { OnOk result (work.new.runs ≡ min (work.old.runs + 1) (2 ^ 64 - 1)) }
         ensures uncounted { OnErr result (work.new.runs ≡ work.old.runs) }
     {
-        let placement = Placement {
-            forest,
-            weights: weights.as_slice(),
-            x,
-        };
+        let placement = Placement { forest, weights, x };
         let tries = Tries {
             total: 1 + RETRIES,
             leaf: LEAF_TRIES,

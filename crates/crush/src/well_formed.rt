@@ -1,11 +1,14 @@
+//! The tests that a list of buckets has to pass to be a forest.
+
 ghost use Rattle.std.specs.Prelude.{◌≡◌, ◌<◌, ◌≤◌, ◌&&◌, ◌==◌, nat_lt, length, IsTrue};
 ghost use Rattle.std.specs.List.{list_all};
 ghost use Rattle.crush.specs.Forest.{level_of, weight_of};
+ghost use Rattle.crush.specs.Limits.{max_items, max_buckets, max_devices};
 ghost use Rattle.crush.specs.WellFormed.{item_limits_ok, bucket_limits_ok, forest_limits_ok, has_own_ids, is_item_ok, has_items_below, has_items_once, is_even, weights_ok, forest_ok, IsDescending, IsNotAscending};
 
 use crate::bucket::{Bucket, BucketKind, Item};
 use crate::grammar::is_bucket_id;
-use crate::limits::{HIGHEST_LEVEL, LOWEST_BUCKET, MOST_BUCKETS, MOST_DEVICES, MOST_ITEMS};
+use crate::limits::{LOWEST_BUCKET, MAX_BUCKETS, MAX_DEVICES, MAX_ITEMS, MAX_LEVEL};
 use crate::met::are_met_once;
 use crate::search::{is_known, level_of};
 
@@ -13,7 +16,7 @@ use crate::search::{is_known, level_of};
 fn is_item_within(item: &Item) -> bool
     ensures { result ≡ item_limits_ok item.now }
 {
-    LOWEST_BUCKET <= item.id && item.id < MOST_DEVICES as i32 && 0 < item.weight
+    LOWEST_BUCKET <= item.id && item.id < MAX_DEVICES as i32 && 0 < item.weight
 }
 
 /// Whether each item is within the limits.
@@ -30,9 +33,9 @@ fn is_bucket_within(bucket: &Bucket) -> bool
 {
     let count = bucket.items.len();
     is_bucket_id(bucket.id)
-        && (1 <= bucket.level && bucket.level <= HIGHEST_LEVEL)
-        && (1 <= count && count <= MOST_ITEMS)
-        && are_items_within(bucket.items.as_slice())
+        && (1 <= bucket.level && bucket.level <= MAX_LEVEL)
+        && (1 <= count && count <= MAX_ITEMS)
+        && are_items_within(&bucket.items)
 }
 
 /// Whether each bucket is within the limits.
@@ -47,8 +50,8 @@ fn are_buckets_within(buckets: &[Bucket]) -> bool
 pub(crate) fn is_within_limits(buckets: &[Bucket], max_osd: u32) -> bool
     ensures { result ≡ forest_limits_ok buckets.now max_osd }
 {
-    (1 <= buckets.len() && buckets.len() <= MOST_BUCKETS)
-        && (1 <= max_osd && max_osd <= MOST_DEVICES)
+    (1 <= buckets.len() && buckets.len() <= MAX_BUCKETS)
+        && (1 <= max_osd && max_osd <= MAX_DEVICES)
         && are_buckets_within(buckets)
 }
 
@@ -84,17 +87,12 @@ fn have_items_below(buckets: &[Bucket], max_osd: u32) -> bool
     requires { IsDescending buckets.now }
     ensures { result ≡ has_items_below buckets.now max_osd }
 {
-    buckets.iter().all(|bucket| are_items_below(
-        buckets,
-        max_osd,
-        bucket.items.as_slice(),
-        bucket.level,
-    ))
+    buckets.iter().all(|bucket| are_items_below(buckets, max_osd, &bucket.items, bucket.level))
 }
 
 /// The weight of some items.
 fn total_weight(items: &[Item]) -> u64
-    requires { length items.now ≤ 64 }
+    requires { length items.now ≤ max_items }
     ensures { result ≡ weight_of items.now }
 {
     items.iter().map(|item| u64::from(item.weight)).sum()
@@ -118,7 +116,7 @@ fn is_even(items: &[Item]) -> bool
 /// Whether the weights of a bucket add up to a word, and those of a uniform one are all the same.
 fn are_weights_lawful(kind: BucketKind, items: &[Item]) -> bool
     requires some { 0 < length items.now }
-    requires few { length items.now ≤ 64 }
+    requires few { length items.now ≤ max_items }
     ensures { result ≡ weights_ok kind items.now }
 {
     let fits = total_weight(items) <= u64::from(u32::MAX);
@@ -134,7 +132,7 @@ fn have_lawful_weights(buckets: &[Bucket]) -> bool
     ensures { result ≡ list_all (λ b. weights_ok b.kind b.items) buckets.now }
 {
     for bucket in buckets {
-        if !are_weights_lawful(bucket.kind, bucket.items.as_slice()) {
+        if !are_weights_lawful(bucket.kind, &bucket.items) {
             return false;
         }
     }
@@ -144,8 +142,8 @@ fn have_lawful_weights(buckets: &[Bucket]) -> bool
 /// Whether each item is known, has a type below that of its bucket, and stands in the forest once.
 fn are_items_lawful(buckets: &[Bucket], max_osd: u32) -> bool
     requires descending { IsDescending buckets.now }
-    requires few { length buckets.now ≤ 512 }
-    requires devices { max_osd ≤ 1024 }
+    requires few { length buckets.now ≤ max_buckets }
+    requires devices { max_osd ≤ max_devices }
     ensures { result ≡ (has_items_below buckets.now max_osd && has_items_once buckets.now) }
 {
     have_items_below(buckets, max_osd) && are_met_once(buckets)

@@ -1,11 +1,11 @@
+//! The room that runs of rules work in.
+
 use crate::choose::Choice;
 use crate::forest::Forest;
-use crate::memory::Memory;
+use crate::limits::MAX_SIZE;
+use refusal::Memory;
 use std::alloc::Global;
 use std::marker::Model;
-
-/// How many places the greatest pool has.
-pub(crate) const MOST_PLACES: usize = 10;
 
 /// The lists that a run works on.
 #[derive(Debug, Drop)]
@@ -40,10 +40,10 @@ impl Work {
         ensures runs { IfOk result (λ work. work.runs ≡ 0) }
     {
         let lists = Lists {
-            working: Vec::with_capacity(alloc, MOST_PLACES)?,
-            found: Vec::with_capacity(alloc, MOST_PLACES)?,
-            emitted: Vec::with_capacity(alloc, 2 * MOST_PLACES)?,
-            chosen: Vec::with_capacity(alloc, MOST_PLACES)?,
+            working: Vec::with_capacity(alloc, MAX_SIZE)?,
+            found: Vec::with_capacity(alloc, MAX_SIZE)?,
+            emitted: Vec::with_capacity(alloc, 2 * MAX_SIZE)?,
+            chosen: Vec::with_capacity(alloc, MAX_SIZE)?,
         };
         Ok(Work { lists, runs: 0 })
     }

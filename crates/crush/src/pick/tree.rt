@@ -1,7 +1,8 @@
 //! A tree bucket walks down a binary tree whose leaves are its items.
 
-ghost use Rattle.std.specs.Prelude.{◌≡◌, ◌+◌, ◌^◌, ◌<◌, ◌≤◌, length};
+ghost use Rattle.std.specs.Prelude.{◌≡◌, ◌+◌, ◌*◌, ◌^◌, ◌<◌, ◌≤◌, length};
 ghost use Rattle.crush.specs.Forest.{weight_of};
+ghost use Rattle.crush.specs.Limits.{max_items};
 ghost use Rattle.crush.specs.Tree.{weight_between, goes_left, height_of, tree_place};
 
 use crate::bucket::Item;
@@ -11,7 +12,7 @@ use rjenkins::hash4;
 /// The weight of the places from `from` on, `count` of them.
 fn weight_of_part(items: &[Item], from: usize, count: usize) -> u32
     requires weight { weight_of items.now < 2 ^ 32 }
-    requires few { from + count ≤ 128 }
+    requires few { from + count ≤ 2 * max_items }
     ensures { result ≡ weight_between items.now from count }
 {
     let start = from.min(items.len());
@@ -30,7 +31,7 @@ fn turns_left(x: u32, id: u32, r: u32, node: u32, weight: u32, left: u32) -> boo
 /// The least number of levels of halves that hold the items.
 fn height(count: usize) -> u32
     requires some { 0 < count }
-    requires few { count ≤ 64 }
+    requires few { count ≤ max_items }
     ensures { result ≡ height_of count }
 {
     usize::BITS - (count - 1).leading_zeros()
@@ -39,7 +40,7 @@ fn height(count: usize) -> u32
 /// The place that a tree bucket picks.
 pub(super) fn tree_pick(items: &[Item], x: u32, id: u32, r: u32) -> usize
     requires some { 0 < weight_of items.now }
-    requires few { length items.now ≤ 64 }
+    requires few { length items.now ≤ max_items }
     requires weight { weight_of items.now < 2 ^ 32 }
     ensures place { result ≡ tree_place x id r items.now (height_of (length items.now)) 0 }
     ensures within { result < length items.now }

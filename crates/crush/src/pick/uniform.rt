@@ -2,13 +2,14 @@
 
 ghost use Rattle.std.specs.Prelude.{◌≡◌, ◌<◌, ◌≤◌, length, slice_index};
 ghost use Rattle.std.specs.List.{range_with_len};
+ghost use Rattle.crush.specs.Limits.{max_items};
 ghost use Rattle.crush.specs.Uniform.{places_drawn, uniform_place};
 
-use crate::limits::MOST_ITEMS;
+use crate::limits::MAX_ITEMS;
 use rjenkins::hash3;
 
 /// The places of the greatest bucket, in order.
-const PLACES: [u8; MOST_ITEMS] = [
+const PLACES: [u8; MAX_ITEMS] = [
     0, 1, 2, 3, 4, 5, 6, 7, 8, 9, 10, 11, 12, 13, 14, 15, 16, 17, 18, 19, 20, 21, 22, 23, 24, 25,
     26, 27, 28, 29, 30, 31, 32, 33, 34, 35, 36, 37, 38, 39, 40, 41, 42, 43, 44, 45, 46, 47, 48, 49,
     50, 51, 52, 53, 54, 55, 56, 57, 58, 59, 60, 61, 62, 63,
@@ -17,7 +18,7 @@ const PLACES: [u8; MOST_ITEMS] = [
 /// Draws the places one after another up to the one that comes to stand at `last`, which it answers.
 fn draw(places: &mut [u8], x: u32, id: u32, last: u32) -> u8
     requires last { last < length places.old }
-    requires few { length places.old ≤ 64 }
+    requires few { length places.old ≤ max_items }
     ensures { result ≡ slice_index (places_drawn x id 0 (length places.old) places.old) last }
 {
     let count = places.len() as u32;
@@ -31,7 +32,7 @@ fn draw(places: &mut [u8], x: u32, id: u32, last: u32) -> u8
 /// The place that a uniform bucket of `count` items picks.
 pub(super) fn uniform_pick(count: usize, x: u32, id: u32, r: u32) -> usize
     requires some { 0 < count }
-    requires few { count ≤ 64 }
+    requires few { count ≤ max_items }
     ensures place { result ≡ uniform_place x id count r }
     ensures within { result < count }
 {

@@ -1,5 +1,5 @@
 use Rattle.std.proofs.Common.{arith}
-use Rattle.crush.proofs.RuleLemmas.{is_rule-at_last}
+use Rattle.crush.proofs.LastSteps.{is_rule-at_last}
 use Rattle.crush.proofs.grammar.is_rule.Goals as goal
 
 pub returns-then-is_emit : goal.returns-then-is_emit

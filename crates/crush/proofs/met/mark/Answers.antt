@@ -5,7 +5,7 @@ use Rattle.crush.specs.declared.bucket.Item.{Item}
 use Rattle.crush.specs.Slots.{slot, marks}
 use Rattle.crush.specs.WellFormed.{is_known}
 use Rattle.crush.proofs.Marks.{marked_twice, marked_more}
-use Rattle.crush.proofs.Tests.{list_all-at}
+use Rattle.keylist.proofs.Each.{list_all-at}
 use Rattle.crush.proofs.met.mark.Goals as goal
 use mir.Val.{SFits}
 

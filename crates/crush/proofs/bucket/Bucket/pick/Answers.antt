@@ -6,6 +6,6 @@ use Rattle.crush.proofs.bucket.Bucket.pick.Goals as goal
 
 pub returns : goal.returns
 returns c =
-    let item = item_at c.as_slice.result.now c.place.result in
+    let item = item_at c.deref.result.now c.place.result in
     let fits : SFits w32 item.id = search rules in
-    to_z-of_z w32 item.id fits ∙ picked_at c.args.self.now c.args.x c.args.r c.place.result c.as_slice.result.now c.as_slice.ensures c.place.ensures.place
+    to_z-of_z w32 item.id fits ∙ picked_at c.args.self.now c.args.x c.args.r c.place.result c.deref.result.now c.deref.ensures c.place.ensures.place

@@ -1,0 +1,34 @@
+-- The limits of forests, of rules, and of the pools that rules serve, each by the one name that clauses cite.
+use Rattle.std.specs.Prelude.{ℕ, ℤ, pos, neg_ℤ}
+
+-- the most buckets of a forest
+abbrev pub max_buckets : ℕ
+max_buckets = 512
+
+-- the lowest id of a bucket
+abbrev pub lowest_bucket : ℤ
+lowest_bucket = neg_ℤ (pos 65536)
+
+-- the highest type of a bucket
+abbrev pub max_level : ℕ
+max_level = 15
+
+-- the most items of a bucket
+abbrev pub max_items : ℕ
+max_items = 64
+
+-- the most devices
+abbrev pub max_devices : ℕ
+max_devices = 1024
+
+-- the most steps of a rule
+abbrev pub max_steps : ℕ
+max_steps = 16
+
+-- the greatest count of a choose step
+abbrev pub max_count : ℕ
+max_count = 10
+
+-- the most places of a pool
+abbrev pub max_size : ℕ
+max_size = 10

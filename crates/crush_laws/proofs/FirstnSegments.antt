@@ -1,0 +1,139 @@
+-- what packing chooses has no item twice, no leaf twice and nothing that is out
+use Rattle.std.proofs.Common.{◌≡◌, ◌≢◌, ℕ, suc, zero, ◌+◌, ◌<◌, ℤ, Bool, true, false, not, cond, ◌&&◌, ltb, eqb, List, [], ◌∷◌, ◌++◌, length, map, get_or, Option, Some, None, inl, inr, ◌⊎◌, sym, ap, refl, ◌∙◌, arith}
+use Rattle.std.specs.Prelude.{unwrap_or}
+use Rattle.std.specs.List.{All, find, range_with_len, list_any}
+use Rattle.std.specs.Ordering.{int_eq}
+use Rattle.std.proofs.lemmas.Bool.{cases_Bool}
+use Rattle.std.proofs.lemmas.List.Elements.{All-push}
+use Rattle.std.proofs.lemmas.List.Quantifiers.{all_pairs_push}
+use Rattle.crush.specs.declared.bucket.Bucket.{Bucket}
+use Rattle.crush.specs.declared.choose.Attempt.{Attempt}
+use Rattle.crush.specs.declared.choose.Attempt.TheVariants.{Abandoned, Failed, Chosen}
+use Rattle.crush.specs.declared.choose.Choice.{Choice}
+use Rattle.crush.specs.declared.choose.Picked.{Picked}
+use Rattle.crush.specs.declared.choose.Tries.{Tries}
+use Rattle.crush.specs.declared.rule.Choose.{Choose}
+use Rattle.crush.specs.World.{World, is_out}
+use Rattle.crush.specs.Descent.{leaf_below, item_below}
+use Rattle.crush.specs.Firstn.{numbers_from, is_free, with_leaf, attempt_with, attempt_at, attempt_of, is_failed, replica_of, with_attempt, firstn_from}
+use Rattle.crush_laws.specs.Choices.{takes_devices, IsSegment, FirstnIsSegment}
+use Rattle.crush_laws.proofs.LeafSearches.{leaf_accepted, neither, other_holds, no_device, other_key}
+
+-- an attempt, by the tests that it makes
+unfoldable pub attempt_by : Bool → Bool → Bool → Option ℤ → ℤ → Attempt
+attempt_by held to_leaf barred leaf item = cond held Failed (cond to_leaf (with_leaf item leaf) (cond barred Failed (Chosen (record { item = item; leaf = item }))))
+
+-- what is known of an item that was chosen
+pub record IsChoice (held to_leaf barred : Bool) (leaf : Option ℤ) (item : ℤ) (e : Choice) : Type 0 where
+  pub apart : held ≡ false
+  pub item_is : item ≡ e.item
+  pub taken : to_leaf ≡ true → leaf ≡ Some e.leaf
+  pub itself : to_leaf ≡ false → (e.leaf ≡ e.item) × (barred ≡ false)
+
+pub chosen_by : (held to_leaf barred : Bool) (leaf : Option ℤ) (item : ℤ) (e : Choice) → attempt_by held to_leaf barred leaf item ≡ Chosen e → IsChoice held to_leaf barred leaf item e
+unfolding attempt_by
+chosen_by true to_leaf barred leaf item e h = absurd (cc)
+chosen_by false true barred None item e h = absurd (cc)
+chosen_by false true barred (Some leaf) item e h =
+    let made : Choice = record { item = item; leaf = leaf } in
+    let same : made ≡ e = cc in
+    record { apart = refl; item_is = ap (λ c. c.item) same; taken = λ _. ap (λ c. Some c.leaf) same; itself = λ q. absurd (cc) }
+chosen_by false false true leaf item e h = absurd (cc)
+chosen_by false false false leaf item e h =
+    let made : Choice = record { item = item; leaf = item } in
+    let same : made ≡ e = cc in
+    record { apart = refl; item_is = ap (λ c. c.item) same; taken = λ q. absurd (cc); itself = λ _. (sym (ap (λ c. c.leaf) same) ∙ ap (λ c. c.item) same, refl) }
+
+-- a choice that may join those chosen so far
+record IsFresh (w : World) (c : Choose) (chosen : List Choice) (e : Choice) : Type 0 where
+  item : list_any (λ o. int_eq o.item e.item) chosen ≡ false
+  leaf : c.to_leaf ≡ true → list_any (λ o. int_eq o.leaf e.leaf) chosen ≡ false
+  itself : c.to_leaf ≡ false → e.leaf ≡ e.item
+  inside : takes_devices c ≡ true → is_out w e.leaf ≡ false
+
+fresh_with : (w : World) (c : Choose) (t : Tries) (chosen : List Choice) (r : ℕ) (item : ℤ) (e : Choice) → attempt_with w c t chosen r item ≡ Chosen e → IsFresh w c chosen e
+unfolding attempt_with attempt_by
+fresh_with w c t chosen r item e h =
+    let found = leaf_below w (is_free w chosen) (numbers_from r t.leaf) item in
+    let is = chosen_by (list_any (λ o. int_eq o.item item) chosen) c.to_leaf (eqb c.level 0 && is_out w item) found item e h in
+    let free : c.to_leaf ≡ true → (is_out w e.leaf ≡ false) × (list_any (λ o. int_eq o.leaf e.leaf) chosen ≡ false) =
+    λ leafy. neither _ _ (leaf_accepted w (is_free w chosen) (numbers_from r t.leaf) item e.leaf (is.taken leafy)) in
+    record {
+      item = ap (λ i. list_any (λ (o : Choice). int_eq o.item i) chosen) (sym is.item_is) ∙ is.apart;
+      leaf = λ leafy. (free leafy).1;
+      itself = λ bare. (is.itself bare).0;
+      inside = λ takes. elim (cases_Bool c.to_leaf) [
+        | inl leafy ↦ (free leafy).0
+        | inr bare ↦ ap (is_out w) ((is.itself bare).0 ∙ sym is.item_is) ∙ no_device _ _ (is.itself bare).1 (other_holds _ _ takes bare)
+      ];
+    }
+
+fresh_at : (w : World) (c : Choose) (t : Tries) (chosen : List Choice) (r : ℕ) (found : Option Picked) (e : Choice) → attempt_at w c t chosen r found ≡ Chosen e → IsFresh w c chosen e
+fresh_at w c t chosen r None e h = absurd (cc)
+fresh_at w c t chosen r (Some p) e h = fresh_with w c t chosen r p.item e h
+
+fresh_of : (w : World) (c : Choose) (t : Tries) (chosen : List Choice) (start : Bucket) (r : ℕ) (e : Choice) → attempt_of w c t chosen start r ≡ Chosen e → IsFresh w c chosen e
+unfolding attempt_of
+fresh_of w c t chosen start r e h = fresh_at w c t chosen r (item_below w (λ _. r) c.level start) e h
+
+-- the first that is no failure is this one or comes later
+pub first_of : (a : Attempt) (rest : Option Attempt) (e : Choice) → unwrap_or (cond (not (is_failed a)) (Some a) rest) Failed ≡ Chosen e → (a ≡ Chosen e) ⊎ (unwrap_or rest Failed ≡ Chosen e)
+first_of Abandoned rest e h = absurd (cc)
+first_of Failed rest e h = inr h
+first_of (Chosen a) rest e h = inl h
+
+-- what a replica chooses is fresh
+fresh_replica : (w : World) (c : Choose) (t : Tries) (chosen : List Choice) (start : Bucket) (n r : ℕ) (e : Choice) → replica_of w c t chosen start n r ≡ Chosen e → IsFresh w c chosen e
+unfolding replica_of
+fresh_replica w c t chosen start zero r e h = absurd (cc)
+fresh_replica w c t chosen start (suc n) r e h = elim (first_of (attempt_of w c t chosen start r) (find (λ a. not (is_failed a)) (map (attempt_of w c t chosen start) (range_with_len (r + 1) n))) e h) [
+  | inl here ↦ fresh_of w c t chosen start r e here
+  | inr later ↦ fresh_replica w c t chosen start n (r + 1) e later
+]
+
+-- a segment whose leaves are the items where the step takes no leaves
+record IsPacked (w : World) (c : Choose) (chosen : List Choice) : Type 0 where
+  segment : IsSegment w c chosen
+  themselves : c.to_leaf ≡ false → All (λ e. e.leaf ≡ e.item) chosen
+
+packed_push : (w : World) (c : Choose) (chosen : List Choice) (e : Choice) → IsPacked w c chosen → IsFresh w c chosen e → IsPacked w c (chosen ++ e ∷ [])
+packed_push w c chosen e s f =
+    let items : (k : ℕ) (d : Choice) → k < length chosen → (get_or chosen k d).item ≢ e.item = other_key (λ (o : Choice). o.item) chosen e.item f.item in
+    let leaves : (k : ℕ) (d : Choice) → k < length chosen → (get_or chosen k d).leaf ≢ e.leaf =
+    λ k d within. elim (cases_Bool c.to_leaf) [
+      | inl leafy ↦ other_key (λ (o : Choice). o.leaf) chosen e.leaf (f.leaf leafy) k d within
+      | inr bare ↦ λ same. items k d within (sym (s.themselves bare k d within) ∙ same ∙ f.itself bare)
+    ] in
+    record {
+      segment = record {
+        items_once = all_pairs_push (λ (a b : Choice). a.item ≢ b.item) chosen e s.segment.items_once items;
+        leaves_once = all_pairs_push (λ (a b : Choice). a.leaf ≢ b.leaf) chosen e s.segment.leaves_once leaves;
+        none_out = λ takes. All-push (λ (o : Choice). is_out w o.leaf ≡ false) chosen e (s.segment.none_out takes) (f.inside takes);
+      };
+      themselves = λ no. All-push (λ (o : Choice). o.leaf ≡ o.item) chosen e (s.themselves no) (f.itself no);
+    }
+
+packed_with : (w : World) (c : Choose) (chosen : List Choice) (a : Attempt) → IsPacked w c chosen → ((e : Choice) → a ≡ Chosen e → IsFresh w c chosen e) → IsPacked w c (with_attempt chosen a)
+packed_with w c chosen Abandoned s f = s
+packed_with w c chosen Failed s f = s
+packed_with w c chosen (Chosen e) s f = packed_push w c chosen e s (f e refl)
+
+either_packed : (w : World) (c : Choose) (goes : Bool) (xs ys : List Choice) → IsPacked w c xs → IsPacked w c ys → IsPacked w c (cond goes xs ys)
+either_packed w c true xs ys p q = p
+either_packed w c false xs ys p q = q
+
+packed_from : (w : World) (c : Choose) (t : Tries) (start : Bucket) (limit : ℕ) (chosen : List Choice) (n rep : ℕ) → IsPacked w c chosen → IsPacked w c (firstn_from w c t start limit chosen n rep)
+unfolding firstn_from
+packed_from w c t start limit chosen zero rep s = s
+packed_from w c t start limit chosen (suc n) rep s =
+    let a = replica_of w c t chosen start t.total rep in
+    either_packed w c (ltb (length chosen) limit) _ chosen (packed_from w c t start limit (with_attempt chosen a) n (rep + 1) (packed_with w c chosen a s (fresh_replica w c t chosen start t.total rep))) s
+
+packed_none : (w : World) (c : Choose) → IsPacked w c []
+packed_none w c = record {
+  segment = record { items_once = λ i j d lt within. absurd (omega arith); leaves_once = λ i j d lt within. absurd (omega arith); none_out = λ takes. λ k d within. absurd (omega arith) };
+  themselves = λ bare. λ k d within. absurd (omega arith);
+}
+
+pub firstn_is_segment : FirstnIsSegment
+firstn_is_segment w c t start numrep limit = (packed_from w c t start limit [] numrep 0 (packed_none w c)).segment

@@ -1,0 +1,11 @@
+pub mod LeafSearches
+pub mod FirstnSegments
+pub mod IndepPositions
+pub mod Picks
+pub mod DescentsWithin
+pub mod ChoicesWithin
+pub mod RunsWithin
+pub mod RunsReached
+pub mod DescentEnds
+pub mod ItemsLeadDown
+pub mod RuleBlocks

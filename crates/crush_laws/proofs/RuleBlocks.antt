@@ -1,0 +1,85 @@
+-- The steps of a rule are those of its blocks.
+use Rattle.std.proofs.Common.{◌≡◌, ◌<◌, true, false, List, [], ◌∷◌, ◌++◌, length, All, refl, sym, ap, ◌∙◌, inl, inr, arith, append_assoc}
+use Rattle.std.specs.List.{slice_split, onto_first, AllByRecursion}
+use Rattle.std.proofs.lemmas.Bool.{and_parts, cases_Bool, false≢true}
+use Rattle.std.proofs.lemmas.List.Elements.{All-from_recursion, recursion_from_All}
+use Rattle.std.proofs.lemmas.List.Splits.{slice_split-cons_yes, slice_split-cons_no, slice_split_none, slice_split_at, length-slice_split}
+use Rattle.std.proofs.lemmas.List.Sums.{AllPass-from_list_all, list_all-from_AllPass}
+use Rattle.crush.specs.declared.rule.RuleKind.{RuleKind}
+use Rattle.crush.specs.declared.rule.Step.TheVariants as step
+use Rattle.crush.specs.declared.rule.Step.{Step}
+use Rattle.crush.specs.Grammar.{is_emit, is_block, are_blocks, is_rule}
+use Rattle.crush.proofs.LastSteps.{is_rule-at_last}
+use Rattle.crush_laws.specs.Rules.{steps_of, IsGrammatical, RulesAreBlocks}
+
+-- a step that emits is an emit
+emit-is : (x : Step) → is_emit x ≡ true → x ≡ step.Emit
+emit-is (step.Take _) e = absurd (false≢true e)
+emit-is (step.Choose _) e = absurd (false≢true e)
+emit-is step.Emit e = refl
+
+-- no step of a block emits
+block-plain : (kind : RuleKind) (block : List Step) → is_block kind block ≡ true → AllByRecursion (λ x. is_emit x ≡ false) block
+block-plain kind (step.Take _ ∷ step.Choose _ ∷ []) e = (refl, (refl, tt))
+block-plain kind (step.Take _ ∷ step.Choose _ ∷ step.Choose _ ∷ []) e = (refl, (refl, (refl, tt)))
+block-plain kind (step.Take _ ∷ step.Choose _ ∷ step.Choose _ ∷ step.Choose _ ∷ []) e = (refl, (refl, (refl, (refl, tt))))
+block-plain kind _ e = absurd (false≢true e)
+
+-- the pieces between the emits, each with its emit, are the steps
+steps_of-split : (xs : List Step) → steps_of (slice_split is_emit xs) ≡ xs ++ step.Emit ∷ []
+steps_of-split [] = refl
+steps_of-split (x ∷ xs) = elim (cases_Bool (is_emit x)) [
+  | inl emits ↦ rw (slice_split-cons_yes is_emit x xs emits, emit-is x emits, steps_of-split xs)
+  | inr plain ↦ rw (slice_split-cons_no is_emit x xs plain) (onto (slice_split is_emit xs) (omega (arith, length-slice_split is_emit xs)) (steps_of-split xs))
+]
+  where
+    onto : (parts : List (List Step)) → 0 < length parts → steps_of parts ≡ xs ++ step.Emit ∷ [] → steps_of (onto_first x parts) ≡ x ∷ (xs ++ step.Emit ∷ [])
+    onto [] some e = absurd (omega arith)
+    onto (part ∷ parts) some e = ap (λ l. x ∷ l) e
+
+-- the steps of blocks without the last emit
+front_of : List Step → List (List Step) → List Step
+front_of b [] = b
+front_of b (c ∷ cs) = b ++ step.Emit ∷ front_of c cs
+
+steps_of-front : (b : List Step) (bs : List (List Step)) → steps_of (b ∷ bs) ≡ front_of b bs ++ step.Emit ∷ []
+unfolding front_of
+steps_of-front b [] = refl
+steps_of-front b (c ∷ cs) = rw (steps_of-front c cs, append_assoc)
+
+split-front : (kind : RuleKind) (b : List Step) (bs : List (List Step)) → AllByRecursion (λ c. is_block kind c ≡ true) (b ∷ bs) → slice_split is_emit (front_of b bs) ≡ b ∷ bs
+unfolding front_of
+split-front kind b [] lawful = slice_split_none is_emit b (All-from_recursion (λ x. is_emit x ≡ false) b (block-plain kind b lawful.0))
+split-front kind b (c ∷ cs) lawful =
+    let first = slice_split_at is_emit b step.Emit (front_of c cs) (All-from_recursion (λ x. is_emit x ≡ false) b (block-plain kind b lawful.0)) refl in
+    first ∙ ap (λ parts. b ∷ parts) (split-front kind c cs lawful.1)
+
+-- steps with a last one
+with-last : (y : Step) (ys : List Step) → (rest : List Step) × (x : Step) × (y ∷ ys ≡ rest ++ x ∷ [])
+with-last y [] = ([], y, refl)
+with-last y (z ∷ zs) = let rest = with-last z zs in (y ∷ rest.0, rest.1, ap (λ l. y ∷ l) rest.2)
+
+grammatical : (kind : RuleKind) (steps : List Step) → is_rule kind steps ≡ true → IsGrammatical kind steps
+unfolding are_blocks
+grammatical kind [] rule = absurd (false≢true rule)
+grammatical kind (y ∷ ys) rule =
+    let last = with-last y ys in
+    let both = and_parts (is_emit last.1) (are_blocks kind last.0) (sym (is_rule-at_last kind (y ∷ ys) last.0 last.1 last.2) ∙ rule) in
+    record {
+      blocks = slice_split is_emit last.0;
+      some = omega (arith, length-slice_split is_emit last.0);
+      lawful = AllPass-from_list_all (is_block kind) (slice_split is_emit last.0) both.1;
+      made = rw (last.2, emit-is last.1 both.0) (sym (steps_of-split last.0));
+    }
+
+lawful-rule : (kind : RuleKind) (blocks : List (List Step)) → 0 < length blocks → All (λ block. is_block kind block ≡ true) blocks → is_rule kind (steps_of blocks) ≡ true
+unfolding are_blocks
+lawful-rule kind [] some lawful = absurd (omega arith)
+lawful-rule kind (b ∷ bs) some lawful =
+    let front = front_of b bs in
+    let parts = split-front kind b bs (recursion_from_All (λ block. is_block kind block ≡ true) (b ∷ bs) lawful) in
+    is_rule-at_last kind (steps_of (b ∷ bs)) front step.Emit (steps_of-front b bs) ∙ rw parts (list_all-from_AllPass (is_block kind) (b ∷ bs) lawful)
+
+-- the test of the grammar holds of the steps of blocks alone
+pub rules_are_blocks : RulesAreBlocks
+rules_are_blocks kind steps = (grammatical kind steps, λ h. rw h.made (lawful-rule kind h.blocks h.some h.lawful))

@@ -1,0 +1,48 @@
+-- What the picks of each kind of bucket are (CRUSH paper, section 3.4).
+use Rattle.std.specs.Prelude.{◌<◌, ◌≡◌, ℕ, ◌+◌, ◌*◌, ◌^◌, map, [], ◌∷◌, true, false, List, length, slice_index}
+use Rattle.std.specs.List.{range_with_len}
+use Rattle.std.specs.List.Sorted.{IsPermutation}
+use Rattle.crush.specs.declared.bucket.Item.{Item}
+use Rattle.crush.specs.declared.bucket.Bucket.{Bucket}
+use Rattle.crush.specs.declared.bucket.BucketKind.TheVariants.{List as InList, Tree as InTree}
+use Rattle.crush.specs.Forest.{word, IsPickable}
+use Rattle.crush.specs.Items.{item_at}
+use Rattle.crush.specs.Uniform.{draw_order}
+use Rattle.crush.specs.Listed.{wins_at}
+use Rattle.crush.specs.Pick.{place_of}
+use Rattle.crush.specs.Tree.{height_of}
+
+-- the greatest place that wins its draw
+pub record IsGreatestWinner (x id r : ℕ) (items : List Item) (place : ℕ) : Type 0 where
+  pub within : place < length items
+  pub wins : wins_at x id r items place ≡ true
+  pub none_later : (later : ℕ) → place < later → later < length items → wins_at x id r items later ≡ false
+
+-- a uniform bucket draws each of its places once, so it picks each item at one of any n replica numbers in a row
+abbrev pub DrawsEachPlaceOnce : Type 0
+DrawsEachPlaceOnce = (x id n : ℕ) → IsPermutation (draw_order x id n) (range_with_len 0 n)
+
+-- a list bucket picks the greatest place that wins its draw
+abbrev pub ListPicksGreatestWinner : Type 0
+ListPicksGreatestWinner = (b : Bucket) (x r : ℕ) → b.kind ≡ InList → IsPickable b → IsGreatestWinner x (word b.id) r b.items (place_of b x r)
+
+-- a tree bucket picks an item that weighs something
+abbrev pub TreePicksWeight : Type 0
+TreePicksWeight = (b : Bucket) (x r : ℕ) → b.kind ≡ InTree → IsPickable b → 0 < (item_at b.items (place_of b x r)).weight
+
+-- a tree of n items has this depth, this many nodes, this root and these leaves, where the 2 ^ k places from `from` on are
+-- node 2 * from + 2 ^ k
+pub record HasShape (n depth nodes root : ℕ) (leaves : List ℕ) : Type 0 where
+  pub of_depth : height_of n + 1 ≡ depth
+  pub of_nodes : 2 ^ depth ≡ nodes
+  pub of_root : 2 ^ height_of n ≡ root
+  pub of_leaves : map (λ place. 2 * place + 1) (range_with_len 0 n) ≡ leaves
+
+-- the shapes of trees of 1 to 5 items and of 64
+pub record TreesHaveShapes : Type 0 where
+  pub one : HasShape 1 1 2 1 (1 ∷ [])
+  pub two : HasShape 2 2 4 2 (1 ∷ 3 ∷ [])
+  pub three : HasShape 3 3 8 4 (1 ∷ 3 ∷ 5 ∷ [])
+  pub four : HasShape 4 3 8 4 (1 ∷ 3 ∷ 5 ∷ 7 ∷ [])
+  pub five : HasShape 5 4 16 8 (1 ∷ 3 ∷ 5 ∷ 7 ∷ 9 ∷ [])
+  pub most : (leaves : List ℕ) × HasShape 64 7 128 64 leaves × (slice_index leaves 63 ≡ 127)
