@@ -21,7 +21,7 @@ use Rattle.refusal.specs.Outcomes.{refused_unless}
 use Rattle.keylist.specs.Order.{Rises}
 use Rattle.osdmap.specs.Built.{forest_refusal, rule_refusal}
 use Rattle.keylist.proofs.Tests.{and_first}
-use Rattle.osdmap.proofs.Named.{all_more}
+use Rattle.keylist.proofs.Each.{all_more}
 
 -- ---- refusals
 

@@ -34,12 +34,12 @@ use Rattle.refusal.specs.Outcomes.{refused_unless}
 use Rattle.keylist.specs.Order.{Rises}
 use Rattle.osdmap.specs.Built.{IsForestOf, is_lawful, rules_fit, pools_fit, osds_fit, state_of, rows_of, row_presence, row_weight}
 use Rattle.keylist.proofs.Tests.{and_first, and_second}
-use Rattle.osdmap.proofs.Named.{all_more}
 use Rattle.stated.proofs.Within.{natural_between, pool_fits_each, pool_within}
-use Rattle.stated.proofs.BuildFits.{rule_id_fits, rule_limits, osd_weight_fits}
+use Rattle.stated.proofs.Narrowed.{rule_id_fits, rule_limits, osd_weight_fits}
 use Rattle.osdmap.proofs.PlacementLemmas.{found_passes}
 use Rattle.keylist.proofs.Distinct.{distinct-moved, rising_distinct, find-moved, list_all-moved}
-use Rattle.osdmap.proofs.BuildLemmas.{passed, error_is, map_twice}
+use Rattle.osdmap.proofs.BuildLemmas.{passed, error_is}
+use Rattle.keylist.proofs.Each.{all_more, map_twice}
 
 -- ---- parts within the limits
 

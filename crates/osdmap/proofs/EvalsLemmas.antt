@@ -18,7 +18,7 @@ use Rattle.crush.specs.Facts.{IsItemWithin, IsItemLawful, IsWithinLimits, IsWell
 use Rattle.crush.specs.Forest.{bucket_at, level_of}
 use Rattle.crush.specs.Paths.{has_item, IsItemOf, IsPath, IsAbove, TakesAbove, Reaches}
 use Rattle.keylist.proofs.Counts.{find-place}
-use Rattle.crush.proofs.Tests.{same_tests}
+use Rattle.keylist.proofs.Each.{same_tests}
 use Rattle.stated.specs.declared.change.ChangeParts.{ChangeParts}
 use Rattle.stated.specs.Pools.{PoolFacts}
 use Rattle.osdmap.specs.Maps.{ClusterMap, rule_at}

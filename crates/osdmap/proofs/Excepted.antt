@@ -8,7 +8,7 @@ use Rattle.std.proofs.lemmas.List.FromFn.{length-map-range_with_len, get_or-map-
 use Rattle.std.proofs.lemmas.Option.{slice_get-get_or}
 use Rattle.crush.specs.WellFormed.{forest_ok}
 use Rattle.keylist.proofs.Counts.{find-place}
-use Rattle.crush.proofs.Tests.{list_all-at}
+use Rattle.keylist.proofs.Each.{list_all-at}
 use Rattle.stated.specs.declared.exception.Exception.{Exception}
 use Rattle.stated.specs.declared.exception.Pair.{Pair}
 use Rattle.stated.specs.declared.osd.Presence.{Presence}
@@ -29,7 +29,7 @@ use Rattle.osdmap.specs.Built.{without_exceptions}
 use Rattle.keylist.proofs.Tests.{and_second}
 use Rattle.keylist.proofs.Distinct.{distinct-moved, rising_distinct, find-moved, list_all-moved}
 use Rattle.osdmap.proofs.BuildLemmas.{passed, osds_below}
-use Rattle.osdmap.proofs.Built.{list_all-agree}
+use Rattle.keylist.proofs.Each.{list_all-agree}
 
 -- ---- OSDs that exist
 

@@ -23,7 +23,7 @@ use Rattle.osdmap.specs.Laws.{BringsPools, JournalsKeepMaps}
 use Rattle.keylist.proofs.Tests.{and_first, and_second}
 use Rattle.osdmap.proofs.Accepted.{passes}
 use Rattle.osdmap.proofs.Built.{IsBuilt, parts_fit_each, some_osds, few_osds, rules_same, pools_same, osds_same, presences_same, weights_same, no_fault, is_stated, holds}
-use Rattle.stated.proofs.BuildFits.{forest_limits}
+use Rattle.stated.proofs.Narrowed.{forest_limits}
 use Rattle.keylist.proofs.Distinct.{list_all-moved}
 use Rattle.osdmap.proofs.Excepted.{bare_fits, bare_exceptions, all_same, holds_with}
 use Rattle.osdmap.proofs.Kept.{HoldsTogether-after}

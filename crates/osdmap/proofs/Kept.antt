@@ -28,8 +28,8 @@ use Rattle.keylist.proofs.Tests.{and_first, and_second, not_true}
 use Rattle.keylist.proofs.KeyedOrder.{rising-filter}
 use Rattle.keylist.proofs.KeyedMaps.{has-entry, entry-put, entry-without, list_all-puts, list_all-filter, All-puts, rising-puts}
 use Rattle.osdmap.proofs.Accepted.{Accepted, accepted}
-use Rattle.osdmap.proofs.Built.{list_all-agree}
 use Rattle.osdmap.proofs.AfterLemmas.{length-apply, length-with_weight}
+use Rattle.keylist.proofs.Each.{list_all-agree}
 
 -- ---- OSDs
 

@@ -8,7 +8,7 @@ use Rattle.std.proofs.lemmas.Bool.{cases_eq, ne_eqb}
 use Rattle.std.proofs.lemmas.Bool.Decides.{nat_tests}
 use Rattle.std.proofs.lemmas.List.FromFn.{fill_by_all}
 use Rattle.std.proofs.lemmas.Option.{slice_get-get_or, slice_get_within}
-use Rattle.crush.proofs.Tests.{list_all-at}
+use Rattle.keylist.proofs.Each.{list_all-at}
 use Rattle.stated.specs.declared.osd.Presence.{Presence}
 use Rattle.stated.specs.declared.osd.OsdState.{OsdState}
 use Rattle.stated.specs.declared.parts.OsdPart.{OsdPart}

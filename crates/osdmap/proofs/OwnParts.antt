@@ -30,14 +30,14 @@ use Rattle.osdmap.specs.Laws.{IsTextEpoch, StatesItself}
 use Rattle.stated.specs.Pools.{PoolFacts, IsWithinLimits}
 use Rattle.osdmap.specs.Stated.{buckets_of, rule_of, rules_ok, pool_ok, pools_ok, osds_ok, is_listed, exceptions_ok, explicit_of, items_of, all_exceptions_ok, map_fault, IsStated}
 use Rattle.keylist.proofs.Tests.{and_first, and_second}
-use Rattle.osdmap.proofs.Named.{below_max, all_more}
+use Rattle.osdmap.proofs.Named.{below_max}
 use Rattle.keylist.proofs.Distinct.{rising_distinct}
-use Rattle.osdmap.proofs.BuildLemmas.{map_twice}
 use Rattle.osdmap.proofs.Excepted.{exists_same, exceptions_same}
 use Rattle.osdmap.proofs.Kept.{HoldsTogether-after}
 use Rattle.osdmap.proofs.FewExceptions.{few_exceptions}
 use Rattle.osdmap.proofs.OwnFits.{natural_fits, count_fits, buckets_fine, rules_fine, pools_fine}
 use Rattle.osdmap.proofs.OwnOsds.{own_distinct, own_ok, own_fit, own_presences, own_weights}
+use Rattle.keylist.proofs.Each.{all_more, map_twice}
 
 -- ---- values that state themselves
 

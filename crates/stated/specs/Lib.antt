@@ -1,3 +1,4 @@
+pub mod CrushMaps
 pub mod Exceptions
 pub mod Incrementals
 pub mod Limits

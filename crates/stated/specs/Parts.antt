@@ -24,7 +24,8 @@ use Rattle.stated.specs.declared.exception.Pair.{Pair}
 use Rattle.refusal.specs.declared.refused.Refusal.{Refusal}
 use Rattle.refusal.specs.declared.refused.Refusal.TheVariants.{BadLimit, BadPool}
 use Rattle.refusal.specs.Outcomes.{refused_unless}
-use Rattle.stated.specs.Limits.{max_first_epoch, max_osds, max_osd_id, max_buckets, max_items, lowest_bucket, max_level, max_item_weight, max_rules, max_rule_id, max_steps, max_size, max_pools, max_pool_id, max_groups, full_weight, max_entries}
+use Rattle.crush.specs.Limits.{max_buckets, max_items, lowest_bucket, max_level, max_devices, max_steps, max_count, max_size}
+use Rattle.stated.specs.Limits.{max_first_epoch, max_osd_id, max_item_weight, max_rules, max_rule_id, max_pools, max_pool_id, max_groups, full_weight, max_entries}
 use Rattle.stated.specs.Pools.{PoolFacts}
 
 -- ---- limits
@@ -49,7 +50,7 @@ bucket_fits b = is_bucket_id b.id && is_between (pos 1) (pos max_level) b.level 
 
 unfoldable pub step_fits : StepPart → Bool
 step_fits (Take id) = is_bucket_id id
-step_fits (Chooses c) = is_between (pos 0) (pos max_size) c.count && is_between (pos 0) (pos max_level) c.level
+step_fits (Chooses c) = is_between (pos 0) (pos max_count) c.count && is_between (pos 0) (pos max_level) c.level
 step_fits Emit = true
 
 unfoldable pub rule_fits : RulePart → Bool
@@ -87,7 +88,7 @@ exceptions_fit fits es = has_between 0 max_entries es && list_all (exception_fit
 unfoldable pub head_fits : MapParts → Bool
 head_fits p =
     is_between (pos 1) (pos 1) p.version && is_between (pos 1) (pos max_first_epoch) p.epoch
-    && is_between (pos 1) (pos max_osds) p.max_osd
+    && is_between (pos 1) (pos max_devices) p.max_osd
 
 -- how many buckets, rules and pools there are
 unfoldable pub lists_fit : MapParts → Bool

@@ -6,12 +6,12 @@ ghost use Rattle.stated.specs.Parts.{item_fits, bucket_fits, step_fits, rule_fit
 
 use crate::entry_part::exceptions_fit;
 use crate::limits::{
-    FULL_WEIGHT, LOWEST_BUCKET, MAX_BUCKETS, MAX_FIRST_EPOCH, MAX_GROUPS, MAX_ITEM_WEIGHT,
-    MAX_ITEMS, MAX_LEVEL, MAX_OSDS, MAX_POOL_ID, MAX_POOLS, MAX_RULE_ID, MAX_RULES, MAX_SIZE,
-    MAX_STEPS, VERSION,
+    FULL_WEIGHT, LOWEST_BUCKET, MAX_COUNT, MAX_FIRST_EPOCH, MAX_GROUPS, MAX_ITEM_WEIGHT, MAX_LEVEL,
+    MAX_OSDS, MAX_POOL_ID, MAX_POOLS, MAX_RULE_ID, MAX_RULES, MAX_SIZE, VERSION,
 };
 use crate::numbers::{has_between, is_between, is_bucket_id};
 use crate::parts::{BucketPart, ItemPart, MapParts, OsdPart, PoolPart, RulePart, StepPart};
+use crush::limits::{MAX_BUCKETS, MAX_ITEMS, MAX_STEPS};
 
 #[tactic(auto, unfolding(crate::specs::Parts::item_fits))]
 fn item_fits(item: &ItemPart) -> bool
@@ -49,7 +49,7 @@ fn step_fits(step: &StepPart) -> bool
 {
     match step {
         StepPart::Take(id) => is_bucket_id(*id),
-        StepPart::Choose(choose) => is_between(0, MAX_SIZE, choose.count)
+        StepPart::Choose(choose) => is_between(0, MAX_COUNT, choose.count)
             && is_between(0, MAX_LEVEL, choose.level),
         StepPart::Emit => true,
     }

@@ -2,7 +2,9 @@
 //! limits, and the values that numbers within the limits stand for.
 #![tactic(auto)]
 
+mod buckets;
 pub mod change;
+pub mod crush_map;
 pub mod entry_part;
 pub mod exception;
 pub mod fits;
@@ -15,8 +17,10 @@ pub mod pg_text;
 pub mod pool;
 pub mod rules;
 pub mod short;
+mod steps;
 
 pub use change::{Change, ChangeParts, Incremental, Reweight};
+pub use crush_map::CrushMap;
 pub use entry_part::{EntryPart, exceptions_fit, exceptions_of, pg_fits};
 pub use exception::{Entry, Exception, Explicit, Items, NamesGroup, Pair};
 pub use osd::{OsdState, Presence};

@@ -1,33 +1,30 @@
-//! The limits of maps and changes, each named once.
+//! The limits of maps and changes, each named once; those of forests and rules are crush's. The contracts cite each by
+//! the name of its own in specs/Limits.antt, and the tests that use these constants are proved to test those.
 
 use crush::limits;
 
-/// How many places a set of a group has at most, and so how many entries an exception, and what size a pool.
-pub const MAX_PLACES: usize = 10;
 /// The version of the form in which maps are stated.
 pub const VERSION: i128 = 1;
 /// The greatest first epoch.
 pub const MAX_FIRST_EPOCH: i128 = 2_147_483_648;
 /// The greatest `max_osd`.
-pub const MAX_OSDS: i128 = limits::MOST_DEVICES as i128;
-/// How many buckets a forest has at most.
-pub const MAX_BUCKETS: usize = limits::MOST_BUCKETS;
+pub const MAX_OSDS: i128 = limits::MAX_DEVICES as i128;
 /// The lowest id of a bucket.
 pub const LOWEST_BUCKET: i128 = limits::LOWEST_BUCKET as i128;
 /// The greatest type of a bucket or a step.
-pub const MAX_LEVEL: i128 = limits::HIGHEST_LEVEL as i128;
-/// How many items a bucket has at most.
-pub const MAX_ITEMS: usize = limits::MOST_ITEMS;
+pub const MAX_LEVEL: i128 = limits::MAX_LEVEL as i128;
 /// The greatest weight of an item.
 pub const MAX_ITEM_WEIGHT: i128 = u32::MAX as i128;
 /// How many rules a map has at most.
 pub const MAX_RULES: usize = 32;
 /// The greatest id of a rule.
 pub const MAX_RULE_ID: i128 = 255;
-/// How many steps a rule has at most.
-pub const MAX_STEPS: usize = limits::MOST_STEPS;
-/// The greatest count of a choose step, and the greatest size of a pool.
-pub const MAX_SIZE: i128 = MAX_PLACES as i128;
+/// The greatest count of a choose step.
+pub const MAX_COUNT: i128 = limits::MAX_COUNT as i128;
+/// The greatest size of a pool.
+pub const MAX_SIZE: i128 = limits::MAX_SIZE as i128;
+/// How many places a set of a group has at most, and so how many entries an exception.
+pub const MAX_PLACES: usize = limits::MAX_SIZE;
 /// How many pools a map has at most.
 pub const MAX_POOLS: usize = 32;
 /// The greatest id of a pool.

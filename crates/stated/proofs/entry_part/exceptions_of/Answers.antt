@@ -1,5 +1,5 @@
 use Rattle.std.proofs.Common.{rules}
-use Rattle.crush.proofs.Tests.{list_all-at}
+use Rattle.keylist.proofs.Each.{list_all-at}
 use Rattle.stated.specs.Parts.{exception_fits}
 use Rattle.stated.proofs.Within.{each_fits}
 use Rattle.stated.proofs.entry_part.exceptions_of.Goals as goal

@@ -1,5 +1,5 @@
 use Rattle.std.proofs.Common.{◌≡◌, take}
-use Rattle.osdmap.proofs.copy.copied_rules.Given as goal
+use Rattle.stated.proofs.crush_map.copied.Given as goal
 
 -- the rules so far
 abbrev pub invariant-loop-numbered : goal.invariant-loop-numbered

@@ -1,0 +1,149 @@
+-- What the numbers of parts within their limits come to.
+use Rattle.std.proofs.Common.{◌≡◌, ℕ, ◌≤◌, ℤ, pos, negsuc, nat_abs, true, List, map, length, IsTrue, refl, arith}
+use mathlib.Core.Bool.{false≢true}
+use Rattle.std.specs.List.{list_all}
+use Rattle.std.proofs.lemmas.List.{length-map}
+use Rattle.std.proofs.lemmas.List.Folds.{list_all-map}
+use Rattle.std.proofs.lemmas.Bool.Decides.{nat_tests}
+use Rattle.stated.specs.declared.parts.BucketPart.{BucketPart}
+use Rattle.stated.specs.declared.parts.ItemPart.{ItemPart}
+use Rattle.stated.specs.declared.parts.RulePart.{RulePart}
+use Rattle.stated.specs.declared.parts.ChoosePart.{ChoosePart}
+use Rattle.stated.specs.declared.parts.StepPart.{StepPart}
+use Rattle.stated.specs.declared.parts.StepPart.TheVariants.{Take, Choose as Chooses, Emit}
+use Rattle.stated.specs.declared.parts.OsdPart.{OsdPart}
+use Rattle.stated.specs.Parts.{is_between, has_between, is_bucket_id, item_fits, bucket_fits, step_fits, rule_fits, osd_fits, item_of, bucket_of, step_of}
+use Rattle.crush.specs.WellFormed.{is_within, is_bucket_id as may_be_bucket, item_limits_ok, bucket_limits_ok, forest_limits_ok}
+use Rattle.crush.specs.Grammar.{step_limits_ok, rule_limits_ok}
+use Rattle.stated.proofs.Within.{word_between, natural_between}
+use Rattle.keylist.proofs.Each.{all_more}
+
+-- a number is a byte where its upper bound is
+pub byte_between : (low high : ℕ) (z : ℤ) → high ≤ 255 → is_between (pos low) (pos high) z ≡ true → IsTrue (is_between (pos 0) (pos 255) z)
+unfolding is_between
+byte_between low high (pos n) byte h = grind (arith, nat_tests)
+byte_between low high (negsuc n) byte h = absurd (false≢true h)
+
+-- a bucket's id is one of an item
+bucket_is_item : (z : ℤ) → is_bucket_id z ≡ true → IsTrue (is_between (negsuc 65535) (pos 1023) z)
+unfolding is_between is_bucket_id
+bucket_is_item (pos n) h = grind (arith, nat_tests)
+bucket_is_item (negsuc n) h = grind (arith, nat_tests)
+
+pub item_id : (i : ItemPart) → item_fits i ≡ true → IsTrue (is_between (negsuc 65535) (pos 1023) i.id)
+unfolding item_fits
+item_id i h = grind arith
+
+pub item_weight : (i : ItemPart) → item_fits i ≡ true → IsTrue (is_between (pos 0) (pos 4294967295) i.weight)
+unfolding item_fits
+item_weight i h = word_between 1 4294967295 i.weight (omega arith) (grind arith)
+
+item_weight_fits : (i : ItemPart) → item_fits i ≡ true → is_between (pos 1) (pos 4294967295) i.weight ≡ true
+unfolding item_fits
+item_weight_fits i h = grind arith
+
+pub bucket_id : (b : BucketPart) → bucket_fits b ≡ true → IsTrue (is_between (negsuc 65535) (pos 1023) b.id)
+unfolding bucket_fits
+bucket_id b h = bucket_is_item b.id (grind arith)
+
+pub bucket_level : (b : BucketPart) → bucket_fits b ≡ true → IsTrue (is_between (pos 0) (pos 255) b.level)
+unfolding bucket_fits
+bucket_level b h = byte_between 1 15 b.level (omega arith) (grind arith)
+
+pub take_id : (id : ℤ) → step_fits (Take id) ≡ true → IsTrue (is_between (negsuc 65535) (pos 1023) id)
+unfolding step_fits
+take_id id h = bucket_is_item id h
+
+pub choose_count : (c : ChoosePart) → step_fits (Chooses c) ≡ true → IsTrue (is_between (pos 0) (pos 255) c.count)
+unfolding step_fits
+choose_count c h = byte_between 0 10 c.count (omega arith) (grind arith)
+
+pub choose_level : (c : ChoosePart) → step_fits (Chooses c) ≡ true → IsTrue (is_between (pos 0) (pos 255) c.level)
+unfolding step_fits
+choose_level c h = byte_between 0 15 c.level (omega arith) (grind arith)
+
+pub rule_id_fits : (r : RulePart) → rule_fits r ≡ true → is_between (pos 0) (pos 255) r.id ≡ true
+unfolding rule_fits
+rule_id_fits r h = grind arith
+
+pub osd_weight_fits : (o : OsdPart) → osd_fits o ≡ true → is_between (pos 0) (pos 65536) o.weight ≡ true
+unfolding osd_fits
+osd_weight_fits o h = grind arith
+
+pub rule_id : (r : RulePart) → rule_fits r ≡ true → IsTrue (is_between (pos 0) (pos 4294967295) r.id)
+unfolding rule_fits
+rule_id r h = word_between 0 255 r.id (omega arith) (grind arith)
+
+pub osd_id : (o : OsdPart) → osd_fits o ≡ true → IsTrue (is_between (pos 0) (pos 4294967295) o.id)
+unfolding osd_fits
+osd_id o h = word_between 0 1023 o.id (omega arith) (grind arith)
+
+pub osd_weight : (o : OsdPart) → osd_fits o ≡ true → IsTrue (is_between (pos 0) (pos 4294967295) o.weight)
+unfolding osd_fits
+osd_weight o h = word_between 0 65536 o.weight (omega arith) (grind arith)
+
+-- the lists within
+pub bucket_items : (b : BucketPart) → bucket_fits b ≡ true → list_all item_fits b.items ≡ true
+unfolding bucket_fits
+bucket_items b h = grind arith
+
+pub rule_steps : (r : RulePart) → rule_fits r ≡ true → list_all step_fits r.steps ≡ true
+unfolding rule_fits
+rule_steps r h = grind arith
+
+-- ---- values within the limits
+
+item_within : (i : ItemPart) → item_fits i ≡ true → item_limits_ok (item_of i) ≡ true
+unfolding item_fits is_between
+item_within i h =
+    let weight = (natural_between 1 4294967295 i.weight (item_weight_fits i h)).least in
+    grind (arith, nat_tests, weight)
+
+bucket_id_within : (z : ℤ) → is_bucket_id z ≡ true → may_be_bucket z ≡ true
+unfolding is_bucket_id is_between
+bucket_id_within (pos n) h = grind (arith, nat_tests)
+bucket_id_within (negsuc n) h = grind (arith, nat_tests)
+
+level_within : (low high : ℕ) (z : ℤ) → is_between (pos low) (pos high) z ≡ true → is_within low high (nat_abs z) ≡ true
+level_within low high z h =
+    let number = natural_between low high z h in
+    grind (arith, nat_tests, number.least, number.most)
+
+items_within : (items : List ItemPart) → list_all item_fits items ≡ true → list_all item_limits_ok (map item_of items) ≡ true
+items_within items h = rw (list_all-map item_limits_ok item_of items) (all_more item_fits (λ i. item_limits_ok (item_of i)) items item_within h)
+
+count_within : {X Y : Type 0} (f : X → Y) (low high : ℕ) (xs : List X) → has_between low high xs ≡ true → is_within low high (length (map f xs)) ≡ true
+unfolding has_between
+count_within f low high xs h = rw (length-map xs f) h
+
+bucket_within : (b : BucketPart) → bucket_fits b ≡ true → bucket_limits_ok (bucket_of b) ≡ true
+unfolding bucket_fits
+bucket_within b h =
+    let id = bucket_id_within b.id (grind arith) in
+    let level = level_within 1 15 b.level (grind arith) in
+    let count = count_within item_of 1 64 b.items (grind arith) in
+    let items = items_within b.items (grind arith) in
+    grind (arith, id, level, count, items)
+
+pub forest_limits : (buckets : List BucketPart) (max_osd : ℕ) → list_all bucket_fits buckets ≡ true → has_between 1 512 buckets ≡ true → 1 ≤ max_osd → max_osd ≤ 1024
+    → forest_limits_ok (map bucket_of buckets) max_osd ≡ true
+forest_limits buckets max_osd fits count some few =
+    let counted = count_within bucket_of 1 512 buckets count in
+    let each : list_all bucket_limits_ok (map bucket_of buckets) ≡ true = rw (list_all-map bucket_limits_ok bucket_of buckets) (all_more bucket_fits (λ b. bucket_limits_ok (bucket_of b)) buckets bucket_within fits) in
+    grind (arith, nat_tests, counted, each)
+
+step_within : (s : StepPart) → step_fits s ≡ true → step_limits_ok (step_of s) ≡ true
+unfolding step_fits
+step_within (Take id) h = bucket_id_within id h
+step_within (Chooses c) h =
+    let count = (natural_between 0 10 c.count (grind arith)).most in
+    let level = (natural_between 0 15 c.level (grind arith)).most in
+    grind (arith, nat_tests, count, level)
+step_within Emit h = refl
+
+pub rule_limits : (r : RulePart) → rule_fits r ≡ true → rule_limits_ok (map step_of r.steps) ≡ true
+unfolding rule_fits
+rule_limits r h =
+    let count = count_within step_of 1 16 r.steps (grind arith) in
+    let each : list_all step_limits_ok (map step_of r.steps) ≡ true = rw (list_all-map step_limits_ok step_of r.steps) (all_more step_fits (λ s. step_limits_ok (step_of s)) r.steps step_within (rule_steps r h)) in
+    grind (arith, count, each)

@@ -1,0 +1,21 @@
+use Rattle.std.proofs.Common.{rules}
+use Rattle.std.proofs.lemmas.Int.{to_z-of_z}
+use mir.Syntax.{w128}
+use mir.Val.{SFits}
+use Rattle.stated.proofs.Narrowed.{take_id, choose_count, choose_level}
+use Rattle.stated.proofs.steps.step_of.Goals as goal
+
+pub item_id-requires : goal.item_id-requires
+item_id-requires c =
+    let fits : SFits w128 c.in-Take.bucket = search rules in
+    rw to_z-of_z (take_id _ (rw c.in-Take.is at c.requires))
+
+pub byte-requires : goal.byte-requires
+byte-requires c =
+    let fits : SFits w128 c.in-Choose.choose.count = search rules in
+    rw to_z-of_z (choose_count _ (rw c.in-Choose.is at c.requires))
+
+pub byte-requires-in-Choose : goal.byte-requires-in-Choose
+byte-requires-in-Choose c =
+    let fits : SFits w128 c.in-Choose.choose.level = search rules in
+    rw to_z-of_z (choose_level _ (rw c.in-Choose.is at c.requires))

@@ -1,0 +1,181 @@
+//! CRUSH maps: a forest, and the rules over it by id.
+
+ghost use Rattle.std.specs.Prelude.{◌≡◌, ◌≤◌, true, map, IfOk};
+ghost use Rattle.std.specs.List.{list_all};
+ghost use Rattle.crush.specs.Limits.{max_buckets, max_devices};
+ghost use Rattle.crush.specs.WellFormed.{forest_ok};
+ghost use Rattle.refusal.specs.declared.refused.Refusal.TheVariants.{BadForest, BadRule};
+ghost use Rattle.refusal.specs.Outcomes.{refused_unless, Makes};
+ghost use Rattle.keylist.specs.Order.{Rises};
+ghost use Rattle.stated.specs.Parts.{has_between, bucket_fits, rule_fits, bucket_of};
+ghost use Rattle.stated.specs.CrushMaps.{IsForestOf, rule_of, is_lawful, rules_fit};
+
+use crate::buckets::buckets_of;
+use crate::numbers::word;
+use crate::parts::{BucketPart, RulePart};
+use crate::rules::NumberedRule;
+use crate::steps::steps_of;
+use crush::{Forest, Rule};
+use keylist::in_order;
+use refusal::{Memory, Refusal};
+use std::alloc::Global;
+use std::marker::Model;
+
+/// A CRUSH map: a forest, and 1 to 32 rules over it by id upwards (Ceph, CrushWrapper.h).
+#[derive(Debug, Drop)]
+pub struct CrushMap {
+    forest: Forest,
+    rules: Vec<NumberedRule>,
+}
+
+impl Model for CrushMap {
+    ghost use Rattle.stated.specs.CrushMaps.{CrushFacts, IsCrushMap};
+
+    ghost Value = { CrushFacts };
+
+    ghost view = { λ c. record { buckets = c.forest; rules = c.rules.items } };
+
+    ghost invariant = { λ c. IsCrushMap (record { buckets = c.forest; rules = c.rules.items }) };
+}
+
+/// The forest that parts within the limits state: `BadForest` (13) where they are not well formed.
+fn forest_of(alloc: Global, parts: &[BucketPart], max_osd: u32) -> Result<Forest, Refusal>
+    requires fits { list_all bucket_fits parts.now ≡ true }
+    requires count { has_between 1 max_buckets parts.now ≡ true }
+    requires some { 1 ≤ max_osd }
+    requires few { max_osd ≤ max_devices }
+    ensures { Makes result (refused_unless (forest_ok (map bucket_of parts.now) max_osd) BadForest)
+        (IsForestOf (map bucket_of parts.now)) }
+{
+    let buckets = buckets_of(alloc, parts)?;
+    Forest::of_fitting(buckets, max_osd)
+}
+
+/// The rule over a forest that a part within the limits states: `BadRule` (14) where its steps are outside the grammar,
+/// or take a bucket that the forest has not.
+fn rule_of(alloc: Global, part: &RulePart, forest: &Forest) -> Result<NumberedRule, Refusal>
+    requires { rule_fits part.now ≡ true }
+    ensures { Makes result (refused_unless (is_lawful forest.now part.now) BadRule) (λ rule. rule ≡ rule_of part.now) }
+{
+    let steps = steps_of(alloc, &part.steps)?;
+    let rule = Rule::of_fitting(part.kind, steps, forest)?;
+    Ok(NumberedRule {
+        id: word(part.id),
+        rule,
+    })
+}
+
+/// The rules over a forest that parts within the limits state, in their order: `BadRule` (14) where one of them is
+/// none.
+fn rules_made(
+    alloc: Global,
+    parts: &[RulePart],
+    forest: &Forest,
+) -> Result<Vec<NumberedRule>, Refusal>
+    requires { list_all rule_fits parts.now ≡ true }
+    ensures { Makes result (refused_unless (list_all (is_lawful forest.now) parts.now) BadRule)
+        (λ rules. rules.items ≡ map rule_of parts.now) }
+{
+    let mut rules = Vec::with_capacity(alloc, parts.len())?;
+    for part in parts {
+        rules.push(rule_of(alloc, part, forest)?)?;
+    }
+    Ok(rules)
+}
+
+/// The rules over a forest that parts within the limits state, by id upwards: `BadRule` (14) where one of them is
+/// none, or has the id of another.
+fn rules_of(
+    alloc: Global,
+    parts: &[RulePart],
+    forest: &Forest,
+) -> Result<Vec<NumberedRule>, Refusal>
+    requires { list_all rule_fits parts.now ≡ true }
+    ensures { Makes result (refused_unless (rules_fit forest.now parts.now) BadRule)
+        (λ rules. Rises (λ r. r.id) (map rule_of parts.now) rules.items) }
+{
+    let rules = rules_made(alloc, parts, forest)?;
+    in_order(rules, Refusal::BadRule)
+}
+
+/// Each of some rules once more.
+fn copied(alloc: Global, rules: &[NumberedRule]) -> Result<Vec<NumberedRule>, Memory>
+    ensures { IfOk result (λ copies. copies.items ≡ rules.now) }
+{
+    let mut copies = Vec::with_capacity(alloc, rules.len())?;
+    for numbered in rules {
+        let copy = NumberedRule {
+            id: numbered.id,
+            rule: numbered.rule.copy(alloc)?,
+        };
+        copies.push(copy)?;
+    }
+    Ok(copies)
+}
+
+impl CrushMap {
+    ghost use Rattle.std.specs.Prelude.{◌≡◌, ◌≤◌, true, IfOk};
+    ghost use Rattle.std.specs.List.{list_all};
+    ghost use Rattle.std.specs.Option.{option_copied};
+    ghost use Rattle.crush.specs.Limits.{max_buckets, max_devices};
+    ghost use Rattle.refusal.specs.Outcomes.{Makes};
+    ghost use Rattle.stated.specs.Limits.{max_rules};
+    ghost use Rattle.stated.specs.Parts.{has_between, bucket_fits, rule_fits};
+    ghost use Rattle.stated.specs.CrushMaps.{rule_at, crush_fault, IsCrushMap, IsCrushOf};
+
+    /// The CRUSH map over the devices below `max_osd` that parts within the limits state: `BadForest` (13) where its buckets
+    /// are no well-formed forest, else `BadRule` (14) where a rule is outside the grammar, takes a bucket that the forest has
+    /// not, or has the id of another; `Memory` (30).
+    pub fn stated(
+        alloc: Global,
+        buckets: &[BucketPart],
+        rules: &[RulePart],
+        max_osd: u32,
+    ) -> Result<CrushMap, Refusal>
+        requires buckets_fit { list_all bucket_fits buckets.now ≡ true }
+        requires bucket_count { has_between 1 max_buckets buckets.now ≡ true }
+        requires rules_fit { list_all rule_fits rules.now ≡ true }
+        requires rule_count { has_between 1 max_rules rules.now ≡ true }
+        requires some { 1 ≤ max_osd }
+        requires few { max_osd ≤ max_devices }
+        ensures { Makes result (crush_fault buckets.now rules.now max_osd) (IsCrushOf buckets.now rules.now) }
+    {
+        let forest = forest_of(alloc, buckets, max_osd)?;
+        let rules = rules_of(alloc, rules, &forest)?;
+        Ok(CrushMap { forest, rules })
+    }
+
+    /// The forest.
+    pub fn forest(&self) -> &Forest
+        ensures { result.now ≡ self.now.buckets }
+    {
+        &self.forest
+    }
+
+    /// The rules, by id upwards.
+    pub fn rules(&self) -> &[NumberedRule]
+        ensures value { result.now ≡ self.now.rules }
+        ensures lawful { IsCrushMap self.now }
+    {
+        &self.rules
+    }
+
+    /// The rule of an id.
+    pub fn rule(&self, id: u32) -> Option<&Rule>
+        ensures { option_copied result ≡ rule_at self.now.rules id }
+    {
+        self.rules
+            .iter()
+            .find(|rule| rule.id == id)
+            .map(|rule| &rule.rule)
+    }
+
+    /// The same CRUSH map once more, or `Memory` (30).
+    pub fn copy(&self, alloc: Global) -> Result<CrushMap, Memory>
+        ensures { IfOk result (λ copy. copy ≡ self.now) }
+    {
+        let forest = self.forest.copy(alloc)?;
+        let rules = copied(alloc, &self.rules)?;
+        Ok(CrushMap { forest, rules })
+    }
+}
