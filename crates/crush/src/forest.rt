@@ -36,7 +36,7 @@ impl Forest {
     ghost use Rattle.refusal.specs.Outcomes.{Judges, refused_unless};
     ghost use Rattle.crush.specs.Forest.{bucket_at, level_of, IsPickable};
     ghost use Rattle.crush.specs.Order.{by_id};
-    ghost use Rattle.crush.specs.Paths.{has_item, IsAbove, IsAncestor};
+    ghost use Rattle.crush.specs.Paths.{has_item, is_above, IsAncestor};
     ghost use Rattle.crush.specs.WellFormed.{forest_limits_ok, forest_ok, forest_fault, IsForest, IsDescending};
 
     /// The forest of these buckets over the devices from 0 up to below `max_osd`, its buckets by id from -1 downwards.
@@ -116,9 +116,9 @@ impl Forest {
         None
     }
 
-    /// Whether a bucket stands above an item.
+    /// Whether a bucket stands above an item: it has it, or a bucket above it.
     pub fn is_above(&self, bucket: i32, item: i32) -> bool
-        ensures { IsTrue result ↔ IsAbove self.now bucket item }
+        ensures { result ≡ is_above self.now bucket item }
     {
         let mut below = item;
         while let Some(parent) = self.parent(below) {

@@ -1,7 +1,7 @@
 //! Rules: what they serve, and their steps.
 
-ghost use Rattle.std.specs.Prelude.{◌↔◌, IsTrue};
-ghost use Rattle.crush.specs.Paths.{TakesAbove};
+ghost use Rattle.std.specs.Prelude.{◌≡◌};
+ghost use Rattle.crush.specs.Paths.{takes_above};
 
 use crate::forest::Forest;
 use crate::grammar::{is_rule, is_within_limits, takes_known};
@@ -65,7 +65,7 @@ impl Rule {
     ghost use Rattle.std.specs.Prelude.{◌≡◌, ◌↔◌, IfOk, IsTrue};
     ghost use Rattle.refusal.specs.Outcomes.{Judges, refused_unless};
     ghost use Rattle.crush.specs.Grammar.{rule_limits_ok, rule_ok, rule_fault, IsLawful};
-    ghost use Rattle.crush.specs.Paths.{Reaches};
+    ghost use Rattle.crush.specs.Paths.{reaches};
 
     /// The rule of these steps over a forest. It is refused with 12 (`BadLimit`) where it has no step or more than 16,
     /// takes a bucket outside -1 to -65,536, or chooses a type above 15 or more than 10 items; else with 14 (`BadRule`)
@@ -109,7 +109,7 @@ impl Rule {
 
     /// Whether the rule reaches a device of a forest: one that is under a bucket that the rule takes.
     pub fn reaches(&self, forest: &Forest, osd: i32) -> bool
-        ensures { IsTrue result ↔ Reaches forest.now self.now.steps osd }
+        ensures { result ≡ reaches forest.now self.now.steps osd }
     {
         self.steps.iter().any(|step| takes_above(step, forest, osd))
     }
@@ -127,7 +127,7 @@ impl Rule {
 
 /// Whether a step takes a bucket above a device.
 fn takes_above(step: &Step, forest: &Forest, osd: i32) -> bool
-    ensures { IsTrue result ↔ TakesAbove forest.now osd step.now }
+    ensures { result ≡ takes_above forest.now osd step.now }
 {
     match step {
         Step::Take(bucket) => forest.is_above(*bucket, osd),
