@@ -1,9 +1,10 @@
 -- Chains of buckets in a forest, from an item upwards.
-use Rattle.std.proofs.Common.{◌≡◌, ◌≢◌, ◌↔◌, ℕ, ◌+◌, ◌-◌, ◌<◌, ◌≤◌, Bool, true, ◌&&◌, nat_lt, eqb, cond, List, [], ◌∷◌, length, get_or, find, Option, Some, None, ℤ, IsSomeAnd, IsTrue, ◌⊎◌, inl, inr, refl, sym, ap, ◌∙◌, arith}
+use Rattle.std.proofs.Common.{◌≡◌, ◌≢◌, ◌↔◌, ℕ, ◌+◌, ◌-◌, ◌<◌, ◌≤◌, Bool, true, false, ◌&&◌, nat_lt, eqb, cond, List, [], ◌∷◌, length, get_or, find, Option, Some, None, ℤ, pos, int_lt, IsSomeAnd, IsTrue, ◌⊎◌, inl, inr, refl, sym, ap, ◌∙◌, arith}
 use Rattle.std.specs.List.{list_all, list_any, count_by}
 use Rattle.std.specs.Ordering.{int_eq}
-use Rattle.std.proofs.lemmas.Bool.{and_parts, cases_Bool, eqb-true, ltb-true}
+use Rattle.std.proofs.lemmas.Bool.{and_parts, cases_Bool, false_from_ne_true, eqb-true, ltb-true}
 use Rattle.std.proofs.lemmas.Bool.Decides.{Decides-int_eq}
+use Rattle.std.proofs.lemmas.Int.{ints}
 use Rattle.std.proofs.lemmas.List.Folds.{Any-from_list_any}
 use Rattle.std.proofs.lemmas.List.Sums.{sum_by-le-sum_by}
 use Rattle.std.proofs.lemmas.Option.{none-some, same_Some}
@@ -12,7 +13,7 @@ use Rattle.crush.specs.declared.bucket.Item.{Item}
 use Rattle.crush.specs.Forest.{bucket_at, level_of}
 use Rattle.crush.specs.Paths.{has_item, is_above, IsAncestor}
 use Rattle.crush.proofs.Above.{IsItemOf, IsPath, IsAbove, some-and, and-some, above-found, path-listed}
-use Rattle.crush.specs.WellFormed.{bucket_limits_ok, buckets_with, times_in, is_known, IsForest}
+use Rattle.crush.specs.WellFormed.{item_limits_ok, bucket_limits_ok, buckets_with, times_in, is_known, IsForest}
 use Rattle.crush.proofs.Bounds.{limits-each, limits-level}
 use Rattle.keylist.proofs.Counts.{count_by-some, find-place, find-one}
 use Rattle.crush.proofs.Places.{int_eq-yes}
@@ -147,6 +148,31 @@ module _ (buckets : List Bucket) (forest : IsForest buckets) where
     λ e. above-found buckets top item e,
     λ above. let short = path-short above.between top item above.path in path-listed buckets above.between top item (omega (arith, short.0, short.1)) above.path,
   )
+
+  -- an item of a bucket is no device past the last
+  item-near : (n : ℕ) (top : ℤ) → IsItemOf buckets top (pos n) → n < 1024
+  item-near n top held =
+      let there = some-and (λ c. IsTrue (has_item (pos n) c)) (bucket_at buckets top) held in
+      let b = there.0 in
+      let at = find-place (λ c. int_eq c.id top) buckets b there.1 in
+      let place = item-place (pos n) b there.2 in
+      let limits : bucket_limits_ok b ≡ true = rw at.2 at (list_all-at bucket_limits_ok buckets at.0 b at.1 (limits-each buckets 1024 forest.limits)) in
+      let within = rw place.3 at (list_all-at item_limits_ok b.items place.0 place.1 place.2 (and_parts _ _ limits).1) in
+      let near : int_lt place.1.id (pos 1024) ≡ true = (and_parts _ _ (and_parts _ _ within).0).1 in
+      omega (arith, ints, rw place.4 at near)
+
+  path-near : (between : List ℤ) (top : ℤ) (n : ℕ) → IsPath buckets top between (pos n) → n < 1024
+  path-near [] top n held = item-near n top held
+  path-near (next ∷ between) top n (held, path) = path-near between next n path
+
+  -- nothing stands above a device past the last
+  pub above-far : (top : ℤ) (n : ℕ) → 1024 ≤ n → is_above buckets top (pos n) ≡ false
+  above-far top n far =
+      let past : is_above buckets top (pos n) ≡ true → ⊥ = λ yes.
+      let above = above-found buckets top (pos n) yes in
+      let near = path-near above.between top n above.path in
+      absurd (omega (arith, far, near))
+      in false_from_ne_true (is_above buckets top (pos n)) past
 
   -- above an item stand the bucket that has it and what stands above that
   pub above-parent : (top item : ℤ) (b : Bucket) → find (has_item item) buckets ≡ Some b → IsAbove buckets top item → (top ≡ b.id) ⊎ IsAbove buckets top b.id

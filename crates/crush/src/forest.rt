@@ -30,7 +30,7 @@ impl Model for Forest {
 }
 
 impl Forest {
-    ghost use Rattle.std.specs.Prelude.{◌≡◌, ◌↔◌, ℤ, IfSome, IfOk, IsTrue, IsPermutation};
+    ghost use Rattle.std.specs.Prelude.{◌≡◌, ◌↔◌, ℤ, pos, IfSome, IfOk, IsTrue, IsPermutation};
     ghost use Rattle.std.specs.List.{find};
     ghost use Rattle.std.specs.Option.{option_copied};
     ghost use Rattle.refusal.specs.Outcomes.{Judges, refused_unless};
@@ -128,6 +128,18 @@ impl Forest {
             below = parent.id;
         }
         false
+    }
+
+    /// Whether a bucket stands above the device of a number.
+    pub fn is_above_device(&self, bucket: i32, osd: u32) -> bool
+        ensures { result ≡ is_above self.now bucket (pos osd) }
+    {
+        // No bucket of a well-formed forest has a device of so great a number.
+        let _ = &self.buckets;
+        match i32::try_from(osd) {
+            Ok(device) => self.is_above(bucket, device),
+            Err(_) => false,
+        }
     }
 
     // The bucket that has an item.
