@@ -1,17 +1,19 @@
 -- Chains of buckets in a forest, from an item upwards.
-use Rattle.std.proofs.Common.{◌≡◌, ◌≢◌, ◌↔◌, ℕ, ◌-◌, ◌<◌, ◌≤◌, Bool, true, ◌&&◌, nat_lt, eqb, cond, List, [], ◌∷◌, length, get_or, find, Option, Some, None, ℤ, IsSomeAnd, IsTrue, ◌⊎◌, inl, inr, refl, sym, ap, ◌∙◌, arith}
+use Rattle.std.proofs.Common.{◌≡◌, ◌≢◌, ◌↔◌, ℕ, ◌+◌, ◌-◌, ◌<◌, ◌≤◌, Bool, true, false, ◌&&◌, nat_lt, eqb, cond, List, [], ◌∷◌, length, get_or, find, Option, Some, None, ℤ, pos, int_lt, IsSomeAnd, IsTrue, ◌⊎◌, inl, inr, refl, sym, ap, ◌∙◌, arith}
 use Rattle.std.specs.List.{list_all, list_any, count_by}
 use Rattle.std.specs.Ordering.{int_eq}
-use Rattle.std.proofs.lemmas.Bool.{and_parts, cases_Bool, eqb-true, ltb-true}
+use Rattle.std.proofs.lemmas.Bool.{and_parts, cases_Bool, false_from_ne_true, eqb-true, ltb-true}
 use Rattle.std.proofs.lemmas.Bool.Decides.{Decides-int_eq}
+use Rattle.std.proofs.lemmas.Int.{ints}
 use Rattle.std.proofs.lemmas.List.Folds.{Any-from_list_any}
 use Rattle.std.proofs.lemmas.List.Sums.{sum_by-le-sum_by}
 use Rattle.std.proofs.lemmas.Option.{none-some, same_Some}
 use Rattle.crush.specs.declared.bucket.Bucket.{Bucket}
 use Rattle.crush.specs.declared.bucket.Item.{Item}
 use Rattle.crush.specs.Forest.{bucket_at, level_of}
-use Rattle.crush.specs.Paths.{has_item, IsItemOf, IsPath, IsAbove, IsAncestor}
-use Rattle.crush.specs.WellFormed.{bucket_limits_ok, buckets_with, times_in, is_known, IsForest}
+use Rattle.crush.specs.Paths.{has_item, is_above, IsAncestor}
+use Rattle.crush.proofs.Above.{IsItemOf, IsPath, IsAbove, some-and, and-some, above-found, path-listed}
+use Rattle.crush.specs.WellFormed.{item_limits_ok, bucket_limits_ok, buckets_with, times_in, is_known, IsForest}
 use Rattle.crush.proofs.Bounds.{limits-each, limits-level}
 use Rattle.keylist.proofs.Counts.{count_by-some, find-place, find-one}
 use Rattle.crush.proofs.Places.{int_eq-yes}
@@ -25,14 +27,6 @@ any-counted p xs = elim (cases_Bool (list_any p xs)) [
       rw some (count_by-some p xs at.0 at.1 at.2 (rw at.3 at.4))
   | inr none ↦ rw none (omega arith)
 ]
-
--- what is there, with its fact
-some-and : {X : Type 0} (P : X → Type 0) (o : Option X) → IsSomeAnd o P → (x : X) × (o ≡ Some x) × P x
-some-and P None h = absurd h
-some-and P (Some x) h = (x, refl, h)
-
-pub and-some : {X : Type 0} (P : X → Type 0) (o : Option X) (x : X) → o ≡ Some x → P x → IsSomeAnd o P
-and-some P o x e h = rw e h
 
 module _ (buckets : List Bucket) (forest : IsForest buckets) where
   -- the place of an item in its bucket
@@ -134,6 +128,52 @@ module _ (buckets : List Bucket) (forest : IsForest buckets) where
       let is = parent-is next parent.0 parent.1 in
       omega (arith, is.higher, ap (level_of buckets) parent.2, path-higher between next item path)
 
+  -- types fall along a path, so that it has no more buckets than there are types
+  path-short : (between : List ℤ) (top item : ℤ) → IsPath buckets top between item → (length between + level_of buckets item < level_of buckets top) × (level_of buckets top ≤ 15)
+  path-short [] top item held =
+      let parent = parent-of top item held in
+      let is = parent-is item parent.0 parent.1 in
+      let level = ap (level_of buckets) parent.2 in
+      (omega (arith, is.higher, level), omega (arith, is.low, level))
+  path-short (next ∷ between) top item (held, path) =
+      let parent = parent-of top next held in
+      let is = parent-is next parent.0 parent.1 in
+      let level = ap (level_of buckets) parent.2 in
+      let rest = path-short between next item path in
+      (omega (arith, is.higher, level, rest.0), omega (arith, is.low, level))
+
+  -- the test of what stands above an item decides whether there is a path
+  pub above-tested : (top item : ℤ) → (is_above buckets top item ≡ true) ↔ IsAbove buckets top item
+  above-tested top item = (
+    λ e. above-found buckets top item e,
+    λ above. let short = path-short above.between top item above.path in path-listed buckets above.between top item (omega (arith, short.0, short.1)) above.path,
+  )
+
+  -- an item of a bucket is no device past the last
+  item-near : (n : ℕ) (top : ℤ) → IsItemOf buckets top (pos n) → n < 1024
+  item-near n top held =
+      let there = some-and (λ c. IsTrue (has_item (pos n) c)) (bucket_at buckets top) held in
+      let b = there.0 in
+      let at = find-place (λ c. int_eq c.id top) buckets b there.1 in
+      let place = item-place (pos n) b there.2 in
+      let limits : bucket_limits_ok b ≡ true = rw at.2 at (list_all-at bucket_limits_ok buckets at.0 b at.1 (limits-each buckets 1024 forest.limits)) in
+      let within = rw place.3 at (list_all-at item_limits_ok b.items place.0 place.1 place.2 (and_parts _ _ limits).1) in
+      let near : int_lt place.1.id (pos 1024) ≡ true = (and_parts _ _ (and_parts _ _ within).0).1 in
+      omega (arith, ints, rw place.4 at near)
+
+  path-near : (between : List ℤ) (top : ℤ) (n : ℕ) → IsPath buckets top between (pos n) → n < 1024
+  path-near [] top n held = item-near n top held
+  path-near (next ∷ between) top n (held, path) = path-near between next n path
+
+  -- nothing stands above a device past the last
+  pub above-far : (top : ℤ) (n : ℕ) → 1024 ≤ n → is_above buckets top (pos n) ≡ false
+  above-far top n far =
+      let past : is_above buckets top (pos n) ≡ true → ⊥ = λ yes.
+      let above = above-found buckets top (pos n) yes in
+      let near = path-near above.between top n above.path in
+      absurd (omega (arith, far, near))
+      in false_from_ne_true (is_above buckets top (pos n)) past
+
   -- above an item stand the bucket that has it and what stands above that
   pub above-parent : (top item : ℤ) (b : Bucket) → find (has_item item) buckets ≡ Some b → IsAbove buckets top item → (top ≡ b.id) ⊎ IsAbove buckets top b.id
   above-parent top item b found above = path-up above.between top item b found above.path
@@ -173,20 +213,20 @@ module _ (buckets : List Bucket) (forest : IsForest buckets) where
   -- one step up towards a type
   pub climb-level : (item below : ℤ) (level : ℕ) (b : Bucket) → find (has_item below) buckets ≡ Some b → b.level ≢ level → ((a : ℤ) → IsAncestor buckets below level a ↔ IsAncestor buckets item level a) → (a : ℤ) → IsAncestor buckets b.id level a ↔ IsAncestor buckets item level a
   climb-level item below level b found differs so_far a = (
-    λ up. (so_far a).0 (record { above = above-item a below b found up.above; of_level = up.of_level }),
+    λ up. (so_far a).0 (record { above = (above-tested a below).1 (above-item a below b found ((above-tested a b.id).0 up.above)); of_level = up.of_level }),
     λ ancestor. let below_it = (so_far a).1 ancestor in
-        elim (above-parent a below b found below_it.above) [
+        elim (above-parent a below b found ((above-tested a below).0 below_it.above)) [
           | inl same ↦ absurd (differs (omega (arith, (parent-is below b found).level, ap (level_of buckets) same, below_it.of_level)))
-          | inr up ↦ record { above = up; of_level = below_it.of_level }
+          | inr up ↦ record { above = (above-tested a b.id).1 up; of_level = below_it.of_level }
         ],
   )
 
   pub climb-there : (item below : ℤ) (level : ℕ) (b : Bucket) → find (has_item below) buckets ≡ Some b → b.level ≡ level → ((a : ℤ) → IsAncestor buckets below level a ↔ IsAncestor buckets item level a) → (a : ℤ) → (◌≡◌ {A = Option ℤ} (Some b.id) (Some a)) ↔ IsAncestor buckets item level a
   climb-there item below level b found same so_far a = (
-    λ e. let here : IsAncestor buckets below level b.id = record { above = parent-above below b found; of_level = (parent-is below b found).level ∙ same } in
+    λ e. let here : IsAncestor buckets below level b.id = record { above = (above-tested b.id below).1 (parent-above below b found); of_level = (parent-is below b found).level ∙ same } in
         (so_far a).0 (rw (same_Some b.id a e) at here),
     λ ancestor. let below_it = (so_far a).1 ancestor in
-        elim (above-parent a below b found below_it.above) [
+        elim (above-parent a below b found ((above-tested a below).0 below_it.above)) [
           | inl here ↦ ap Some (sym here)
           | inr up ↦ absurd (omega (arith, above-higher a b.id up, (parent-is below b found).level, same, below_it.of_level))
         ],
@@ -195,5 +235,5 @@ module _ (buckets : List Bucket) (forest : IsForest buckets) where
   pub climb-nowhere : (item below : ℤ) (level : ℕ) → find (has_item below) buckets ≡ None → ((a : ℤ) → IsAncestor buckets below level a ↔ IsAncestor buckets item level a) → (a : ℤ) → (◌≡◌ {A = Option ℤ} None (Some a)) ↔ IsAncestor buckets item level a
   climb-nowhere item below level absent so_far a = (
     λ e. absurd (none-some a e),
-    λ ancestor. absurd (above-none a below absent ((so_far a).1 ancestor).above),
+    λ ancestor. absurd (above-none a below absent ((above-tested a below).0 ((so_far a).1 ancestor).above)),
   )

@@ -8,6 +8,7 @@ pub mod Replicas
 pub mod Segments
 pub mod Rounds
 pub mod Bounds
+pub mod Above
 pub mod Chains
 pub mod Ids
 pub mod Made

@@ -30,13 +30,13 @@ impl Model for Forest {
 }
 
 impl Forest {
-    ghost use Rattle.std.specs.Prelude.{◌≡◌, ◌↔◌, ℤ, IfSome, IfOk, IsTrue, IsPermutation};
+    ghost use Rattle.std.specs.Prelude.{◌≡◌, ◌↔◌, ℤ, pos, IfSome, IfOk, IsTrue, IsPermutation};
     ghost use Rattle.std.specs.List.{find};
     ghost use Rattle.std.specs.Option.{option_copied};
     ghost use Rattle.refusal.specs.Outcomes.{Judges, refused_unless};
     ghost use Rattle.crush.specs.Forest.{bucket_at, level_of, IsPickable};
     ghost use Rattle.crush.specs.Order.{by_id};
-    ghost use Rattle.crush.specs.Paths.{has_item, IsAbove, IsAncestor};
+    ghost use Rattle.crush.specs.Paths.{has_item, is_above, IsAncestor};
     ghost use Rattle.crush.specs.WellFormed.{forest_limits_ok, forest_ok, forest_fault, IsForest, IsDescending};
 
     /// The forest of these buckets over the devices from 0 up to below `max_osd`, its buckets by id from -1 downwards.
@@ -116,9 +116,9 @@ impl Forest {
         None
     }
 
-    /// Whether a bucket stands above an item.
+    /// Whether a bucket stands above an item: it has it, or a bucket above it.
     pub fn is_above(&self, bucket: i32, item: i32) -> bool
-        ensures { IsTrue result ↔ IsAbove self.now bucket item }
+        ensures { result ≡ is_above self.now bucket item }
     {
         let mut below = item;
         while let Some(parent) = self.parent(below) {
@@ -128,6 +128,18 @@ impl Forest {
             below = parent.id;
         }
         false
+    }
+
+    /// Whether a bucket stands above the device of a number.
+    pub fn is_above_device(&self, bucket: i32, osd: u32) -> bool
+        ensures { result ≡ is_above self.now bucket (pos osd) }
+    {
+        // No bucket of a well-formed forest has a device of so great a number.
+        let _ = &self.buckets;
+        match i32::try_from(osd) {
+            Ok(device) => self.is_above(bucket, device),
+            Err(_) => false,
+        }
     }
 
     // The bucket that has an item.

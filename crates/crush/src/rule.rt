@@ -1,7 +1,7 @@
 //! Rules: what they serve, and their steps.
 
-ghost use Rattle.std.specs.Prelude.{◌↔◌, IsTrue};
-ghost use Rattle.crush.specs.Paths.{TakesAbove};
+ghost use Rattle.std.specs.Prelude.{◌≡◌, pos};
+ghost use Rattle.crush.specs.Paths.{takes_above};
 
 use crate::forest::Forest;
 use crate::grammar::{is_rule, is_within_limits, takes_known};
@@ -62,10 +62,10 @@ impl Model for Rule {
 }
 
 impl Rule {
-    ghost use Rattle.std.specs.Prelude.{◌≡◌, ◌↔◌, IfOk, IsTrue};
+    ghost use Rattle.std.specs.Prelude.{◌≡◌, IfOk, IsTrue, pos};
     ghost use Rattle.refusal.specs.Outcomes.{Judges, refused_unless};
     ghost use Rattle.crush.specs.Grammar.{rule_limits_ok, rule_ok, rule_fault, IsLawful};
-    ghost use Rattle.crush.specs.Paths.{Reaches};
+    ghost use Rattle.crush.specs.Paths.{reaches};
 
     /// The rule of these steps over a forest. It is refused with 12 (`BadLimit`) where it has no step or more than 16,
     /// takes a bucket outside -1 to -65,536, or chooses a type above 15 or more than 10 items; else with 14 (`BadRule`)
@@ -107,9 +107,9 @@ impl Rule {
         &self.steps
     }
 
-    /// Whether the rule reaches a device of a forest: one that is under a bucket that the rule takes.
-    pub fn reaches(&self, forest: &Forest, osd: i32) -> bool
-        ensures { IsTrue result ↔ Reaches forest.now self.now.steps osd }
+    /// Whether the rule reaches the device of a number in a forest: it is under a bucket that the rule takes.
+    pub fn reaches(&self, forest: &Forest, osd: u32) -> bool
+        ensures { result ≡ reaches forest.now self.now.steps (pos osd) }
     {
         self.steps.iter().any(|step| takes_above(step, forest, osd))
     }
@@ -126,11 +126,11 @@ impl Rule {
 }
 
 /// Whether a step takes a bucket above a device.
-fn takes_above(step: &Step, forest: &Forest, osd: i32) -> bool
-    ensures { IsTrue result ↔ TakesAbove forest.now osd step.now }
+fn takes_above(step: &Step, forest: &Forest, osd: u32) -> bool
+    ensures { result ≡ takes_above forest.now (pos osd) step.now }
 {
     match step {
-        Step::Take(bucket) => forest.is_above(*bucket, osd),
+        Step::Take(bucket) => forest.is_above_device(*bucket, osd),
         Step::Choose(_) | Step::Emit => false,
     }
 }

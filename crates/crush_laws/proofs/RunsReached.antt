@@ -1,5 +1,5 @@
 -- what a rule places by, and what it places: the devices that it reaches
-use Rattle.std.proofs.Common.{◌≡◌, ℕ, ◌<◌, ℤ, pos, negsuc, true, ◌&&◌, ◌≤◌, ◌%◌, List, [], ◌∷◌, ◌++◌, length, get_or, Option, Some, None, ◌⊎◌, inl, inr, sym, ap, refl, ◌∙◌, subst, arith}
+use Rattle.std.proofs.Common.{◌≡◌, ℕ, ◌<◌, ℤ, pos, negsuc, true, ◌&&◌, ◌≤◌, ◌%◌, List, [], ◌∷◌, ◌++◌, length, get_or, Option, Some, None, ◌⊎◌, inl, inr, sym, ap, refl, ◌∙◌, subst, arith, IsTrue}
 use Rattle.std.specs.Prelude.{is_some, int_lt, nat_lt, nat_le, slice_index}
 use Rattle.std.specs.List.{All, Any, list_all}
 use Rattle.std.specs.Option.{option_map_or}
@@ -9,7 +9,7 @@ use Rattle.std.proofs.lemmas.Bool.{and_parts, ltb-true}
 use Rattle.std.proofs.lemmas.Int.{ints}
 use Rattle.std.proofs.lemmas.List.{get_or_default}
 use Rattle.std.proofs.lemmas.List.Elements.{All-contains}
-use Rattle.std.proofs.lemmas.List.Folds.{list_any_at}
+use Rattle.std.proofs.lemmas.List.Folds.{list_any_at, list_any-from_Any}
 use Rattle.rjenkins.specs.Jenkins.{hash2_of}
 use Rattle.crush.specs.declared.bucket.Bucket.{Bucket}
 use Rattle.crush.specs.declared.bucket.Item.{Item}
@@ -19,12 +19,13 @@ use Rattle.crush.specs.declared.rule.Step.TheVariants.{Take, Choose as Chooses, 
 use Rattle.crush.specs.Forest.{bucket_at, level_of}
 use Rattle.crush.specs.Grammar.{step_limits_ok, IsLawful}
 use Rattle.crush_laws.specs.Runs.{RunPlacesReached, RunReadsReached}
-use Rattle.crush.specs.Paths.{has_item, IsItemOf, IsPath, IsAbove, TakesAbove, Reaches}
+use Rattle.crush.specs.Paths.{has_item, takes_above, reaches}
+use Rattle.crush.proofs.Above.{IsItemOf, IsPath, IsAbove, and-some}
 use Rattle.crush.specs.Run.{run_of}
 use Rattle.crush.specs.WellFormed.{is_within, bucket_limits_ok, is_known, IsForest}
 use Rattle.crush.specs.World.{world_of, is_out}
 use Rattle.crush.proofs.Bounds.{limits-each}
-use Rattle.crush.proofs.Chains.{and-some}
+use Rattle.crush.proofs.Chains.{above-tested}
 use Rattle.keylist.proofs.Counts.{find-place}
 use Rattle.crush.proofs.Pickable.{bucket_at-pickable}
 use Rattle.crush.proofs.Places.{int_eq-yes}
@@ -107,32 +108,32 @@ held_items buckets steps id b forest held e =
     }
 
 -- a device that the steps hold is one that they reach
-takes_device : (buckets : List Bucket) (n : ℕ) (s : Step) → step_limits_ok s ≡ true → TakesTo buckets (pos n) s → TakesAbove buckets (pos n) s
+takes_device : (buckets : List Bucket) (n : ℕ) (s : Step) → IsForest buckets → step_limits_ok s ≡ true → TakesTo buckets (pos n) s → takes_above buckets (pos n) s ≡ true
 unfolding TakesTo
-takes_device buckets n (Take top) limits (inl same) =
+takes_device buckets n (Take top) forest limits (inl same) =
     let low : int_lt top (pos 0) ≡ true = (and_parts _ _ limits).1 in
     let device : int_lt (pos n) (pos 0) ≡ true = ap (λ t. int_lt t (pos 0)) (sym same) ∙ low in
     absurd (omega (arith, ints, device))
-takes_device buckets n (Take top) limits (inr above) = above
-takes_device buckets n (Chooses c) limits h = h
-takes_device buckets n Emit limits h = h
+takes_device buckets n (Take top) forest limits (inr above) = (above-tested buckets forest top (pos n)).1 above
+takes_device buckets n (Chooses c) forest limits h = absurd h
+takes_device buckets n Emit forest limits h = absurd h
 
-held_reached : (buckets : List Bucket) (kind : RuleKind) (steps : List Step) (n : ℕ) → IsLawful kind steps → IsHeld buckets steps (pos n) → Reaches buckets steps (pos n)
-held_reached buckets kind steps n lawful held =
+held_reached : (buckets : List Bucket) (kind : RuleKind) (steps : List Step) (n : ℕ) → IsForest buckets → IsLawful kind steps → IsHeld buckets steps (pos n) → reaches buckets steps (pos n) ≡ true
+held_reached buckets kind steps n forest lawful held =
     let limits : step_limits_ok held.1 ≡ true = rw held.3 at (list_all-at step_limits_ok steps held.0 held.1 held.2 (and_parts _ _ lawful.limits).1) in
-    (held.0, held.1, held.2, held.3, takes_device buckets n held.1 limits held.4)
+    list_any-from_Any (takes_above buckets (pos n)) steps (held.0, held.1, held.2, held.3, takes_device buckets n held.1 forest limits held.4)
 
 -- a device is out under both of two lists that have the same reweight for it, or under none
 out_alike : (buckets : List Bucket) (weights others : List ℕ) (x n : ℕ) → slice_index weights n ≡ slice_index others n → is_out (world_of buckets weights x) (pos n) ≡ is_out (world_of buckets others x) (pos n)
 unfolding is_out
 out_alike buckets weights others x n same = ap (λ weight. nat_lt weight 65536 && nat_le weight (hash2_of x n % 65536)) same
 
-held_alike : (buckets : List Bucket) (kind : RuleKind) (steps : List Step) (weights others : List ℕ) (x : ℕ) → IsForest buckets → IsLawful kind steps → ((osd : ℕ) → Reaches buckets steps (pos osd) → slice_index weights osd ≡ slice_index others osd) → AreAlike (IsHeld buckets steps) (world_of buckets weights x) others
+held_alike : (buckets : List Bucket) (kind : RuleKind) (steps : List Step) (weights others : List ℕ) (x : ℕ) → IsForest buckets → IsLawful kind steps → ((osd : ℕ) → IsTrue (reaches buckets steps (pos osd)) → slice_index weights osd ≡ slice_index others osd) → AreAlike (IsHeld buckets steps) (world_of buckets weights x) others
 held_alike buckets kind steps weights others x forest lawful agree = record {
   below = λ id b held e. held_items buckets steps id b forest held e;
   alike = λ d held device.
       let w = world_of buckets weights x in
-      let reached = held_reached buckets kind steps device.osd lawful (subst (IsHeld buckets steps) device.is held) in
+      let reached = held_reached buckets kind steps device.osd forest lawful (subst (IsHeld buckets steps) device.is held) in
       let same = out_alike buckets weights others x device.osd (agree device.osd reached) in
       ap (is_out w) device.is ∙ same ∙ sym (ap (is_out (other w others)) device.is);
 }
@@ -144,4 +145,4 @@ run_reads_reached buckets kind steps weights others x size forest lawful agree =
 pub run_places_reached : RunPlacesReached
 run_places_reached buckets kind steps weights x size forest lawful osd there =
     let all = run_in (IsHeld buckets steps) (world_of buckets weights x) weights steps size (held_alike buckets kind steps weights weights x forest lawful (λ osd h. refl)) (takes_held buckets steps) in
-    held_reached buckets kind steps osd lawful (All-contains (IsIn (IsHeld buckets steps)) (run_of (world_of buckets weights x) steps size) (Some (pos osd)) all there)
+    held_reached buckets kind steps osd forest lawful (All-contains (IsIn (IsHeld buckets steps)) (run_of (world_of buckets weights x) steps size) (Some (pos osd)) all there)

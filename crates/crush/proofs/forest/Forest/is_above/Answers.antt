@@ -1,7 +1,8 @@
 use Rattle.std.proofs.Common.{◌≡◌, ◌≢◌, w32, find, Some, None, refl, sym, ap, ◌∙◌, rules}
 use Rattle.std.proofs.lemmas.Int.{to_z-of_z}
-use Rattle.crush.specs.Paths.{has_item}
-use Rattle.crush.proofs.Chains.{climb-above, climb-found, climb-none, climb-smaller}
+use Rattle.std.proofs.lemmas.Bool.{false_from_ne_true}
+use Rattle.crush.specs.Paths.{has_item, is_above}
+use Rattle.crush.proofs.Chains.{climb-above, climb-found, climb-none, climb-smaller, above-tested}
 use Rattle.crush.proofs.forest.Forest.is_above.Goals as goal
 use mir.Val.{SFits, of_z, to_z}
 
@@ -13,7 +14,7 @@ returns-then-parent-bucket c =
     let found : find (has_item c.loop-parent.below) c.args.self.now ≡ Some c.in-Some.parent.now = sym (rw c.loop-parent.below-is at c.in-Some.ensures.value) in
     let so_far = rw (bucket, item, c.loop-parent.below-is) at c.loop-parent.invariant in
     let same : c.in-Some.parent.now.id ≡ c.args.bucket = sym (to_z-of_z w32 c.in-Some.parent.now.id fits) ∙ (ap (to_z w32) c.if-parent-bucket.true ∙ bucket) in
-    (λ _. climb-found c.args.self.now c.parent.ensures.forest c.args.bucket c.args.item c.loop-parent.below c.in-Some.parent.now found same so_far, λ _. refl)
+    sym ((above-tested c.args.self.now c.parent.ensures.forest c.args.bucket c.args.item).1 (climb-found c.args.self.now c.parent.ensures.forest c.args.bucket c.args.item c.loop-parent.below c.in-Some.parent.now found same so_far))
 
 pub loop-parent-smaller : goal.loop-parent-smaller
 loop-parent-smaller c =
@@ -37,4 +38,4 @@ returns c =
     let item = to_z-of_z w32 c.args.item c.ranges.item in
     let absent : find (has_item c.loop-parent.below) c.args.self.now ≡ None = sym (rw c.loop-parent.below-is at c.in_default.ensures.value) in
     let so_far = rw (bucket, item, c.loop-parent.below-is) at c.loop-parent.invariant in
-    (λ e. absurd (cc), λ above. absurd (climb-none c.args.self.now c.parent.ensures.forest c.args.bucket c.args.item c.loop-parent.below absent so_far above))
+    sym (false_from_ne_true (is_above c.args.self.now c.args.bucket c.args.item) (λ yes. climb-none c.args.self.now c.parent.ensures.forest c.args.bucket c.args.item c.loop-parent.below absent so_far ((above-tested c.args.self.now c.parent.ensures.forest c.args.bucket c.args.item).0 yes)))

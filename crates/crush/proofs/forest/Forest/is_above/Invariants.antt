@@ -1,6 +1,6 @@
 use Rattle.std.proofs.Common.{◌-◌, ◌↔◌}
 use Rattle.crush.specs.Forest.{level_of}
-use Rattle.crush.specs.Paths.{IsAbove}
+use Rattle.crush.proofs.Above.{IsAbove}
 use Rattle.crush.proofs.forest.Forest.is_above.Given as goal
 
 -- the bucket stands above the item just where it stands above what was reached
