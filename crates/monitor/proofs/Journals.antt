@@ -2,7 +2,8 @@
 use Rattle.std.proofs.Common.{◌≡◌, ◌∙◌, sym, ap, ℕ, ◌+◌, ◌≤◌, ◌<◌, List, [], ◌∷◌, ◌++◌, length, refl, arith, None, Some, subst, true, false, not, nat_lt, ◌==◌, if◌then◌else◌, length-append}
 use Rattle.stated.specs.declared.change.ChangeParts.{ChangeParts}
 use Rattle.osdmap.specs.Maps.{ClusterMap}
-use Rattle.osdmap.specs.Changes.{Step, apply, after, change_fault, IsLawful, epoch_after}
+use Rattle.stated.specs.Incrementals.{Step}
+use Rattle.osdmap.specs.Changes.{apply, after, change_fault, IsLawful, epoch_after}
 use Rattle.std.proofs.lemmas.Bool.{eqb-true, ltb-true}
 use Rattle.refusal.specs.declared.refused.Refusal.TheVariants.{StaleEpoch, JournalFull}
 use Rattle.monitor.specs.States.{History, IsKept, opened, committed, next_step, commit_fault, unless}

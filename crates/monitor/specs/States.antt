@@ -5,7 +5,8 @@ use Rattle.refusal.specs.declared.refused.Refusal.{Refusal}
 use Rattle.refusal.specs.declared.refused.Refusal.TheVariants.{BadLimit, StaleEpoch, JournalFull}
 use Rattle.osdmap.specs.Maps.{ClusterMap}
 use Rattle.osdmap.specs.Evals.{evals_of}
-use Rattle.osdmap.specs.Changes.{Step, change_fault, apply, after, IsLawful}
+use Rattle.stated.specs.Incrementals.{Step}
+use Rattle.osdmap.specs.Changes.{change_fault, apply, after, IsLawful}
 use Rattle.refusal.specs.Outcomes.{Gives}
 
 -- what callers see of a state: the first map, the changes since, how many there may be, and the present map

@@ -104,7 +104,7 @@ impl State {
     /// The epoch and the up set of a group: `UnknownPool` (23), `UnknownGroup` (25), else `Memory` (30). It takes one run
     /// of the rule, which `work` counts.
     pub fn answer_up(&self, pg: Pg, work: &mut Work) -> Result<(u64, UpSet), Refusal>
-        ensures set { Gives result (group_fault self.now.map pg) (λ answer. (answer.0 ≡ self.now.map.epoch) × Places up_set self.now.map pg (places_of answer.1)) }
+        ensures set { Gives result (group_fault self.now.map pg) (λ answer. (answer.0 ≡ self.now.map.epoch) × Places up_set self.now.map pg answer.1) }
         ensures run { RunsOnce work.old work.new result }
     {
         let set = self.map.up_of(pg, work)?;

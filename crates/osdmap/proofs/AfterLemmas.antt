@@ -10,7 +10,8 @@ use Rattle.std.proofs.lemmas.Bool.Decides.{nat_tests}
 use Rattle.osdmap.specs.Marks.{are_below}
 use Rattle.keylist.proofs.Tests.{and_first, and_second}
 use Rattle.osdmap.specs.Maps.{ClusterMap}
-use Rattle.osdmap.specs.Changes.{Step, apply, with_up, with_weight}
+use Rattle.stated.specs.Incrementals.{Step}
+use Rattle.osdmap.specs.Changes.{apply, with_up, with_weight}
 
 -- how many OSDs there are
 pub length-with_up : (up : Bool) (presences : List Presence) (osds : List ℕ) → length (fold (with_up up) presences osds) ≡ length presences

@@ -1,5 +1,5 @@
 -- A map that was built has what its parts state, and holds together.
-use Rattle.std.proofs.Common.{◌≡◌, ◌∙◌, ℕ, ◌≤◌, Bool, true, false, not, ◌==◌, nat_lt, List, [], ◌∷◌, map, length, Option, Some, None, Result, pos, nat_abs, refl, sym, ap, inl, inr, arith, ◌⊎◌}
+use Rattle.std.proofs.Common.{cond, ◌≡◌, ◌∙◌, ℕ, ◌≤◌, Bool, true, false, not, ◌==◌, nat_lt, List, [], ◌∷◌, map, length, Option, Some, None, Result, pos, nat_abs, refl, sym, ap, inl, inr, arith, ◌⊎◌}
 use Rattle.std.specs.Prelude.{◌||◌, nat_le, int_le}
 use Rattle.std.specs.List.{list_all, range_with_len, All}
 use Rattle.std.specs.Option.{option_map, option_map_or}
@@ -23,23 +23,24 @@ use Rattle.stated.specs.declared.parts.PoolPart.{PoolPart}
 use Rattle.stated.specs.declared.parts.OsdPart.{OsdPart}
 use Rattle.stated.specs.declared.rules.NumberedRule.{NumberedRule}
 use Rattle.refusal.specs.declared.refused.Refusal.{Refusal}
-use Rattle.refusal.specs.declared.refused.Refusal.TheVariants.{BadLimit, BadForest, BadRule, BadPool, BadOsd, Memory as OutOfMemory}
-use Rattle.osdmap.specs.Maps.{ClusterMap, has_rule, is_kind, is_rule_over, is_presence, HoldsTogether}
+use Rattle.refusal.specs.declared.refused.Refusal.TheVariants.{BadLimit, BadForest, BadRule, BadPool, BadOsd, BadException}
+use Rattle.stated.specs.CrushMaps.{is_rule_over}
+use Rattle.osdmap.specs.Maps.{ClusterMap, has_rule, is_kind, is_presence, HoldsTogether}
 use Rattle.stated.specs.Parts.{is_between, has_between, bucket_fits, rule_fits, pool_fits, osd_fits, is_osd_id, pair_fits, exceptions_fit, head_fits, lists_fit, parts_fit, pool_of}
 use Rattle.stated.specs.Pools.{PoolFacts, IsWithinLimits}
 use Rattle.keylist.specs.Keys.{is_distinct}
-use Rattle.refusal.specs.Outcomes.{Makes}
-use Rattle.osdmap.specs.Stated.{buckets_of, rule_of, rules_ok, pool_ok, pools_ok, osd_ok, osds_ok, explicit_of, items_of, all_exceptions_ok, map_fault, listed, presence_in, weight_in, IsStated}
+use Rattle.osdmap.specs.Stated.{buckets_of, rules_ok, pool_ok, pools_ok, osd_ok, osds_ok, explicit_of, items_of, all_exceptions_ok, map_fault, listed, presence_in, weight_in, IsStated}
 use Rattle.refusal.specs.Outcomes.{refused_unless}
 use Rattle.keylist.specs.Order.{Rises}
-use Rattle.osdmap.specs.Built.{IsForestOf, is_lawful, rules_fit, pools_fit, osds_fit, state_of, rows_of, row_presence, row_weight}
+use Rattle.stated.specs.CrushMaps.{IsForestOf, rule_of, rules_fit, crush_fault, IsCrushMap, IsCrushOf}
+use Rattle.osdmap.specs.Built.{pools_fit, osds_fit, state_of, rows_of, row_presence, row_weight}
 use Rattle.keylist.proofs.Tests.{and_first, and_second}
 use Rattle.stated.proofs.Within.{natural_between, pool_fits_each, pool_within}
 use Rattle.stated.proofs.Narrowed.{rule_id_fits, rule_limits, osd_weight_fits}
 use Rattle.osdmap.proofs.PlacementLemmas.{found_passes}
 use Rattle.keylist.proofs.Distinct.{distinct-moved, rising_distinct, find-moved, list_all-moved}
-use Rattle.osdmap.proofs.BuildLemmas.{passed, error_is}
-use Rattle.keylist.proofs.Each.{all_more, map_twice}
+use Rattle.stated.proofs.Judged.{passed, refused}
+use Rattle.keylist.proofs.Each.{all_more, all_so, list_all-agree, map-agree, map_twice}
 
 -- ---- parts within the limits
 
@@ -80,22 +81,7 @@ few_osds p fits = (natural_between 1 1024 p.max_osd fits.max_osd).most
 
 -- ---- the same tests of what is made
 
-pub list_all-agree : {X : Type 0} (p q : X → Bool) → ((x : X) → p x ≡ q x) → (xs : List X) → list_all p xs ≡ list_all q xs
-list_all-agree p q same [] = refl
-list_all-agree p q same (x ∷ xs) = rw (same x, list_all-agree p q same xs) refl
-
-takes_same : (given sorted : List Bucket) → IsForestOf given sorted → (s : Step) → takes_known sorted s ≡ takes_known given s
-takes_same given sorted forest (step.Take id) = rw (forest.found id) refl
-takes_same given sorted forest (step.Choose c) = refl
-takes_same given sorted forest step.Emit = refl
-
-lawful_same : (given sorted : List Bucket) → IsForestOf given sorted → (r : RulePart) → is_lawful sorted r ≡ is_lawful given r
-lawful_same given sorted forest r = rw (list_all-agree (takes_known sorted) (takes_known given) (takes_same given sorted forest)) refl
-
-pub rules_same : (p : MapParts) (sorted : List Bucket) → IsForestOf (buckets_of p) sorted → rules_fit sorted p.rules ≡ rules_ok p
-unfolding rules_ok
-rules_same p sorted forest = rw (list_all-agree (is_lawful sorted) (is_lawful (buckets_of p)) (lawful_same (buckets_of p) sorted forest)) refl
-
+-- a pool is served alike by the rules in either order
 has_same : (given sorted : List NumberedRule) → Rises (λ r. r.id) given sorted → (q : PoolFacts) → has_rule sorted q ≡ has_rule given q
 has_same given sorted rises q =
     let own = sym (distinct-moved (λ (r : NumberedRule). r.id) given sorted rises.same) ∙ rising_distinct (λ (r : NumberedRule). r.id) sorted rises.rising in
@@ -116,61 +102,58 @@ osds_same p = refl
 
 -- ---- what the first refusal is
 
-refused : (ok : Bool) (refusal e : Refusal) → refused_unless ok refusal ≡ Some e → ok ≡ false
-refused true refusal e h = absurd (cc)
-refused false refusal e h = refl
-
+-- a limit
 pub fault_limit : (p : MapParts) → parts_fit p ≡ false → map_fault p ≡ Some BadLimit
 unfolding map_fault
 fault_limit p limits = rw limits refl
 
-pub fault_forest : (p : MapParts) (e : Refusal) → parts_fit p ≡ true → refused_unless (forest_ok (buckets_of p) (nat_abs p.max_osd)) BadForest ≡ Some e → map_fault p ≡ Some e
-unfolding map_fault
-fault_forest p e limits h =
-    let wrong = refused (forest_ok (buckets_of p) (nat_abs p.max_osd)) BadForest e h in
-    rw (limits, wrong) (rw wrong at h)
+-- two tests, and what comes where both pass
+first_of : (f r : Bool) (rest : Option Refusal) (e : Refusal)
+    → cond (not f) (Some BadForest) (cond (not r) (Some BadRule) None) ≡ Some e → cond (not f) (Some BadForest) (cond (not r) (Some BadRule) rest) ≡ Some e
+first_of true true rest e h = absurd (cc)
+first_of true false rest e h = h
+first_of false r rest e h = h
 
-pub fault_rule : (p : MapParts) (buckets : List Bucket) (e : Refusal) → parts_fit p ≡ true
-    → refused_unless (forest_ok (buckets_of p) (nat_abs p.max_osd)) BadForest ≡ None → IsForestOf (buckets_of p) buckets
-    → refused_unless (rules_fit buckets p.rules) BadRule ≡ Some e → map_fault p ≡ Some e
-unfolding map_fault
-fault_rule p buckets e limits fine forest h =
-    let fails = refused (rules_fit buckets p.rules) BadRule e h in
-    let wrong = sym (rules_same p buckets forest) ∙ fails in
-    rw (limits, passed _ _ fine, wrong) (rw fails at h)
+rest_of : (f r : Bool) (rest : Option Refusal) → cond (not f) (Some BadForest) (cond (not r) (Some BadRule) None) ≡ None
+    → cond (not f) (Some BadForest) (cond (not r) (Some BadRule) rest) ≡ rest
+rest_of true true rest h = refl
+rest_of true false rest h = absurd (cc)
+rest_of false r rest h = absurd (cc)
 
-pub fault_pool : (p : MapParts) (buckets : List Bucket) (rules : List NumberedRule) (e : Refusal) → parts_fit p ≡ true
-    → refused_unless (forest_ok (buckets_of p) (nat_abs p.max_osd)) BadForest ≡ None → IsForestOf (buckets_of p) buckets
-    → refused_unless (rules_fit buckets p.rules) BadRule ≡ None → Rises (λ r. r.id) (map rule_of p.rules) rules
+forest_fine : (f r : Bool) → cond (not f) (Some BadForest) (cond (not r) (Some BadRule) None) ≡ None → f ≡ true
+forest_fine true r h = refl
+forest_fine false r h = absurd (cc)
+
+-- the forest or a rule
+pub fault_crush : (p : MapParts) (e : Refusal) → parts_fit p ≡ true → crush_fault p.buckets p.rules (nat_abs p.max_osd) ≡ Some e → map_fault p ≡ Some e
+unfolding map_fault rules_ok
+fault_crush p e limits h = rw limits (first_of (forest_ok (buckets_of p) (nat_abs p.max_osd)) (rules_fit (buckets_of p) p.rules) _ e h)
+
+-- what is left to look at where these are in order
+pub past_crush : (p : MapParts) (rest : Option Refusal) → parts_fit p ≡ true → crush_fault p.buckets p.rules (nat_abs p.max_osd) ≡ None
+    → cond (not (pools_ok p)) (Some BadPool) (cond (not (osds_ok p)) (Some BadOsd) (cond (not (all_exceptions_ok p)) (Some BadException) None)) ≡ rest → map_fault p ≡ rest
+unfolding map_fault rules_ok
+past_crush p rest limits fine is = rw limits (rest_of (forest_ok (buckets_of p) (nat_abs p.max_osd)) (rules_fit (buckets_of p) p.rules) _ fine ∙ is)
+
+-- a pool
+pub fault_pool : (p : MapParts) (rules : List NumberedRule) (e : Refusal) → parts_fit p ≡ true
+    → crush_fault p.buckets p.rules (nat_abs p.max_osd) ≡ None → Rises (λ r. r.id) (map rule_of p.rules) rules
     → refused_unless (pools_fit rules p.pools) BadPool ≡ Some e → map_fault p ≡ Some e
-unfolding map_fault
-fault_pool p buckets rules e limits fine forest lawful rises h =
-    let good = sym (rules_same p buckets forest) ∙ passed _ _ lawful in
+fault_pool p rules e limits fine rises h =
     let fails = refused (pools_fit rules p.pools) BadPool e h in
     let wrong = sym (pools_same p rules rises) ∙ fails in
-    rw (limits, passed _ _ fine, good, wrong) (rw fails at h)
+    past_crush p (Some e) limits fine (rw wrong (rw fails at h))
 
-pub fault_osd : (p : MapParts) (buckets : List Bucket) (rules : List NumberedRule) (e : Refusal) → parts_fit p ≡ true
-    → refused_unless (forest_ok (buckets_of p) (nat_abs p.max_osd)) BadForest ≡ None → IsForestOf (buckets_of p) buckets
-    → refused_unless (rules_fit buckets p.rules) BadRule ≡ None → Rises (λ r. r.id) (map rule_of p.rules) rules
+-- an OSD
+pub fault_osd : (p : MapParts) (rules : List NumberedRule) (e : Refusal) → parts_fit p ≡ true
+    → crush_fault p.buckets p.rules (nat_abs p.max_osd) ≡ None → Rises (λ r. r.id) (map rule_of p.rules) rules
     → refused_unless (pools_fit rules p.pools) BadPool ≡ None
     → refused_unless (osds_fit (nat_abs p.max_osd) p.osds) BadOsd ≡ Some e → map_fault p ≡ Some e
-unfolding map_fault
-fault_osd p buckets rules e limits fine forest lawful rises pooled h =
-    let good = sym (rules_same p buckets forest) ∙ passed _ _ lawful in
+fault_osd p rules e limits fine rises pooled h =
     let served = sym (pools_same p rules rises) ∙ passed _ _ pooled in
     let fails = refused (osds_fit (nat_abs p.max_osd) p.osds) BadOsd e h in
     let wrong = sym (osds_same p) ∙ fails in
-    rw (limits, passed _ _ fine, good, served, wrong) (rw fails at h)
-
--- an error that a part of the work answers is the answer
-pub stops : {X : Type 0} (r : Result X Refusal) (P : X → Type 0) (fault part : Option Refusal) (e : Refusal)
-    → (part ≡ Some e → fault ≡ Some e) → ((e ≡ OutOfMemory) ⊎ (part ≡ Some e)) → IsErrAnd r (λ y. y ≡ e) → Makes r fault P
-stops r P fault part e so h err = rw (error_is r e err) (or_so h)
-  where
-    or_so : ((e ≡ OutOfMemory) ⊎ (part ≡ Some e)) → (e ≡ OutOfMemory) ⊎ (fault ≡ Some e)
-    or_so (inl memory) = inl memory
-    or_so (inr wrong) = inr (so wrong)
+    past_crush p (Some e) limits fine (rw (served, wrong) (rw fails at h))
 
 -- ---- the map
 
@@ -178,11 +161,9 @@ stops r P fault part e so h err = rw (error_is r e err) (or_so h)
 pub record IsBuilt (p : MapParts) (m : ClusterMap) : Type 0 where
   pub limits : parts_fit p ≡ true
   pub epoch : m.epoch ≡ nat_abs p.epoch
-  pub grown : refused_unless (forest_ok (buckets_of p) (nat_abs p.max_osd)) BadForest ≡ None
-  pub is_forest : IsForest m.buckets
-  pub forest : IsForestOf (buckets_of p) m.buckets
-  pub lawful : refused_unless (rules_fit m.buckets p.rules) BadRule ≡ None
-  pub rules : Rises (λ r. r.id) (map rule_of p.rules) m.rules
+  pub grown : crush_fault p.buckets p.rules (nat_abs p.max_osd) ≡ None
+  pub crush : IsCrushMap (record { buckets = m.buckets; rules = m.rules })
+  pub stated : IsCrushOf p.buckets p.rules (record { buckets = m.buckets; rules = m.rules })
   pub served : refused_unless (pools_fit m.rules p.pools) BadPool ≡ None
   pub pools : Rises (λ q. q.id) (map pool_of p.pools) m.pools
   pub entered : refused_unless (osds_fit (nat_abs p.max_osd) p.osds) BadOsd ≡ None
@@ -192,16 +173,10 @@ pub record IsBuilt (p : MapParts) (m : ClusterMap) : Type 0 where
   pub items : m.items ≡ []
 
 pub no_fault : (p : MapParts) (m : ClusterMap) → IsBuilt p m → all_exceptions_ok p ≡ true → map_fault p ≡ None
-unfolding map_fault
 no_fault p m built excepted =
-    let good = sym (rules_same p m.buckets built.forest) ∙ passed _ _ built.lawful in
-    let served = sym (pools_same p m.rules built.rules) ∙ passed _ _ built.served in
+    let served = sym (pools_same p m.rules built.stated.rules) ∙ passed _ _ built.served in
     let entered = sym (osds_same p) ∙ passed _ _ built.entered in
-    rw (built.limits, passed _ _ built.grown, good, served, entered, excepted) refl
-
-map-agree : {X Y : Type 0} (f g : X → Y) → ((x : X) → f x ≡ g x) → (xs : List X) → map f xs ≡ map g xs
-map-agree f g same [] = refl
-map-agree f g same (x ∷ xs) = rw (same x, map-agree f g same xs) refl
+    past_crush p None built.limits built.grown (rw (served, entered, excepted) refl)
 
 presence_same : (osds : List OsdPart) (n : ℕ) → row_presence (option_map state_of (listed osds n)) ≡ presence_in osds n
 presence_same osds n = by_listed (listed osds n)
@@ -226,10 +201,10 @@ weights_same osds max_osd = map_twice row_weight _ (range_with_len 0 max_osd) �
 pub is_stated : (p : MapParts) (m : ClusterMap) → IsBuilt p m → explicit_of p ≡ [] → items_of p ≡ [] → IsStated p m
 is_stated p m built no_explicit no_items = record {
   epoch = built.epoch;
-  buckets = built.forest.same;
-  falling = built.forest.falling;
-  rules = built.rules.same;
-  rules_rise = built.rules.rising;
+  buckets = built.stated.buckets.same;
+  falling = built.stated.buckets.falling;
+  rules = built.stated.rules.same;
+  rules_rise = built.stated.rules.rising;
   pools = built.pools.same;
   pools_rise = built.pools.rising;
   presences = built.presences ∙ presences_same p.osds (nat_abs p.max_osd);
@@ -246,29 +221,6 @@ ruled p m built =
     let all = and_second (is_distinct (map (λ (q : PoolPart). nat_abs q.id) p.pools)) (list_all (pool_ok m.rules) p.pools) (passed _ _ built.served) in
     let each = all_more (pool_ok m.rules) (λ q. has_rule m.rules (pool_of q)) p.pools (λ q h. and_second _ (has_rule m.rules (pool_of q)) h) all in
     list_all-moved (has_rule m.rules) (map pool_of p.pools) m.pools built.pools.same ∙ list_all-map (has_rule m.rules) pool_of p.pools ∙ each
-
-counted_rules : (p : MapParts) (m : ClusterMap) → IsBuilt p m → has_between 1 32 p.rules ≡ true → (1 ≤ length m.rules) × (length m.rules ≤ 32)
-unfolding has_between
-counted_rules p m built few =
-    let made = length_permutation _ _ built.rules.same ∙ length-map p.rules rule_of in
-    (grind (arith, nat_tests, made), grind (arith, nat_tests, made))
-
-all_both : {X : Type 0} (p q r : X → Bool) → ((x : X) → p x ≡ true → q x ≡ true → r x ≡ true) → (xs : List X) → list_all p xs ≡ true → list_all q xs ≡ true → list_all r xs ≡ true
-all_both p q r gives [] all also = refl
-all_both p q r gives (x ∷ xs) all also =
-    rw (gives x (and_first (p x) (list_all p xs) all) (and_first (q x) (list_all q xs) also), all_both p q r gives xs (and_second (p x) (list_all p xs) all) (and_second (q x) (list_all q xs) also)) refl
-
-rule_over : (buckets : List Bucket) (r : RulePart) → rule_fits r ≡ true → is_lawful buckets r ≡ true → is_rule_over buckets (rule_of r) ≡ true
-unfolding is_rule_over
-rule_over buckets r fits lawful =
-    let id = (natural_between 0 255 r.id (rule_id_fits r fits)).most in
-    grind (arith, nat_tests, id, rule_limits r fits, lawful)
-
-rules_over : (p : MapParts) (m : ClusterMap) → IsBuilt p m → list_all rule_fits p.rules ≡ true → list_all (is_rule_over m.buckets) m.rules ≡ true
-rules_over p m built fit =
-    let lawful = and_second (is_distinct (map (λ (r : RulePart). nat_abs r.id) p.rules)) (list_all (is_lawful m.buckets) p.rules) (passed _ _ built.lawful) in
-    list_all-moved (is_rule_over m.buckets) (map rule_of p.rules) m.rules built.rules.same ∙ list_all-map (is_rule_over m.buckets) rule_of p.rules
-    ∙ all_both rule_fits (is_lawful m.buckets) (λ r. is_rule_over m.buckets (rule_of r)) (rule_over m.buckets) p.rules fit lawful
 
 one_within : (rules : List NumberedRule) (q : PoolPart) → pool_fits q ≡ true → pool_ok rules q ≡ true → IsWithinLimits (pool_of q)
 unfolding pool_ok
@@ -288,10 +240,6 @@ pools_within p m built fit =
     All-permutation IsWithinLimits (map pool_of p.pools) m.pools built.pools.same (each_within m.rules p.pools fit ok)
 
 -- ---- OSDs
-
-all_so : {X : Type 0} (p : X → Bool) → ((x : X) → p x ≡ true) → (xs : List X) → list_all p xs ≡ true
-all_so p so [] = refl
-all_so p so (x ∷ xs) = rw (so x, all_so p so xs) refl
 
 up_fine : (max_osd : ℕ) (o : OsdPart) → osd_ok max_osd o ≡ true → (not o.up || o.exists) ≡ true
 unfolding osd_ok
@@ -341,19 +289,18 @@ holds p m built =
     let rows = rows_of p.osds (nat_abs p.max_osd) in
     let many : length m.presences ≡ nat_abs p.max_osd = ap length built.presences ∙ length-map rows row_presence ∙ length-map (range_with_len 0 (nat_abs p.max_osd)) _ ∙ length-range_with_len 0 (nat_abs p.max_osd) in
     let each = parts_fit_each p built.limits in
-    let counted = counted_rules p m built each.rule_count in
     record {
       some = rw many (some_osds p each);
       few = rw many (few_osds p each);
       present = present p m built;
       weighed = ap length built.weights ∙ length-map rows row_weight ∙ sym (ap length built.presences ∙ length-map rows row_presence);
       weigh_little = weigh_little p m built each.osds;
-      forest = built.is_forest;
-      over_osds = rw many (forest_ok-moved (buckets_of p) m.buckets built.forest.same (nat_abs p.max_osd) ∙ passed _ _ built.grown);
-      some_rules = counted.0;
-      few_rules = counted.1;
-      rules_rise = built.rules.rising;
-      rules_over = rules_over p m built each.rules;
+      forest = built.crush.forest;
+      over_osds = rw many (forest_ok-moved (buckets_of p) m.buckets built.stated.buckets.same (nat_abs p.max_osd) ∙ forest_fine _ (rules_fit (buckets_of p) p.rules) built.grown);
+      some_rules = built.crush.some_rules;
+      few_rules = built.crush.few_rules;
+      rules_rise = built.crush.rules_rise;
+      rules_over = built.crush.rules_over;
       few_pools = few_pools p m built each.pool_count;
       pools_rise = built.pools.rising;
       pools_within = pools_within p m built each.pools;

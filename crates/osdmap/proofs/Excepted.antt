@@ -28,7 +28,8 @@ use Rattle.keylist.specs.Order.{Rises}
 use Rattle.osdmap.specs.Built.{without_exceptions}
 use Rattle.keylist.proofs.Tests.{and_second}
 use Rattle.keylist.proofs.Distinct.{distinct-moved, rising_distinct, find-moved, list_all-moved}
-use Rattle.osdmap.proofs.BuildLemmas.{passed, osds_below}
+use Rattle.stated.proofs.Judged.{passed}
+use Rattle.osdmap.proofs.BuildLemmas.{osds_below}
 use Rattle.keylist.proofs.Each.{list_all-agree}
 
 -- ---- OSDs that exist

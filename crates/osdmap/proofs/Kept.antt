@@ -23,7 +23,8 @@ use Rattle.keylist.specs.Order.{IsRising}
 use Rattle.keylist.specs.Puts.{put}
 use Rattle.stated.specs.Exceptions.{key_of, has_group, target, sides, all_named, is_set, are_pairs, is_sound, is_exception, stays, is_among, exceptions_after}
 use Rattle.osdmap.specs.Maps.{ClusterMap, osd_exists, has_rule, is_presence, HoldsTogether}
-use Rattle.osdmap.specs.Changes.{Step, names_osds, weighs_rightly, pools_kept, pools_after, all_groups, names_groups, brings_new, brings_rightly, excepts_soundly, change_fault, apply, with_up, with_weight}
+use Rattle.stated.specs.Incrementals.{Step}
+use Rattle.osdmap.specs.Changes.{names_osds, weighs_rightly, pools_kept, pools_after, all_groups, names_groups, brings_new, brings_rightly, excepts_soundly, change_fault, apply, with_up, with_weight}
 use Rattle.keylist.proofs.Tests.{and_first, and_second, not_true}
 use Rattle.keylist.proofs.KeyedOrder.{rising-filter}
 use Rattle.keylist.proofs.KeyedMaps.{has-entry, entry-put, entry-without, list_all-puts, list_all-filter, All-puts, rising-puts}

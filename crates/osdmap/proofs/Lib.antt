@@ -1,33 +1,15 @@
-pub mod Tests
-pub mod Fits
-pub mod MarksLemmas
+mod MarksLemmas
 pub mod Named
 pub mod Accepted
 pub mod CheckLemmas
 pub mod Coming
 pub mod AfterLemmas
-pub mod StayingLemmas
+mod EvalsLemmas
+mod StayingLemmas
 pub mod Kept
 pub mod PlacementLemmas
-pub mod Replaced
-mod MappedLemmas
-pub mod EvalsLemmas
-mod PgTexts
-pub mod GroupTexts
-pub mod BuildFits
-pub mod Distinct
+mod Replaced
 pub mod BuildLemmas
-pub mod Listing
+mod Listing
 pub mod Built
 pub mod Excepted
-pub mod KeyedOrder
-pub mod KeyedFinds
-pub mod KeyedDistinct
-pub mod KeyedPuts
-pub mod KeyedMaps
-pub mod OrderLaw
-pub mod FewExceptions
-pub mod OwnFits
-pub mod OwnOsds
-pub mod OwnParts
-pub mod Held

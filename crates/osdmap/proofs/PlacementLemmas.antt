@@ -11,7 +11,8 @@ use Rattle.crush.specs.Run.{Progress, after_step, progress_of, run_of, all_tries
 use Rattle.crush.specs.declared.choose.Tries.{Tries}
 use Rattle.stated.specs.declared.rules.NumberedRule.{NumberedRule}
 use Rattle.stated.specs.Pools.{PoolFacts}
-use Rattle.osdmap.specs.Maps.{has_rule, rule_at, is_kind}
+use Rattle.stated.specs.CrushMaps.{rule_at}
+use Rattle.osdmap.specs.Maps.{has_rule, is_kind}
 
 -- what is found passes a test that all pass
 pub found_passes : {X : Type 0} (p q : X → Bool) (xs : List X) (x : X) → find p xs ≡ Some x → list_all q xs ≡ true → q x ≡ true

@@ -1,11 +1,9 @@
 -- An OSD of a set that goes to another: its first place is written.
 use Rattle.std.proofs.Common.{◌≡◌, ℕ, ◌<◌, min, List, [], ◌∷◌, length, take, length-take, position, Option, Some, None, refl, arith}
 use Rattle.std.proofs.Math.ListN.{set}
-use Rattle.std.proofs.Math.Seq.{take-set-lt}
 use Rattle.std.specs.List.{position_or_len}
 use Rattle.std.proofs.lemmas.Grind.{common_steps}
 use Rattle.std.proofs.lemmas.List.{set_past}
-use Rattle.std.proofs.lemmas.List.Quantifiers.{position-Some}
 use Rattle.stated.specs.declared.exception.Pair.{Pair}
 use Rattle.osdmap.specs.Mapped.{is_of, replaced}
 
@@ -22,11 +20,3 @@ replaced_nowhere pair xs none = grind (arith, common_steps, replaced_first pair 
 -- else the place where it stands first is written
 pub replaced_at : (pair : Pair) (xs : List (Option ℕ)) (k : ℕ) → position (is_of pair.from) xs ≡ Some k → replaced pair xs ≡ set xs k (Some pair.to)
 replaced_at pair xs k at = grind (arith, common_steps, replaced_first pair xs)
-
--- and so in a longer list, whose front these places are
-pub replaced_in : (pair : Pair) (n : ℕ) (xs : List (Option ℕ)) (k : ℕ) → position (is_of pair.from) (take n xs) ≡ Some k → take n (set xs k (Some pair.to)) ≡ replaced pair (take n xs)
-replaced_in pair n xs k at =
-    let there = position-Some (is_of pair.from) (take n xs) k None at in
-    let within : k < min n (length xs) = simp length-take at there.0 in
-    let below : k < n = omega (arith, within) in
-    rw (take-set-lt n xs k (Some pair.to) below, replaced_at pair (take n xs) k at)

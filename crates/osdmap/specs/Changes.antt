@@ -8,16 +8,13 @@ use Rattle.stated.specs.declared.osd.Presence.{Presence}
 use Rattle.refusal.specs.declared.refused.Refusal.{Refusal}
 use Rattle.refusal.specs.declared.refused.Refusal.TheVariants.{UnknownOsd, BadWeight, UnknownPool, PoolExists, BadPool, UnknownGroup, BadNewException, DuplicatePart}
 use Rattle.stated.specs.declared.pg.Pg.{Pg}
+use Rattle.stated.specs.Incrementals.{Step}
+use Rattle.stated.specs.Limits.{max_pools, full_weight}
 use Rattle.stated.specs.Pools.{PoolFacts}
 use Rattle.keylist.specs.Keys.{is_distinct, has_key}
 use Rattle.keylist.specs.Puts.{put}
 use Rattle.stated.specs.Exceptions.{place_of, key_of, has_pool, has_pool_of, has_group, target, sides, all_named, is_set, are_pairs, is_sound, exceptions_after}
 use Rattle.osdmap.specs.Maps.{ClusterMap, osd_exists, has_rule}
-
--- an incremental: a change, and the epoch of the map after it
-pub record Step : Type 0 where
-  pub epoch : ℕ
-  pub change : ChangeParts
 
 -- ---- refusals
 
@@ -29,7 +26,7 @@ names_osds m c =
 
 -- each reweight is at most 65,536
 unfoldable pub weighs_rightly : ChangeParts → Bool
-weighs_rightly c = list_all (λ w. nat_le w.weight 65536) c.weight
+weighs_rightly c = list_all (λ w. nat_le w.weight full_weight) c.weight
 
 -- the pools that stay
 unfoldable pub pools_kept : ClusterMap → ChangeParts → List PoolFacts
@@ -55,7 +52,7 @@ brings_new m c = list_all (λ p. not (has_pool (pools_kept m c) p.id)) c.new_poo
 
 -- each pool that comes has a rule of its kind, and there are at most 32 pools then
 unfoldable pub brings_rightly : ClusterMap → ChangeParts → Bool
-brings_rightly m c = list_all (has_rule m.rules) c.new_pools && nat_le (length (pools_after m c)) 32
+brings_rightly m c = list_all (has_rule m.rules) c.new_pools && nat_le (length (pools_after m c)) max_pools
 
 -- each group that is named is there then
 unfoldable pub names_groups : ClusterMap → ChangeParts → Bool

@@ -1,35 +1,19 @@
 -- How many groups' placement a change can alter.
-use Rattle.std.specs.Prelude.{ℕ, zero, suc, Bool, false, ◌||◌, ℤ, pos, List, Option}
+use Rattle.std.specs.Prelude.{ℕ, Bool, false, ◌||◌, pos, List, Option}
 use Rattle.std.specs.List.{list_any, sum_by, count_by, range_with_len}
 use Rattle.std.specs.Option.{option_map_or}
-use Rattle.std.specs.Ordering.{int_eq}
-use Rattle.crush.specs.declared.bucket.Bucket.{Bucket}
-use Rattle.crush.specs.declared.rule.Step.{Step}
-use Rattle.crush.specs.declared.rule.Step.TheVariants.{Take, Choose as Chooses, Emit}
-use Rattle.crush.specs.Forest.{bucket_at}
+use Rattle.crush.specs.Paths as paths
+use Rattle.keylist.specs.Keys.{has_key}
 use Rattle.stated.specs.declared.change.ChangeParts.{ChangeParts}
+use Rattle.stated.specs.declared.pg.Pg.{Pg}
+use Rattle.stated.specs.Exceptions.{place_of, key_of, is_among, said_of, target, sides}
 use Rattle.stated.specs.Pools.{PoolFacts}
 use Rattle.osdmap.specs.Maps.{ClusterMap}
-use Rattle.stated.specs.declared.pg.Pg.{Pg}
-use Rattle.keylist.specs.Keys.{has_key}
-use Rattle.stated.specs.Exceptions.{place_of, key_of, is_among, said_of, target, sides}
 use Rattle.osdmap.specs.Placement.{group_of, steps_of}
-
--- whether an item stands at most n steps below a bucket
-unfoldable pub is_under : List Bucket → ℕ → ℤ → ℤ → Bool
-is_under buckets zero top item = false
-is_under buckets (suc n) top item =
-    option_map_or (λ b. list_any (λ i. int_eq i.id item || is_under buckets n i.id item) b.items) (bucket_at buckets top) false
-
--- whether a step takes a bucket above an OSD; types fall from 15 on, so that no more than 15 steps lead down
-abbrev pub takes_over : List Bucket → ℕ → Step → Bool
-takes_over buckets osd (Take bucket) = is_under buckets 15 bucket (pos osd)
-takes_over buckets osd (Chooses c) = false
-takes_over buckets osd Emit = false
 
 -- whether a pool's rule reaches an OSD that gets another reweight
 unfoldable pub reaches : ClusterMap → ChangeParts → PoolFacts → Bool
-reaches m c p = list_any (λ w. list_any (takes_over m.buckets w.osd) (steps_of m p)) c.weight
+reaches m c p = list_any (λ w. paths.reaches m.buckets (steps_of m p) (pos w.osd)) c.weight
 
 -- whether all groups of a pool are placed anew: it comes with the change, or its rule reaches such an OSD
 unfoldable pub is_touched : ClusterMap → ChangeParts → PoolFacts → Bool

@@ -5,9 +5,7 @@ use Rattle.std.specs.Option.{option_map, option_map_or}
 use Rattle.crush.specs.declared.bucket.Bucket.{Bucket}
 use Rattle.crush.specs.declared.rule.RuleKind.{RuleKind}
 use Rattle.crush.specs.declared.rule.RuleKind.TheVariants.{Replicated, Erasure}
-use Rattle.crush.specs.Rules.{Recipe}
 use Rattle.crush.specs.WellFormed.{forest_ok, IsForest}
-use Rattle.crush.specs.Grammar.{rule_limits_ok, rule_ok}
 use Rattle.stated.specs.declared.osd.Presence.{Presence}
 use Rattle.stated.specs.declared.osd.OsdState.{OsdState}
 use Rattle.stated.specs.declared.rules.NumberedRule.{NumberedRule}
@@ -15,6 +13,9 @@ use Rattle.stated.specs.declared.exception.Exception.{Exception}
 use Rattle.stated.specs.declared.exception.Pair.{Pair}
 use Rattle.stated.specs.Exceptions.{key_of, is_exception, target, sides, is_set, are_pairs}
 use Rattle.keylist.specs.Order.{IsRising}
+use Rattle.crush.specs.Limits.{max_devices}
+use Rattle.stated.specs.Limits.{max_rules, max_pools, full_weight}
+use Rattle.stated.specs.CrushMaps.{rule_at, is_rule_over}
 use Rattle.stated.specs.Pools.{PoolFacts, IsWithinLimits}
 
 -- what callers see of a map: its epoch, the buckets of its forest by id downwards, its rules and pools by id upwards, and
@@ -28,10 +29,6 @@ pub record ClusterMap : Type 0 where
   pub weights : List ℕ
   pub explicit : List (Exception ℕ)
   pub items : List (Exception Pair)
-
--- the rule of an id
-abbrev pub rule_at : List NumberedRule → ℕ → Option Recipe
-rule_at rules id = option_map (λ r. r.rule) (find (λ r. r.id == id) rules)
 
 -- the pool of an id
 abbrev pub pool_at : List PoolFacts → ℕ → Option PoolFacts
@@ -61,10 +58,6 @@ is_kind Erasure Erasure = true
 abbrev pub has_rule : List NumberedRule → PoolFacts → Bool
 has_rule rules p = option_map_or (λ r. is_kind r.kind p.kind) (rule_at rules p.rule) false
 
--- a rule of an id of at most 255, within the limits, and over a forest
-unfoldable pub is_rule_over : List Bucket → NumberedRule → Bool
-is_rule_over buckets r = nat_le r.id 255 && rule_limits_ok r.rule.steps && rule_ok r.rule.kind r.rule.steps buckets
-
 -- an OSD that is up only where it exists
 abbrev pub is_presence : Presence → Bool
 is_presence p = not p.up || p.exists
@@ -74,17 +67,17 @@ is_presence p = not p.up || p.exists
 -- limits and with a rule of its kind; and exceptions by group upwards, each of them soundly
 pub record HoldsTogether (m : ClusterMap) : Type 0 where
   pub some : 1 ≤ length m.presences
-  pub few : length m.presences ≤ 1024
+  pub few : length m.presences ≤ max_devices
   pub present : list_all is_presence m.presences ≡ true
   pub weighed : length m.weights ≡ length m.presences
-  pub weigh_little : list_all (λ w. nat_le w 65536) m.weights ≡ true
+  pub weigh_little : list_all (λ w. nat_le w full_weight) m.weights ≡ true
   pub forest : IsForest m.buckets
   pub over_osds : forest_ok m.buckets (length m.presences) ≡ true
   pub some_rules : 1 ≤ length m.rules
-  pub few_rules : length m.rules ≤ 32
+  pub few_rules : length m.rules ≤ max_rules
   pub rules_rise : IsRising (λ r. r.id) m.rules
   pub rules_over : list_all (is_rule_over m.buckets) m.rules ≡ true
-  pub few_pools : length m.pools ≤ 32
+  pub few_pools : length m.pools ≤ max_pools
   pub pools_rise : IsRising (λ p. p.id) m.pools
   pub pools_within : All IsWithinLimits m.pools
   pub ruled : list_all (has_rule m.rules) m.pools ≡ true

@@ -13,7 +13,8 @@ use Rattle.stated.specs.Pools.{PoolFacts}
 use Rattle.osdmap.specs.Sets.{kept}
 use Rattle.stated.specs.Exceptions.{said_of}
 use Rattle.osdmap.specs.Mapped.{mapped}
-use Rattle.osdmap.specs.Maps.{ClusterMap, rule_at, pool_at, osd_exists, osd_is_up}
+use Rattle.stated.specs.CrushMaps.{rule_at}
+use Rattle.osdmap.specs.Maps.{ClusterMap, pool_at, osd_exists, osd_is_up}
 
 -- the numbers 2 ^ k - 1 up to 4095
 unfoldable pub masks : List ℕ

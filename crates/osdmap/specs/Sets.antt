@@ -1,13 +1,8 @@
 -- The set of a group.
-use Rattle.std.specs.Prelude.{ℕ, List, [], ◌∷◌, Option, Some, None, take}
+use Rattle.std.specs.Prelude.{ℕ, List, [], ◌∷◌, Option, Some, None}
 use Rattle.std.specs.List.{flat_map}
 use Rattle.crush.specs.declared.rule.RuleKind.{RuleKind}
 use Rattle.crush.specs.declared.rule.RuleKind.TheVariants.{Replicated, Erasure}
-use Rattle.osdmap.specs.declared.up_set.UpSet.{UpSet}
-
--- its places, in order
-abbrev pub places_of : UpSet → List (Option ℕ)
-places_of s = take s.len s.places
 
 -- what is kept of a place: copies may change their places, so that one without an OSD is left out; coded parts keep theirs
 abbrev pub kept_in : RuleKind → Option ℕ → List (Option ℕ)

@@ -19,28 +19,16 @@ use Rattle.stated.specs.declared.exception.Exception.{Exception}
 use Rattle.stated.specs.declared.exception.Pair.{Pair}
 use Rattle.stated.specs.Pools.{PoolFacts}
 use Rattle.stated.specs.Exceptions.{key_of, is_exception, target, sides, is_set, are_pairs}
+use Rattle.stated.specs.CrushMaps.{rule_of}
 use Rattle.osdmap.specs.Maps.{ClusterMap, has_rule}
 use Rattle.keylist.specs.Keys.{is_distinct}
 use Rattle.keylist.specs.Order.{IsRising}
-
--- what a call that makes a value answers: a value with the fact P exactly where there is no fault, and else the fault; or
--- that a growth was refused
-abbrev pub Makes : {X : Type 0} → Result X Refusal → Option Refusal → (X → Type 0) → Type 0
-Makes r fault P = MatchResult r (λ x. (fault ≡ None) × P x) (λ e. (e ≡ OutOfMemory) ⊎ (fault ≡ Some e))
-
--- the same of a call that looks for faults first: a growth is refused only where there is none
-abbrev pub Gives : {X : Type 0} → Result X Refusal → Option Refusal → (X → Type 0) → Type 0
-Gives r fault P = MatchResult r (λ x. (fault ≡ None) × P x) (λ e. ((fault ≡ None) × (e ≡ OutOfMemory)) ⊎ (fault ≡ Some e))
 
 -- ---- what is wrong with parts within the limits
 
 -- the buckets of the forest, in the order of the text
 abbrev pub buckets_of : MapParts → List Bucket
 buckets_of p = map bucket_of p.buckets
-
--- a rule under its id
-abbrev pub rule_of : RulePart → NumberedRule
-rule_of r = record { id = nat_abs r.id; rule = recipe_of r }
 
 -- no id twice, and each rule is one of the grammar that takes buckets of the forest
 unfoldable pub rules_ok : MapParts → Bool

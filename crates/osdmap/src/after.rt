@@ -1,3 +1,5 @@
+//! The map after a change.
+
 ghost use Rattle.std.specs.Prelude.{◌≡◌, true, length, drop, nat_lt, IfOk};
 ghost use Rattle.std.specs.List.{fold, filter, prefix_len};
 ghost use Rattle.osdmap.specs.Staying.{goes};
@@ -7,16 +9,10 @@ ghost use Rattle.stated.specs.Exceptions.{place_of, key_of, stays, exceptions_af
 ghost use Rattle.keylist.specs.Order.{IsRising};
 ghost use Rattle.osdmap.specs.Marks.{are_below};
 
-use stated::{Change, Reweight};
-use crate::copy::copied_rules;
-use stated::{Entry, Exception, Explicit, Items};
-use keylist::{Again, has, merged};
 use crate::map::OsdMap;
-use stated::Presence;
-use stated::Pg;
-use stated::Pool;
-use keylist::Entries;
+use keylist::{Entries, has, merged};
 use refusal::Memory;
+use stated::{Change, Entry, Exception, Explicit, Items, Pg, Pool, Presence, Reweight};
 use std::alloc::Global;
 
 /// Each OSD of a list goes up or down.
@@ -26,13 +22,13 @@ fn set_up(presences: &mut Entries<Presence>, osds: &[u32], up: bool)
 {
     for osd in osds {
         let place = *osd as usize;
-        let exists = presences.as_slice()[place].exists;
+        let exists = presences[place].exists;
         presences.set(place, Presence { exists, up });
     }
 }
 
 /// Each OSD of a list gets its reweight.
-fn set_weights(weights: &mut Weights, reweights: &[Reweight])
+fn set_weights(weights: &mut Entries<u32>, reweights: &[Reweight])
     requires { are_below (λ w. w.osd) (length weights.old) reweights.now ≡ true }
     ensures { weights.new ≡ fold with_weight weights.old reweights.now }
 {
@@ -81,14 +77,14 @@ fn staying<E: Entry>(
     for exception in exceptions {
         rest = from(rest, exception.pg.place());
         if !goes(exception.pg, old_pools, rest) {
-            kept.push(exception.again())?;
+            kept.push(*exception)?;
         }
     }
     Ok(kept)
 }
 
 /// The exceptions after some are taken away and others put in.
-#[tactic(auto, unfolding(crate::specs::Exceptions::exceptions_after))]
+#[tactic(auto, unfolding(stated::specs::Exceptions::exceptions_after))]
 fn exceptions_after<E: Entry>(
     alloc: Global,
     exceptions: &[Exception<E>],
@@ -118,7 +114,7 @@ impl OsdMap {
     fn pools_kept(&self, alloc: Global, change: &Change) -> Result<Vec<Pool>, Memory>
         ensures { IfOk result (λ pools. pools.items ≡ pools_kept self.now change.now) }
     {
-        let old = &change.parts().old_pools;
+        let old: &[u32] = &change.parts().old_pools;
         Ok(
             self.pools
                 .iter()
@@ -135,7 +131,7 @@ impl OsdMap {
         ensures value { IfOk result (λ pools. pools.items ≡ pools_after self.now change.now) }
         ensures within { All IsWithinLimits change.now.new_pools }
     {
-        let new = &change.parts().new_pools;
+        let new: &[Pool] = &change.parts().new_pools;
         let kept = self.pools_kept(alloc, change)?;
         merged(alloc, &kept, new)
     }
@@ -146,14 +142,14 @@ impl OsdMap {
         ensures { IfOk result (λ presences. presences ≡ fold (with_up true) (fold (with_up false) self.now.presences change.now.down) change.now.up) }
     {
         let parts = change.parts();
-        let mut presences = Entries::new(Vec::from_slice(alloc, self.presences.as_slice())?);
+        let mut presences = self.presences.copy(alloc)?;
         set_up(&mut presences, &parts.down, false);
         set_up(&mut presences, &parts.up, true);
         Ok(presences)
     }
 
     /// The reweights after a change.
-    fn weights_after(&self, alloc: Global, change: &Change) -> Result<Weights, Memory>
+    fn weights_after(&self, alloc: Global, change: &Change) -> Result<Entries<u32>, Memory>
         requires { change_fault self.now change.now ≡ None }
         ensures { IfOk result (λ weights. weights ≡ fold with_weight self.now.weights change.now.weight) }
     {
@@ -199,8 +195,7 @@ impl OsdMap {
         requires epoch { self.now.epoch + 1 < 2 ^ 64 }
         ensures { IfOk result (λ m. m ≡ apply self.now (record { epoch = self.now.epoch + 1; change = change.now })) }
     {
-        let forest = self.forest.copy(alloc)?;
-        let rules = copied_rules(alloc, &self.rules)?;
+        let crush = self.crush.copy(alloc)?;
         let pools = self.pools_after(alloc, change)?;
         let presences = self.presences_after(alloc, change)?;
         let weights = self.weights_after(alloc, change)?;
@@ -208,8 +203,7 @@ impl OsdMap {
         let items = self.items_after(alloc, change)?;
         Ok(OsdMap {
             epoch: self.epoch + 1,
-            forest,
-            rules,
+            crush,
             pools,
             presences,
             weights,

@@ -1,27 +1,24 @@
+//! The map that parts state.
+
 mod exceptions;
-mod forest;
-mod numbers;
-mod order;
 mod osds;
 mod pools;
-mod rules;
 
-use stated::limits::{parts_fit, word};
 use crate::map::OsdMap;
-use stated::MapParts;
-use refusal::Refusal;
 use keylist::Entries;
-use forest::forest_of;
 use osds::{presences_of, rows_of, weights_of};
 pub(crate) use pools::has_rule;
 use pools::pools_of;
-use rules::rules_of;
+use refusal::Refusal;
+use stated::fits::parts_fit;
+use stated::numbers::word;
+use stated::{CrushMap, MapParts};
 use std::alloc::Global;
 
 impl OsdMap {
     ghost use Rattle.std.specs.Prelude.{◌≡◌, true};
-    ghost use Rattle.stated.specs.Parts.{parts_fit};
     ghost use Rattle.refusal.specs.Outcomes.{Makes};
+    ghost use Rattle.stated.specs.Parts.{parts_fit};
     ghost use Rattle.osdmap.specs.Stated.{map_fault, IsStated};
     ghost use Rattle.osdmap.specs.Built.{without_exceptions};
 
@@ -31,17 +28,15 @@ impl OsdMap {
         ensures { Makes result (map_fault (without_exceptions parts.now)) (IsStated (without_exceptions parts.now)) }
     {
         let max_osd = word(parts.max_osd);
-        let forest = forest_of(alloc, &parts.buckets, max_osd)?;
-        let rules = rules_of(alloc, &parts.rules, &forest)?;
-        let pools = pools_of(alloc, &parts.pools, &rules)?;
+        let crush = CrushMap::stated(alloc, &parts.buckets, &parts.rules, max_osd)?;
+        let pools = pools_of(alloc, &parts.pools, crush.rules())?;
         let rows = rows_of(alloc, &parts.osds, max_osd)?;
         Ok(OsdMap {
             epoch: u64::from(word(parts.epoch)),
-            forest,
-            rules,
+            crush,
             pools,
             presences: Entries::new(presences_of(alloc, &rows)?),
-            weights: Weights::new(weights_of(alloc, &rows)?),
+            weights: Entries::new(weights_of(alloc, &rows)?),
             explicit: Vec::new(alloc),
             items: Vec::new(alloc),
         })

@@ -1,15 +1,14 @@
+//! What a map refuses of a change.
+
 ghost use Rattle.std.specs.Prelude.{◌≡◌};
 ghost use Rattle.osdmap.specs.Changes.{weighs_rightly, names_once};
 
 use crate::build::has_rule;
-use stated::{Change, Reweight};
-use stated::{Entry, Exception, NamesGroup};
-use keylist::{are_apart, are_distinct, has, last_of, put_count};
-use stated::limits::{FULL_WEIGHT, MAX_POOLS};
 use crate::map::OsdMap;
-use stated::Pg;
-use stated::Pool;
+use keylist::{are_apart, are_distinct, has, last_of, put_count};
 use refusal::Refusal;
+use stated::limits::{FULL_WEIGHT, MAX_POOLS};
+use stated::{Change, Entry, Exception, NamesGroup, Pg, Pool, Reweight};
 
 /// Whether each reweight is at most the whole.
 #[tactic(auto, unfolding(crate::specs::Changes::weighs_rightly))]
@@ -42,16 +41,6 @@ impl OsdMap {
     ghost use Rattle.osdmap.specs.Maps.{osd_exists, has_rule};
     ghost use Rattle.osdmap.specs.Changes.{names_osds, pools_kept, pools_after, names_pools, brings_new, brings_rightly, names_groups, excepts_soundly, change_fault};
 
-    /// Whether an OSD exists.
-    pub fn exists(&self, osd: u32) -> bool
-        ensures { result ≡ osd_exists self.now osd }
-    {
-        self.presences
-            .as_slice()
-            .get(osd as usize)
-            .is_some_and(|presence| presence.exists)
-    }
-
     /// Whether each OSD of a list exists.
     fn all_exist(&self, osds: &[u32]) -> bool
         ensures { result ≡ list_all (osd_exists self.now) osds.now }
@@ -66,6 +55,27 @@ impl OsdMap {
         weight.iter().all(|w| self.exists(w.osd))
     }
 
+    /// Whether each OSD that an entry of an exception names exists.
+    fn knows<E: Entry>(&self, entry: &E) -> bool
+        ensures { result ≡ list_all (osd_exists self.now) (E.names entry.now) }
+    {
+        match entry.named() {
+            (osd, None) => self.exists(osd),
+            (osd, Some(other)) => self.exists(osd) && self.exists(other),
+        }
+    }
+
+    /// Whether each OSD that an exception names exists.
+    pub(crate) fn knows_named<E: Entry>(&self, exception: &Exception<E>) -> bool
+        ensures { result ≡ all_named E.names (osd_exists self.now) exception.now }
+    {
+        exception.entries.iter().all(
+            |entry: &E| -> bool
+                ensures { result ≡ list_all (osd_exists self.entry.now) (E.names entry.now) }
+            { self.knows(entry) },
+        )
+    }
+
     /// Whether each OSD that some exceptions name exists.
     pub(crate) fn all_named_exist<E: Entry>(&self, exceptions: &[Exception<E>]) -> bool
         ensures { result ≡ list_all (all_named E.names (osd_exists self.now)) exceptions.now }
@@ -73,7 +83,7 @@ impl OsdMap {
         exceptions.iter().all(
             |exception: &Exception<E>| -> bool
                 ensures { result ≡ all_named E.names (osd_exists self.entry.now) exception.now }
-            { exception.names_known(self) },
+            { self.knows_named(exception) },
         )
     }
 
@@ -168,7 +178,7 @@ impl OsdMap {
     fn brings_new(&self, change: &Change) -> bool
         ensures { result ≡ brings_new self.now change.now }
     {
-        let new = &change.parts().new_pools;
+        let new: &[Pool] = &change.parts().new_pools;
         new.iter().all(|pool| !self.keeps_pool(change, pool.id()))
     }
 
@@ -176,7 +186,7 @@ impl OsdMap {
     fn have_rules(&self, pools: &[Pool]) -> bool
         ensures { result ≡ list_all (has_rule self.now.rules) pools.now }
     {
-        pools.iter().all(|pool| has_rule(&self.rules, *pool))
+        pools.iter().all(|pool| has_rule(self.crush.rules(), *pool))
     }
 
     /// Whether each pool that comes has a rule of its kind, and there are at most 32 pools then.
@@ -186,7 +196,7 @@ impl OsdMap {
         ensures { result ≡ brings_rightly self.now change.now }
     {
         let _ = &self.pools;
-        let new = &change.parts().new_pools;
+        let new: &[Pool] = &change.parts().new_pools;
         self.have_rules(new) && put_count(&[], new) <= MAX_POOLS - self.count_kept(change)
     }
 
@@ -194,7 +204,7 @@ impl OsdMap {
     fn count_kept(&self, change: &Change) -> usize
         ensures { result ≡ length (pools_kept self.now change.now) }
     {
-        let old = &change.parts().old_pools;
+        let old: &[u32] = &change.parts().old_pools;
         self.pools
             .iter()
             .filter(|pool| !has(old, u64::from(pool.id())))

@@ -1,14 +1,15 @@
+//! How many groups a change can place otherwise.
+
 ghost use Rattle.std.specs.Prelude.{◌≡◌};
 ghost use Rattle.std.specs.Option.{option_copied};
+ghost use Rattle.std.specs.List.{list_any};
+ghost use Rattle.std.specs.List.Sorted.{IsNonDecreasingBy};
+ghost use Rattle.keylist.specs.Keys.{has_key};
 ghost use Rattle.osdmap.specs.Evals.{is_named, names_reweighted};
 
-use stated::Change;
-use stated::{Entry, name_reweighted};
-use keylist::has;
 use crate::map::OsdMap;
-use stated::Pg;
-use stated::Pool;
-use crush::Rule;
+use keylist::has;
+use stated::{Change, Entry, Pg, Pool, Reweight};
 
 /// Whether exceptions of a group go or come with a change.
 #[tactic(auto, unfolding(crate::specs::Evals::is_named))]
@@ -23,6 +24,30 @@ fn is_named(change: &Change, pg: Pg) -> bool
         || has(&parts.new_items, place)
 }
 
+/// Whether an entry of an exception names an OSD that gets another reweight.
+fn is_reweighted<E: Entry>(entry: &E, weight: &[Reweight]) -> bool
+    requires { IsNonDecreasingBy (λ w. w.osd) weight.now }
+    ensures { result ≡ list_any (has_key (λ w. w.osd) weight.now) (E.names entry.now) }
+{
+    match entry.named() {
+        (osd, None) => has(weight, u64::from(osd)),
+        (osd, Some(other)) => has(weight, u64::from(osd)) || has(weight, u64::from(other)),
+    }
+}
+
+/// Whether some entries name an OSD that gets another reweight.
+fn name_reweighted<E: Entry>(entries: &[E], weight: &[Reweight]) -> bool
+    requires { IsNonDecreasingBy (λ w. w.osd) weight.now }
+    ensures { result ≡ list_any (λ entry. list_any (has_key (λ w. w.osd) weight.now) (E.names entry)) entries.now }
+{
+    entries.iter().any(
+        |entry: &E| -> bool
+            requires { IsNonDecreasingBy (λ w. w.osd) weight.now }
+            ensures { result ≡ list_any (has_key (λ w. w.osd) weight.entry.now) (E.names entry.now) }
+        { is_reweighted(entry, weight) },
+    )
+}
+
 /// Whether an exception names an OSD that gets another reweight.
 fn names_reweighted<E: Entry>(change: &Change, said: Option<&[E]>) -> bool
     ensures { result ≡ names_reweighted E.names change.now (option_copied said.entry) }
@@ -35,7 +60,7 @@ impl OsdMap {
     ghost use Rattle.std.specs.Prelude.{◌≡◌, ◌≤◌};
     ghost use Rattle.std.specs.List.{list_any, count_by, range_with_len};
     ghost use Rattle.osdmap.specs.Placement.{group_of};
-    ghost use Rattle.osdmap.specs.Evals.{takes_over, reaches, is_touched, concerns, is_evaluated, evals_of};
+    ghost use Rattle.osdmap.specs.Evals.{reaches, is_touched, concerns, is_evaluated, evals_of};
 
     /// How many groups of the map may be placed otherwise than before a change that led to it: the groups of the pools that
     /// came with it or whose rule reaches an OSD that got another reweight, those whose exceptions went or came, and those
@@ -106,21 +131,9 @@ impl OsdMap {
             Some(rule) => change
                 .parts()
                 .weight
-                .as_slice()
                 .iter()
-                .any(|reweight| self.is_reached(rule, reweight.osd)),
+                .any(|reweight| rule.reaches(self.forest(), reweight.osd)),
             None => false,
-        }
-    }
-
-    /// Whether a rule reaches an OSD; it reaches none of a number that no device has.
-    fn is_reached(&self, rule: &Rule, osd: u32) -> bool
-        ensures { result ≡ list_any (takes_over self.now.buckets osd) rule.now.steps }
-    {
-        let _ = self.forest.buckets();
-        match i32::try_from(osd) {
-            Ok(device) => rule.reaches(&self.forest, device),
-            Err(_) => false,
         }
     }
 }

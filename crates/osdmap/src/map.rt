@@ -1,10 +1,8 @@
-use stated::{Explicit, Items, Pair};
-use keylist::entry_of;
-use stated::{OsdState, Presence};
-use stated::Pg;
-use stated::Pool;
-use stated::NumberedRule;
-use crush::{Entries, Forest, Rule, Weights};
+//! The map of a cluster, and the look-ups in it.
+
+use crush::{Forest, Rule};
+use keylist::{Entries, entry_of};
+use stated::{CrushMap, Explicit, Items, NumberedRule, OsdState, Pair, Pg, Pool, Presence};
 use std::marker::Model;
 
 /// The map of a cluster at an epoch: a forest of buckets, rules, pools, and for each OSD whether it exists, whether it is
@@ -12,11 +10,10 @@ use std::marker::Model;
 #[derive(Drop)]
 pub struct OsdMap {
     pub(crate) epoch: u64,
-    pub(crate) forest: Forest,
-    pub(crate) rules: Vec<NumberedRule>,
+    pub(crate) crush: CrushMap,
     pub(crate) pools: Vec<Pool>,
     pub(crate) presences: Entries<Presence>,
-    pub(crate) weights: Weights,
+    pub(crate) weights: Entries<u32>,
     pub(crate) explicit: Vec<Explicit>,
     pub(crate) items: Vec<Items>,
 }
@@ -26,16 +23,24 @@ impl Model for OsdMap {
 
     ghost Value = { ClusterMap };
 
-    ghost view = { λ m. record { epoch = m.epoch; buckets = m.forest; rules = m.rules.items; pools = m.pools.items; presences = m.presences; weights = m.weights; explicit = m.explicit.items; items = m.items.items } };
+    ghost view = { λ m. record { epoch = m.epoch; buckets = m.crush.buckets; rules = m.crush.rules; pools = m.pools.items; presences = m.presences; weights = m.weights; explicit = m.explicit.items; items = m.items.items } };
 
-    ghost invariant = { λ m. HoldsTogether (record { epoch = m.epoch; buckets = m.forest; rules = m.rules.items; pools = m.pools.items; presences = m.presences; weights = m.weights; explicit = m.explicit.items; items = m.items.items }) };
+    ghost invariant = { λ m. HoldsTogether (record { epoch = m.epoch; buckets = m.crush.buckets; rules = m.crush.rules; pools = m.pools.items; presences = m.presences; weights = m.weights; explicit = m.explicit.items; items = m.items.items }) };
 }
 
 impl OsdMap {
     ghost use Rattle.std.specs.Prelude.{◌≡◌, ◌≤◌, length, IfSome};
     ghost use Rattle.std.specs.Option.{option_copied};
     ghost use Rattle.stated.specs.Exceptions.{said_of};
-    ghost use Rattle.osdmap.specs.Maps.{rule_at, pool_at, osd_at};
+    ghost use Rattle.stated.specs.CrushMaps.{rule_at};
+    ghost use Rattle.osdmap.specs.Maps.{pool_at, osd_at, osd_exists, HoldsTogether};
+
+    /// What holds in every map: for proofs alone.
+    pub fn holds_together(&self)
+        ensures { HoldsTogether self.now }
+    {
+        let _ = &self.epoch;
+    }
 
     /// The epoch.
     pub fn epoch(&self) -> u64
@@ -55,24 +60,21 @@ impl OsdMap {
     pub fn forest(&self) -> &Forest
         ensures { result.now ≡ self.now.buckets }
     {
-        &self.forest
+        self.crush.forest()
     }
 
     /// The rules, by id upwards.
     pub fn rules(&self) -> &[NumberedRule]
         ensures { result.now ≡ self.now.rules }
     {
-        &self.rules
+        self.crush.rules()
     }
 
     /// The rule of an id.
     pub fn rule(&self, id: u32) -> Option<&Rule>
         ensures { option_copied result ≡ rule_at self.now.rules id }
     {
-        self.rules
-            .iter()
-            .find(|rule| rule.id == id)
-            .map(|rule| &rule.rule)
+        self.crush.rule(id)
     }
 
     /// The pools, by id upwards.
@@ -93,13 +95,22 @@ impl OsdMap {
     pub fn osd(&self, id: u32) -> Option<OsdState>
         ensures { result ≡ osd_at self.now id }
     {
-        let presence = self.presences.as_slice().get(id as usize)?;
-        let weight = self.weights.get(id as usize)?;
+        let presence = self.presences.get(id as usize)?;
+        let weight = *self.weights.get(id as usize)?;
         Some(OsdState {
             exists: presence.exists,
             up: presence.up,
             weight,
         })
+    }
+
+    /// Whether an OSD exists.
+    pub fn exists(&self, osd: u32) -> bool
+        ensures { result ≡ osd_exists self.now osd }
+    {
+        self.presences
+            .get(osd as usize)
+            .is_some_and(|presence| presence.exists)
     }
 
     /// The explicit sets, by group upwards.

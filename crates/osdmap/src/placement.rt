@@ -1,16 +1,15 @@
+//! Where a map places the groups of its pools (Ceph, OSDMap.cc).
+
 ghost use Rattle.std.specs.Prelude.{◌≡◌, ◌<◌, unwrap_or, nat_le};
 ghost use Rattle.std.specs.List.{find};
 ghost use Rattle.osdmap.specs.Placement.{mask_of, stable_mod, placement_input};
 
-use stated::Pair;
 use crate::map::OsdMap;
-use stated::Pg;
-use stated::Pool;
-use refusal::Refusal;
 use crate::up_set::UpSet;
 use crush::Work;
-use refusal::Memory;
+use refusal::{Memory, Refusal};
 use rjenkins::hash2;
+use stated::{Pair, Pg, Pool};
 
 /// The numbers one less than a power of two, up to the greatest number of groups.
 const MASKS: [u32; 13] = [0, 1, 3, 7, 15, 31, 63, 127, 255, 511, 1023, 2047, 4095];
@@ -59,7 +58,7 @@ impl OsdMap {
     ghost use Rattle.osdmap.specs.Maps.{pool_at, has_rule};
     ghost use Rattle.osdmap.specs.Mapped.{is_weightless, with_pair, mapped};
     ghost use Rattle.stated.specs.Exceptions.{said_of};
-    ghost use Rattle.osdmap.specs.Sets.{places_of, kept};
+    ghost use Rattle.osdmap.specs.Sets.{kept};
     ghost use Rattle.osdmap.specs.Placement.{group_fault, existing, upward, placed, raw_set, mapped_set, up_set, Places, RunsOnce};
 
     /// The OSD of a device, where it exists.
@@ -74,7 +73,7 @@ impl OsdMap {
     fn upward(&self, osd: u32) -> Option<u32>
         ensures { result ≡ upward self.now osd }
     {
-        let presence = self.presences.as_slice().get(osd as usize)?;
+        let presence = self.presences.get(osd as usize)?;
         if presence.up { Some(osd) } else { None }
     }
 
@@ -94,7 +93,7 @@ impl OsdMap {
     /// The set of those of some devices that exist, in the way of the pool's kind.
     fn existing_set(&self, pool: &Pool, devices: &[Option<i32>]) -> UpSet
         requires { length devices.now ≤ 10 }
-        ensures { places_of result ≡ kept pool.now.kind (map (option_and_then (existing self.now)) devices.now) }
+        ensures { result ≡ kept pool.now.kind (map (option_and_then (existing self.now)) devices.now) }
     {
         let mut set = UpSet::new();
         for device in devices {
@@ -105,7 +104,7 @@ impl OsdMap {
 
     /// The set of those OSDs of a set that are up, in the way of the pool's kind.
     fn upward_set(&self, pool: &Pool, osds: &UpSet) -> UpSet
-        ensures { places_of result ≡ kept pool.now.kind (map (option_and_then (upward self.now)) (places_of osds.now)) }
+        ensures { result ≡ kept pool.now.kind (map (option_and_then (upward self.now)) osds.now) }
     {
         let mut set = UpSet::new();
         for osd in osds.places() {
@@ -118,12 +117,12 @@ impl OsdMap {
     #[tactic(auto, unfolding(crate::specs::Placement::raw_set, crate::specs::Placement::placed))]
     fn raw_in(&self, pool: &Pool, number: u32, work: &mut Work) -> Result<UpSet, Memory>
         requires { has_rule self.now.rules pool.now ≡ true }
-        ensures set { IfOk result (λ set. places_of set ≡ raw_set self.now pool.now number) }
+        ensures set { IfOk result (λ set. set ≡ raw_set self.now pool.now number) }
         ensures run { RunsOnce work.old work.new result }
     {
         let input = placement_input(pool, number);
         let rule = self.rule(pool.rule()).unwrap();
-        rule.run(&self.forest, &self.weights, input, pool.size(), work)?;
+        rule.run(self.forest(), &self.weights, input, pool.size(), work)?;
         Ok(self.existing_set(pool, work.result()))
     }
 
@@ -131,7 +130,7 @@ impl OsdMap {
     fn is_weightless(&self, osd: u32) -> bool
         ensures { result ≡ is_weightless self.now.weights osd }
     {
-        self.weights.get(osd as usize).unwrap_or(0) == 0
+        self.weights.get(osd as usize).copied().unwrap_or(0) == 0
     }
 
     /// Whether one of some OSDs is out for good.
@@ -144,7 +143,7 @@ impl OsdMap {
     /// A pair acts on a set.
     #[tactic(auto, unfolding(crate::specs::Mapped::with_pair))]
     fn act(&self, set: &mut UpSet, pair: Pair)
-        ensures { places_of set.new ≡ with_pair self.now.weights (places_of set.old) pair }
+        ensures { set.new ≡ with_pair self.now.weights set.old pair }
     {
         if !set.has(pair.to) && !self.is_weightless(pair.to) {
             set.replace(pair);
@@ -153,7 +152,7 @@ impl OsdMap {
 
     /// Some pairs act on a set in order.
     fn act_all(&self, set: &mut UpSet, pairs: &[Pair])
-        ensures { places_of set.new ≡ fold (with_pair self.now.weights) (places_of set.old) pairs.now }
+        ensures { set.new ≡ fold (with_pair self.now.weights) set.old pairs.now }
     {
         for pair in pairs {
             self.act(set, *pair);
@@ -163,7 +162,7 @@ impl OsdMap {
     /// What exceptions make of the raw set of a group.
     #[tactic(auto, unfolding(crate::specs::Mapped::mapped))]
     fn excepted(&self, pg: Pg, raw: UpSet) -> UpSet
-        ensures { places_of result ≡ mapped self.now.weights (said_of self.now.explicit pg) (said_of self.now.items pg) (places_of raw) }
+        ensures { result ≡ mapped self.now.weights (said_of self.now.explicit pg) (said_of self.now.items pg) raw }
     {
         let mut set = match self.explicit(pg) {
             None => raw,
@@ -180,7 +179,7 @@ impl OsdMap {
     #[tactic(auto, unfolding(crate::specs::Placement::mapped_set))]
     fn mapped_in(&self, pool: &Pool, number: u32, work: &mut Work) -> Result<UpSet, Memory>
         requires { has_rule self.now.rules pool.now ≡ true }
-        ensures set { IfOk result (λ set. places_of set ≡ mapped_set self.now pool.now number) }
+        ensures set { IfOk result (λ set. set ≡ mapped_set self.now pool.now number) }
         ensures run { RunsOnce work.old work.new result }
     {
         let raw = self.raw_in(pool, number, work)?;
@@ -194,7 +193,7 @@ impl OsdMap {
     /// The raw set of a group: the OSDs that its pool's rule places and that exist (Ceph, `_pg_to_raw_osds`). It takes
     /// one run of the rule, which `work` counts. `UnknownPool` (23), `UnknownGroup` (25), else `Memory` (30).
     pub fn raw_of(&self, pg: Pg, work: &mut Work) -> Result<UpSet, Refusal>
-        ensures set { Gives result (group_fault self.now pg) (λ set. Places raw_set self.now pg (places_of set)) }
+        ensures set { Gives result (group_fault self.now pg) (λ set. Places raw_set self.now pg set) }
         ensures run { RunsOnce work.old work.new result }
     {
         let pool = self.pool_of(pg)?;
@@ -205,7 +204,7 @@ impl OsdMap {
     /// explicit set has reweight 0, neither that set nor its pairs act. It takes one run of the rule, which `work` counts.
     /// `UnknownPool` (23), `UnknownGroup` (25), else `Memory` (30).
     pub fn mapped_of(&self, pg: Pg, work: &mut Work) -> Result<UpSet, Refusal>
-        ensures set { Gives result (group_fault self.now pg) (λ set. Places mapped_set self.now pg (places_of set)) }
+        ensures set { Gives result (group_fault self.now pg) (λ set. Places mapped_set self.now pg set) }
         ensures run { RunsOnce work.old work.new result }
     {
         let pool = self.pool_of(pg)?;
@@ -216,7 +215,7 @@ impl OsdMap {
     /// the rule, which `work` counts. `UnknownPool` (23), `UnknownGroup` (25), else `Memory` (30).
     #[tactic(auto, unfolding(crate::specs::Placement::up_set))]
     pub fn up_of(&self, pg: Pg, work: &mut Work) -> Result<UpSet, Refusal>
-        ensures set { Gives result (group_fault self.now pg) (λ set. Places up_set self.now pg (places_of set)) }
+        ensures set { Gives result (group_fault self.now pg) (λ set. Places up_set self.now pg set) }
         ensures run { RunsOnce work.old work.new result }
     {
         let pool = self.pool_of(pg)?;

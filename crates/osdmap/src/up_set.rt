@@ -1,20 +1,41 @@
-ghost use Rattle.std.specs.Prelude.{◌≡◌, ◌≤◌, position};
+//! The set of a group.
+
+ghost use Rattle.std.specs.Prelude.{◌≡◌, position};
 ghost use Rattle.std.specs.List.{list_any};
 ghost use Rattle.osdmap.specs.Mapped.{is_of};
 ghost use Rattle.osdmap.specs.Primary.{primary_of};
 
-use stated::Pair;
 use crush::RuleKind;
-
-/// The greatest size of a pool, and so of a set.
-pub const MAX_PLACES: usize = 10;
+use stated::{Pair, Short};
+use std::alloc::AllocError;
+use std::marker::Model;
 
 /// The set of a group: at most 10 places, in order, each with an OSD or with none.
-#[derive(Clone, Copy, Debug)]
+#[derive(Copy, Debug)]
 pub struct UpSet {
-    len: usize,
-    places: [Option<u32>; MAX_PLACES],
-    ghost short: { len ≤ 10 },
+    places: Short<Option<u32>>,
+}
+
+impl Model for UpSet {
+    ghost use Rattle.std.specs.Prelude.{ℕ, List, Option};
+
+    ghost Value = { List (Option ℕ) };
+
+    ghost view = { λ s. s.places };
+
+    ghost inverse = { λ xs. record { places = xs } };
+}
+
+impl Clone for UpSet {
+    ghost use Rattle.std.specs.Prelude.{◌≡◌, ⊤};
+
+    ghost is_clone = { λ s r. r ≡ s };
+
+    ghost is_infallible = { λ _. ⊤ };
+
+    fn clone(&self) -> Result<UpSet, AllocError> {
+        Ok(*self)
+    }
 }
 
 /// Whether some places have an OSD.
@@ -48,46 +69,44 @@ impl UpSet {
     ghost use Rattle.std.specs.Prelude.{◌≡◌, ◌≤◌, ◌<◌, [], ◌∷◌, ◌++◌, length, map, Some};
     ghost use Rattle.std.specs.List.{list_any};
     ghost use Rattle.osdmap.specs.Mapped.{is_of, replaced};
-    ghost use Rattle.osdmap.specs.Sets.{places_of, kept_in};
+    ghost use Rattle.osdmap.specs.Sets.{kept_in};
 
     /// The set without a place.
     pub fn new() -> Self
-        ensures { places_of result ≡ [] }
+        ensures { result ≡ [] }
     {
         UpSet {
-            len: 0,
-            places: [None; MAX_PLACES],
+            places: Short::new(),
         }
     }
 
     /// The places, in order.
     pub fn places(&self) -> &[Option<u32>]
-        ensures places { result.now ≡ places_of self.now }
-        ensures few { length (places_of self.now) ≤ 10 }
+        ensures places { result.now ≡ self.now }
+        ensures few { length self.now ≤ 10 }
     {
-        &self.places[..self.len]
+        self.places.as_slice()
     }
 
     /// The primary: the first OSD of the set.
     pub fn primary(&self) -> Option<u32>
-        ensures { result ≡ primary_of (places_of self.now) }
+        ensures { result ≡ primary_of self.now }
     {
         first_osd(self.places())
     }
 
     /// One more place.
     pub(crate) fn push(&mut self, place: Option<u32>)
-        requires { length (places_of self.old) < 10 }
-        ensures { places_of self.new ≡ places_of self.old ++ place ∷ [] }
+        requires { length self.old < 10 }
+        ensures { self.new ≡ self.old ++ place ∷ [] }
     {
-        self.places[self.len] = place;
-        self.len += 1;
+        self.places.push(place);
     }
 
     /// The set of some OSDs, in order.
     pub(crate) fn of(osds: &[u32]) -> UpSet
         requires { length osds.now ≤ 10 }
-        ensures { places_of result ≡ map (λ osd. Some osd) osds.now }
+        ensures { result ≡ map (λ osd. Some osd) osds.now }
     {
         let mut set = UpSet::new();
         for osd in osds {
@@ -98,24 +117,24 @@ impl UpSet {
 
     /// Whether an OSD stands in the set.
     pub(crate) fn has(&self, osd: u32) -> bool
-        ensures { result ≡ list_any (is_of osd) (places_of self.now) }
+        ensures { result ≡ list_any (is_of osd) self.now }
     {
         has_osd(self.places(), osd)
     }
 
     /// One OSD goes to another where it first stands.
     pub(crate) fn replace(&mut self, pair: Pair)
-        ensures { places_of self.new ≡ replaced pair (places_of self.old) }
+        ensures { self.new ≡ replaced pair self.old }
     {
         if let Some(place) = place_of(self.places(), pair.from) {
-            self.places[place] = Some(pair.to);
+            self.places.set(place, Some(pair.to));
         }
     }
 
     /// One more place, in the way of a kind: copies leave out a place without an OSD, coded parts keep it.
     pub(crate) fn add(&mut self, kind: RuleKind, place: Option<u32>)
-        requires { length (places_of self.old) < 10 }
-        ensures { places_of self.new ≡ places_of self.old ++ kept_in kind place }
+        requires { length self.old < 10 }
+        ensures { self.new ≡ self.old ++ kept_in kind place }
     {
         match kind {
             RuleKind::Replicated if place.is_none() => {}

@@ -1,6 +1,5 @@
 -- The line of an answer, and what a change answers before it is written.
 use Rattle.std.specs.Prelude.{◌≡◌, ◌⊎◌, ℕ, ◌+◌, List, Some, None, Result, MatchResult, string_bytes}
-use Rattle.osdmap.specs.Sets.{places_of}
 use Rattle.session.specs.declared.answer.Answer.{Answer}
 use Rattle.session.specs.declared.answer.Answer.TheVariants.{Up, Epoch, Dump, Changed, Refused}
 use Rattle.stated.specs.declared.change.ChangeParts.{ChangeParts}
@@ -12,7 +11,7 @@ use Rattle.monitor.specs.States.{History, commit_fault, committed}
 use Rattle.session.specs.Texts.{up_text, epoch_text, dump_text, ok_text, refusal_text}
 
 abbrev pub answer_text : Answer → List ℕ
-answer_text (Up epoch pg set) = up_text epoch pg (places_of set)
+answer_text (Up epoch pg set) = up_text epoch pg set
 answer_text (Epoch epoch) = epoch_text epoch
 answer_text (Dump text) = dump_text (string_bytes text)
 answer_text (Changed epoch evals) = ok_text epoch evals

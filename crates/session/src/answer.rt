@@ -49,7 +49,7 @@ fn push_set(text: &mut String, places: &[Option<u32>]) -> Result<(), AllocError>
 
 #[tactic(auto, unfolding(crate::specs::Texts::up_text))]
 fn push_up(text: &mut String, epoch: u64, pg: Pg, set: &UpSet) -> Result<(), AllocError>
-    ensures { OnOk result (string_bytes text.new ≡ string_bytes text.old ++ up_text epoch pg (places_of set.now)) }
+    ensures { OnOk result (string_bytes text.new ≡ string_bytes text.old ++ up_text epoch pg set.now) }
 {
     write!(text, "up {epoch} {pg} [")?;
     push_set(text, set.places())?;

@@ -1,6 +1,6 @@
 //! A list of a few entries, in place.
 
-ghost use Rattle.std.specs.Prelude.{◌≡◌, ◌≤◌, ◌<◌, [], ◌∷◌, ◌++◌, length};
+ghost use Rattle.std.specs.Prelude.{◌≡◌, ◌≤◌, ◌<◌, [], ◌∷◌, ◌++◌, length, slice_set};
 
 use crate::limits::MAX_PLACES;
 use std::alloc::AllocError;
@@ -92,5 +92,25 @@ impl<T: Blank> Short<T> {
     {
         self.places[self.len] = entry;
         self.len += 1;
+    }
+
+    /// Puts another entry into a place.
+    pub fn set(&mut self, place: usize, entry: T)
+        requires { place < length self.old }
+        ensures { self.new ≡ slice_set self.old place entry }
+    {
+        if place < self.len {
+            self.places[place] = entry;
+        }
+    }
+}
+
+impl Blank for Option<u32> {
+    ghost use Rattle.std.specs.Prelude.{None};
+
+    ghost blank = { None };
+
+    fn blank() -> Option<u32> {
+        None
     }
 }

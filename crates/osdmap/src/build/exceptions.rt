@@ -1,9 +1,9 @@
-use super::order::in_order;
-use stated::{EntryPart, exceptions_fit, exceptions_of};
-use stated::{Entry, Exception};
+//! The exceptions of the map that parts state.
+
 use crate::map::OsdMap;
-use stated::ExceptionPart;
+use keylist::in_order;
 use refusal::Refusal;
+use stated::{Entry, EntryPart, Exception, ExceptionPart, exceptions_of};
 use std::alloc::Global;
 
 impl OsdMap {
@@ -25,7 +25,7 @@ impl OsdMap {
         match self.pool(exception.pg.pool) {
             Some(pool) => {
                 exception.pg.number < pool.pg_num()
-                    && exception.names_known(self)
+                    && self.knows_named(exception)
                     && exception.is_sound(&pool)
             }
             None => false,

@@ -1,3 +1,5 @@
+//! The OSDs of the map that parts state.
+
 ghost use Rattle.std.specs.Prelude.{◌≡◌, true, map, length, nat_abs, nat_lt, None, IfOk, IsTrue, replicate};
 ghost use Rattle.std.specs.List.{list_all};
 ghost use Rattle.refusal.specs.declared.refused.Refusal.TheVariants.{BadOsd};
@@ -8,10 +10,9 @@ ghost use Rattle.osdmap.specs.Stated.{osd_ok};
 ghost use Rattle.refusal.specs.Outcomes.{refused_unless};
 ghost use Rattle.osdmap.specs.Built.{osds_fit, state_of, rows_of, row_presence, row_weight};
 
-use stated::limits::word;
-use stated::{OsdState, Presence};
-use stated::OsdPart;
 use refusal::Refusal;
+use stated::numbers::word;
+use stated::{OsdPart, OsdState, Presence};
 use std::alloc::{AllocError, Global};
 
 /// Whether an OSD is below `max_osd`, and exists where it is up.

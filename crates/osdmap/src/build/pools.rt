@@ -1,3 +1,5 @@
+//! The pools of the map that parts state.
+
 ghost use Rattle.std.specs.Prelude.{◌≡◌, ◌==◌, true, map};
 ghost use Rattle.std.specs.List.{find, list_all};
 ghost use Rattle.std.specs.Option.{option_copied};
@@ -10,12 +12,10 @@ ghost use Rattle.refusal.specs.Outcomes.{refused_unless};
 ghost use Rattle.keylist.specs.Order.{Rises};
 ghost use Rattle.osdmap.specs.Built.{pools_fit};
 
-use super::order::in_order;
-use stated::PoolPart;
-use stated::Pool;
-use refusal::Refusal;
-use stated::NumberedRule;
 use crush::RuleKind;
+use keylist::in_order;
+use refusal::Refusal;
+use stated::{NumberedRule, Pool, PoolPart};
 use std::alloc::Global;
 
 /// The rule of an id.
@@ -44,12 +44,12 @@ pub(crate) fn has_rule(rules: &[NumberedRule], pool: Pool) -> bool
 
 /// The pool that a part within the limits states: `BadPool` (15) where it has more groups for placement than groups, or
 /// no rule of its kind.
-#[tactic(auto, unfolding(crate::specs::Stated::pool_ok))]
-fn pool_of(part: PoolPart, rules: &[NumberedRule]) -> Result<Pool, Refusal>
-    requires { pool_fits part ≡ true }
-    ensures { Makes result (refused_unless (pool_ok rules.now part) BadPool) (λ pool. pool ≡ pool_of part) }
+#[tactic(auto, unfolding(crate::specs::Stated::pool_ok, stated::specs::Parts::has_enough_groups))]
+fn pool_of(rules: &[NumberedRule], part: &PoolPart) -> Result<Pool, Refusal>
+    requires { pool_fits part.now ≡ true }
+    ensures { Makes result (refused_unless (pool_ok rules.now part.now) BadPool) (λ pool. pool ≡ pool_of part.now) }
 {
-    let pool = Pool::new(part)?;
+    let pool = Pool::of_fitting(*part)?;
     if !has_rule(rules, pool) {
         return Err(Refusal::BadPool);
     }
@@ -67,7 +67,8 @@ fn pools_made(
 {
     let mut pools = Vec::with_capacity(alloc, parts.len())?;
     for part in parts {
-        pools.push(pool_of(*part, rules)?)?;
+        let pool = pool_of(rules, part)?;
+        pools.push(pool)?;
     }
     Ok(pools)
 }

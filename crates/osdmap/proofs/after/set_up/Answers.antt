@@ -11,7 +11,7 @@ loop-osd-preserved c =
     let inside : osd < length c.loop-osd.presences =
     rw c.loop-osd.invariant.sized (below_at _ c.args.osds.now _ c.requires c.loop-osd-test.true) in
     let here : c.set.new.self ≡ with_up c.args.up c.loop-osd.presences osd =
-    c.set.ensures ∙ rw c.as_slice.ensures (sym (with_up-here c.args.up c.loop-osd.presences osd _ inside (get_or_read c.loop-osd.presences osd _ _ inside))) in
+    c.set.ensures ∙ rw c.deref.ensures (sym (with_up-here c.args.up c.loop-osd.presences osd _ inside (get_or_read c.loop-osd.presences osd _ _ inside))) in
     record {
       rest = c.loop-osd.invariant.rest ∙ fold_step (with_up c.args.up) c.loop-osd.presences c.args.osds.now c.loop-osd.osd-index osd c.loop-osd-test.true (get_or_read c.args.osds.now c.loop-osd.osd-index 0 osd c.loop-osd-test.true)
           ∙ ap (λ p. fold (with_up c.args.up) p (drop (c.loop-osd.osd-index + 1) c.args.osds.now)) (sym here);

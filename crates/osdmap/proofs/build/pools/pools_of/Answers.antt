@@ -3,7 +3,7 @@ use Rattle.refusal.specs.declared.refused.Refusal.TheVariants.{BadPool}
 use Rattle.stated.specs.declared.parts.PoolPart.{PoolPart}
 use Rattle.stated.specs.Pools.{PoolFacts}
 use Rattle.stated.specs.Parts.{pool_of}
-use Rattle.osdmap.proofs.BuildLemmas.{ordered}
+use Rattle.stated.proofs.Judged.{ordered}
 use Rattle.osdmap.proofs.build.pools.pools_of.Goals as goal
 
 pub returns : goal.returns

@@ -1,10 +1,9 @@
 use Rattle.std.proofs.Common.{◌≡◌, drop}
 use Rattle.std.specs.List.{fold}
 use Rattle.osdmap.specs.Mapped.{with_pair}
-use Rattle.osdmap.specs.Sets.{places_of}
 use Rattle.osdmap.proofs.map.OsdMap.act_all.Given as goal
 
 -- the rest of the pairs make of the set what all make of the first
 abbrev pub invariant-loop-pair : goal.invariant-loop-pair
-invariant-loop-pair l = fold (with_pair l.self.weights) (places_of l.set) (drop l.pair-index l.pairs)
-    ≡ fold (with_pair l.self.weights) (places_of l.fn.set) l.pairs
+invariant-loop-pair l = fold (with_pair l.self.weights) l.set (drop l.pair-index l.pairs)
+    ≡ fold (with_pair l.self.weights) l.fn.set l.pairs

@@ -1,6 +1,8 @@
 use Rattle.std.proofs.Common.{◌∙◌, ◌+◌, sym, ap, subst}
 use Rattle.osdmap.specs.Maps.{ClusterMap, HoldsTogether}
-use Rattle.osdmap.specs.Changes.{Step, apply}
+use Rattle.stated.specs.CrushMaps.{CrushFacts}
+use Rattle.stated.specs.Incrementals.{Step}
+use Rattle.osdmap.specs.Changes.{apply}
 use Rattle.osdmap.proofs.Kept.{HoldsTogether-after, assembled}
 use Rattle.osdmap.proofs.map.OsdMap.after.Goals as goal
 
@@ -11,8 +13,8 @@ invariant_of-result c =
     let view = c.self.view_is in
     subst HoldsTogether (sym (assembled c.args.self.now step _ _ _ _ _ _ _ _
     (ap (λ (m : ClusterMap). m.epoch + 1) view)
-    (c.in_ok-forest.ensures ∙ ap (λ (m : ClusterMap). m.buckets) view)
-    (c.in_ok-rules.ensures ∙ c.deref.ensures.value ∙ ap (λ (m : ClusterMap). m.rules) view)
+    (ap (λ (k : CrushFacts). k.buckets) c.in_ok-crush.ensures ∙ ap (λ (m : ClusterMap). m.buckets) view)
+    (ap (λ (k : CrushFacts). k.rules) c.in_ok-crush.ensures ∙ ap (λ (m : ClusterMap). m.rules) view)
     c.in_ok-pools.ensures.value c.in_ok-presences.ensures c.in_ok-weights.ensures c.in_ok-explicit.ensures c.in_ok-items.ensures)) kept
 
 pub returns : goal.returns
@@ -21,6 +23,6 @@ returns c =
     let view = c.self.view_is in
     assembled c.args.self.now step _ _ _ _ _ _ _ _
     (ap (λ (m : ClusterMap). m.epoch + 1) view)
-    (c.in_ok-forest.ensures ∙ ap (λ (m : ClusterMap). m.buckets) view)
-    (c.in_ok-rules.ensures ∙ c.deref.ensures.value ∙ ap (λ (m : ClusterMap). m.rules) view)
+    (ap (λ (k : CrushFacts). k.buckets) c.in_ok-crush.ensures ∙ ap (λ (m : ClusterMap). m.buckets) view)
+    (ap (λ (k : CrushFacts). k.rules) c.in_ok-crush.ensures ∙ ap (λ (m : ClusterMap). m.rules) view)
     c.in_ok-pools.ensures.value c.in_ok-presences.ensures c.in_ok-weights.ensures c.in_ok-explicit.ensures c.in_ok-items.ensures

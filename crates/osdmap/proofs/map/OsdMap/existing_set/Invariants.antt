@@ -1,12 +1,12 @@
 use Rattle.std.proofs.Common.{◌≡◌, ◌≤◌, ◌++◌, map, drop, length, option_and_then}
-use Rattle.osdmap.specs.Sets.{places_of, kept}
+use Rattle.osdmap.specs.Sets.{kept}
 use Rattle.osdmap.specs.Placement.{existing}
 use Rattle.osdmap.proofs.map.OsdMap.existing_set.Given as goal
 
 -- what is set, and what is kept of the rest, come to what is kept of all
 abbrev pub invariant-loop-device : goal.invariant-loop-device
 invariant-loop-device l = record {
-  set : places_of l.set ++ kept l.pool.kind (map (option_and_then (existing l.self)) (drop l.device-index l.devices))
+  set : l.set ++ kept l.pool.kind (map (option_and_then (existing l.self)) (drop l.device-index l.devices))
       ≡ kept l.pool.kind (map (option_and_then (existing l.self)) l.devices);
-  few : length (places_of l.set) ≤ l.device-index;
+  few : length l.set ≤ l.device-index;
 }

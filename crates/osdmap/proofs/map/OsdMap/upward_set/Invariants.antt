@@ -1,12 +1,12 @@
 use Rattle.std.proofs.Common.{◌≡◌, ◌≤◌, ◌++◌, map, drop, length, option_and_then}
-use Rattle.osdmap.specs.Sets.{places_of, kept}
+use Rattle.osdmap.specs.Sets.{kept}
 use Rattle.osdmap.specs.Placement.{upward}
 use Rattle.osdmap.proofs.map.OsdMap.upward_set.Given as goal
 
 -- what is set, and what is kept of the rest, come to what is kept of all
 abbrev pub invariant-loop-osd : goal.invariant-loop-osd
 invariant-loop-osd l = record {
-  set : places_of l.set ++ kept l.pool.kind (map (option_and_then (upward l.self)) (drop l.osd-index l.osd-items))
-      ≡ kept l.pool.kind (map (option_and_then (upward l.self)) (places_of l.osds));
-  few : length (places_of l.set) ≤ l.osd-index;
+  set : l.set ++ kept l.pool.kind (map (option_and_then (upward l.self)) (drop l.osd-index l.osd-items))
+      ≡ kept l.pool.kind (map (option_and_then (upward l.self)) l.osds);
+  few : length l.set ≤ l.osd-index;
 }

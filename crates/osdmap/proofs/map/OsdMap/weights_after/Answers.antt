@@ -8,4 +8,4 @@ pub set_weights-requires : goal.set_weights-requires
 set_weights-requires c =
     let sized : length c.args.self.now.presences ≤ length c.self.inside.presences = subst (λ (m : ClusterMap). length m.presences ≤ length c.self.inside.presences) c.self.view_is (omega arith) in
     let below = all_below c.args.self.now c.args.change.now (length c.self.inside.presences) sized (accepted _ _ c.requires).osds in
-    rw (c.as_slice.ensures, c.parts.ensures.value, c.in_ok-weights.ensures, c.self.invariant.weighed) below.weight
+    rw (c.deref.ensures, c.parts.ensures.value, c.in_ok-weights.ensures, c.self.invariant.weighed) below.weight

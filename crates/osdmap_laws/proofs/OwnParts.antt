@@ -22,13 +22,16 @@ use Rattle.stated.specs.declared.rules.NumberedRule.{NumberedRule}
 use Rattle.stated.specs.Exceptions.{key_of, has_group, all_named, is_sound, is_exception, target, sides, is_set, are_pairs}
 use Rattle.keylist.specs.Keys.{is_distinct, entry_at}
 use Rattle.keylist.specs.Order.{IsRising}
-use Rattle.osdmap.specs.Maps.{ClusterMap, osd_exists, has_rule, is_rule_over, HoldsTogether}
+use Rattle.stated.specs.CrushMaps.{is_rule_over}
+use Rattle.osdmap.specs.Maps.{ClusterMap, osd_exists, has_rule, HoldsTogether}
 use Rattle.stated.specs.Parts.{pg_fits, is_osd_id, pair_fits, exception_fits, exceptions_fit, head_fits, lists_fit, parts_fit, item_of, bucket_of, step_of, pool_of, pair_of, exception_of}
 use Rattle.osdmap.specs.PartsOf.{item_part, bucket_part, step_part, rule_part, pool_part, pair_part, exception_part, parts_of}
-use Rattle.osdmap.specs.Changes.{Step, change_fault, apply}
+use Rattle.stated.specs.Incrementals.{Step}
+use Rattle.osdmap.specs.Changes.{change_fault, apply}
 use Rattle.osdmap.specs.Laws.{IsTextEpoch, StatesItself}
 use Rattle.stated.specs.Pools.{PoolFacts, IsWithinLimits}
-use Rattle.osdmap.specs.Stated.{buckets_of, rule_of, rules_ok, pool_ok, pools_ok, osds_ok, is_listed, exceptions_ok, explicit_of, items_of, all_exceptions_ok, map_fault, IsStated}
+use Rattle.stated.specs.CrushMaps.{rule_of}
+use Rattle.osdmap.specs.Stated.{buckets_of, rules_ok, pool_ok, pools_ok, osds_ok, is_listed, exceptions_ok, explicit_of, items_of, all_exceptions_ok, map_fault, IsStated}
 use Rattle.keylist.proofs.Tests.{and_first, and_second}
 use Rattle.osdmap.proofs.Named.{below_max}
 use Rattle.keylist.proofs.Distinct.{rising_distinct}

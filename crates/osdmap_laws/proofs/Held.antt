@@ -14,11 +14,14 @@ use Rattle.stated.specs.Pools.{IsWithinLimits}
 use Rattle.stated.specs.Parts.{parts_fit}
 use Rattle.stated.specs.Exceptions.{target, sides, is_set, are_pairs}
 use Rattle.osdmap.specs.Maps.{ClusterMap, osd_exists, HoldsTogether}
-use Rattle.osdmap.specs.Stated.{buckets_of, rule_of, rules_ok, pools_ok, osds_ok, exceptions_ok, explicit_of, items_of, all_exceptions_ok, map_fault, IsStated}
+use Rattle.stated.specs.CrushMaps.{rule_of}
+use Rattle.osdmap.specs.Stated.{buckets_of, rules_ok, pools_ok, osds_ok, exceptions_ok, explicit_of, items_of, all_exceptions_ok, map_fault, IsStated}
 use Rattle.refusal.specs.Outcomes.{refused_unless}
 use Rattle.keylist.specs.Order.{Rises}
-use Rattle.osdmap.specs.Built.{IsForestOf, without_exceptions}
-use Rattle.osdmap.specs.Changes.{Step, apply, after, IsLawful}
+use Rattle.stated.specs.CrushMaps.{IsForestOf}
+use Rattle.osdmap.specs.Built.{without_exceptions}
+use Rattle.stated.specs.Incrementals.{Step}
+use Rattle.osdmap.specs.Changes.{apply, after, IsLawful}
 use Rattle.osdmap.specs.Laws.{BringsPools, JournalsKeepMaps}
 use Rattle.keylist.proofs.Tests.{and_first, and_second}
 use Rattle.osdmap.proofs.Accepted.{passes}

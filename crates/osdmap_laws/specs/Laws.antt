@@ -8,7 +8,8 @@ use Rattle.osdmap.specs.Maps.{ClusterMap, osd_exists, osd_is_up}
 use Rattle.stated.specs.declared.change.ChangeParts.{ChangeParts}
 use Rattle.osdmap.specs.Stated.{map_fault, IsStated}
 use Rattle.osdmap.specs.PartsOf.{parts_of}
-use Rattle.osdmap.specs.Changes.{Step, change_fault, apply, with_up, after, IsLawful}
+use Rattle.stated.specs.Incrementals.{Step}
+use Rattle.osdmap.specs.Changes.{change_fault, apply, with_up, after, IsLawful}
 
 -- ---- the order of parts
 

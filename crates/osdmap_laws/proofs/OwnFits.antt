@@ -17,7 +17,7 @@ use Rattle.crush.specs.WellFormed.{is_within, is_bucket_id as may_be_bucket, ite
 use Rattle.crush.specs.Grammar.{step_limits_ok}
 use Rattle.keylist.proofs.Each.{list_all-at, list_all-from}
 use Rattle.stated.specs.declared.rules.NumberedRule.{NumberedRule}
-use Rattle.osdmap.specs.Maps.{is_rule_over}
+use Rattle.stated.specs.CrushMaps.{is_rule_over}
 use Rattle.stated.specs.Parts.{is_between, has_between, is_bucket_id, item_fits, bucket_fits, step_fits, rule_fits, pool_fits}
 use Rattle.osdmap.specs.PartsOf.{item_part, bucket_part, step_part, rule_part, pool_part}
 use Rattle.stated.specs.Pools.{PoolFacts, IsWithinLimits}
