@@ -18,19 +18,20 @@ use Rattle.stated.specs.CrushMaps.{rule_of}
 use Rattle.osdmap.specs.Stated.{buckets_of, rules_ok, pools_ok, osds_ok, exceptions_ok, explicit_of, items_of, all_exceptions_ok, map_fault, IsStated}
 use Rattle.refusal.specs.Outcomes.{refused_unless}
 use Rattle.keylist.specs.Order.{Rises}
-use Rattle.stated.specs.CrushMaps.{IsForestOf}
+use Rattle.stated.specs.CrushMaps.{IsForestOf, rules_fit, crush_fault}
+use Rattle.stated.proofs.CrushFits.{rules_same, is_crush_map}
 use Rattle.osdmap.specs.Built.{without_exceptions}
 use Rattle.stated.specs.Incrementals.{Step}
 use Rattle.osdmap.specs.Changes.{apply, after, IsLawful}
-use Rattle.osdmap.specs.Laws.{BringsPools, JournalsKeepMaps}
+use Rattle.osdmap_laws.specs.Laws.{BringsPools, JournalsKeepMaps}
 use Rattle.keylist.proofs.Tests.{and_first, and_second}
 use Rattle.osdmap.proofs.Accepted.{passes}
-use Rattle.osdmap.proofs.Built.{IsBuilt, parts_fit_each, some_osds, few_osds, rules_same, pools_same, osds_same, presences_same, weights_same, no_fault, is_stated, holds}
+use Rattle.osdmap.proofs.Built.{IsBuilt, parts_fit_each, some_osds, few_osds, pools_same, osds_same, presences_same, weights_same, no_fault, is_stated, holds}
 use Rattle.stated.proofs.Narrowed.{forest_limits}
 use Rattle.keylist.proofs.Distinct.{list_all-moved}
 use Rattle.osdmap.proofs.Excepted.{bare_fits, bare_exceptions, all_same, holds_with}
 use Rattle.osdmap.proofs.Kept.{HoldsTogether-after}
-use Rattle.osdmap.proofs.OwnParts.{states_itself}
+use Rattle.osdmap_laws.proofs.OwnParts.{states_itself}
 
 -- ---- what faultless parts pass
 
@@ -60,11 +61,16 @@ faultless_each p h =
       exceptions = exceptions.0;
     }
 
--- the same without exceptions
-bare_rules : (p : MapParts) → rules_ok p ≡ true → rules_ok (without_exceptions p) ≡ true
+-- the rules, and with the forest the CRUSH map
+rules_fine : (p : MapParts) → rules_ok p ≡ true → rules_fit (buckets_of p) p.rules ≡ true
 unfolding rules_ok
-bare_rules p h = h
+rules_fine p h = h
 
+crush_fine : (p : MapParts) → forest_ok (buckets_of p) (nat_abs p.max_osd) ≡ true → rules_ok p ≡ true → crush_fault p.buckets p.rules (nat_abs p.max_osd) ≡ None
+unfolding rules_ok
+crush_fine p forest rules = rw (forest, rules) refl
+
+-- the same without exceptions
 bare_pools : (p : MapParts) → pools_ok p ≡ true → pools_ok (without_exceptions p) ≡ true
 unfolding pools_ok
 bare_pools p h = h
@@ -98,20 +104,20 @@ module _ (p : MapParts) (m : ClusterMap) (faultless : map_fault p ≡ None) (sta
   is_built : IsBuilt (without_exceptions p) bare
   is_built =
       let fine = faultless_each p faultless in
+      let each = parts_fit_each p fine.limits in
       let forest : IsForestOf (buckets_of p) m.buckets = record {
         same = stated.buckets;
         falling = stated.falling;
         found = bucket_at-moved (buckets_of p) m.buckets stated.buckets (own-ok (buckets_of p) max_osd fine.forest);
       } in
       let rules : Rises (λ r. r.id) (map rule_of p.rules) m.rules = record { same = stated.rules; rising = stated.rules_rise } in
+      let good = rules_same (buckets_of p) m.buckets p.rules forest ∙ rules_fine p fine.rules in
       record {
         limits = bare_fits p fine.limits;
         epoch = stated.epoch;
-        grown = ap (λ ok. refused_unless ok BadForest) fine.forest;
-        is_forest = is_forest;
-        forest = forest;
-        lawful = ap (λ ok. refused_unless ok BadRule) (rules_same (without_exceptions p) m.buckets forest ∙ bare_rules p fine.rules);
-        rules = rules;
+        grown = crush_fine p fine.forest fine.rules;
+        crush = is_crush_map m.buckets p.rules m.rules is_forest each.rules each.rule_count good rules;
+        stated = record { buckets = forest; rules = rules };
         served = ap (λ ok. refused_unless ok BadPool) (pools_same (without_exceptions p) m.rules rules ∙ bare_pools p fine.pools);
         pools = record { same = stated.pools; rising = stated.pools_rise };
         entered = ap (λ ok. refused_unless ok BadOsd) (osds_same (without_exceptions p) ∙ bare_osds p fine.osds);

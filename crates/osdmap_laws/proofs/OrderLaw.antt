@@ -8,7 +8,7 @@ use Rattle.std.proofs.lemmas.Bool.{cases_Bool, eqb-true}
 use Rattle.stated.specs.declared.osd.Presence.{Presence}
 use Rattle.keylist.specs.Keys.{has_key}
 use Rattle.osdmap.specs.Changes.{apply, with_up}
-use Rattle.osdmap.specs.Laws.{UpAfterDown}
+use Rattle.osdmap_laws.specs.Laws.{UpAfterDown}
 use Rattle.osdmap.proofs.Kept.{exists-up, exists-ups}
 
 abbrev is_up : List Presence → ℕ → Bool

@@ -17,7 +17,7 @@ use Rattle.osdmap.specs.Maps.{ClusterMap, is_presence, HoldsTogether}
 use Rattle.stated.specs.Parts.{osd_fits}
 use Rattle.osdmap.specs.Stated.{osd_ok, listed, presence_in, weight_in}
 use Rattle.osdmap.specs.PartsOf.{osd_part, is_notable, part_listed, osd_parts}
-use Rattle.osdmap.proofs.OwnFits.{natural_fits}
+use Rattle.osdmap_laws.proofs.OwnFits.{natural_fits}
 
 -- ---- lists of what some numbers give, each under its own number
 

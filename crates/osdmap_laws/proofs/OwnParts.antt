@@ -28,7 +28,7 @@ use Rattle.stated.specs.Parts.{pg_fits, is_osd_id, pair_fits, exception_fits, ex
 use Rattle.osdmap.specs.PartsOf.{item_part, bucket_part, step_part, rule_part, pool_part, pair_part, exception_part, parts_of}
 use Rattle.stated.specs.Incrementals.{Step}
 use Rattle.osdmap.specs.Changes.{change_fault, apply}
-use Rattle.osdmap.specs.Laws.{IsTextEpoch, StatesItself}
+use Rattle.osdmap_laws.specs.Laws.{IsTextEpoch, StatesItself}
 use Rattle.stated.specs.Pools.{PoolFacts, IsWithinLimits}
 use Rattle.stated.specs.CrushMaps.{rule_of}
 use Rattle.osdmap.specs.Stated.{buckets_of, rules_ok, pool_ok, pools_ok, osds_ok, is_listed, exceptions_ok, explicit_of, items_of, all_exceptions_ok, map_fault, IsStated}
@@ -37,9 +37,9 @@ use Rattle.osdmap.proofs.Named.{below_max}
 use Rattle.keylist.proofs.Distinct.{rising_distinct}
 use Rattle.osdmap.proofs.Excepted.{exists_same, exceptions_same}
 use Rattle.osdmap.proofs.Kept.{HoldsTogether-after}
-use Rattle.osdmap.proofs.FewExceptions.{few_exceptions}
-use Rattle.osdmap.proofs.OwnFits.{natural_fits, count_fits, buckets_fine, rules_fine, pools_fine}
-use Rattle.osdmap.proofs.OwnOsds.{own_distinct, own_ok, own_fit, own_presences, own_weights}
+use Rattle.osdmap_laws.proofs.FewExceptions.{few_exceptions}
+use Rattle.osdmap_laws.proofs.OwnFits.{natural_fits, count_fits, buckets_fine, rules_fine, pools_fine}
+use Rattle.osdmap_laws.proofs.OwnOsds.{own_distinct, own_ok, own_fit, own_presences, own_weights}
 use Rattle.keylist.proofs.Each.{all_more, map_twice}
 
 -- ---- values that state themselves

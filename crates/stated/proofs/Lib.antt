@@ -1,7 +1,7 @@
 pub mod Within
 pub mod Narrowed
 pub mod Judged
-mod CrushFits
+pub mod CrushFits
 mod PgTexts
 pub mod GroupTexts
 mod Shorts

@@ -1,6 +1,6 @@
-//! What follows from the definitions of mapped sets: each law is the contract of a function that does nothing.
+//! What the mapped set of a group goes by.
 
-ghost use Rattle.osdmap.specs.PlacementLaws.{MappedReadsNamed, AlikeMapAlike};
+ghost use Rattle.osdmap_laws.specs.PlacementLaws.{MappedReadsNamed, AlikeMapAlike};
 
 /// The exceptions of a group make of its raw set what the reweights of the OSDs that they name allow, and go by no other
 /// reweight.

@@ -1,0 +1,7 @@
+mod MappedLemmas
+mod OrderLaw
+mod FewExceptions
+mod OwnFits
+mod OwnOsds
+pub mod OwnParts
+mod Held

@@ -1,0 +1,28 @@
+//! What is asked of the parts of a map holds in every map, and in every map that lawful changes lead to.
+
+ghost use Rattle.osdmap_laws.specs.Laws.{JournalsKeepMaps, IsTextEpoch, StatesItself, LeadsToAMap};
+
+use osdmap::{Change, OsdMap};
+
+/// A lawful journal of a map that was accepted leads to a map that would be accepted itself, as long as its epoch is 1 to
+/// 2,147,483,648.
+pub fn journals_keep_maps()
+    ensures { JournalsKeepMaps }
+{}
+
+/// A map of an epoch of 1 to 2,147,483,648 is the one that its own parts state, and nothing is wrong with these: what is
+/// asked of the parts of a map holds in every map.
+pub fn states_itself(map: &OsdMap)
+    ensures { IsTextEpoch map.now.epoch → StatesItself map.now }
+{
+    map.holds_together();
+}
+
+/// A change that the map does not refuse leads to a map in which nothing is wrong either, whatever epoch of 1 to
+/// 2,147,483,648 it is given: what a change may do is no more than what a map may be.
+pub fn change_leads_to_a_map(map: &OsdMap, change: &Change)
+    ensures { LeadsToAMap map.now change.now }
+{
+    map.holds_together();
+    let _ = change.parts();
+}
