@@ -1,3 +1,4 @@
+pub mod Rounds
 pub mod Drawn
 pub mod Words
 pub mod Trees
@@ -6,7 +7,6 @@ pub mod Descents
 pub mod Leaves
 pub mod Replicas
 pub mod Segments
-pub mod Rounds
 pub mod Bounds
 pub mod Above
 pub mod Chains

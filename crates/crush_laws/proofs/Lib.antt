@@ -1,3 +1,4 @@
+pub mod Folds
 pub mod LeafSearches
 pub mod FirstnSegments
 pub mod IndepPositions

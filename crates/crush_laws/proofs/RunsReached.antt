@@ -13,9 +13,9 @@ use Rattle.std.proofs.lemmas.List.Folds.{list_any_at, list_any-from_Any}
 use Rattle.rjenkins.specs.Jenkins.{hash2_of}
 use Rattle.crush.specs.declared.bucket.Bucket.{Bucket}
 use Rattle.crush.specs.declared.bucket.Item.{Item}
-use Rattle.crush.specs.declared.rule.RuleKind.{RuleKind}
-use Rattle.crush.specs.declared.rule.Step.{Step}
-use Rattle.crush.specs.declared.rule.Step.TheVariants.{Take, Choose as Chooses, Emit}
+use Rattle.crush.specs.declared.step.RuleKind.{RuleKind}
+use Rattle.crush.specs.declared.step.Step.{Step}
+use Rattle.crush.specs.declared.step.Step.TheVariants.{SetChooseTries, SetChooseleafTries, Take, Choose as Chooses, Emit}
 use Rattle.crush.specs.Forest.{bucket_at, level_of}
 use Rattle.crush.specs.Grammar.{step_limits_ok, IsLawful}
 use Rattle.crush_laws.specs.Runs.{RunPlacesReached, RunReadsReached}
@@ -41,6 +41,8 @@ path_more buckets (next ∷ between) top mid item path held = (path.0, path_more
 -- a step takes a bucket, or one above it
 TakesTo : List Bucket → ℤ → Step → Type 0
 TakesTo buckets item (Take top) = (top ≡ item) ⊎ IsAbove buckets top item
+TakesTo buckets item (SetChooseTries n) = ⊥
+TakesTo buckets item (SetChooseleafTries n) = ⊥
 TakesTo buckets item (Chooses c) = ⊥
 TakesTo buckets item Emit = ⊥
 
@@ -52,11 +54,15 @@ takes_below : (buckets : List Bucket) (id item : ℤ) (s : Step) → IsItemOf bu
 unfolding TakesTo
 takes_below buckets id item (Take top) held (inl same) = inr (record { between = []; path = subst (λ t. IsItemOf buckets t item) (sym same) held })
 takes_below buckets id item (Take top) held (inr above) = inr (record { between = above.between ++ id ∷ []; path = path_more buckets above.between top id item above.path held })
+takes_below buckets id item (SetChooseTries n) held h = h
+takes_below buckets id item (SetChooseleafTries n) held h = h
 takes_below buckets id item (Chooses c) held h = h
 takes_below buckets id item Emit held h = h
 
 takes_itself : (buckets : List Bucket) (steps : List Step) (k : ℕ) (s : Step) → k < length steps → get_or steps k s ≡ s → TakesIn (IsHeld buckets steps) s
 unfolding TakesTo
+takes_itself buckets steps k (SetChooseTries n) within e = tt
+takes_itself buckets steps k (SetChooseleafTries n) within e = tt
 takes_itself buckets steps k (Take id) within e = (k, Take id, within, e, inl refl)
 takes_itself buckets steps k (Chooses c) within e = tt
 takes_itself buckets steps k Emit within e = tt
@@ -115,6 +121,8 @@ takes_device buckets n (Take top) forest limits (inl same) =
     let device : int_lt (pos n) (pos 0) ≡ true = ap (λ t. int_lt t (pos 0)) (sym same) ∙ low in
     absurd (omega (arith, ints, device))
 takes_device buckets n (Take top) forest limits (inr above) = (above-tested buckets forest top (pos n)).1 above
+takes_device buckets n (SetChooseTries t) forest limits h = absurd h
+takes_device buckets n (SetChooseleafTries t) forest limits h = absurd h
 takes_device buckets n (Chooses c) forest limits h = absurd h
 takes_device buckets n Emit forest limits h = absurd h
 

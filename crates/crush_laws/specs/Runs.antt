@@ -1,8 +1,8 @@
 -- What the run of a rule places, and by which reweights.
 use Rattle.std.specs.Prelude.{◌≡◌, IsTrue, ℕ, List, pos, Some, slice_index, Contains}
 use Rattle.crush.specs.declared.bucket.Bucket.{Bucket}
-use Rattle.crush.specs.declared.rule.RuleKind.{RuleKind}
-use Rattle.crush.specs.declared.rule.Step.{Step}
+use Rattle.crush.specs.declared.step.RuleKind.{RuleKind}
+use Rattle.crush.specs.declared.step.Step.{Step}
 use Rattle.crush.specs.World.{world_of}
 use Rattle.crush.specs.Run.{run_of}
 use Rattle.crush.specs.Grammar.{IsLawful}
