@@ -62,19 +62,19 @@ halves items from half =
     ∙ ap (λ ys. weight_between items from half + weight_of (take half ys)) (drop-drop half from items)
 
 -- the step of the walk
-tree_place_more : (x id r k from node w left : ℕ) (items : List Item) (goes : Bool) → node ≡ 2 * from + 2 ^ suc k → w ≡ weight_between items from (2 ^ suc k) → left ≡ weight_between items from (2 ^ k) → goes ≡ goes_left x id r node w left → cond goes (tree_place x id r items k from) (tree_place x id r items k (from + 2 ^ k)) ≡ tree_place x id r items (suc k) from
+tree_place_more : (draw : ℕ → ℕ) (k from node w left : ℕ) (items : List Item) (goes : Bool) → node ≡ 2 * from + 2 ^ suc k → w ≡ weight_between items from (2 ^ suc k) → left ≡ weight_between items from (2 ^ k) → goes ≡ goes_left (draw node) w left → cond goes (tree_place draw items k from) (tree_place draw items k (from + 2 ^ k)) ≡ tree_place draw items (suc k) from
 unfolding tree_place
-tree_place_more x id r k from node w left items goes en ew el eg =
-    ap (λ b. cond b (tree_place x id r items k from) (tree_place x id r items k (from + 2 ^ k)))
-    (eg ∙ ap (λ m. goes_left x id r m w left) en ∙ ap (λ v. goes_left x id r (2 * from + 2 ^ suc k) v left) ew ∙ ap (goes_left x id r (2 * from + 2 ^ suc k) (weight_between items from (2 ^ suc k))) el)
+tree_place_more draw k from node w left items goes en ew el eg =
+    ap (λ b. cond b (tree_place draw items k from) (tree_place draw items k (from + 2 ^ k)))
+    (eg ∙ ap (λ m. goes_left (draw m) w left) en ∙ ap (λ v. goes_left (draw (2 * from + 2 ^ suc k)) v left) ew ∙ ap (goes_left (draw (2 * from + 2 ^ suc k)) (weight_between items from (2 ^ suc k))) el)
 
 -- the walk has come to the node of the 2 ^ k places from `from` on, which weighs w
-pub record IsAt (x id r : ℕ) (items : List Item) (k from w : ℕ) : Type 0 where
+pub record IsAt (draw : ℕ → ℕ) (items : List Item) (k from w : ℕ) : Type 0 where
   pub low : k ≤ 6
   pub room : from + 2 ^ k ≤ 64
   pub some : 0 < w
   pub weighed : w ≡ weight_between items from (2 ^ k)
-  pub rest : tree_place x id r items k from ≡ tree_place x id r items (height_of (length items)) 0
+  pub rest : tree_place draw items k from ≡ tree_place draw items (height_of (length items)) 0
 
 -- a draw is below the weight that it is made against
 pub draw_below : (scale h w : ℕ) → h < scale → 0 < w → h * w / scale < w
@@ -82,45 +82,45 @@ draw_below scale h w low some =
     div_below (h * w) scale w (omega arith) (let p : h * w < scale * w = mul-lt-mul_of_pos_right low some in let q : scale * w ≡ w * scale = mul_comm scale w in omega arith)
 
 -- the node's halves
-halves_of : (x id r k from w left : ℕ) (items : List Item) → IsAt x id r items (suc k) from w → left ≡ weight_between items from (2 ^ k) → w ≡ left + weight_between items (from + 2 ^ k) (2 ^ k)
-halves_of x id r k from w left items at el =
+halves_of : (draw : ℕ → ℕ) (k from w left : ℕ) (items : List Item) → IsAt draw items (suc k) from w → left ≡ weight_between items from (2 ^ k) → w ≡ left + weight_between items (from + 2 ^ k) (2 ^ k)
+halves_of draw k from w left items at el =
     let two : 2 ^ suc k ≡ 2 ^ k + 2 ^ k = omega (arith, pow-suc 2 k) in
     at.weighed ∙ ap (weight_between items from) two ∙ halves items from (2 ^ k) ∙ ap (λ m. m + weight_between items (from + 2 ^ k) (2 ^ k)) (sym el)
 
 -- where the walk goes left the left half weighs something
-pub goes_left_some : (x id r node w left : ℕ) → goes_left x id r node w left ≡ true → 0 < left
+pub goes_left_some : (hash w left : ℕ) → goes_left hash w left ≡ true → 0 < left
 unfolding goes_left
-goes_left_some x id r node w left e = let h = ltb-true _ _ e in omega (arith, h)
+goes_left_some hash w left e = let h = ltb-true _ _ e in omega (arith, h)
 
-step_left : (x id r k from node w left : ℕ) (items : List Item) → IsAt x id r items (suc k) from w → node ≡ 2 * from + 2 ^ suc k → left ≡ weight_between items from (2 ^ k) → goes_left x id r node w left ≡ true → IsAt x id r items k from left
-step_left x id r k from node w left items at en el e =
+step_left : (draw : ℕ → ℕ) (k from node w left : ℕ) (items : List Item) → IsAt draw items (suc k) from w → node ≡ 2 * from + 2 ^ suc k → left ≡ weight_between items from (2 ^ k) → goes_left (draw node) w left ≡ true → IsAt draw items k from left
+step_left draw k from node w left items at en el e =
     let two : 2 ^ suc k ≡ 2 ^ k + 2 ^ k = omega (arith, pow-suc 2 k) in
     record {
       low = omega (arith, at.low);
       room = omega (arith, at.room);
-      some = goes_left_some x id r node w left e;
+      some = goes_left_some (draw node) w left e;
       weighed = el;
-      rest = tree_place_more x id r k from node w left items true en at.weighed el (sym e) ∙ at.rest;
+      rest = tree_place_more draw k from node w left items true en at.weighed el (sym e) ∙ at.rest;
     }
 
-step_right : (x id r k from node w left : ℕ) (items : List Item) → IsAt x id r items (suc k) from w → node ≡ 2 * from + 2 ^ suc k → left ≡ weight_between items from (2 ^ k) → hash4_of x node r id < 2 ^ 32 → goes_left x id r node w left ≡ false → IsAt x id r items k (from + 2 ^ k) (w - left)
+step_right : (draw : ℕ → ℕ) (k from node w left : ℕ) (items : List Item) → IsAt draw items (suc k) from w → node ≡ 2 * from + 2 ^ suc k → left ≡ weight_between items from (2 ^ k) → draw node < 2 ^ 32 → goes_left (draw node) w left ≡ false → IsAt draw items k (from + 2 ^ k) (w - left)
 unfolding goes_left
-step_right x id r k from node w left items at en el low e =
+step_right draw k from node w left items at en el low e =
     let two : 2 ^ suc k ≡ 2 ^ k + 2 ^ k = omega (arith, pow-suc 2 k) in
-    let both = halves_of x id r k from w left items at el in
-    let under = draw_below (2 ^ 32) (hash4_of x node r id) w low at.some in
+    let both = halves_of draw k from w left items at el in
+    let under = draw_below (2 ^ 32) (draw node) w low at.some in
     let over = ltb-false _ _ e in
     record {
       low = omega (arith, at.low);
       room = omega (arith, at.room);
       some = omega (arith, under, over);
       weighed = omega (arith, both);
-      rest = tree_place_more x id r k from node w left items false en at.weighed el (sym e) ∙ at.rest;
+      rest = tree_place_more draw k from node w left items false en at.weighed el (sym e) ∙ at.rest;
     }
 
-pub at_leaf : (x id r from w : ℕ) (items : List Item) → IsAt x id r items 0 from w → (from ≡ tree_place x id r items (height_of (length items)) 0) × (from < length items)
+pub at_leaf : (draw : ℕ → ℕ) (from w : ℕ) (items : List Item) → IsAt draw items 0 from w → (from ≡ tree_place draw items (height_of (length items)) 0) × (from < length items)
 unfolding tree_place
-at_leaf x id r from w items at = (
+at_leaf draw from w items at = (
   at.rest,
   elim (cases_lt from (length items)) [
     | inl h ↦ h
@@ -129,29 +129,29 @@ at_leaf x id r from w items at = (
 )
 
 -- the same, as the loop has it
-pub walks_left : (x id r k from half node w left : ℕ) (items : List Item) → 0 < k → half ≡ 2 ^ (k - 1) → node ≡ 2 * (from + half) → left ≡ weight_between items from half → IsAt x id r items k from w → goes_left x id r node w left ≡ true → IsAt x id r items (k - 1) from left
-walks_left x id r k from half node w left items some eh en el at e =
+pub walks_left : (draw : ℕ → ℕ) (k from half node w left : ℕ) (items : List Item) → 0 < k → half ≡ 2 ^ (k - 1) → node ≡ 2 * (from + half) → left ≡ weight_between items from half → IsAt draw items k from w → goes_left (draw node) w left ≡ true → IsAt draw items (k - 1) from left
+walks_left draw k from half node w left items some eh en el at e =
     let j = k - 1 in
-    let P : ℕ → Type 0 = λ m. IsAt x id r items m from w in
+    let P : ℕ → Type 0 = λ m. IsAt draw items m from w in
     let more : k ≡ suc j = omega arith in
     let two : 2 ^ suc j ≡ 2 ^ j + 2 ^ j = omega (arith, pow-suc 2 j) in
-    step_left x id r j from node w left items (subst P more at) (omega arith) (el ∙ ap (weight_between items from) eh) e
+    step_left draw j from node w left items (subst P more at) (omega arith) (el ∙ ap (weight_between items from) eh) e
 
-pub walks_right : (x id r k from half node w left : ℕ) (items : List Item) → 0 < k → half ≡ 2 ^ (k - 1) → node ≡ 2 * (from + half) → left ≡ weight_between items from half → IsAt x id r items k from w → hash4_of x node r id < 2 ^ 32 → goes_left x id r node w left ≡ false → IsAt x id r items (k - 1) (from + half) (w - left)
-walks_right x id r k from half node w left items some eh en el at low e =
+pub walks_right : (draw : ℕ → ℕ) (k from half node w left : ℕ) (items : List Item) → 0 < k → half ≡ 2 ^ (k - 1) → node ≡ 2 * (from + half) → left ≡ weight_between items from half → IsAt draw items k from w → draw node < 2 ^ 32 → goes_left (draw node) w left ≡ false → IsAt draw items (k - 1) (from + half) (w - left)
+walks_right draw k from half node w left items some eh en el at low e =
     let j = k - 1 in
-    let P : ℕ → Type 0 = λ m. IsAt x id r items m from w in
-    let Q : ℕ → Type 0 = λ h. IsAt x id r items j (from + h) (w - left) in
+    let P : ℕ → Type 0 = λ m. IsAt draw items m from w in
+    let Q : ℕ → Type 0 = λ h. IsAt draw items j (from + h) (w - left) in
     let more : k ≡ suc j = omega arith in
     let two : 2 ^ suc j ≡ 2 ^ j + 2 ^ j = omega (arith, pow-suc 2 j) in
-    subst Q (sym eh) (step_right x id r j from node w left items (subst P more at) (omega arith) (el ∙ ap (weight_between items from) eh) low e)
+    subst Q (sym eh) (step_right draw j from node w left items (subst P more at) (omega arith) (el ∙ ap (weight_between items from) eh) low e)
 
-pub left_le : (x id r k from half w left : ℕ) (items : List Item) → 0 < k → half ≡ 2 ^ (k - 1) → left ≡ weight_between items from half → IsAt x id r items k from w → left ≤ w
-left_le x id r k from half w left items some eh el at =
+pub left_le : (draw : ℕ → ℕ) (k from half w left : ℕ) (items : List Item) → 0 < k → half ≡ 2 ^ (k - 1) → left ≡ weight_between items from half → IsAt draw items k from w → left ≤ w
+left_le draw k from half w left items some eh el at =
     let j = k - 1 in
-    let P : ℕ → Type 0 = λ m. IsAt x id r items m from w in
+    let P : ℕ → Type 0 = λ m. IsAt draw items m from w in
     let more : k ≡ suc j = omega arith in
-    omega (arith, halves_of x id r j from w left items (subst P more at) (el ∙ ap (weight_between items from) eh))
+    omega (arith, halves_of draw j from w left items (subst P more at) (el ∙ ap (weight_between items from) eh))
 
 -- the item at the place picked
 pub picked_at : (b : Bucket) (x r place : ℕ) (items : List Item) → items ≡ b.items → place ≡ place_of b x r → (item_at items place).id ≡ pick_of b x r

@@ -1,5 +1,5 @@
 -- what choosing for positions leaves: no item twice, nothing that is out, and what is decided stays
-use Rattle.std.proofs.Common.{◌≡◌, ◌≢◌, ℕ, ◌+◌, ◌<◌, ℤ, Bool, true, false, not, cond, ◌&&◌, eqb, List, [], ◌∷◌, length, get_or, set, replicate, Option, Some, None, inl, inr, sym, ap, refl, ◌∙◌, subst, arith, length-set}
+use Rattle.std.proofs.Common.{◌≡◌, ◌≢◌, ℕ, suc, zero, ◌-◌, ◌+◌, ◌<◌, ℤ, Bool, true, false, not, cond, ◌&&◌, eqb, List, [], ◌∷◌, length, get_or, set, replicate, Option, Some, None, inl, inr, sym, ap, refl, ◌∙◌, subst, arith, length-set}
 use Rattle.std.specs.List.{All, AllPairs, range_with_len, list_any, fold}
 use Rattle.std.proofs.lemmas.Bool.{cases_Bool, cases_eq, false≢true}
 use Rattle.std.proofs.lemmas.Bool.Decides.{Decides-int_eq}
@@ -17,7 +17,7 @@ use Rattle.crush.specs.World.{is_out}
 use Rattle.crush.specs.Descent.{leaf_below, item_below}
 use Rattle.crush.proofs.Rounds.{range_append}
 use Rattle.crush.specs.Indep.{number_in, numbers_in, holds_item, is_open, filled_with, position_with, position_at, position_of, after_turn, after_round, indep}
-use Rattle.crush_laws.specs.Choices.{takes_devices, AreApart, HoldsNoneOut, ArePositions, in_rounds, IndepIsPositions, IndepKeepsPositions}
+use Rattle.crush_laws.specs.Choices.{takes_devices, AreApart, HoldsNoneOut, ArePositions, in_rounds, IndepIsPositions, IndepKeepsPositions, IndepLooksBack}
 use Rattle.crush_laws.proofs.Folds.{fold_keeps}
 use Rattle.crush_laws.proofs.LeafSearches.{leaf_accepted, other_holds, no_device, not_true}
 
@@ -195,3 +195,29 @@ indep_keeps_positions k start rounds more count place =
     ∙ fold-append (F rounds) none (range_with_len 0 rounds) (range_with_len (0 + rounds) more) in
     let stays = stays_fold (F rounds) (stays_round (in_rounds k rounds) start) first (range_with_len (0 + rounds) more) in
     λ h. ap (λ ps. get_or ps place Hole) whole ∙ stays.decided place h
+
+-- a turn leaves every other position alone
+turn_apart : (ps : List Position) (rep place : ℕ) (p : Position) (undecided : Bool) → place ≢ rep → get_or (cond undecided (set ps rep p) ps) place Hole ≡ get_or ps place Hole
+turn_apart ps rep place p true ne = get_or-set_other ps rep place p Hole ne
+turn_apart ps rep place p false ne = refl
+
+-- so do the turns of later positions
+later_turns : (k : Choosing) (start : Bucket) (round : ℕ) (ps : List Position) (place a m : ℕ) → place < a → get_or (fold (after_turn k start round) ps (range_with_len a m)) place Hole ≡ get_or ps place Hole
+later_turns k start round ps place a zero before = refl
+later_turns k start round ps place a (suc m) before =
+    let next = after_turn k start round ps a in
+    later_turns k start round next place (a + 1) m (omega arith)
+    ∙ turn_apart ps a place (position_of k start round ps a) (is_open (get_or ps a Hole)) (λ same. omega arith)
+
+pub indep_looks_back : IndepLooksBack
+unfolding after_round
+indep_looks_back k start round positions place within =
+    let f = after_turn k start round in
+    let n = length positions in
+    let rest = n - (place + 1) in
+    let whole : (place + 1) + rest ≡ n = omega arith in
+    let first = fold f positions (range_with_len 0 (place + 1)) in
+    ap (λ m. get_or (fold f positions (range_with_len 0 m)) place Hole) (sym whole)
+    ∙ ap (λ xs. get_or (fold f positions xs) place Hole) (range_append 0 (place + 1) rest)
+    ∙ ap (λ ps. get_or ps place Hole) (fold-append f positions (range_with_len 0 (place + 1)) (range_with_len (0 + (place + 1)) rest))
+    ∙ later_turns k start round first place (0 + (place + 1)) rest (omega arith)

@@ -10,3 +10,4 @@ pub mod RunsReached
 pub mod DescentEnds
 pub mod ItemsLeadDown
 pub mod RuleBlocks
+pub mod RunsFit

@@ -1,13 +1,17 @@
 -- What the run of a rule places, and by which reweights.
-use Rattle.std.specs.Prelude.{◌≡◌, IsTrue, ℕ, List, pos, Some, slice_index, Contains}
+use Rattle.std.specs.Prelude.{◌≡◌, ◌≤◌, length, IsTrue, ℕ, List, pos, Some, slice_index, Contains}
 use Rattle.crush.specs.declared.bucket.Bucket.{Bucket}
 use Rattle.crush.specs.declared.step.RuleKind.{RuleKind}
 use Rattle.crush.specs.declared.step.Step.{Step}
-use Rattle.crush.specs.World.{world_of}
+use Rattle.crush.specs.World.{World, world_of}
 use Rattle.crush.specs.Run.{run_of}
 use Rattle.crush.specs.Grammar.{IsLawful}
 use Rattle.crush.specs.Paths.{reaches}
 use Rattle.crush.specs.WellFormed.{IsForest}
+
+-- a rule places no more than the size of the pool
+abbrev pub RunsFit : Type 0
+RunsFit = (w : World) (steps : List Step) (size : ℕ) → length (run_of w steps size) ≤ size
 
 -- everything that a rule places is reached
 abbrev pub RunPlacesReached : Type 0
