@@ -29,7 +29,8 @@ with_leaf item (Some leaf) = Chosen (record { item = item; leaf = leaf })
 unfoldable pub attempt_with : Choosing → List Choice → ℕ → ℤ → Attempt
 attempt_with k chosen r item =
     if list_any (λ e. int_eq e.item item) chosen then Failed
-    else if k.choose.to_leaf then with_leaf item (leaf_below k.world (is_free k.world chosen) (numbers_from r k.tries.leaf) item)
+    else if k.choose.to_leaf
+    then with_leaf item (leaf_below k.world (is_free k.world chosen) (numbers_from r k.tries.leaf) item)
     else if k.choose.level == 0 && is_out k.world item then Failed
     else Chosen (record { item = item; leaf = item })
 

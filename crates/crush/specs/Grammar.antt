@@ -18,8 +18,8 @@ use Rattle.crush.specs.Forest.{bucket_at}
 use Rattle.crush.specs.Limits.{max_level, max_steps, max_count, max_tries}
 use Rattle.crush.specs.WellFormed.{is_within, is_bucket_id}
 
--- a step within the limits: it takes an id that a bucket may have, chooses items, no more than the most, of a type up to
--- the highest, or sets tries, no more than the most
+-- a step within the limits: it takes an id that a bucket may have, chooses items, no more than the most, of a type up
+-- to the highest, or sets tries, no more than the most
 abbrev pub step_limits_ok : Step → Bool
 step_limits_ok (step.Take bucket) = is_bucket_id bucket
 step_limits_ok (step.Choose c) = nat_le c.count max_count && nat_le c.level max_level
@@ -50,7 +50,8 @@ is_earlier kind c next = serves kind c.mode && not c.to_leaf && nat_lt next.leve
 abbrev pub is_block : RuleKind → List Step → Bool
 is_block kind (step.Take _ ∷ step.Choose a ∷ []) = is_last kind a
 is_block kind (step.Take _ ∷ step.Choose a ∷ step.Choose b ∷ []) = is_earlier kind a b && is_last kind b
-is_block kind (step.Take _ ∷ step.Choose a ∷ step.Choose b ∷ step.Choose c ∷ []) = is_earlier kind a b && is_earlier kind b c && is_last kind c
+is_block kind (step.Take _ ∷ step.Choose a ∷ step.Choose b ∷ step.Choose c ∷ []) =
+    is_earlier kind a b && is_earlier kind b c && is_last kind c
 is_block kind _ = false
 
 -- whether a step sets tries
@@ -100,7 +101,8 @@ rule_ok kind steps buckets = is_rule kind steps && list_all (takes_known buckets
 
 -- why a list of steps is no rule over a forest: a limit first
 abbrev pub rule_fault : RuleKind → List Step → List Bucket → Option Refusal
-rule_fault kind steps buckets = if rule_limits_ok steps then refused_unless (rule_ok kind steps buckets) BadRule else Some BadLimit
+rule_fault kind steps buckets =
+    if rule_limits_ok steps then refused_unless (rule_ok kind steps buckets) BadRule else Some BadLimit
 
 -- what each rule is, over whatever forest
 pub record IsLawful (kind : RuleKind) (steps : List Step) : Type 0 where

@@ -9,7 +9,7 @@ use Rattle.crush.specs.declared.choose.Picked.{Picked}
 use Rattle.crush.specs.declared.choose.Position.{Position}
 use Rattle.crush.specs.declared.choose.Position.TheVariants.{Open, Hole, Filled}
 use Rattle.crush.specs.Choosing.{Choosing}
-use Rattle.crush.specs.World.{is_out}
+use Rattle.crush.specs.World.{World, is_out}
 use Rattle.crush.specs.Descent.{item_below, leaf_below}
 
 -- how far the replica number goes on each round: numrep, and one more inside a uniform bucket whose size numrep
@@ -39,6 +39,10 @@ is_open Open = true
 is_open Hole = false
 is_open (Filled e) = false
 
+-- whether a device is in
+abbrev pub is_in : World → ℤ → Bool
+is_in w device = not (is_out w device)
+
 -- a bucket fills its position with a leaf, and leaves it open without one
 abbrev pub filled_with : ℤ → Option ℤ → Position
 filled_with item None = Open
@@ -50,7 +54,8 @@ filled_with item (Some leaf) = Filled (record { item = item; leaf = leaf })
 unfoldable pub position_with : Choosing → List Position → ℕ → Picked → Position
 position_with k positions rep p =
     if list_any (holds_item p.item) positions then Open
-    else if k.choose.to_leaf then filled_with p.item (leaf_below k.world (λ d. not (is_out k.world d)) (numbers_in k.numrep (rep + p.r) k.tries.leaf) p.item)
+    else if k.choose.to_leaf
+    then filled_with p.item (leaf_below k.world (is_in k.world) (numbers_in k.numrep (rep + p.r) k.tries.leaf) p.item)
     else if k.choose.level == 0 && is_out k.world p.item then Open
     else Filled (record { item = p.item; leaf = p.item })
 

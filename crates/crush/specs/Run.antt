@@ -56,8 +56,8 @@ pub record Progress : Type 0 where
 abbrev pub no_progress : Progress
 no_progress = record { tries = record { total = 51; leaf = 1 }; working = []; emitted = [] }
 
--- a step that sets tries holds for all choose steps up to the next of its kind; take sets the working list, a choose step
--- makes a new one of it, emit appends it to the result, cut at the size
+-- a step that sets tries holds for all choose steps up to the next of its kind; take sets the working list, a choose
+-- step makes a new one of it, emit appends it to the result, cut at the size
 unfoldable pub after_step : World → ℕ → Progress → Step → Progress
 after_step w size s (SetChooseTries n) = record s { tries = record { total = n; leaf = s.tries.leaf } }
 after_step w size s (SetChooseleafTries n) = record s { tries = record { total = s.tries.total; leaf = n } }

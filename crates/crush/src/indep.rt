@@ -26,20 +26,19 @@ fn has_open(positions: &[Position]) -> bool
 }
 
 impl Chooser<'_> {
-    ghost use Rattle.std.specs.Prelude.{◌≡◌, ◌+◌, ◌^◌, ◌<◌, ◌≤◌, not, length};
+    ghost use Rattle.std.specs.Prelude.{◌≡◌, ◌+◌, ◌^◌, ◌<◌, ◌≤◌, length};
     ghost use Rattle.crush.specs.Forest.{IsPickable};
     ghost use Rattle.crush.specs.Limits.{max_size};
-    ghost use Rattle.crush.specs.World.{is_out};
-    ghost use Rattle.crush.specs.Placed.{world, choosing};
+    ghost use Rattle.crush.specs.Placed.{choosing};
     ghost use Rattle.crush.specs.Descent.{leaf_below};
-    ghost use Rattle.crush.specs.Indep.{numbers_in, position_with, position_of, after_turn, after_round, indep};
+    ghost use Rattle.crush.specs.Indep.{is_in, numbers_in, position_with, position_of, after_turn, after_round, indep};
 
     /// The leaf below an item chosen for a position.
     fn position_leaf(&self, item: i32, base: u32) -> Option<i32>
         requires some { 0 < self.now.numrep }
         requires fits { base < 2 ^ 31 }
-        ensures { let w = world self.now.placement in
-            result ≡ leaf_below w (λ d. not (is_out w d)) (numbers_in self.now.numrep base self.now.tries.leaf) item }
+        ensures { let k = choosing self.now in
+            result ≡ leaf_below k.world (is_in k.world) (numbers_in k.numrep base k.tries.leaf) item }
     {
         let bucket = self.placement.forest.bucket(item)?;
         for round in 0..self.tries.leaf {

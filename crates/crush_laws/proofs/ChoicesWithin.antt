@@ -30,6 +30,7 @@ barred_same R w vs level item s holds device = elim (cases_eq level 0) [
   | inr ne ↦ ap (λ b. b && is_out w item) (ne_eqb _ _ ne) ∙ sym (ap (λ b. b && is_out (other w vs) item) (ne_eqb _ _ ne))
 ]
 
+-- a descent to type 0 ends at a device
 device_at : (R : ℤ → Type 0) (w : World) (vs : List ℕ) (r : Bucket → ℕ) (level : ℕ) (start : Bucket) (p : Picked) → AreAlike R w vs → HasIn R w.buckets start → item_below w r level start ≡ Some p → level ≡ 0 → IsDevice p.item
 device_at R w vs r level start p s h is e = descent_device R w vs r start.level start p s h (sym (ap (λ m. item_below w r m start) e) ∙ is)
 
@@ -39,6 +40,7 @@ other_step k vs = record k { world = other k.world vs }
 
 -- ---- packing
 
+-- an item comes to the same under both lists
 attempt_same : (R : ℤ → Type 0) (k : Choosing) (vs : List ℕ) (chosen : List Choice) (r : ℕ) (item : ℤ) → AreAlike R k.world vs → R item → (k.choose.level ≡ 0 → IsDevice item) → attempt_with k chosen r item ≡ attempt_with (other_step k vs) chosen r item
 unfolding attempt_with attempt_by
 attempt_same R k vs chosen r item s holds device =
@@ -49,6 +51,7 @@ attempt_same R k vs chosen r item s holds device =
     ap (λ l. attempt_by held k.choose.to_leaf (eqb k.choose.level 0 && is_out k.world item) l item) leaf
     ∙ ap (λ b. attempt_by held k.choose.to_leaf b (leaf_below v (is_free v chosen) (numbers_from r k.tries.leaf) item) item) (barred_same R k.world vs k.choose.level item s holds device)
 
+-- and its leaf is in the set
 attempt_in : (R : ℤ → Type 0) (k : Choosing) (vs : List ℕ) (chosen : List Choice) (r : ℕ) (item : ℤ) (e : Choice) → AreAlike R k.world vs → R item → attempt_with k chosen r item ≡ Chosen e → R e.leaf
 unfolding attempt_with attempt_by
 attempt_in R k vs chosen r item e s holds h =
@@ -59,31 +62,37 @@ attempt_in R k vs chosen r item e s holds h =
       | inr bare ↦ subst R (is.item_is ∙ sym (is.itself bare).0) holds
     ]
 
+-- so does what a descent found
 attempt_at_same : (R : ℤ → Type 0) (k : Choosing) (vs : List ℕ) (chosen : List Choice) (r : ℕ) (found : Option Picked) → AreAlike R k.world vs → ((p : Picked) → found ≡ Some p → R p.item) → ((p : Picked) → found ≡ Some p → k.choose.level ≡ 0 → IsDevice p.item) → attempt_at k chosen r found ≡ attempt_at (other_step k vs) chosen r found
 attempt_at_same R k vs chosen r None s h q = refl
 attempt_at_same R k vs chosen r (Some p) s h q = attempt_same R k vs chosen r p.item s (h p refl) (q p refl)
 
+-- and its leaf is in the set
 attempt_at_in : (R : ℤ → Type 0) (k : Choosing) (vs : List ℕ) (chosen : List Choice) (r : ℕ) (found : Option Picked) (e : Choice) → AreAlike R k.world vs → ((p : Picked) → found ≡ Some p → R p.item) → attempt_at k chosen r found ≡ Chosen e → R e.leaf
 attempt_at_in R k vs chosen r None e s h is = absurd (cc)
 attempt_at_in R k vs chosen r (Some p) e s h is = attempt_in R k vs chosen r p.item e s (h p refl) is
 
+-- so does a try
 attempt_of_same : (R : ℤ → Type 0) (k : Choosing) (vs : List ℕ) (chosen : List Choice) (start : Bucket) (r : ℕ) → AreAlike R k.world vs → HasIn R k.world.buckets start → attempt_of k chosen start r ≡ attempt_of (other_step k vs) chosen start r
 unfolding attempt_of
 attempt_of_same R k vs chosen start r s h =
     attempt_at_same R k vs chosen r (item_below k.world (λ _. r) k.choose.level start) s (λ p is. descent_in R k.world vs (λ _. r) k.choose.level start.level start p s h is) (λ p is e. device_at R k.world vs (λ _. r) k.choose.level start p s h is e)
     ∙ ap (attempt_at (other_step k vs) chosen r) (descent_same k.world vs (λ _. r) k.choose.level start.level start)
 
+-- and its leaf is in the set
 attempt_of_in : (R : ℤ → Type 0) (k : Choosing) (vs : List ℕ) (chosen : List Choice) (start : Bucket) (r : ℕ) (e : Choice) → AreAlike R k.world vs → HasIn R k.world.buckets start → attempt_of k chosen start r ≡ Chosen e → R e.leaf
 unfolding attempt_of
 attempt_of_in R k vs chosen start r e s h is =
     attempt_at_in R k vs chosen r (item_below k.world (λ _. r) k.choose.level start) e s (λ p found. descent_in R k.world vs (λ _. r) k.choose.level start.level start p s h found) is
 
+-- so does a replica
 replica_same : (R : ℤ → Type 0) (k : Choosing) (vs : List ℕ) (chosen : List Choice) (start : Bucket) (n r : ℕ) → AreAlike R k.world vs → HasIn R k.world.buckets start → replica_of k chosen start n r ≡ replica_of (other_step k vs) chosen start n r
 unfolding replica_of
 replica_same R k vs chosen start n r s h =
     let each : attempt_of k chosen start ≡ attempt_of (other_step k vs) chosen start = λ i r. attempt_of_same R k vs chosen start r s h i in
     ap (λ (f : ℕ → Attempt). unwrap_or (find (λ a. not (is_failed a)) (map f (range_with_len r n))) Failed) each
 
+-- and its leaf is in the set
 replica_in : (R : ℤ → Type 0) (k : Choosing) (vs : List ℕ) (chosen : List Choice) (start : Bucket) (n r : ℕ) (e : Choice) → AreAlike R k.world vs → HasIn R k.world.buckets start → replica_of k chosen start n r ≡ Chosen e → R e.leaf
 unfolding replica_of
 replica_in R k vs chosen start zero r e s h is = absurd (cc)
@@ -102,11 +111,13 @@ unfolding firstn
 firstn_same R k vs start limit s h =
     ap (λ (f : List Choice → ℕ → List Choice). fold f [] (range_with_len 0 k.numrep)) (after_same R k vs start limit s h)
 
+-- a choice in the set joins others in it
 with_in : (R : ℤ → Type 0) (chosen : List Choice) (a : Attempt) → All (λ e. R e.leaf) chosen → ((e : Choice) → a ≡ Chosen e → R e.leaf) → All (λ e. R e.leaf) (with_attempt chosen a)
 with_in R chosen Abandoned all h = all
 with_in R chosen Failed all h = all
 with_in R chosen (Chosen e) all h = All-push (λ (o : Choice). R o.leaf) chosen e all (h e refl)
 
+-- two lists in the set, and a test between them
 either_in : (R : ℤ → Type 0) (more : Bool) (xs ys : List Choice) → All (λ e. R e.leaf) xs → All (λ e. R e.leaf) ys → All (λ e. R e.leaf) (cond more xs ys)
 either_in R true xs ys p q = p
 either_in R false xs ys p q = q
@@ -127,6 +138,7 @@ HoldsIn R Open = Unit {0}
 HoldsIn R Hole = Unit {0}
 HoldsIn R (Filled e) = R e.leaf
 
+-- an item makes the same of a position under both lists
 position_same : (R : ℤ → Type 0) (k : Choosing) (vs : List ℕ) (positions : List Position) (rep : ℕ) (p : Picked) → AreAlike R k.world vs → R p.item → (k.choose.level ≡ 0 → IsDevice p.item) → position_with k positions rep p ≡ position_with (other_step k vs) positions rep p
 unfolding position_with position_by
 position_same R k vs positions rep p s holds device =
@@ -138,6 +150,7 @@ position_same R k vs positions rep p s holds device =
     ap (λ l. position_by held k.choose.to_leaf (eqb k.choose.level 0 && is_out k.world p.item) l p.item) leaf
     ∙ ap (λ b. position_by held k.choose.to_leaf b (leaf_below v (accepts v) rs p.item) p.item) (barred_same R k.world vs k.choose.level p.item s holds device)
 
+-- and fills it with a leaf in the set
 filled_in : (R : ℤ → Type 0) (k : Choosing) (vs : List ℕ) (positions : List Position) (rep : ℕ) (p : Picked) (e : Choice) → AreAlike R k.world vs → R p.item → position_with k positions rep p ≡ Filled e → R e.leaf
 unfolding position_with position_by
 filled_in R k vs positions rep p e s holds h =
@@ -149,14 +162,17 @@ filled_in R k vs positions rep p e s holds h =
       | inr bare ↦ subst R (sym (is.itself bare).0) holds
     ]
 
+-- so does what a descent found
 position_at_same : (R : ℤ → Type 0) (k : Choosing) (vs : List ℕ) (positions : List Position) (rep : ℕ) (found : Option Picked) → AreAlike R k.world vs → ((p : Picked) → found ≡ Some p → R p.item) → ((p : Picked) → found ≡ Some p → k.choose.level ≡ 0 → IsDevice p.item) → position_at k positions rep found ≡ position_at (other_step k vs) positions rep found
 position_at_same R k vs positions rep None s h q = refl
 position_at_same R k vs positions rep (Some p) s h q = position_same R k vs positions rep p s (h p refl) (q p refl)
 
+-- and its leaf is in the set
 position_at_in : (R : ℤ → Type 0) (k : Choosing) (vs : List ℕ) (positions : List Position) (rep : ℕ) (found : Option Picked) (e : Choice) → AreAlike R k.world vs → ((p : Picked) → found ≡ Some p → R p.item) → position_at k positions rep found ≡ Filled e → R e.leaf
 position_at_in R k vs positions rep None e s h is = absurd (cc)
 position_at_in R k vs positions rep (Some p) e s h is = filled_in R k vs positions rep p e s (h p refl) is
 
+-- a position becomes the same in a round
 position_of_same : (R : ℤ → Type 0) (k : Choosing) (vs : List ℕ) (start : Bucket) (round : ℕ) (positions : List Position) (rep : ℕ) → AreAlike R k.world vs → HasIn R k.world.buckets start → position_of k start round positions rep ≡ position_of (other_step k vs) start round positions rep
 unfolding position_of
 position_of_same R k vs start round positions rep s h =
@@ -164,17 +180,20 @@ position_of_same R k vs start round positions rep s h =
     position_at_same R k vs positions rep (item_below k.world r k.choose.level start) s (λ p is. descent_in R k.world vs r k.choose.level start.level start p s h is) (λ p is e. device_at R k.world vs r k.choose.level start p s h is e)
     ∙ ap (position_at (other_step k vs) positions rep) (descent_same k.world vs r k.choose.level start.level start)
 
+-- a position that is filled from the set holds nothing outside it
 held_in : (R : ℤ → Type 0) (p : Position) → ((e : Choice) → p ≡ Filled e → R e.leaf) → HoldsIn R p
 held_in R Open h = tt
 held_in R Hole h = tt
 held_in R (Filled e) h = h e refl
 
+-- so does a position of a round
 position_of_in : (R : ℤ → Type 0) (k : Choosing) (vs : List ℕ) (start : Bucket) (round : ℕ) (positions : List Position) (rep : ℕ) → AreAlike R k.world vs → HasIn R k.world.buckets start → HoldsIn R (position_of k start round positions rep)
 unfolding position_of
 position_of_in R k vs start round positions rep s h =
     let r = number_in k.numrep rep round in
     held_in R _ (λ e is. position_at_in R k vs positions rep (item_below k.world r k.choose.level start) e s (λ p found. descent_in R k.world vs r k.choose.level start.level start p s h found) is)
 
+-- a round is the same
 round_same : (R : ℤ → Type 0) (k : Choosing) (vs : List ℕ) (start : Bucket) → AreAlike R k.world vs → HasIn R k.world.buckets start → after_round k start ≡ after_round (other_step k vs) start
 unfolding after_round
 round_same R k vs start s h = λ i positions round. fold (λ ps rep. cond (is_open (get_or ps rep Hole)) (set ps rep (position_of_same R k vs start round ps rep s h i)) ps) positions (range_with_len 0 (length positions))
@@ -185,10 +204,12 @@ unfolding indep
 indep_same R k vs start count s h =
     ap (λ (f : List Position → ℕ → List Position). fold f (replicate count Open) (range_with_len 0 k.tries.total)) (round_same R k vs start s h)
 
+-- a turn writes nothing from outside the set
 turn_in : (R : ℤ → Type 0) (ps : List Position) (rep : ℕ) (p : Position) (undecided : Bool) → HoldsIn R p → All (HoldsIn R) ps → All (HoldsIn R) (cond undecided (set ps rep p) ps)
 turn_in R ps rep p true holds all = All-set (HoldsIn R) ps rep p holds all
 turn_in R ps rep p false holds all = all
 
+-- nor does a round
 round_in : (R : ℤ → Type 0) (k : Choosing) (vs : List ℕ) (start : Bucket) (positions : List Position) (round : ℕ) → AreAlike R k.world vs → HasIn R k.world.buckets start → All (HoldsIn R) positions → All (HoldsIn R) (after_round k start positions round)
 unfolding after_round
 round_in R k vs start positions round s h all =

@@ -30,6 +30,7 @@ pub record IsChoice (held to_leaf barred : Bool) (leaf : Option ℤ) (item : ℤ
   pub taken : to_leaf ≡ true → leaf ≡ Some e.leaf
   pub itself : to_leaf ≡ false → (e.leaf ≡ e.item) × (barred ≡ false)
 
+-- what an attempt with an item says of it
 pub chosen_by : (held to_leaf barred : Bool) (leaf : Option ℤ) (item : ℤ) (e : Choice) → attempt_by held to_leaf barred leaf item ≡ Chosen e → IsChoice held to_leaf barred leaf item e
 unfolding attempt_by
 chosen_by true to_leaf barred leaf item e h = absurd (cc)
@@ -51,6 +52,7 @@ record IsFresh (k : Choosing) (chosen : List Choice) (e : Choice) : Type 0 where
   itself : k.choose.to_leaf ≡ false → e.leaf ≡ e.item
   inside : takes_devices k.choose ≡ true → is_out k.world e.leaf ≡ false
 
+-- an item that is chosen may join
 fresh_with : (k : Choosing) (chosen : List Choice) (r : ℕ) (item : ℤ) (e : Choice) → attempt_with k chosen r item ≡ Chosen e → IsFresh k chosen e
 unfolding attempt_with attempt_by
 fresh_with k chosen r item e h =
@@ -68,10 +70,12 @@ fresh_with k chosen r item e h =
       ];
     }
 
+-- so may what a descent found
 fresh_at : (k : Choosing) (chosen : List Choice) (r : ℕ) (found : Option Picked) (e : Choice) → attempt_at k chosen r found ≡ Chosen e → IsFresh k chosen e
 fresh_at k chosen r None e h = absurd (cc)
 fresh_at k chosen r (Some p) e h = fresh_with k chosen r p.item e h
 
+-- and what a try chose
 fresh_of : (k : Choosing) (chosen : List Choice) (start : Bucket) (r : ℕ) (e : Choice) → attempt_of k chosen start r ≡ Chosen e → IsFresh k chosen e
 unfolding attempt_of
 fresh_of k chosen start r e h = fresh_at k chosen r (item_below k.world (λ _. r) k.choose.level start) e h
@@ -96,6 +100,7 @@ record IsPacked (k : Choosing) (chosen : List Choice) : Type 0 where
   segment : IsSegment k chosen
   themselves : k.choose.to_leaf ≡ false → All (λ e. e.leaf ≡ e.item) chosen
 
+-- a choice that may join keeps the segment
 packed_push : (k : Choosing) (chosen : List Choice) (e : Choice) → IsPacked k chosen → IsFresh k chosen e → IsPacked k (chosen ++ e ∷ [])
 packed_push k chosen e s f =
     let items : (i : ℕ) (d : Choice) → i < length chosen → (get_or chosen i d).item ≢ e.item = other_key (λ (o : Choice). o.item) chosen e.item f.item in
@@ -113,11 +118,13 @@ packed_push k chosen e s f =
       themselves = λ no. All-push (λ (o : Choice). o.leaf ≡ o.item) chosen e (s.themselves no) (f.itself no);
     }
 
+-- so does what an attempt adds
 packed_with : (k : Choosing) (chosen : List Choice) (a : Attempt) → IsPacked k chosen → ((e : Choice) → a ≡ Chosen e → IsFresh k chosen e) → IsPacked k (with_attempt chosen a)
 packed_with k chosen Abandoned s f = s
 packed_with k chosen Failed s f = s
 packed_with k chosen (Chosen e) s f = packed_push k chosen e s (f e refl)
 
+-- two segments, and a test between them
 either_packed : (k : Choosing) (goes : Bool) (xs ys : List Choice) → IsPacked k xs → IsPacked k ys → IsPacked k (cond goes xs ys)
 either_packed k true xs ys p q = p
 either_packed k false xs ys p q = q
@@ -128,12 +135,14 @@ packed_replica k start limit chosen rep s =
     let a = replica_of k chosen start k.tries.total rep in
     either_packed k (ltb (length chosen) limit) _ chosen (packed_with k chosen a s (fresh_replica k chosen start k.tries.total rep)) s
 
+-- no choice is a segment
 packed_none : (k : Choosing) → IsPacked k []
 packed_none k = record {
   segment = record { items_once = λ i j d lt within. absurd (omega arith); leaves_once = λ i j d lt within. absurd (omega arith); none_out = λ takes. λ i d within. absurd (omega arith) };
   themselves = λ bare. λ i d within. absurd (omega arith);
 }
 
+-- so what packing chooses is a segment
 pub firstn_is_segment : FirstnIsSegment
 unfolding firstn
 firstn_is_segment k start limit =

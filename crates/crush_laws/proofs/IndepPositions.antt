@@ -32,6 +32,7 @@ pub record FillsBy (held to_leaf barred : Bool) (leaf : Option ℤ) (item : ℤ)
   pub taken : to_leaf ≡ true → leaf ≡ Some e.leaf
   pub itself : to_leaf ≡ false → (e.leaf ≡ item) × (barred ≡ false)
 
+-- what an item that fills a position says of it
 pub filled_by : (held to_leaf barred : Bool) (leaf : Option ℤ) (item : ℤ) (e : Choice) → position_by held to_leaf barred leaf item ≡ Filled e → FillsBy held to_leaf barred leaf item e
 unfolding position_by
 filled_by true to_leaf barred leaf item e h = absurd (cc)
@@ -51,6 +52,7 @@ record MayFill (k : Choosing) (positions : List Position) (e : Choice) : Type 0 
   item : list_any (holds_item e.item) positions ≡ false
   inside : takes_devices k.choose ≡ true → is_out k.world e.leaf ≡ false
 
+-- an item that fills a position may
 fills_with : (k : Choosing) (positions : List Position) (rep : ℕ) (p : Picked) (e : Choice) → position_with k positions rep p ≡ Filled e → MayFill k positions e
 unfolding position_with position_by
 fills_with k positions rep p e h =
@@ -65,10 +67,12 @@ fills_with k positions rep p e h =
       ];
     }
 
+-- so may what a descent found
 fills_at : (k : Choosing) (positions : List Position) (rep : ℕ) (found : Option Picked) (e : Choice) → position_at k positions rep found ≡ Filled e → MayFill k positions e
 fills_at k positions rep None e h = absurd (cc)
 fills_at k positions rep (Some p) e h = fills_with k positions rep p e h
 
+-- and what a round fills it with
 fills_of : (k : Choosing) (start : Bucket) (round : ℕ) (positions : List Position) (rep : ℕ) (e : Choice) → position_of k start round positions rep ≡ Filled e → MayFill k positions e
 unfolding position_of
 fills_of k start round positions rep e h = fills_at k positions rep (item_below k.world (number_in k.numrep rep round) k.choose.level start) e h
@@ -79,6 +83,7 @@ apart_from Open e h = (tt, tt)
 apart_from Hole e h = (tt, tt)
 apart_from (Filled o) e h = (λ same. false≢true (sym h ∙ (Decides-int_eq o.item e.item).1 same), λ same. false≢true (sym h ∙ (Decides-int_eq o.item e.item).1 (sym same)))
 
+-- a position that holds nothing is apart from all
 apart_from_empty : (q p : Position) → ((e : Choice) → p ≡ Filled e → ⊥) → AreApart q p × AreApart p q
 apart_from_empty Open Open h = (tt, tt)
 apart_from_empty Open Hole h = (tt, tt)
@@ -88,6 +93,7 @@ apart_from_empty (Filled o) Open h = (tt, tt)
 apart_from_empty (Filled o) Hole h = (tt, tt)
 apart_from_empty q (Filled e) h = absurd (h e refl)
 
+-- an item that no position holds is at none
 not_held : (item : ℤ) (positions : List Position) → list_any (holds_item item) positions ≡ false → (k : ℕ) (d : Position) → k < length positions → holds_item item (get_or positions k d) ≡ false
 not_held item positions none k d within = elim (cases_Bool (holds_item item (get_or positions k d))) [
   | inl held ↦ absurd (false≢true (sym none ∙ list_any_at (holds_item item) positions k d within held))
@@ -100,6 +106,7 @@ apart_of k positions Open h i d within = apart_from_empty (get_or positions i d)
 apart_of k positions Hole h i d within = apart_from_empty (get_or positions i d) Hole (λ e q. absurd (cc))
 apart_of k positions (Filled e) h i d within = apart_from (get_or positions i d) e (not_held e.item positions (h e refl).item i d within)
 
+-- a new position holds none that is out
 inside_of : (k : Choosing) (positions : List Position) (p : Position) → ((e : Choice) → p ≡ Filled e → MayFill k positions e) → takes_devices k.choose ≡ true → HoldsNoneOut k.world p
 inside_of k positions Open h takes = tt
 inside_of k positions Hole h takes = tt
@@ -126,6 +133,7 @@ pairs_set positions rep p all apart i j d lt within =
       ]
     ]
 
+-- a turn keeps the positions
 positions_turn : (k : Choosing) (start : Bucket) (round count : ℕ) (positions : List Position) (rep : ℕ) (undecided : Bool) → ArePositions k count positions → ArePositions k count (cond undecided (set positions rep (position_of k start round positions rep)) positions)
 positions_turn k start round count positions rep false s = s
 positions_turn k start round count positions rep true s =
@@ -137,12 +145,14 @@ positions_turn k start round count positions rep true s =
       none_out = λ takes. All-set (HoldsNoneOut k.world) positions rep p (inside_of k positions p fills takes) (s.none_out takes);
     }
 
+-- a round keeps them
 positions_round : (k : Choosing) (start : Bucket) (count : ℕ) (positions : List Position) (round : ℕ) → ArePositions k count positions → ArePositions k count (after_round k start positions round)
 unfolding after_round
 positions_round k start count positions round s =
     let P : List Position → Type 0 = ArePositions k count in
     fold_keeps P (after_turn k start round) (λ ps rep q. positions_turn k start round count ps rep (is_open (get_or ps rep Hole)) q) positions (range_with_len 0 (length positions)) s
 
+-- open positions hold nothing twice
 none_yet : (k : Choosing) (count : ℕ) → ArePositions k count (replicate count Open)
 none_yet k count =
     let open_at : All (λ p. p ≡ Open) (replicate count Open) = All-replicate (λ p. p ≡ Open) count Open refl in
@@ -152,6 +162,7 @@ none_yet k count =
       none_out = λ takes. All-replicate (HoldsNoneOut k.world) count Open tt;
     }
 
+-- so all rounds leave positions
 pub indep_is_positions : IndepIsPositions
 unfolding indep
 indep_is_positions k start count =
@@ -162,10 +173,12 @@ indep_is_positions k start count =
 record StaysIn (before after : List Position) : Type 0 where
   decided : (i : ℕ) → is_open (get_or before i Hole) ≡ false → get_or after i Hole ≡ get_or before i Hole
 
+-- a turn leaves what is decided
 stays_turn : (positions : List Position) (rep : ℕ) (p : Position) (undecided : Bool) → is_open (get_or positions rep Hole) ≡ undecided → StaysIn positions (cond undecided (set positions rep p) positions)
 stays_turn positions rep p false e = record { decided = λ i h. refl }
 stays_turn positions rep p true e = record { decided = λ i h. get_or-set_other positions rep i p Hole (λ same. false≢true (sym h ∙ ap (λ m. is_open (get_or positions m Hole)) same ∙ e)) }
 
+-- so do turns one after another
 stays_fold : {A : Type 0} (f : List Position → A → List Position) → ((ps : List Position) (x : A) → StaysIn ps (f ps x)) → (ps : List Position) (xs : List A) → StaysIn ps (fold f ps xs)
 stays_fold f step ps [] = record { decided = λ i h. refl }
 stays_fold f step ps (x ∷ xs) =
@@ -173,6 +186,7 @@ stays_fold f step ps (x ∷ xs) =
     let later = stays_fold f step (f ps x) xs in
     record { decided = λ i h. (let same = here.decided i h in later.decided i (ap is_open same ∙ h) ∙ same) }
 
+-- and a round
 stays_round : (k : Choosing) (start : Bucket) (positions : List Position) (round : ℕ) → StaysIn positions (after_round k start positions round)
 unfolding after_round
 stays_round k start positions round =
@@ -183,6 +197,7 @@ same_round : (k : Choosing) (m n : ℕ) (start : Bucket) → after_round (in_rou
 unfolding after_round position_of position_with
 same_round k m n start = refl
 
+-- so what some rounds decided stays through more
 pub indep_keeps_positions : IndepKeepsPositions
 unfolding indep
 indep_keeps_positions k start rounds more count place =
@@ -209,6 +224,7 @@ later_turns k start round ps place a (suc m) before =
     later_turns k start round next place (a + 1) m (omega arith)
     ∙ turn_apart ps a place (position_of k start round ps a) (is_open (get_or ps a Hole)) (λ same. omega arith)
 
+-- so a round leaves a position as its own turn does
 pub indep_looks_back : IndepLooksBack
 unfolding after_round
 indep_looks_back k start round positions place within =

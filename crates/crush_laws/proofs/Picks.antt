@@ -21,8 +21,8 @@ use Rattle.crush.specs.Listed.{wins, wins_at, last_place}
 use Rattle.crush.specs.Tree.{weight_between, draw_at, goes_left, height_of, tree_place}
 use Rattle.crush.specs.Pick.{place_by, pick_of}
 use Rattle.crush_laws.specs.Picks.{weight_under, node_place, TreesAreWalkedByNodes, UniformPicksEachOnce, IsGreatestWinner, DrawsEachPlaceOnce, ListPicksGreatestWinner, TreePicksWeight}
-use Rattle.crush.proofs.Trees.{height_holds, draw_below, halves, goes_left_some}
-use Rattle.crush.proofs.Words.{hash4-lt}
+use Rattle.crush.proofs.TreeWalks.{height_holds, draw_below, halves, goes_left_some}
+use Rattle.crush.proofs.HashWords.{hash4-lt}
 
 -- the place drawn and the rest are all
 one_drawn : (rest : List ℕ) (k : ℕ) → k < length rest → IsPermutation (get_or rest k 0 ∷ drop 1 (set rest k (get_or rest 0 0))) rest
@@ -32,6 +32,7 @@ one_drawn (a ∷ rest) (suc k) within =
     let some : 0 < length (a ∷ rest) = omega arith in
     IsPermutation-sym _ _ (IsPermutation-swap (a ∷ rest) (get_or rest k 0 ∷ set rest k a) 0 (suc k) some within (swap_is (a ∷ rest) 0 (suc k) 0 some within))
 
+-- each draw takes one of the rest
 each_once : (x id p n : ℕ) (rest : List ℕ) → length rest ≡ n → IsPermutation (places_drawn x id p n rest) rest
 unfolding places_drawn
 each_once x id p zero [] e = IsPermutation-refl []
@@ -45,6 +46,7 @@ each_once x id p (suc n) rest e =
     (IsPermutation-cons (get_or rest k 0) (places_drawn x id (p + 1) n left) left (each_once x id (p + 1) n left len))
     (one_drawn rest k (omega arith))
 
+-- so a uniform bucket draws each place once
 pub draws_each_place_once : DrawsEachPlaceOnce
 draws_each_place_once x id n = each_once x id 0 n (range_with_len 0 n) (length-range_with_len 0 n)
 
@@ -54,6 +56,7 @@ record IsLast (p : ℕ → Bool) (n place : ℕ) : Type 0 where
   passes : p place ≡ true
   later : (j : ℕ) → place < j → j < n → p j ≡ false
 
+-- one more place
 last_by : (p : ℕ → Bool) (n i : ℕ) (here : Bool) → p n ≡ here → i < suc n → p i ≡ true → ((i < n) → IsLast p n (last_place p n)) → IsLast p (suc n) (cond here n (last_place p n))
 last_by p n i true e lt hit before = record { within = omega arith; passes = e; later = λ j above below. absurd (omega arith) }
 last_by p n i false e lt hit before =
@@ -68,6 +71,7 @@ last_by p n i false e lt hit before =
       ];
     }
 
+-- the last place that passes is found where one passes
 last_is : (p : ℕ → Bool) (n i : ℕ) → i < n → p i ≡ true → IsLast p n (last_place p n)
 unfolding last_place
 last_is p zero i lt hit = absurd (omega arith)
@@ -78,9 +82,11 @@ record IsFirstWeight (items : List Item) (k : ℕ) : Type 0 where
   before : weight_of (take k items) ≡ 0
   here : 0 < (item_at items k).weight
 
+-- the weight up to and with an item
 more : (items : List Item) (k : ℕ) → k < length items → weight_of (take (k + 1) items) ≡ weight_of (take k items) + (item_at items k).weight
 more items k within = sum_by_more (λ (i : Item). i.weight) items k _ within
 
+-- where a part weighs something one of its items is the first that does
 first_weight : (items : List Item) (n : ℕ) → n ≤ length items → 0 < weight_of (take n items) → (k : ℕ) × (k < n) × IsFirstWeight items k
 first_weight items zero within some = absurd (omega arith)
 first_weight items (suc n) within some =
@@ -91,6 +97,7 @@ first_weight items (suc n) within some =
       | inr none ↦ (n, omega arith, record { before = omega arith; here = omega arith })
     ]
 
+-- the first item that weighs something wins any draw
 first_wins : (x id r : ℕ) (items : List Item) (k : ℕ) → k < length items → IsFirstWeight items k → wins_at x id r items k ≡ true
 unfolding wins
 first_wins x id r items k within first =
@@ -100,6 +107,7 @@ first_wins x id r items k within first =
     let upto : weight_of (take (k + 1) items) ≡ item.weight = omega (arith, more items k within, first.before) in
     lt-ltb _ _ (subst (λ m. hash * m / 65536 < item.weight) (sym upto) (draw_below 65536 hash item.weight low first.here))
 
+-- so a list bucket picks the last that wins
 pub list_picks_greatest_winner : ListPicksGreatestWinner
 unfolding place_by
 list_picks_greatest_winner b x r kind pickable =
@@ -127,17 +135,20 @@ some_by draw small items k from false e some below =
     let over = ltb-false _ _ e in
     below (from + 2 ^ k) (omega (arith, both, under, over))
 
+-- so the walk ends at a place that weighs something
 tree_some : (draw : ℕ → ℕ) → ((node : ℕ) → draw node < 2 ^ 32) → (items : List Item) (k from : ℕ) → 0 < weight_between items from (2 ^ k) → 0 < weight_between items (tree_place draw items k from) 1
 unfolding tree_place
 tree_some draw small items zero from some = some
 tree_some draw small items (suc k) from some = some_by draw small items k from _ refl some (λ at has. tree_some draw small items k at has)
 
+-- the weight of one place is that of its item
 one_weight : (items : List Item) (place : ℕ) → weight_between items place 1 ≡ (item_at items place).weight
 one_weight [] zero = refl
 one_weight [] (suc place) = refl
 one_weight (i ∷ items) zero = omega arith
 one_weight (i ∷ items) (suc place) = one_weight items place
 
+-- so a tree bucket picks an item that weighs something
 pub tree_picks_weight : TreePicksWeight
 unfolding place_by
 tree_picks_weight b x r kind pickable =
@@ -175,6 +186,7 @@ picks_drawn b x kind =
     let low : (0 + i) % n ≡ i = mod-eq_of_lt (omega arith) ∙ omega arith in
     by_kind (0 + i) ∙ ap (λ m. (item_at b.items (get_or order m 0)).id) low)
 
+-- so its picks are its items
 pub uniform_picks_each_once : UniformPicksEachOnce
 unfolding id_at
 uniform_picks_each_once b x kind =
@@ -192,6 +204,7 @@ under_node items k from =
     let at : ((2 * from + 2 ^ k) - 2 ^ k) / 2 ≡ from = omega arith in
     ap (λ m. weight_between items m (2 ^ k)) at
 
+-- a walk by places is a walk by nodes
 walked_by : (draw : ℕ → ℕ) (items : List Item) (k from : ℕ) → tree_place draw items k from ≡ node_place draw items k (2 * from + 2 ^ k)
 unfolding tree_place node_place
 walked_by draw items zero from = omega arith
@@ -208,6 +221,7 @@ walked_by draw items (suc k) from =
     ∙ ap (λ w. cond (goes_left (draw node) w (weight_between items from (2 ^ k))) (node_place draw items k (node - 2 ^ k)) (node_place draw items k (node + 2 ^ k))) (sym whole)
     ∙ ap (λ w. cond (goes_left (draw node) (weight_under items (suc k) node) w) (node_place draw items k (node - 2 ^ k)) (node_place draw items k (node + 2 ^ k))) (sym half)
 
+-- so is that of a whole tree, from its root
 pub trees_are_walked_by_nodes : TreesAreWalkedByNodes
 trees_are_walked_by_nodes draw items =
     let h = height_of (length items) in

@@ -39,6 +39,7 @@ piece-by kind x rest true sets e below = (no_emit x sets, below e)
     no_emit step.Emit h = absurd (false≢true h)
 piece-by kind x rest false sets e below = block-plain kind (x ∷ rest) e
 
+-- so no step of a piece emits
 piece-plain : (kind : RuleKind) (piece : List Step) → is_piece kind piece ≡ true → AllByRecursion (λ x. is_emit x ≡ false) piece
 unfolding is_piece
 piece-plain kind [] e = absurd (false≢true e)
@@ -61,11 +62,13 @@ front_of : List Step → List (List Step) → List Step
 front_of b [] = b
 front_of b (c ∷ cs) = b ++ step.Emit ∷ front_of c cs
 
+-- the steps of blocks end with the last emit
 steps_of-front : (b : List Step) (bs : List (List Step)) → steps_of (b ∷ bs) ≡ front_of b bs ++ step.Emit ∷ []
 unfolding front_of
 steps_of-front b [] = refl
 steps_of-front b (c ∷ cs) = rw (steps_of-front c cs, append_assoc)
 
+-- parted at the emits they are the blocks
 split-front : (kind : RuleKind) (b : List Step) (bs : List (List Step)) → AllByRecursion (λ c. is_piece kind c ≡ true) (b ∷ bs) → slice_split is_emit (front_of b bs) ≡ b ∷ bs
 unfolding front_of
 split-front kind b [] lawful = slice_split_none is_emit b (All-from_recursion (λ x. is_emit x ≡ false) b (piece-plain kind b lawful.0))
@@ -78,6 +81,7 @@ with-last : (y : Step) (ys : List Step) → (rest : List Step) × (x : Step) × 
 with-last y [] = ([], y, refl)
 with-last y (z ∷ zs) = let rest = with-last z zs in (y ∷ rest.0, rest.1, ap (λ l. y ∷ l) rest.2)
 
+-- steps that pass are those of blocks
 grammatical : (kind : RuleKind) (steps : List Step) → is_rule kind steps ≡ true → IsGrammatical kind steps
 unfolding are_blocks
 grammatical kind [] rule = absurd (false≢true rule)
@@ -91,6 +95,7 @@ grammatical kind (y ∷ ys) rule =
       made = rw (last.2, emit-is last.1 both.0) (sym (steps_of-split last.0));
     }
 
+-- the steps of blocks pass
 lawful-rule : (kind : RuleKind) (blocks : List (List Step)) → 0 < length blocks → All (λ block. is_piece kind block ≡ true) blocks → is_rule kind (steps_of blocks) ≡ true
 unfolding are_blocks
 lawful-rule kind [] some lawful = absurd (omega arith)

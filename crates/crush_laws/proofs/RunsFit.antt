@@ -18,6 +18,7 @@ step_fits w size p (Take id) fits = fits
 step_fits w size p (Chooses c) fits = fits
 step_fits w size p Emit fits = omega (arith, length-take size (p.emitted ++ p.working))
 
+-- so all steps together
 pub runs_fit : RunsFit
 unfolding run_of
 runs_fit w steps size = fold_keeps (λ p. length p.emitted ≤ size) (after_step w size) (λ p step fits. step_fits w size p step fits) no_progress steps (omega arith)

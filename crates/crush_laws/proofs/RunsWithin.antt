@@ -38,11 +38,13 @@ segment_by_same : (R : ℤ → Type 0) (mode : Mode) (k : Choosing) (vs : List �
 segment_by_same R Firstn k vs b room s h = ap (map (λ (e : Choice). Some e.leaf)) (firstn_same R k vs b room s h)
 segment_by_same R Indep k vs b room s h = ap (map leaf_at) (indep_same R k vs b (min k.numrep room) s h)
 
+-- the device of a position that holds nothing outside the set
 leaf_is_in : (R : ℤ → Type 0) (p : Position) → HoldsIn R p → IsIn R (leaf_at p)
 leaf_is_in R Open h = tt
 leaf_is_in R Hole h = tt
 leaf_is_in R (Filled e) h = h
 
+-- and it is in the set
 segment_by_in : (R : ℤ → Type 0) (mode : Mode) (k : Choosing) (vs : List ℕ) (b : Bucket) (room : ℕ) → AreAlike R k.world vs → HasIn R k.world.buckets b → All (IsIn R) (segment_by mode k b room)
 segment_by_in R Firstn k vs b room s h = All-map (IsIn R) (λ (e : Choice). Some e.leaf) (firstn k b room) (firstn_in R k vs b room s h)
 segment_by_in R Indep k vs b room s h =
@@ -55,15 +57,18 @@ unfolding segment_of
 bucket_same R k vs size found None s h = refl
 bucket_same R k vs size found (Some b) s h = ap (λ ys. found ++ ys) (segment_by_same R k.choose.mode k vs b (size - length found) s (h b refl))
 
+-- and it adds nothing outside the set
 bucket_in : (R : ℤ → Type 0) (k : Choosing) (vs : List ℕ) (size : ℕ) (found : List (Option ℤ)) (o : Option Bucket) → AreAlike R k.world vs → ((b : Bucket) → o ≡ Some b → HasIn R k.world.buckets b) → All (IsIn R) found → All (IsIn R) (after_bucket k size found o)
 unfolding segment_of
 bucket_in R k vs size found None s h all = all
 bucket_in R k vs size found (Some b) s h all = All-append (IsIn R) found _ all (segment_by_in R k.choose.mode k vs b (size - length found) s (h b refl))
 
+-- an entry adds the same
 entry_same : (R : ℤ → Type 0) (k : Choosing) (vs : List ℕ) (size : ℕ) (found : List (Option ℤ)) (entry : Option ℤ) → AreAlike R k.world vs → IsIn R entry → after_entry k size found entry ≡ after_entry (other_step k vs) size found entry
 entry_same R k vs size found None s holds = refl
 entry_same R k vs size found (Some item) s holds = bucket_same R k vs size found (bucket_at k.world.buckets item) s (λ b is. s.below item b holds is)
 
+-- and nothing outside the set
 entry_in : (R : ℤ → Type 0) (k : Choosing) (vs : List ℕ) (size : ℕ) (found : List (Option ℤ)) (entry : Option ℤ) → AreAlike R k.world vs → IsIn R entry → All (IsIn R) found → All (IsIn R) (after_entry k size found entry)
 entry_in R k vs size found None s holds all = all
 entry_in R k vs size found (Some item) s holds all = bucket_in R k vs size found (bucket_at k.world.buckets item) s (λ b is. s.below item b holds is) all
@@ -75,6 +80,7 @@ working_same R k vs size found (entry ∷ working) s all =
     ap (λ ys. fold (after_entry k size) ys working) (entry_same R k vs size found entry s (All-head (IsIn R) entry working all))
     ∙ working_same R k vs size (after_entry (other_step k vs) size found entry) working s (All-tail (IsIn R) entry working all)
 
+-- and nothing outside the set
 working_in : (R : ℤ → Type 0) (k : Choosing) (vs : List ℕ) (size : ℕ) (found working : List (Option ℤ)) → AreAlike R k.world vs → All (IsIn R) working → All (IsIn R) found → All (IsIn R) (fold (after_entry k size) found working)
 working_in R k vs size found [] s all holds = holds
 working_in R k vs size found (entry ∷ working) s all holds =
@@ -97,6 +103,7 @@ step_same R w vs size p (Take id) s all = refl
 step_same R w vs size p (Chooses c) s all = ap (λ ys. progress_of p.tries ys p.emitted) (working_same R (choosing_of w size p.tries c) vs size [] p.working s all)
 step_same R w vs size p Emit s all = refl
 
+-- and it works on nothing outside the set
 step_in : (R : ℤ → Type 0) (w : World) (vs : List ℕ) (size : ℕ) (p : Progress) (step : Step) → AreAlike R w vs → TakesIn R step → All (IsIn R) p.working → All (IsIn R) (after_step w size p step).working
 unfolding after_step
 step_in R w vs size p (SetChooseTries n) s takes all = all
@@ -105,6 +112,7 @@ step_in R w vs size p (Take id) s takes all = All-cons (IsIn R) (Some id) [] tak
 step_in R w vs size p (Chooses c) s takes all = working_in R (choosing_of w size p.tries c) vs size [] p.working s all (nothing R)
 step_in R w vs size p Emit s takes all = nothing R
 
+-- the steps one after another
 steps_same : (R : ℤ → Type 0) (w : World) (vs : List ℕ) (size : ℕ) (p : Progress) (steps : List Step) → AreAlike R w vs → All (TakesIn R) steps → All (IsIn R) p.working → fold (after_step w size) p steps ≡ fold (after_step (other w vs) size) p steps
 steps_same R w vs size p [] s takes all = refl
 steps_same R w vs size p (step ∷ steps) s takes all =
@@ -117,6 +125,7 @@ pub run_same : (R : ℤ → Type 0) (w : World) (vs : List ℕ) (steps : List St
 unfolding run_of
 run_same R w vs steps size s takes = ap (λ p. p.emitted) (steps_same R w vs size no_progress steps s takes (nothing R))
 
+-- a step emits nothing outside the set
 emitted_in : (R : ℤ → Type 0) (w : World) (size : ℕ) (p : Progress) (step : Step) → All (IsIn R) p.working → All (IsIn R) p.emitted → All (IsIn R) (after_step w size p step).emitted
 unfolding after_step
 emitted_in R w size p (SetChooseTries n) all out = out
@@ -125,6 +134,7 @@ emitted_in R w size p (Take id) all out = out
 emitted_in R w size p (Chooses c) all out = out
 emitted_in R w size p Emit all out = All-take (IsIn R) size (p.emitted ++ p.working) (All-append (IsIn R) p.emitted p.working out all)
 
+-- nor do the steps one after another
 steps_in : (R : ℤ → Type 0) (w : World) (vs : List ℕ) (size : ℕ) (p : Progress) (steps : List Step) → AreAlike R w vs → All (TakesIn R) steps → All (IsIn R) p.working → All (IsIn R) p.emitted → All (IsIn R) (fold (after_step w size) p steps).emitted
 steps_in R w vs size p [] s takes all out = out
 steps_in R w vs size p (step ∷ steps) s takes all out =

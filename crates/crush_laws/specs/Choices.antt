@@ -54,7 +54,8 @@ abbrev pub IndepKeepsPositions : Type 0
 IndepKeepsPositions = (k : Choosing) (start : Bucket) (rounds more count place : ℕ) →
     let before = indep (in_rounds k rounds) start count in
     let after = indep (in_rounds k (rounds + more)) start count in
-    is_open (slice_index_or before place Hole) ≡ false → slice_index_or after place Hole ≡ slice_index_or before place Hole
+    is_open (slice_index_or before place Hole) ≡ false →
+    slice_index_or after place Hole ≡ slice_index_or before place Hole
 
 -- the positions after the turns of the first so many in a round
 abbrev pub after_turns : Choosing → Bucket → ℕ → List Position → ℕ → List Position
@@ -62,6 +63,7 @@ after_turns k start round positions n = fold (after_turn k start round) position
 
 -- what a round makes of a position is what its own turn makes of it: it depends on no later turn
 abbrev pub IndepLooksBack : Type 0
-IndepLooksBack = (k : Choosing) (start : Bucket) (round : ℕ) (positions : List Position) (place : ℕ) → place < length positions →
+IndepLooksBack = (k : Choosing) (start : Bucket) (round : ℕ) (positions : List Position) (place : ℕ) →
+    place < length positions →
     slice_index_or (after_round k start positions round) place Hole
     ≡ slice_index_or (after_turns k start round positions (place + 1)) place Hole

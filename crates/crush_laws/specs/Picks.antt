@@ -29,18 +29,20 @@ UniformPicksEachOnce = (b : Bucket) (x : ℕ) → b.kind ≡ Uniform →
 
 -- a list bucket picks the greatest place that wins its draw
 abbrev pub ListPicksGreatestWinner : Type 0
-ListPicksGreatestWinner = (b : Bucket) (x r : ℕ) → b.kind ≡ InList → IsPickable b → IsGreatestWinner x (word b.id) r b.items (place_of b x r)
+ListPicksGreatestWinner = (b : Bucket) (x r : ℕ) → b.kind ≡ InList → IsPickable b →
+    IsGreatestWinner x (word b.id) r b.items (place_of b x r)
 
 -- a tree bucket picks an item that weighs something
 abbrev pub TreePicksWeight : Type 0
-TreePicksWeight = (b : Bucket) (x r : ℕ) → b.kind ≡ InTree → IsPickable b → 0 < (item_at b.items (place_of b x r)).weight
+TreePicksWeight = (b : Bucket) (x r : ℕ) → b.kind ≡ InTree → IsPickable b →
+    0 < (item_at b.items (place_of b x r)).weight
 
 -- the weight of the places under a node of height k
 abbrev pub weight_under : List Item → ℕ → ℕ → ℕ
 weight_under items k node = weight_between items ((node - 2 ^ k) / 2) (2 ^ k)
 
--- the walk by the numbers of nodes, as Ceph has it: the children of a node of height k + 1 stand 2 ^ k before and after it,
--- and a leaf is the node that is twice its place and one more
+-- the walk by the numbers of nodes, as Ceph has it: the children of a node of height k + 1 stand 2 ^ k before and after
+-- it, and a leaf is the node that is twice its place and one more
 unfoldable pub node_place : (ℕ → ℕ) → List Item → ℕ → ℕ → ℕ
 node_place draw items zero node = node / 2
 node_place draw items (suc k) node =
@@ -54,7 +56,8 @@ TreesAreWalkedByNodes = (draw : ℕ → ℕ) (items : List Item) →
     let height = height_of (length items) in
     tree_place draw items height 0 ≡ node_place draw items height (2 ^ height)
 
--- a tree of n items has this depth, this many nodes, this root and these leaves; a walk that ends at a leaf ends at its place
+-- a tree of n items has this depth, this many nodes, this root and these leaves; a walk that ends at a leaf ends at its
+-- place
 pub record HasShape (n depth nodes root : ℕ) (leaves : List ℕ) : Type 0 where
   pub of_depth : height_of n + 1 ≡ depth
   pub of_nodes : 2 ^ depth ≡ nodes

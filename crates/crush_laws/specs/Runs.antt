@@ -15,11 +15,14 @@ RunsFit = (w : World) (steps : List Step) (size : ℕ) → length (run_of w step
 
 -- everything that a rule places is reached
 abbrev pub RunPlacesReached : Type 0
-RunPlacesReached = (buckets : List Bucket) (kind : RuleKind) (steps : List Step) (weights : List ℕ) (x size : ℕ) → IsForest buckets → IsLawful kind steps →
-    (osd : ℕ) → Contains (run_of (world_of buckets weights x) steps size) (Some (pos osd)) → IsTrue (reaches buckets steps (pos osd))
+RunPlacesReached = (buckets : List Bucket) (kind : RuleKind) (steps : List Step) (weights : List ℕ) (x size : ℕ) →
+    IsForest buckets → IsLawful kind steps →
+    (osd : ℕ) → Contains (run_of (world_of buckets weights x) steps size) (Some (pos osd)) →
+    IsTrue (reaches buckets steps (pos osd))
 
 -- two lists of reweights that agree on the devices that a rule reaches give the same places
 abbrev pub RunReadsReached : Type 0
-RunReadsReached = (buckets : List Bucket) (kind : RuleKind) (steps : List Step) (weights others : List ℕ) (x size : ℕ) → IsForest buckets → IsLawful kind steps →
+RunReadsReached = (buckets : List Bucket) (kind : RuleKind) (steps : List Step) (weights others : List ℕ) (x size : ℕ) →
+    IsForest buckets → IsLawful kind steps →
     ((osd : ℕ) → IsTrue (reaches buckets steps (pos osd)) → slice_index weights osd ≡ slice_index others osd) →
     run_of (world_of buckets weights x) steps size ≡ run_of (world_of buckets others x) steps size

@@ -1,7 +1,7 @@
 use Rattle.std.proofs.Common.{◌≡◌, ◌<◌, [], length, ap, sym, ◌∙◌, arith}
 use Rattle.crush.specs.Placed.{choosing}
 use Rattle.crush.specs.Firstn.{with_attempt, after_replica, firstn}
-use Rattle.crush.proofs.Replicas.{replica_taken, replica_full, with_other}
+use Rattle.crush.proofs.ReplicaTries.{replica_taken, replica_full, with_other}
 use Rattle.crush.proofs.Rounds.{fold_range, fold_over}
 use Rattle.crush.proofs.chooser.Chooser.firstn.Goals as goal
 use Rattle.crush.proofs.chooser.Chooser.firstn.Goals.{in-Chosen+in_ok-push, in_default}

@@ -3,7 +3,7 @@ use Rattle.crush.specs.declared.choose.Position.TheVariants.{Open}
 use Rattle.crush.specs.Placed.{choosing}
 use Rattle.crush.specs.Indep.{after_round, indep}
 use Rattle.crush.proofs.Rounds.{fold_range}
-use Rattle.crush.proofs.Settled.{rounds_over}
+use Rattle.crush.proofs.IdleRounds.{rounds_over}
 use Rattle.crush.proofs.chooser.Chooser.indep.Goals as goal
 
 pub loop-round-preserved : goal.loop-round-preserved

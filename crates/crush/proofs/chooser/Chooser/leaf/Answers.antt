@@ -5,7 +5,7 @@ use Rattle.crush.specs.declared.bucket.Bucket.{Bucket}
 use Rattle.crush.specs.Placed.{world}
 use Rattle.crush.specs.Descent.{item_below}
 use Rattle.crush.specs.Firstn.{is_free, numbers_from}
-use Rattle.crush.proofs.Leaves.{leaf_nowhere, leaf_in, leaf_found, leaf_refused, leaf_missing, leaf_over}
+use Rattle.crush.proofs.LeafTries.{leaf_nowhere, leaf_in, leaf_found, leaf_refused, leaf_missing, leaf_over}
 use Rattle.crush.proofs.chooser.Chooser.leaf.Goals as goal
 use Rattle.crush.proofs.chooser.Chooser.leaf.Goals.{in-Some+else-is_free, in_default}
 

@@ -2,7 +2,7 @@ use Rattle.std.proofs.Common.{◌≡◌, ◌+◌, ◌-◌, ℕ}
 use Rattle.crush.specs.declared.bucket.Bucket.{Bucket}
 use Rattle.crush.specs.Placed.{world}
 use Rattle.crush.specs.Firstn.{is_free}
-use Rattle.crush.proofs.Leaves.{first_leaf}
+use Rattle.crush.proofs.LeafTries.{first_leaf}
 use Rattle.crush.proofs.chooser.Chooser.leaf.Given as goal
 
 abbrev pub invariant-loop-turn : goal.invariant-loop-turn

@@ -5,7 +5,7 @@ use Rattle.crush.specs.World.{is_out}
 use Rattle.crush.specs.Placed.{world}
 use Rattle.crush.specs.Indep.{number_in, numbers_in}
 use Rattle.crush.specs.Descent.{item_below}
-use Rattle.crush.proofs.Leaves.{leaf_nowhere, leaf_in, leaf_found, leaf_refused, leaf_missing, leaf_over}
+use Rattle.crush.proofs.LeafTries.{leaf_nowhere, leaf_in, leaf_found, leaf_refused, leaf_missing, leaf_over}
 use Rattle.crush.proofs.chooser.Chooser.position_leaf.Goals as goal
 use Rattle.crush.proofs.chooser.Chooser.position_leaf.Goals.{in-Some+else-not-is_out, in_default}
 

@@ -3,7 +3,7 @@ use Rattle.crush.specs.declared.bucket.Bucket.{Bucket}
 use Rattle.crush.specs.World.{is_out}
 use Rattle.crush.specs.Placed.{world}
 use Rattle.crush.specs.Indep.{number_in}
-use Rattle.crush.proofs.Leaves.{first_leaf}
+use Rattle.crush.proofs.LeafTries.{first_leaf}
 use Rattle.crush.proofs.chooser.Chooser.position_leaf.Given as goal
 
 abbrev pub invariant-loop-round : goal.invariant-loop-round

@@ -1,7 +1,7 @@
 use Rattle.std.proofs.Common.{◌≡◌, ◌+◌, ap, sym, ◌∙◌, arith}
 use Rattle.crush.specs.Placed.{choosing}
 use Rattle.crush.specs.Firstn.{attempt_of}
-use Rattle.crush.proofs.Replicas.{replica_decided, replica_failed, replica_over}
+use Rattle.crush.proofs.ReplicaTries.{replica_decided, replica_failed, replica_over}
 use Rattle.crush.proofs.chooser.Chooser.replica.Goals as goal
 
 pub returns-in_default : goal.returns-in_default

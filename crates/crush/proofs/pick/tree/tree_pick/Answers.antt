@@ -1,8 +1,8 @@
 use Rattle.std.proofs.Common.{◌≡◌, ◌-◌, refl, sym, ap, ◌∙◌, subst, ℕ, arith}
 use Rattle.std.proofs.lemmas.Nat.{one_shl}
 use Rattle.crush.specs.Tree.{draw_at, goes_left}
-use Rattle.crush.proofs.Trees.{IsAt, at_leaf, walks_left, walks_right, left_le}
-use Rattle.crush.proofs.Words.{hash4-lt}
+use Rattle.crush.proofs.TreeWalks.{IsAt, at_leaf, walks_left, walks_right, left_le}
+use Rattle.crush.proofs.HashWords.{hash4-lt}
 use Rattle.crush.proofs.pick.tree.tree_pick.Goals as goal
 
 pub loop-k-preserved-then-turns_left : goal.loop-k-preserved-then-turns_left

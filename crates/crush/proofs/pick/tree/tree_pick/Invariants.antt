@@ -1,5 +1,5 @@
 use Rattle.crush.specs.Tree.{draw_at}
-use Rattle.crush.proofs.Trees.{IsAt}
+use Rattle.crush.proofs.TreeWalks.{IsAt}
 use Rattle.crush.proofs.pick.tree.tree_pick.Given as goal
 
 abbrev pub invariant-loop-k : goal.invariant-loop-k

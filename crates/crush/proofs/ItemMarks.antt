@@ -17,7 +17,7 @@ use Rattle.crush.specs.Forest.{bucket_at, level_of}
 use Rattle.crush.specs.Slots.{slot, marks}
 use Rattle.crush.specs.WellFormed.{is_known, times_in, has_items_below, has_items_once}
 use Rattle.keylist.proofs.Counts.{count_by-some}
-use Rattle.crush.proofs.Places.{no_bucket, int_eq-yes}
+use Rattle.crush.proofs.IdSearches.{no_bucket, int_eq-yes}
 use Rattle.keylist.proofs.Each.{list_all-at, list_all-from}
 
 -- an element that was found has a place

@@ -25,10 +25,12 @@ at_each p all n some few =
     let within : n - 1 < length (range_with_len 1 64) = omega (arith, length-range_with_len 1 64) in
     ap p (sym is) ∙ AllPass-from_list_all p (range_with_len 1 64) all (n - 1) 0 within
 
+-- the height by leading zeros
 pub height_is : (n : ℕ) → 0 < n → n ≤ 64 → 64 - count_leading_zeros 64 (n - 1) ≡ height_of n
 unfolding count_leading_zeros
 height_is n some few = eqb-true _ _ (at_each (λ n. eqb (64 - count_leading_zeros 64 (n - 1)) (height_of n)) refl n some few)
 
+-- the leaves of a tree hold its items
 pub height_holds : (n : ℕ) → 0 < n → n ≤ 64 → n ≤ 2 ^ height_of n
 height_holds n some few = let e = eqb-true _ _ (at_each (λ n. eqb (n - 2 ^ height_of n) 0) refl n some few) in omega arith
 
@@ -47,10 +49,12 @@ part_is items from count = elim (cases_lt (length items) from) [
       ap (λ m. take (min (from + count) (length items) - m) (drop m items)) low ∙ ap (λ m. take m (drop (length items) items)) high ∙ sym (ap (take count) (drop_all from items (omega arith)) ∙ take_all count _ (omega arith)))
 ]
 
+-- the weight of a part with its ends cut
 pub part_weight : (items : List Item) (from count start end : ℕ) → start ≡ min from (length items) → end ≡ min (from + count) (length items) → weight_of (take (end - start) (drop start items)) ≡ weight_between items from count
 part_weight items from count start end e f =
     ap (λ m. weight_of (take (end - m) (drop m items))) e ∙ ap (λ m. weight_of (take (m - min from (length items)) (drop (min from (length items)) items))) f ∙ ap weight_of (part_is items from count)
 
+-- a part weighs no more than all
 pub part_le : (items : List Item) (from count : ℕ) → weight_between items from count ≤ weight_of items
 part_le items from count = omega (arith, sum_by-take-drop (λ (i : Item). i.weight) items from, sum_by-take-le (λ (i : Item). i.weight) (drop from items) count)
 
@@ -92,6 +96,7 @@ pub goes_left_some : (hash w left : ℕ) → goes_left hash w left ≡ true → 
 unfolding goes_left
 goes_left_some hash w left e = let h = ltb-true _ _ e in omega (arith, h)
 
+-- the step to the left half
 step_left : (draw : ℕ → ℕ) (k from node w left : ℕ) (items : List Item) → IsAt draw items (suc k) from w → node ≡ 2 * from + 2 ^ suc k → left ≡ weight_between items from (2 ^ k) → goes_left (draw node) w left ≡ true → IsAt draw items k from left
 step_left draw k from node w left items at en el e =
     let two : 2 ^ suc k ≡ 2 ^ k + 2 ^ k = omega (arith, pow-suc 2 k) in
@@ -103,6 +108,7 @@ step_left draw k from node w left items at en el e =
       rest = tree_place_more draw k from node w left items true en at.weighed el (sym e) ∙ at.rest;
     }
 
+-- the step to the right half
 step_right : (draw : ℕ → ℕ) (k from node w left : ℕ) (items : List Item) → IsAt draw items (suc k) from w → node ≡ 2 * from + 2 ^ suc k → left ≡ weight_between items from (2 ^ k) → draw node < 2 ^ 32 → goes_left (draw node) w left ≡ false → IsAt draw items k (from + 2 ^ k) (w - left)
 unfolding goes_left
 step_right draw k from node w left items at en el low e =
@@ -118,6 +124,7 @@ step_right draw k from node w left items at en el low e =
       rest = tree_place_more draw k from node w left items false en at.weighed el (sym e) ∙ at.rest;
     }
 
+-- a walk that has come to a leaf has come to its place
 pub at_leaf : (draw : ℕ → ℕ) (from w : ℕ) (items : List Item) → IsAt draw items 0 from w → (from ≡ tree_place draw items (height_of (length items)) 0) × (from < length items)
 unfolding tree_place
 at_leaf draw from w items at = (
@@ -137,6 +144,7 @@ walks_left draw k from half node w left items some eh en el at e =
     let two : 2 ^ suc j ≡ 2 ^ j + 2 ^ j = omega (arith, pow-suc 2 j) in
     step_left draw j from node w left items (subst P more at) (omega arith) (el ∙ ap (weight_between items from) eh) e
 
+-- the same to the right
 pub walks_right : (draw : ℕ → ℕ) (k from half node w left : ℕ) (items : List Item) → 0 < k → half ≡ 2 ^ (k - 1) → node ≡ 2 * (from + half) → left ≡ weight_between items from half → IsAt draw items k from w → draw node < 2 ^ 32 → goes_left (draw node) w left ≡ false → IsAt draw items (k - 1) (from + half) (w - left)
 walks_right draw k from half node w left items some eh en el at low e =
     let j = k - 1 in
@@ -146,6 +154,7 @@ walks_right draw k from half node w left items some eh en el at low e =
     let two : 2 ^ suc j ≡ 2 ^ j + 2 ^ j = omega (arith, pow-suc 2 j) in
     subst Q (sym eh) (step_right draw j from node w left items (subst P more at) (omega arith) (el ∙ ap (weight_between items from) eh) low e)
 
+-- the left half weighs no more than the node
 pub left_le : (draw : ℕ → ℕ) (k from half w left : ℕ) (items : List Item) → 0 < k → half ≡ 2 ^ (k - 1) → left ≡ weight_between items from half → IsAt draw items k from w → left ≤ w
 left_le draw k from half w left items some eh el at =
     let j = k - 1 in

@@ -21,6 +21,7 @@ opened : (k : Choosing) (n r : ℕ) (chosen : List Choice) (start : Bucket) (a :
 unfolding replica_of
 opened k n r chosen start a e = ap (λ (a : Attempt). unwrap_or (cond (not (is_failed a)) (Some a) (find (λ a. not (is_failed a)) (map (attempt_of k chosen start) (range_with_len (r + 1) n)))) Failed) (sym e)
 
+-- the loop ends at the first try that is no failure
 pub replica_decided : (k : Choosing) (n rep f : ℕ) (chosen : List Choice) (start : Bucket) (a : Attempt) → f < n → a ≡ attempt_of k chosen start (rep + f) → (a ≡ Failed → ⊥) → replica_of k chosen start (n - f) (rep + f) ≡ a
 replica_decided k n rep f chosen start a lt e h =
     let m = n - (f + 1) in
@@ -29,6 +30,7 @@ replica_decided k n rep f chosen start a lt e h =
     ∙ opened k m (rep + f) chosen start a e
     ∙ ap (λ b. unwrap_or (cond b (Some a) (find (λ a. not (is_failed a)) (map (attempt_of k chosen start) (range_with_len ((rep + f) + 1) m)))) Failed) (not_failed a h)
 
+-- the loop goes on after a failure
 pub replica_failed : (k : Choosing) (n rep f : ℕ) (chosen : List Choice) (start : Bucket) → f < n → Failed ≡ attempt_of k chosen start (rep + f) → replica_of k chosen start (n - f) (rep + f) ≡ replica_of k chosen start (n - (f + 1)) (rep + (f + 1))
 unfolding replica_of
 replica_failed k n rep f chosen start lt e =
@@ -39,6 +41,7 @@ replica_failed k n rep f chosen start lt e =
     ∙ opened k m (rep + f) chosen start Failed e
     ∙ ap (replica_of k chosen start m) next
 
+-- the loop ends where no try is left
 pub replica_over : (k : Choosing) (n rep f : ℕ) (chosen : List Choice) (start : Bucket) → n ≤ f → replica_of k chosen start (n - f) (rep + f) ≡ Failed
 unfolding replica_of
 replica_over k n rep f chosen start past = let none : n - f ≡ zero = omega arith in ap (λ m. replica_of k chosen start m (rep + f)) none

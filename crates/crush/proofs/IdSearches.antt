@@ -23,6 +23,7 @@ no_bucket = record { id = pos 0; level = 0; kind = Tree; items = [] }
 pub int_eq-no : (a b : ℤ) → a ≢ b → int_eq a b ≡ false
 int_eq-no a b ne = grind (arith, Decides-int_eq a b)
 
+-- and two that are the same
 pub int_eq-yes : (a b : ℤ) → a ≡ b → int_eq a b ≡ true
 int_eq-yes a b e = (Decides-int_eq a b).1 e
 
@@ -43,9 +44,11 @@ rises id x y le = by_cmp (int_cmp id x) (int_cmp id y) (int_ranked id x _ refl) 
 from_less : (x y : ℤ) → int_cmp x y ≡ Less → x <ℤ y
 from_less x y e = int_ranked x y Less (sym e)
 
+-- the same of equal ones
 from_equal : (x y : ℤ) → int_cmp x y ≡ Equal → x ≡ y
 from_equal x y e = int_ranked x y Equal (sym e)
 
+-- the same the other way round
 from_greater : (x y : ℤ) → int_cmp x y ≡ Greater → y <ℤ x
 from_greater x y e = int_ranked x y Greater (sym e)
 

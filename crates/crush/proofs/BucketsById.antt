@@ -8,8 +8,8 @@ use Rattle.std.proofs.lemmas.List.Sorted.{IsPermutation-refl, IsPermutation-sym,
 use Rattle.crush.specs.declared.bucket.Bucket.{Bucket}
 use Rattle.crush.specs.Order.{put_by_id, by_id}
 use Rattle.crush.specs.WellFormed.{has_own_ids, IsDescending}
-use Rattle.crush.proofs.Ids.{own_ids-twice}
-use Rattle.crush.proofs.Places.{no_bucket}
+use Rattle.crush.proofs.OwnIds.{own_ids-twice}
+use Rattle.crush.proofs.IdSearches.{no_bucket}
 
 -- the ids fall, by recursion
 abbrev Falls : List Bucket → Type 0
@@ -21,10 +21,12 @@ abbrev Apart : List Bucket → Type 0
 Apart [] = Unit {0}
 Apart (b ∷ rest) = All (λ c. c.id ≢ b.id) rest × Apart rest
 
+-- so do ids that fall pairwise
 falls-descending : (xs : List Bucket) → IsDescending xs → Falls xs
 falls-descending [] falls = tt
 falls-descending (x ∷ xs) falls = (λ k d lt. falls 0 (suc k) d (omega arith) (omega arith), falls-descending xs (λ i j d lt in_range. falls (suc i) (suc j) d (omega arith) (omega arith)))
 
+-- ids that differ pairwise differ from the ids that follow
 apart-pairs : (xs : List Bucket) → ((i j : ℕ) → i < j → j < length xs → (get_or xs i no_bucket).id ≢ (get_or xs j no_bucket).id) → Apart xs
 apart-pairs [] pairs = tt
 apart-pairs (x ∷ xs) pairs = (
@@ -32,6 +34,7 @@ apart-pairs (x ∷ xs) pairs = (
   apart-pairs xs (λ i j lt in_range. pairs (suc i) (suc j) (omega arith) (omega arith)),
 )
 
+-- buckets' own ids differ
 apart-own : (xs : List Bucket) → has_own_ids xs ≡ true → Apart xs
 apart-own xs own = apart-pairs xs (λ i j lt in_range same. both_ways _ (own_ids-twice xs i j lt in_range same) own)
 
@@ -43,6 +46,7 @@ put-All P b (c ∷ xs) here all = elim (cases_Bool (int_lt c.id b.id)) [
   | inr higher ↦ rw higher (All-cons P c (put_by_id b xs) (All-head P c xs all) (put-All P b xs here (All-tail P c xs all)))
 ]
 
+-- a bucket put in its place keeps the ids falling
 put-falls : (b : Bucket) (xs : List Bucket) → Falls xs → All (λ c. c.id ≢ b.id) xs → Falls (put_by_id b xs)
 put-falls b [] falls apart = (All-nil (λ c. c.id <ℤ b.id), tt)
 put-falls b (c ∷ xs) falls apart = elim (cases_Bool (int_lt c.id b.id)) [
@@ -56,6 +60,7 @@ put-falls b (c ∷ xs) falls apart = elim (cases_Bool (int_lt c.id b.id)) [
       rw higher (put-All (λ d. d.id <ℤ c.id) b xs above falls.0, put-falls b xs falls.1 (All-tail (λ d. d.id ≢ b.id) c xs apart))
 ]
 
+-- it joins the others, and none goes
 put-moved : (b : Bucket) (xs : List Bucket) → IsPermutation (b ∷ xs) (put_by_id b xs)
 put-moved b [] = IsPermutation-refl (b ∷ [])
 put-moved b (c ∷ xs) = elim (cases_Bool (int_lt c.id b.id)) [
@@ -63,10 +68,12 @@ put-moved b (c ∷ xs) = elim (cases_Bool (int_lt c.id b.id)) [
   | inr higher ↦ rw higher (IsPermutation-trans (b ∷ c ∷ xs) (c ∷ b ∷ xs) (c ∷ put_by_id b xs) (IsPermutation-append_left xs (b ∷ c ∷ []) (c ∷ b ∷ []) (IsPermutation-append_comm (b ∷ []) (c ∷ []))) (IsPermutation-cons c (b ∷ xs) (put_by_id b xs) (put-moved b xs)))
 ]
 
+-- the buckets by id are those given
 by_id-moved : (xs : List Bucket) → IsPermutation xs (by_id xs)
 by_id-moved [] = IsPermutation-refl []
 by_id-moved (x ∷ xs) = IsPermutation-trans (x ∷ xs) (x ∷ by_id xs) (by_id (x ∷ xs)) (IsPermutation-cons x xs (by_id xs) (by_id-moved xs)) (put-moved x (by_id xs))
 
+-- and their ids fall
 by_id-falls : (xs : List Bucket) → Apart xs → Falls (by_id xs)
 by_id-falls [] apart = tt
 by_id-falls (x ∷ xs) apart = put-falls x (by_id xs) (by_id-falls xs apart.1) (All-permutation (λ c. c.id ≢ x.id) xs (by_id xs) (by_id-moved xs) apart.0)
@@ -76,6 +83,7 @@ head-or-tail : (x z : Bucket) (xs : List Bucket) → Contains (x ∷ xs) z → (
 head-or-tail x z xs (zero, lt, e) = inl (sym e)
 head-or-tail x z xs (suc k, lt, e) = inr (k, omega arith, e)
 
+-- what is in the rest is in the list
 in-tail : (x z : Bucket) (xs : List Bucket) → Contains xs z → Contains (x ∷ xs) z
 in-tail x z xs (k, lt, e) = (suc k, omega arith, e)
 

@@ -14,9 +14,9 @@ use Rattle.crush.specs.Forest.{bucket_at, level_of}
 use Rattle.crush.specs.Paths.{has_item, is_above, IsAncestor}
 use Rattle.crush.proofs.Above.{IsItemOf, IsPath, IsAbove, some-and, and-some, above-found, path-listed}
 use Rattle.crush.specs.WellFormed.{item_limits_ok, bucket_limits_ok, buckets_with, times_in, is_known, IsForest}
-use Rattle.crush.proofs.Bounds.{limits-each, limits-level}
+use Rattle.crush.proofs.ForestLimits.{limits-each, limits-level}
 use Rattle.keylist.proofs.Counts.{count_by-some, find-place, find-one}
-use Rattle.crush.proofs.Places.{int_eq-yes}
+use Rattle.crush.proofs.IdSearches.{int_eq-yes}
 use Rattle.keylist.proofs.Each.{list_all-at}
 
 -- a list with an element that passes counts one at least

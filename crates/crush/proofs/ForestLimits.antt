@@ -6,22 +6,27 @@ use Rattle.std.proofs.lemmas.Bool.Decides.{nat_tests}
 use Rattle.crush.specs.declared.bucket.Bucket.{Bucket}
 use Rattle.crush.specs.Forest.{level_of}
 use Rattle.crush.specs.WellFormed.{is_within, bucket_limits_ok, forest_limits_ok, is_known, has_items_below}
-use Rattle.crush.proofs.Marks.{no_item}
-use Rattle.crush.proofs.Places.{no_bucket}
+use Rattle.crush.proofs.ItemMarks.{no_item}
+use Rattle.crush.proofs.IdSearches.{no_bucket}
 use Rattle.keylist.proofs.Each.{list_all-at, list_all-from}
 
+-- what a test of two limits says
 within : (low high n : ℕ) → is_within low high n ≡ true → (low ≤ n) × (n ≤ high)
 within low high n ok = grind (arith, nat_tests)
 
+-- how many buckets there are
 pub limits-buckets : (buckets : List Bucket) (max_osd : ℕ) → forest_limits_ok buckets max_osd ≡ true → length buckets ≤ 512
 limits-buckets buckets max_osd ok = (within 1 512 _ (and_parts _ _ (and_parts _ _ ok).0).0).1
 
+-- how many devices there are
 pub limits-devices : (buckets : List Bucket) (max_osd : ℕ) → forest_limits_ok buckets max_osd ≡ true → max_osd ≤ 1024
 limits-devices buckets max_osd ok = (within 1 1024 _ (and_parts _ _ (and_parts _ _ ok).0).1).1
 
+-- each bucket is within the limits
 pub limits-each : (buckets : List Bucket) (max_osd : ℕ) → forest_limits_ok buckets max_osd ≡ true → list_all bucket_limits_ok buckets ≡ true
 limits-each buckets max_osd ok = (and_parts _ _ ok).1
 
+-- how many items a bucket has
 pub limits-items : (b : Bucket) → bucket_limits_ok b ≡ true → (0 < length b.items) × (length b.items ≤ 64)
 limits-items b ok = let parts = within 1 64 (length b.items) (and_parts _ _ (and_parts _ _ ok).0).1 in (omega arith, parts.1)
 
@@ -30,6 +35,7 @@ is_known-more : (buckets : List Bucket) (few many : ℕ) → few ≤ many → (i
 is_known-more buckets few many le (pos n) known = lt-ltb n many (omega (arith, ltb-true n few known))
 is_known-more buckets few many le (negsuc n) known = known
 
+-- so are items below their buckets
 pub has_items_below-more : (buckets : List Bucket) (few many : ℕ) → few ≤ many → has_items_below buckets few ≡ true → has_items_below buckets many ≡ true
 has_items_below-more buckets few many le below =
     list_all-from _ buckets no_bucket (λ k k_in.
@@ -49,5 +55,6 @@ limits-most buckets max_osd ok =
     let outer = and_parts (count && devices) each ok in
     and_from (count && true) each (and_from count true (and_parts count devices outer.0).0 refl) outer.1
 
+-- the type of a bucket is none above the highest
 pub limits-level : (b : Bucket) → bucket_limits_ok b ≡ true → b.level ≤ 15
 limits-level b ok = (within 1 15 b.level (and_parts _ _ (and_parts _ _ (and_parts _ _ ok).0).0).1).1

@@ -14,6 +14,7 @@ use Rattle.crush.specs.Uniform.{places_drawn, uniform_place}
 swapped : List ℕ → ℕ → ℕ → List ℕ
 swapped xs p k = set (set xs p (get_or xs (p + k) 0)) (p + k) (get_or xs p 0)
 
+-- the place drawn comes to stand at its turn
 get_or-swapped : (xs : List ℕ) (p k : ℕ) → p + k < length xs → get_or (swapped xs p k) p 0 ≡ get_or xs (p + k) 0
 unfolding swapped
 get_or-swapped xs p zero h = grind (arith, get_or-set_at, length-set {A = ℕ})
@@ -22,6 +23,7 @@ get_or-swapped xs p (suc k) h =
     let lt : p < length xs = omega arith in
     get_or-set_other (set xs p (get_or xs (p + suc k) 0)) (p + suc k) p (get_or xs p 0) 0 ne ∙ get_or-set_same xs p (get_or xs (p + suc k) 0) 0 lt
 
+-- what was drawn before stays in front of it
 take-swapped : (xs : List ℕ) (p k : ℕ) → p + k < length xs → take (p + 1) (swapped xs p k) ≡ take p xs ++ get_or xs (p + k) 0 ∷ []
 unfolding swapped
 take-swapped xs p k h =
@@ -37,6 +39,7 @@ rest_of_head : (t : List ℕ) (k a b : ℕ) → drop 1 (set (b ∷ t) k a) ≡ d
 rest_of_head t zero a b = refl
 rest_of_head t (suc k) a b = refl
 
+-- what is left has its head in the hole
 drop-swapped : (xs : List ℕ) (p k : ℕ) → p + k < length xs → drop (p + 1) (swapped xs p k) ≡ drop 1 (set (drop p xs) k (get_or (drop p xs) 0 0))
 unfolding swapped
 drop-swapped xs p k h =

@@ -3,6 +3,7 @@ use Rattle.std.proofs.Common.{ℕ, ◌/◌, ◌^◌, ◌<◌, bit_xor, arith}
 use Rattle.std.proofs.lemmas.Nat.{xor_of_32, shr_le, mod_below, pow_pos}
 use Rattle.rjenkins.specs.Jenkins.{turned, mixed, hash4_of, minus, shifted_left}
 
+-- the third word of a turn is one of 32 bits
 third-lt : (i j k : ℕ) (w : ℕ × ℕ × ℕ) → (turned i j k w).2 < 2 ^ 32
 unfolding turned
 third-lt i j k w =
@@ -15,10 +16,12 @@ third-lt i j k w =
     let v : b / 2 ^ k < 2 ^ 32 = omega (arith, shr_le b k) in
     xor_of_32 _ _ u v
 
+-- so is that of a mix
 mixed-lt : (a b c : ℕ) → (mixed a b c).2 < 2 ^ 32
 unfolding mixed
 mixed-lt a b c = third-lt 3 10 15 _
 
+-- and so is a hash
 pub hash4-lt : (a b c d : ℕ) → hash4_of a b c d < 2 ^ 32
 unfolding hash4_of
 hash4-lt a b c d = mixed-lt _ _ _

@@ -23,6 +23,7 @@ use Rattle.keylist.proofs.Each.{list_all-at}
 pub found : {X : Type 0} (p : X → Bool) (xs : List X) (k : ℕ) (x : X) → Some k ≡ position p xs → x ≡ get_or xs k x → find p xs ≡ Some x
 found p xs k x e here = grind (arith, nat_tests, gets, find_at p xs)
 
+-- and where no place passes none is found
 pub not_found : {X : Type 0} (p : X → Bool) (xs : List X) → None ≡ position p xs → find p xs ≡ None
 not_found p xs e = grind (arith, nat_tests, gets, find_at p xs)
 
@@ -30,14 +31,17 @@ not_found p xs e = grind (arith, nat_tests, gets, find_at p xs)
 has_items : (b : Bucket) → bucket_limits_ok b ≡ true → is_within 1 64 (length b.items) ≡ true
 has_items b ok = (and_parts _ _ (and_parts _ _ ok).0).1
 
+-- and of its items
 items_within : (b : Bucket) → bucket_limits_ok b ≡ true → list_all item_limits_ok b.items ≡ true
 items_within b ok = (and_parts _ _ ok).1
 
+-- weights that are lawful add up to a word
 weighs_fit : (kind : BucketKind) (items : List Item) → weights_ok kind items ≡ true → nat_lt (weight_of items) (2 ^ 32) ≡ true
 weighs_fit Uniform items ok = (and_parts _ _ ok).0
 weighs_fit InList items ok = ok
 weighs_fit Tree items ok = ok
 
+-- an item within the limits weighs something
 item_weighs : (i : Item) → item_limits_ok i ≡ true → 0 < i.weight
 item_weighs i ok = ltb-true 0 i.weight (and_parts _ _ ok).1
 
@@ -56,6 +60,7 @@ pickable b ok fits =
     no_item : Item
     no_item = record { id = pos 0; weight = 0 }
 
+-- each bucket of a forest
 IsForest-pickable : (buckets : List Bucket) → IsForest buckets → (k : ℕ) (b : Bucket) → k < length buckets → b ≡ get_or buckets k b → IsPickable b
 IsForest-pickable buckets forest k b in_range here =
     let within = list_all-at bucket_limits_ok buckets k b in_range (and_parts _ _ forest.limits).1 in
@@ -68,10 +73,12 @@ bucket_at-pickable buckets forest id b e =
     let place = find-place (λ c. int_eq c.id id) buckets b e in
     IsForest-pickable buckets forest place.0 b place.1 (sym place.2)
 
+-- the same of a look-up as a call answers it
 pub IfSome-pickable : (buckets : List Bucket) → IsForest buckets → (id : ℤ) (r : Option (Bor Bucket)) → option_copied r ≡ bucket_at buckets id → IfSome r (λ b. IsPickable b.now)
 IfSome-pickable buckets forest id None e = tt
 IfSome-pickable buckets forest id (Some b) e = bucket_at-pickable buckets forest id b.now (sym e)
 
+-- a bucket's id is no device's
 below_device : (own id shown : ℤ) → int_lt own (pos 0) ≡ true → own ≡ id → shown ≡ id → int_le (pos 0) shown ≡ true → ⊥
 below_device own id shown below same passed device = grind (arith, ints, nat_tests)
 
