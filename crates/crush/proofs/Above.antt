@@ -47,6 +47,7 @@ any-later p xs ys some = list_any-append p xs ys ∙ later (list_any p xs) some
     later true h = refl
     later false h = h
 
+-- the same, before others
 any-first : {X : Type 0} (p : X → Bool) (xs ys : List X) → list_any p xs ≡ true → list_any p (xs ++ ys) ≡ true
 any-first p xs ys some = list_any-append p xs ys ∙ ap (λ b. b || list_any p ys) some
 
@@ -56,6 +57,7 @@ any-piece p f [] k x in_range here some = absurd (omega arith)
 any-piece p f (y ∷ xs) zero x in_range here some = any-first p (f y) (flat_map f xs) (rw here some)
 any-piece p f (y ∷ xs) (suc k) x in_range here some = any-later p (f y) (flat_map f xs) (any-piece p f xs k x (omega arith) here some)
 
+-- a test of mapped elements is the test of the elements, mapped
 any-mapped : {X Y : Type 0} (p : Y → Bool) (f : X → Y) (xs : List X) → list_any p (map f xs) ≡ list_any (λ x. p (f x)) xs
 any-mapped p f [] = refl
 any-mapped p f (x ∷ xs) = ap (λ b. p (f x) || b) (any-mapped p f xs)
@@ -80,6 +82,7 @@ listed buckets p (suc n) (id ∷ ids) few there passes =
     any-later p ([] ∷ []) (flat_map (λ b. map (λ more. b.id ∷ more) (chains buckets n)) buckets)
     (any-piece p (λ b. map (λ more. b.id ∷ more) (chains buckets n)) buckets at.0 found.0 at.1 at.2 piece)
 
+-- so are the ids of its buckets
 path-buckets : (buckets : List Bucket) (between : List ℤ) (top item : ℤ) → IsPath buckets top between item → AreBuckets buckets (top ∷ between)
 unfolding AreBuckets
 path-buckets buckets [] top item held =

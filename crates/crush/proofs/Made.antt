@@ -7,9 +7,9 @@ use Rattle.crush.specs.declared.bucket.Bucket.{Bucket}
 use Rattle.refusal.specs.declared.refused.Refusal.TheVariants.{BadForest}
 use Rattle.refusal.specs.Outcomes.{refused_unless}
 use Rattle.crush.specs.WellFormed.{forest_limits_ok, has_own_ids, forest_ok, IsForest, IsDescending, IsNotAscending}
-use Rattle.crush.proofs.Bounds.{limits-devices, limits-most, has_items_below-more}
-use Rattle.crush.proofs.Ids.{own_ids-twice}
-use Rattle.crush.proofs.Places.{no_bucket}
+use Rattle.crush.proofs.ForestLimits.{limits-devices, limits-most, has_items_below-more}
+use Rattle.crush.proofs.OwnIds.{own_ids-twice}
+use Rattle.crush.proofs.IdSearches.{no_bucket}
 use Rattle.crush.proofs.Sorted.{forest_ok-moved}
 
 -- in order, buckets of their own ids have falling ids

@@ -27,6 +27,7 @@ list_all-agree : {X : Type 0} (p q : X → Bool) → ((x : X) → p x ≡ q x) �
 list_all-agree p q same [] = refl
 list_all-agree p q same (x ∷ xs) = rw (same x, list_all-agree p q same xs)
 
+-- a test of each element is nothing to their order
 list_all-moved : {X : Type 0} (p q : X → Bool) → ((x : X) → p x ≡ q x) → (xs ys : List X) → IsPermutation xs ys → list_all p ys ≡ list_all q xs
 list_all-moved p q same xs ys moved = list_all-agree p q same ys ∙ list_all-IsPermutation q xs ys moved
 

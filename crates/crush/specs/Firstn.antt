@@ -1,14 +1,13 @@
 -- Choosing items that are packed (CRUSH paper, section 3.2; Ceph, mapper.c, crush_choose_firstn).
-use Rattle.std.specs.Prelude.{ℕ, zero, suc, ◌+◌, ℤ, Bool, true, false, not, ◌&&◌, ◌||◌, List, [], ◌∷◌, ◌++◌, length, map, nat_lt, ◌==◌, Option, Some, None, unwrap_or, if◌then◌else◌}
-use Rattle.std.specs.List.{range_with_len, find, list_any}
+use Rattle.std.specs.Prelude.{ℕ, ℤ, Bool, true, false, not, ◌&&◌, ◌||◌, List, [], ◌∷◌, ◌++◌, length, map, nat_lt, ◌==◌, Option, Some, None, unwrap_or, if◌then◌else◌}
+use Rattle.std.specs.List.{range_with_len, find, fold, list_any}
 use Rattle.std.specs.Ordering.{int_eq}
 use Rattle.crush.specs.declared.bucket.Bucket.{Bucket}
 use Rattle.crush.specs.declared.choose.Attempt.{Attempt}
 use Rattle.crush.specs.declared.choose.Attempt.TheVariants.{Abandoned, Failed, Chosen}
 use Rattle.crush.specs.declared.choose.Choice.{Choice}
 use Rattle.crush.specs.declared.choose.Picked.{Picked}
-use Rattle.crush.specs.declared.choose.Tries.{Tries}
-use Rattle.crush.specs.declared.rule.Choose.{Choose}
+use Rattle.crush.specs.Choosing.{Choosing}
 use Rattle.crush.specs.World.{World, is_out}
 use Rattle.crush.specs.Descent.{item_below, leaf_below}
 
@@ -27,31 +26,33 @@ with_leaf item (Some leaf) = Chosen (record { item = item; leaf = leaf })
 
 -- what an item comes to beside those chosen so far: one that is chosen already, a device that is out, and a bucket
 -- without an acceptable leaf are failures
-unfoldable pub attempt_with : World → Choose → Tries → List Choice → ℕ → ℤ → Attempt
-attempt_with w c tries chosen r item =
+unfoldable pub attempt_with : Choosing → List Choice → ℕ → ℤ → Attempt
+attempt_with k chosen r item =
     if list_any (λ e. int_eq e.item item) chosen then Failed
-    else if c.to_leaf then with_leaf item (leaf_below w (is_free w chosen) (numbers_from r tries.leaf) item)
-    else if c.level == 0 && is_out w item then Failed
+    else if k.choose.to_leaf
+    then with_leaf item (leaf_below k.world (is_free k.world chosen) (numbers_from r k.tries.leaf) item)
+    else if k.choose.level == 0 && is_out k.world item then Failed
     else Chosen (record { item = item; leaf = item })
 
 -- a device where another type is wanted abandons the replica
-abbrev pub attempt_at : World → Choose → Tries → List Choice → ℕ → Option Picked → Attempt
-attempt_at w c tries chosen r None = Abandoned
-attempt_at w c tries chosen r (Some p) = attempt_with w c tries chosen r p.item
+abbrev pub attempt_at : Choosing → List Choice → ℕ → Option Picked → Attempt
+attempt_at k chosen r None = Abandoned
+attempt_at k chosen r (Some p) = attempt_with k chosen r p.item
 
 -- what a try with replica number r comes to
-unfoldable pub attempt_of : World → Choose → Tries → List Choice → Bucket → ℕ → Attempt
-attempt_of w c tries chosen start r = attempt_at w c tries chosen r (item_below w (λ _. r) c.level start)
+unfoldable pub attempt_of : Choosing → List Choice → Bucket → ℕ → Attempt
+attempt_of k chosen start r = attempt_at k chosen r (item_below k.world (λ _. r) k.choose.level start)
 
+-- whether another try may do better
 abbrev pub is_failed : Attempt → Bool
 is_failed Abandoned = false
 is_failed Failed = true
 is_failed (Chosen e) = false
 
 -- a replica: the first of n tries that is no failure, from replica number r on
-unfoldable pub replica_of : World → Choose → Tries → List Choice → Bucket → ℕ → ℕ → Attempt
-replica_of w c tries chosen start n r =
-    unwrap_or (find (λ a. not (is_failed a)) (map (attempt_of w c tries chosen start) (range_with_len r n))) Failed
+unfoldable pub replica_of : Choosing → List Choice → Bucket → ℕ → ℕ → Attempt
+replica_of k chosen start n r =
+    unwrap_or (find (λ a. not (is_failed a)) (map (attempt_of k chosen start) (range_with_len r n))) Failed
 
 -- a chosen item is appended, anything else skips the replica
 abbrev pub with_attempt : List Choice → Attempt → List Choice
@@ -59,14 +60,11 @@ with_attempt chosen Abandoned = chosen
 with_attempt chosen Failed = chosen
 with_attempt chosen (Chosen e) = chosen ++ e ∷ []
 
--- the choices after n replicas more, from `rep` on, while there are fewer than `limit`
-unfoldable pub firstn_from : World → Choose → Tries → Bucket → ℕ → List Choice → ℕ → ℕ → List Choice
-firstn_from w c tries start limit chosen zero rep = chosen
-firstn_from w c tries start limit chosen (suc n) rep =
-    if nat_lt (length chosen) limit
-    then firstn_from w c tries start limit (with_attempt chosen (replica_of w c tries chosen start tries.total rep)) n (rep + 1)
-    else chosen
+-- the choices after one replica more, while there are fewer than `limit`
+abbrev pub after_replica : Choosing → Bucket → ℕ → List Choice → ℕ → List Choice
+after_replica k start limit chosen rep =
+    if nat_lt (length chosen) limit then with_attempt chosen (replica_of k chosen start k.tries.total rep) else chosen
 
--- the choices below a bucket for numrep replicas, while there are fewer than `limit`
-abbrev pub firstn : World → Choose → Tries → Bucket → ℕ → ℕ → List Choice
-firstn w c tries start numrep limit = firstn_from w c tries start limit [] numrep 0
+-- the choices below a bucket for all replicas, in order, while there are fewer than `limit`
+unfoldable pub firstn : Choosing → Bucket → ℕ → List Choice
+firstn k start limit = fold (after_replica k start limit) [] (range_with_len 0 k.numrep)

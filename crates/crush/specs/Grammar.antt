@@ -4,25 +4,27 @@ use Rattle.std.specs.Prelude.{Bool, true, false, IsTrue, ◌&&◌, nat_le, nat_l
 use Rattle.std.specs.List.{list_all, slice_split}
 use Rattle.std.specs.Option.{option_map_or}
 use Rattle.crush.specs.declared.bucket.Bucket.{Bucket}
-use Rattle.crush.specs.declared.rule.Choose.{Choose}
-use Rattle.crush.specs.declared.rule.Mode.{Mode}
-use Rattle.crush.specs.declared.rule.Mode.TheVariants.{Firstn, Indep}
-use Rattle.crush.specs.declared.rule.RuleKind.{RuleKind}
-use Rattle.crush.specs.declared.rule.RuleKind.TheVariants.{Replicated, Erasure}
-use Rattle.crush.specs.declared.rule.Step.{Step}
-use Rattle.crush.specs.declared.rule.Step.TheVariants as step
+use Rattle.crush.specs.declared.step.Choose.{Choose}
+use Rattle.crush.specs.declared.step.Mode.{Mode}
+use Rattle.crush.specs.declared.step.Mode.TheVariants.{Firstn, Indep}
+use Rattle.crush.specs.declared.step.RuleKind.{RuleKind}
+use Rattle.crush.specs.declared.step.RuleKind.TheVariants.{Replicated, Erasure}
+use Rattle.crush.specs.declared.step.Step.{Step}
+use Rattle.crush.specs.declared.step.Step.TheVariants as step
 use Rattle.refusal.specs.declared.refused.Refusal.{Refusal}
 use Rattle.refusal.specs.declared.refused.Refusal.TheVariants.{BadLimit, BadRule}
 use Rattle.refusal.specs.Outcomes.{refused_unless}
 use Rattle.crush.specs.Forest.{bucket_at}
-use Rattle.crush.specs.Limits.{max_level, max_steps, max_count}
+use Rattle.crush.specs.Limits.{max_level, max_steps, max_count, max_tries}
 use Rattle.crush.specs.WellFormed.{is_within, is_bucket_id}
 
--- a step within the limits: it takes an id that a bucket may have, or chooses items, no more than the most, of a type up
--- to the highest
+-- a step within the limits: it takes an id that a bucket may have, chooses items, no more than the most, of a type up
+-- to the highest, or sets tries, no more than the most
 abbrev pub step_limits_ok : Step → Bool
 step_limits_ok (step.Take bucket) = is_bucket_id bucket
 step_limits_ok (step.Choose c) = nat_le c.count max_count && nat_le c.level max_level
+step_limits_ok (step.SetChooseTries n) = is_within 1 max_tries n
+step_limits_ok (step.SetChooseleafTries n) = is_within 1 max_tries n
 step_limits_ok step.Emit = true
 
 -- a rule within the limits: steps, no more than the most
@@ -48,29 +50,48 @@ is_earlier kind c next = serves kind c.mode && not c.to_leaf && nat_lt next.leve
 abbrev pub is_block : RuleKind → List Step → Bool
 is_block kind (step.Take _ ∷ step.Choose a ∷ []) = is_last kind a
 is_block kind (step.Take _ ∷ step.Choose a ∷ step.Choose b ∷ []) = is_earlier kind a b && is_last kind b
-is_block kind (step.Take _ ∷ step.Choose a ∷ step.Choose b ∷ step.Choose c ∷ []) = is_earlier kind a b && is_earlier kind b c && is_last kind c
+is_block kind (step.Take _ ∷ step.Choose a ∷ step.Choose b ∷ step.Choose c ∷ []) =
+    is_earlier kind a b && is_earlier kind b c && is_last kind c
 is_block kind _ = false
 
+-- whether a step sets tries
+abbrev pub sets_tries : Step → Bool
+sets_tries (step.SetChooseTries _) = true
+sets_tries (step.SetChooseleafTries _) = true
+sets_tries (step.Take _) = false
+sets_tries (step.Choose _) = false
+sets_tries step.Emit = false
+
+-- a block without its emit, after any number of steps that set tries
+unfoldable pub is_piece : RuleKind → List Step → Bool
+is_piece kind [] = false
+is_piece kind (s ∷ rest) = if sets_tries s then is_piece kind rest else is_block kind (s ∷ rest)
+
+-- whether a step emits
 abbrev pub is_emit : Step → Bool
+is_emit (step.SetChooseTries _) = false
+is_emit (step.SetChooseleafTries _) = false
 is_emit (step.Take _) = false
 is_emit (step.Choose _) = false
 is_emit step.Emit = true
 
--- blocks between emits
+-- blocks between emits, steps of tries before each
 unfoldable pub are_blocks : RuleKind → List Step → Bool
-are_blocks kind steps = list_all (is_block kind) (slice_split is_emit steps)
+are_blocks kind steps = list_all (is_piece kind) (slice_split is_emit steps)
 
 -- the last step, if any, is an emit
 abbrev pub ends : List Step → Bool
 ends steps = option_map_or is_emit (slice_get steps (length steps - 1)) false
 
--- a rule: one or more blocks, each ended by an emit
+-- a rule: one or more blocks, each ended by an emit, with steps that set tries before its take or none
 abbrev pub is_rule : RuleKind → List Step → Bool
 is_rule kind steps = ends steps && are_blocks kind (take (length steps - 1) steps)
 
 -- a step takes no bucket that the forest has not
 abbrev pub takes_known : List Bucket → Step → Bool
 takes_known buckets (step.Take bucket) = is_some (bucket_at buckets bucket)
+takes_known buckets (step.SetChooseTries _) = true
+takes_known buckets (step.SetChooseleafTries _) = true
 takes_known buckets (step.Choose _) = true
 takes_known buckets step.Emit = true
 
@@ -80,7 +101,8 @@ rule_ok kind steps buckets = is_rule kind steps && list_all (takes_known buckets
 
 -- why a list of steps is no rule over a forest: a limit first
 abbrev pub rule_fault : RuleKind → List Step → List Bucket → Option Refusal
-rule_fault kind steps buckets = if rule_limits_ok steps then refused_unless (rule_ok kind steps buckets) BadRule else Some BadLimit
+rule_fault kind steps buckets =
+    if rule_limits_ok steps then refused_unless (rule_ok kind steps buckets) BadRule else Some BadLimit
 
 -- what each rule is, over whatever forest
 pub record IsLawful (kind : RuleKind) (steps : List Step) : Type 0 where

@@ -8,8 +8,7 @@ use Rattle.crush.specs.declared.bucket.BucketKind.TheVariants.{Uniform, List as 
 use Rattle.crush.specs.declared.choose.Picked.{Picked}
 use Rattle.crush.specs.declared.choose.Position.{Position}
 use Rattle.crush.specs.declared.choose.Position.TheVariants.{Open, Hole, Filled}
-use Rattle.crush.specs.declared.choose.Tries.{Tries}
-use Rattle.crush.specs.declared.rule.Choose.{Choose}
+use Rattle.crush.specs.Choosing.{Choosing}
 use Rattle.crush.specs.World.{World, is_out}
 use Rattle.crush.specs.Descent.{item_below, leaf_below}
 
@@ -28,15 +27,21 @@ number_in numrep base round b = base + stride_by b.kind numrep (length b.items) 
 abbrev pub numbers_in : ℕ → ℕ → ℕ → List (Bucket → ℕ)
 numbers_in numrep base n = map (number_in numrep base) (range_with_len 0 n)
 
+-- whether an item stands at a position
 abbrev pub holds_item : ℤ → Position → Bool
 holds_item item Open = false
 holds_item item Hole = false
 holds_item item (Filled e) = int_eq e.item item
 
+-- whether a position is still to be filled
 abbrev pub is_open : Position → Bool
 is_open Open = true
 is_open Hole = false
 is_open (Filled e) = false
+
+-- whether a device is in
+abbrev pub is_in : World → ℤ → Bool
+is_in w device = not (is_out w device)
 
 -- a bucket fills its position with a leaf, and leaves it open without one
 abbrev pub filled_with : ℤ → Option ℤ → Position
@@ -46,39 +51,40 @@ filled_with item (Some leaf) = Filled (record { item = item; leaf = leaf })
 -- what an item makes of position `rep`: it stays open where the item stands at some position, a device is out, or the
 -- bucket has no leaf that is in. Leaves are sought for the same position, on top of the replica number with which the
 -- bucket was picked
-unfoldable pub position_with : World → Choose → Tries → ℕ → List Position → ℕ → Picked → Position
-position_with w c tries numrep positions rep p =
+unfoldable pub position_with : Choosing → List Position → ℕ → Picked → Position
+position_with k positions rep p =
     if list_any (holds_item p.item) positions then Open
-    else if c.to_leaf then filled_with p.item (leaf_below w (λ d. not (is_out w d)) (numbers_in numrep (rep + p.r) tries.leaf) p.item)
-    else if c.level == 0 && is_out w p.item then Open
+    else if k.choose.to_leaf
+    then filled_with p.item (leaf_below k.world (is_in k.world) (numbers_in k.numrep (rep + p.r) k.tries.leaf) p.item)
+    else if k.choose.level == 0 && is_out k.world p.item then Open
     else Filled (record { item = p.item; leaf = p.item })
 
 -- a device where another type is wanted leaves a hole
-abbrev pub position_at : World → Choose → Tries → ℕ → List Position → ℕ → Option Picked → Position
-position_at w c tries numrep positions rep None = Hole
-position_at w c tries numrep positions rep (Some p) = position_with w c tries numrep positions rep p
+abbrev pub position_at : Choosing → List Position → ℕ → Option Picked → Position
+position_at k positions rep None = Hole
+position_at k positions rep (Some p) = position_with k positions rep p
 
 -- what position `rep` becomes in a round
-unfoldable pub position_of : World → Choose → Tries → ℕ → Bucket → ℕ → List Position → ℕ → Position
-position_of w c tries numrep start round positions rep =
-    position_at w c tries numrep positions rep (item_below w (number_in numrep rep round) c.level start)
+unfoldable pub position_of : Choosing → Bucket → ℕ → List Position → ℕ → Position
+position_of k start round positions rep =
+    position_at k positions rep (item_below k.world (number_in k.numrep rep round) k.choose.level start)
 
 -- one turn of a round: an open position is tried, another is left alone
-abbrev pub after_turn : World → Choose → Tries → ℕ → Bucket → ℕ → List Position → ℕ → List Position
-after_turn w c tries numrep start round positions rep =
+abbrev pub after_turn : Choosing → Bucket → ℕ → List Position → ℕ → List Position
+after_turn k start round positions rep =
     if is_open (slice_index_or positions rep Hole)
-    then slice_set positions rep (position_of w c tries numrep start round positions rep)
+    then slice_set positions rep (position_of k start round positions rep)
     else positions
 
 -- a round takes the positions in order
-unfoldable pub after_round : World → Choose → Tries → ℕ → Bucket → List Position → ℕ → List Position
-after_round w c tries numrep start positions round =
-    fold (after_turn w c tries numrep start round) positions (range_with_len 0 (length positions))
+unfoldable pub after_round : Choosing → Bucket → List Position → ℕ → List Position
+after_round k start positions round =
+    fold (after_turn k start round) positions (range_with_len 0 (length positions))
 
 -- the positions after all rounds, `count` of them
-unfoldable pub indep : World → Choose → Tries → Bucket → ℕ → ℕ → List Position
-indep w c tries start numrep count =
-    fold (after_round w c tries numrep start) (replicate count Open) (range_with_len 0 tries.total)
+unfoldable pub indep : Choosing → Bucket → ℕ → List Position
+indep k start count =
+    fold (after_round k start) (replicate count Open) (range_with_len 0 k.tries.total)
 
 -- the device at a position
 abbrev pub leaf_at : Position → Option ℤ

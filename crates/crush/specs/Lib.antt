@@ -11,6 +11,7 @@ pub mod Tree
 pub mod Pick
 pub mod World
 pub mod Placed
+pub mod Choosing
 pub mod Descent
 pub mod Firstn
 pub mod Indep

@@ -32,3 +32,7 @@ max_count = 10
 -- the most places of a pool
 abbrev pub max_size : ℕ
 max_size = 10
+
+-- the most tries that a step sets
+abbrev pub max_tries : ℕ
+max_tries = 200

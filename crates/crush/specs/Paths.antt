@@ -5,8 +5,8 @@ use Rattle.std.specs.List.{list_any, flat_map}
 use Rattle.std.specs.Option.{option_map_or}
 use Rattle.std.specs.Ordering.{int_eq}
 use Rattle.crush.specs.declared.bucket.Bucket.{Bucket}
-use Rattle.crush.specs.declared.rule.Step.{Step}
-use Rattle.crush.specs.declared.rule.Step.TheVariants as step
+use Rattle.crush.specs.declared.step.Step.{Step}
+use Rattle.crush.specs.declared.step.Step.TheVariants as step
 use Rattle.crush.specs.Forest.{bucket_at, level_of}
 use Rattle.crush.specs.Limits.{max_level}
 
@@ -41,6 +41,8 @@ pub record IsAncestor (buckets : List Bucket) (item : ℤ) (level : ℕ) (bucket
 -- whether a step takes a bucket above a device
 abbrev pub takes_above : List Bucket → ℤ → Step → Bool
 takes_above buckets osd (step.Take bucket) = is_above buckets bucket osd
+takes_above buckets osd (step.SetChooseTries _) = false
+takes_above buckets osd (step.SetChooseleafTries _) = false
 takes_above buckets osd (step.Choose _) = false
 takes_above buckets osd step.Emit = false
 

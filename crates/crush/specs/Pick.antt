@@ -8,13 +8,13 @@ use Rattle.crush.specs.Forest.{word}
 use Rattle.crush.specs.Items.{item_at}
 use Rattle.crush.specs.Uniform.{uniform_place}
 use Rattle.crush.specs.Listed.{list_place}
-use Rattle.crush.specs.Tree.{tree_place, height_of}
+use Rattle.crush.specs.Tree.{draw_at, tree_place, height_of}
 
 -- the place that a bucket picks, by its kind
 unfoldable pub place_by : BucketKind → Bucket → ℕ → ℕ → ℕ
 place_by Uniform b x r = uniform_place x (word b.id) (length b.items) r
 place_by InList b x r = list_place x (word b.id) r b.items
-place_by InTree b x r = tree_place x (word b.id) r b.items (height_of (length b.items)) 0
+place_by InTree b x r = tree_place (draw_at x (word b.id) r) b.items (height_of (length b.items)) 0
 
 -- the place that a bucket picks
 abbrev pub place_of : Bucket → ℕ → ℕ → ℕ

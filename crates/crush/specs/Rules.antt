@@ -1,7 +1,7 @@
 -- A rule: what it serves, and its steps in order (CRUSH paper, section 3.2; Ceph, crush.h).
 use Rattle.std.specs.Prelude.{List}
-use Rattle.crush.specs.declared.rule.RuleKind.{RuleKind}
-use Rattle.crush.specs.declared.rule.Step.{Step}
+use Rattle.crush.specs.declared.step.RuleKind.{RuleKind}
+use Rattle.crush.specs.declared.step.Step.{Step}
 
 -- what callers see of a rule
 pub record Recipe : Type 0 where

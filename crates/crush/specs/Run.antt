@@ -3,64 +3,71 @@ use Rattle.std.specs.Prelude.{ℕ, ◌-◌, ℤ, List, [], ◌∷◌, ◌++◌, 
 use Rattle.std.specs.List.{fold}
 use Rattle.crush.specs.declared.bucket.Bucket.{Bucket}
 use Rattle.crush.specs.declared.choose.Tries.{Tries}
-use Rattle.crush.specs.declared.rule.Choose.{Choose}
-use Rattle.crush.specs.declared.rule.Mode.{Mode}
-use Rattle.crush.specs.declared.rule.Mode.TheVariants.{Firstn, Indep}
-use Rattle.crush.specs.declared.rule.Step.{Step}
-use Rattle.crush.specs.declared.rule.Step.TheVariants.{Take, Choose as Chooses, Emit}
+use Rattle.crush.specs.declared.step.Choose.{Choose}
+use Rattle.crush.specs.declared.step.Mode.{Mode}
+use Rattle.crush.specs.declared.step.Mode.TheVariants.{Firstn, Indep}
+use Rattle.crush.specs.declared.step.Step.{Step}
+use Rattle.crush.specs.declared.step.Step.TheVariants.{SetChooseTries, SetChooseleafTries, Take, Choose as Chooses, Emit}
+use Rattle.crush.specs.Choosing.{Choosing}
 use Rattle.crush.specs.Forest.{bucket_at}
 use Rattle.crush.specs.World.{World}
 use Rattle.crush.specs.Firstn.{firstn}
 use Rattle.crush.specs.Indep.{indep, leaf_at}
 
--- how often a choose step tries, where no step of the rule says otherwise: after the first try choose_total_tries, 50,
--- and one try for a leaf (the tunables called jewel)
-abbrev pub all_tries : Tries
-all_tries = record { total = 51; leaf = 1 }
-
 -- what a choose step gives below one bucket, with room for so many places
-abbrev pub segment_by : Mode → World → Choose → Tries → ℕ → ℕ → Bucket → List (Option ℤ)
-segment_by Firstn w c tries numrep room b = map (λ e. Some e.leaf) (firstn w c tries b numrep room)
-segment_by Indep w c tries numrep room b = map leaf_at (indep w c tries b numrep (min numrep room))
+abbrev pub segment_by : Mode → Choosing → Bucket → ℕ → List (Option ℤ)
+segment_by Firstn k b room = map (λ e. Some e.leaf) (firstn k b room)
+segment_by Indep k b room = map leaf_at (indep k b (min k.numrep room))
 
--- how many items a choose step seeks in a pool of this size: a count of 0 is the size
+-- the same by the mode of the step
+unfoldable pub segment_of : Choosing → Bucket → ℕ → List (Option ℤ)
+segment_of k b room = segment_by k.choose.mode k b room
+
+-- a bucket of the working list adds its segment, with the room that is left of the size
+abbrev pub after_bucket : Choosing → ℕ → List (Option ℤ) → Option Bucket → List (Option ℤ)
+after_bucket k size found None = found
+after_bucket k size found (Some b) = found ++ segment_of k b (size - length found)
+
+-- devices and holes of the working list are passed over
+abbrev pub after_entry : Choosing → ℕ → List (Option ℤ) → Option ℤ → List (Option ℤ)
+after_entry k size found None = found
+after_entry k size found (Some item) = after_bucket k size found (bucket_at k.world.buckets item)
+
+-- what a choose step makes of the working list: a segment for each bucket
+abbrev pub chosen_from : Choosing → ℕ → List (Option ℤ) → List (Option ℤ)
+chosen_from k size working = fold (after_entry k size) [] working
+
+-- how many items a choose step seeks below a bucket in a pool of this size: a count of 0 is the size
 abbrev pub numrep_of : Choose → ℕ → ℕ
 numrep_of c size = if c.count == 0 then size else c.count
 
-unfoldable pub segment_of : World → Choose → Tries → ℕ → ℕ → Bucket → List (Option ℤ)
-segment_of w c tries size room b = segment_by c.mode w c tries (numrep_of c size) room b
+-- what a choose step of a rule goes by
+abbrev pub choosing_of : World → ℕ → Tries → Choose → Choosing
+choosing_of w size tries c = record { world = w; choose = c; tries = tries; numrep = numrep_of c size }
 
--- a bucket of the working list adds its segment, with the room that is left of the size
-abbrev pub after_bucket : World → Choose → Tries → ℕ → List (Option ℤ) → Option Bucket → List (Option ℤ)
-after_bucket w c tries size found None = found
-after_bucket w c tries size found (Some b) = found ++ segment_of w c tries size (size - length found) b
-
--- devices and holes of the working list are passed over
-abbrev pub after_entry : World → Choose → Tries → ℕ → List (Option ℤ) → Option ℤ → List (Option ℤ)
-after_entry w c tries size found None = found
-after_entry w c tries size found (Some item) = after_bucket w c tries size found (bucket_at w.buckets item)
-
--- what a choose step makes of the working list: a segment for each bucket
-abbrev pub chosen_from : World → Choose → Tries → ℕ → List (Option ℤ) → List (Option ℤ)
-chosen_from w c tries size working = fold (after_entry w c tries size) [] working
-
--- what a rule works on, and what it has emitted
+-- what the steps of a rule have come to: how often the next choose steps try, what they work on, and what was emitted
 pub record Progress : Type 0 where
+  pub tries : Tries
   pub working : List (Option ℤ)
   pub emitted : List (Option ℤ)
 
-abbrev pub progress_of : List (Option ℤ) → List (Option ℤ) → Progress
-progress_of working emitted = record { working = working; emitted = emitted }
+-- before the first step: 50 tries after the first one (Ceph's choose_total_tries), and one for a leaf
+-- (chooseleaf_descend_once), as the tunables called jewel have it
+abbrev pub no_progress : Progress
+no_progress = record { tries = record { total = 51; leaf = 1 }; working = []; emitted = [] }
 
--- take sets the working list, a choose step makes a new one of it, emit appends it to the result, cut at the size
-unfoldable pub after_step : World → Tries → ℕ → Progress → Step → Progress
-after_step w tries size s (Take id) = record s { working = Some id ∷ [] }
-after_step w tries size s (Chooses c) = record s { working = chosen_from w c tries size s.working }
-after_step w tries size s Emit = record { working = []; emitted = take size (s.emitted ++ s.working) }
+-- a step that sets tries holds for all choose steps up to the next of its kind; take sets the working list, a choose
+-- step makes a new one of it, emit appends it to the result, cut at the size
+unfoldable pub after_step : World → ℕ → Progress → Step → Progress
+after_step w size s (SetChooseTries n) = record s { tries = record { total = n; leaf = s.tries.leaf } }
+after_step w size s (SetChooseleafTries n) = record s { tries = record { total = s.tries.total; leaf = n } }
+after_step w size s (Take id) = record s { working = Some id ∷ [] }
+after_step w size s (Chooses c) = record s { working = chosen_from (choosing_of w size s.tries c) size s.working }
+after_step w size s Emit = record s { working = []; emitted = take size (s.emitted ++ s.working) }
 
 -- the places that the steps of a rule give in a pool of this size
 unfoldable pub run_of : World → List Step → ℕ → List (Option ℤ)
-run_of w steps size = (fold (after_step w all_tries size) (progress_of [] []) steps).emitted
+run_of w steps size = (fold (after_step w size) no_progress steps).emitted
 
 -- what is known of a Work: what its last run left, and how many runs there were
 pub record Ran : Type 0 where

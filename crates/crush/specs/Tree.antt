@@ -9,17 +9,23 @@ use Rattle.crush.specs.Forest.{weight_of}
 abbrev pub weight_between : List Item → ℕ → ℕ → ℕ
 weight_between items from len = weight_of (take len (drop from items))
 
--- whether the draw against the weight of a node is below the weight of its left half
-unfoldable pub goes_left : ℕ → ℕ → ℕ → ℕ → ℕ → ℕ → Bool
-goes_left x id r node weight left = nat_lt (hash4_of x node r id * weight / 2 ^ 32) left
+-- what is drawn at a node
+abbrev pub draw_at : ℕ → ℕ → ℕ → ℕ → ℕ
+draw_at x id r node = hash4_of x node r id
+
+-- whether a draw against the weight of a node falls below the weight of its left half
+unfoldable pub goes_left : ℕ → ℕ → ℕ → Bool
+goes_left draw weight left = nat_lt (draw * weight / 2 ^ 32) left
 
 -- the place to which the walk comes among the 2 ^ k places from `from` on, which are node 2 * from + 2 ^ k
-unfoldable pub tree_place : ℕ → ℕ → ℕ → List Item → ℕ → ℕ → ℕ
-tree_place x id r items zero from = from
-tree_place x id r items (suc k) from =
-    if goes_left x id r (2 * from + 2 ^ suc k) (weight_between items from (2 ^ suc k)) (weight_between items from (2 ^ k))
-    then tree_place x id r items k from
-    else tree_place x id r items k (from + 2 ^ k)
+unfoldable pub tree_place : (ℕ → ℕ) → List Item → ℕ → ℕ → ℕ
+tree_place draw items zero from = from
+tree_place draw items (suc k) from =
+    let weight = weight_between items from (2 ^ suc k) in
+    let left = weight_between items from (2 ^ k) in
+    if goes_left (draw (2 * from + 2 ^ suc k)) weight left
+    then tree_place draw items k from
+    else tree_place draw items k (from + 2 ^ k)
 
 -- the least k such that 2 ^ k places hold n items, for n up to 64
 abbrev pub height_of : ℕ → ℕ

@@ -28,11 +28,14 @@ item_limits_ok i = int_le lowest_bucket i.id && int_lt i.id (pos max_devices) &&
 
 -- a bucket within the limits: of a type from 1 to the highest, with items, no more than the most
 abbrev pub bucket_limits_ok : Bucket → Bool
-bucket_limits_ok b = is_bucket_id b.id && is_within 1 max_level b.level && is_within 1 max_items (length b.items) && list_all item_limits_ok b.items
+bucket_limits_ok b =
+    is_bucket_id b.id && is_within 1 max_level b.level && is_within 1 max_items (length b.items)
+    && list_all item_limits_ok b.items
 
 -- a forest within the limits: buckets, no more than the most, over devices, no more than the most
 abbrev pub forest_limits_ok : List Bucket → ℕ → Bool
-forest_limits_ok buckets max_osd = is_within 1 max_buckets (length buckets) && is_within 1 max_devices max_osd && list_all bucket_limits_ok buckets
+forest_limits_ok buckets max_osd =
+    is_within 1 max_buckets (length buckets) && is_within 1 max_devices max_osd && list_all bucket_limits_ok buckets
 
 -- how many buckets have an id
 abbrev pub buckets_with : List Bucket → ℤ → ℕ
@@ -75,7 +78,9 @@ weights_ok Tree items = nat_lt (weight_of items) (2 ^ 32)
 
 -- a well-formed forest
 abbrev pub forest_ok : List Bucket → ℕ → Bool
-forest_ok buckets max_osd = has_own_ids buckets && has_items_below buckets max_osd && has_items_once buckets && list_all (λ b. weights_ok b.kind b.items) buckets
+forest_ok buckets max_osd =
+    has_own_ids buckets && has_items_below buckets max_osd && has_items_once buckets
+    && list_all (λ b. weights_ok b.kind b.items) buckets
 
 -- the ids fall from each bucket to the next
 abbrev pub IsDescending : List Bucket → Type 0
@@ -93,4 +98,5 @@ pub record IsForest (buckets : List Bucket) : Type 0 where
 
 -- why a list of buckets is no forest: a limit first
 abbrev pub forest_fault : List Bucket → ℕ → Option Refusal
-forest_fault buckets max_osd = if forest_limits_ok buckets max_osd then refused_unless (forest_ok buckets max_osd) BadForest else Some BadLimit
+forest_fault buckets max_osd =
+    if forest_limits_ok buckets max_osd then refused_unless (forest_ok buckets max_osd) BadForest else Some BadLimit

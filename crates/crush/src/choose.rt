@@ -2,50 +2,57 @@
 
 use crate::bucket::{Bucket, BucketKind};
 
-/// How often a choose step tries: `total` descents for each replica or position, and `leaf` descents below each bucket
-/// for its leaf.
-#[derive(Clone, Copy, Debug, PartialEq, Eq)]
+/// How often a choose step tries.
+#[derive(Clone, Copy, Debug)]
 pub struct Tries {
+    /// How many descents there are for each replica or position.
     pub total: u8,
+    /// How many descents there are below each chosen bucket for its leaf.
     pub leaf: u8,
 }
 
 /// An item that a bucket picked, and the replica number with which it did.
-#[derive(Clone, Copy, Debug, PartialEq, Eq)]
+#[derive(Clone, Copy)]
 pub struct Picked {
+    /// The item: a device where it is not negative, else a bucket.
     pub item: i32,
+    /// The replica number, below 2^31.
     pub r: u32,
 }
 
-/// An item that was chosen, and the device that was taken below it: the item itself where the step takes no leaves.
-#[derive(Clone, Copy, Debug, PartialEq, Eq)]
+/// An item that was chosen, and its leaf.
+#[derive(Clone, Copy, Debug)]
 pub struct Choice {
+    /// The item: a device where it is not negative, else a bucket.
     pub item: i32,
+    /// The device that was taken below it: the item itself where the step takes no leaves.
     pub leaf: i32,
 }
 
 /// What one try for a replica comes to.
-#[derive(Clone, Copy, Debug, PartialEq, Eq)]
+#[derive(Clone, Copy)]
 pub enum Attempt {
     /// The replica is given up: the picks led to a device where another type is wanted.
     Abandoned,
     /// Another try may do better.
     Failed,
+    /// An item for the replica.
     Chosen(Choice),
 }
 
 /// A position of a placement that keeps its positions.
-#[derive(Clone, Copy, Debug, PartialEq, Eq)]
+#[derive(Clone, Copy)]
 pub enum Position {
     /// Still to be filled.
     Open,
     /// Never to be filled: the picks led to a device where another type is wanted.
     Hole,
+    /// Held by an item.
     Filled(Choice),
 }
 
 /// The replica numbers of a descent: `base`, and further on each round.
-#[derive(Clone, Copy, Debug, PartialEq, Eq)]
+#[derive(Clone, Copy)]
 pub(crate) struct Draw {
     pub numrep: u8,
     pub base: u32,

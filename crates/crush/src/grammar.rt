@@ -2,19 +2,14 @@
 
 ghost use Rattle.std.specs.Prelude.{◌≡◌};
 ghost use Rattle.std.specs.List.{list_all};
-ghost use Rattle.crush.specs.Grammar.{step_limits_ok, rule_limits_ok, serves, is_last, is_earlier, is_block, is_emit, are_blocks, is_rule, takes_known};
-ghost use Rattle.crush.specs.WellFormed.{is_bucket_id};
+ghost use Rattle.crush.specs.Limits.{max_tries};
+ghost use Rattle.crush.specs.WellFormed.{is_within};
+ghost use Rattle.crush.specs.Grammar.{step_limits_ok, rule_limits_ok, serves, is_last, is_earlier, is_block, sets_tries, is_piece, is_emit, are_blocks, is_rule, takes_known};
 
 use crate::forest::Forest;
-use crate::limits::{LOWEST_BUCKET, MAX_COUNT, MAX_LEVEL, MAX_STEPS};
-use crate::rule::{Choose, Mode, RuleKind, Step};
-
-/// Whether a bucket may have this id.
-pub(crate) fn is_bucket_id(id: i32) -> bool
-    ensures { result ≡ is_bucket_id id }
-{
-    LOWEST_BUCKET <= id && id < 0
-}
+use crate::limits::{MAX_COUNT, MAX_LEVEL, MAX_STEPS, MAX_TRIES};
+use crate::step::{Choose, Mode, RuleKind, Step};
+use crate::well_formed::is_bucket_id;
 
 /// Whether a step is within the limits.
 fn is_step_within(step: &Step) -> bool
@@ -23,8 +18,16 @@ fn is_step_within(step: &Step) -> bool
     match step {
         Step::Take(bucket) => is_bucket_id(*bucket),
         Step::Choose(choose) => choose.count <= MAX_COUNT && choose.level <= MAX_LEVEL,
+        Step::SetChooseTries(tries) | Step::SetChooseleafTries(tries) => are_tries_within(*tries),
         Step::Emit => true,
     }
+}
+
+/// Whether a step may set so many tries.
+fn are_tries_within(tries: u8) -> bool
+    ensures { result ≡ is_within 1 max_tries tries }
+{
+    1 <= tries && tries <= MAX_TRIES
 }
 
 /// Whether each step is within the limits.
@@ -84,6 +87,24 @@ fn is_block(kind: RuleKind, steps: &[Step]) -> bool
     }
 }
 
+/// Whether a step sets tries.
+fn sets_tries(step: &Step) -> bool
+    ensures { result ≡ sets_tries step.now }
+{
+    matches!(step, Step::SetChooseTries(_) | Step::SetChooseleafTries(_))
+}
+
+/// Whether the steps are a block without its emit, after steps that set tries or none.
+#[tactic(auto, unfolding(crate::specs::Grammar::is_piece))]
+fn is_piece(kind: RuleKind, steps: &[Step]) -> bool
+    ensures { result ≡ is_piece kind steps.now }
+{
+    match steps.split_first() {
+        Some((step, rest)) if sets_tries(step) => is_piece(kind, rest),
+        _ => is_block(kind, steps),
+    }
+}
+
 /// Whether the step emits.
 fn is_emit(step: &Step) -> bool
     ensures { result ≡ is_emit step.now }
@@ -97,7 +118,7 @@ fn are_blocks(kind: RuleKind, steps: &[Step]) -> bool
 {
     steps
         .split(|step| is_emit(step))
-        .all(|block| is_block(kind, block))
+        .all(|piece| is_piece(kind, piece))
 }
 
 /// Whether the steps are one or more blocks, each ended by an emit.
@@ -123,6 +144,6 @@ fn is_step_known(step: &Step, forest: &Forest) -> bool
 {
     match step {
         Step::Take(bucket) => forest.bucket(*bucket).is_some(),
-        Step::Choose(_) | Step::Emit => true,
+        _ => true,
     }
 }

@@ -3,6 +3,7 @@
 
 pub mod bucket;
 pub mod choose;
+mod chooser;
 mod firstn;
 pub mod forest;
 mod grammar;
@@ -14,10 +15,12 @@ mod placement;
 pub mod rule;
 mod run;
 mod search;
+pub mod step;
 mod well_formed;
 pub mod work;
 
 pub use bucket::{Bucket, BucketKind, Item};
 pub use forest::Forest;
-pub use rule::{Choose, Mode, Rule, RuleKind, Step};
+pub use rule::Rule;
+pub use step::{Choose, Mode, RuleKind, Step};
 pub use work::Work;

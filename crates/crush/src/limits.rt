@@ -24,3 +24,6 @@ pub const MAX_COUNT: u8 = 10;
 
 /// The most places of a pool, which has at least 1.
 pub const MAX_SIZE: usize = 10;
+
+/// The most tries that a step of a rule sets. The least is 1.
+pub const MAX_TRIES: u8 = 200;

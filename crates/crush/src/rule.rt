@@ -5,44 +5,13 @@ ghost use Rattle.crush.specs.Paths.{takes_above};
 
 use crate::forest::Forest;
 use crate::grammar::{is_rule, is_within_limits, takes_known};
+use crate::step::{RuleKind, Step};
 use refusal::{Memory, Refusal};
 use std::alloc::Global;
 use std::marker::Model;
 
-/// What a rule serves: copies, which may change their places, or coded parts, which keep them.
-#[derive(Clone, Copy, Debug, PartialEq, Eq)]
-pub enum RuleKind {
-    Replicated,
-    Erasure,
-}
-
-/// Whether the items chosen are packed, or keep their positions.
-#[derive(Clone, Copy, Debug, PartialEq, Eq)]
-pub enum Mode {
-    Firstn,
-    Indep,
-}
-
-/// One choose step of a rule: how many items of type `level`, where a count of 0 is the size of the pool.
-/// With `to_leaf` a device is taken below each.
-#[derive(Clone, Copy, Debug, PartialEq, Eq)]
-pub struct Choose {
-    pub mode: Mode,
-    pub to_leaf: bool,
-    pub count: u8,
-    pub level: u8,
-}
-
-/// A step of a rule.
-#[derive(Clone, Copy, Debug, PartialEq, Eq)]
-pub enum Step {
-    Take(i32),
-    Choose(Choose),
-    Emit,
-}
-
 /// A rule: what it serves, and steps that are one or more blocks. Each block takes a bucket, chooses below it one to
-/// three times, of types that fall, and emits what it chose.
+/// three times, of types that fall, and emits what it chose. Steps that set tries may stand before a take.
 #[derive(Debug, Drop)]
 pub struct Rule {
     kind: RuleKind,
@@ -68,7 +37,8 @@ impl Rule {
     ghost use Rattle.crush.specs.Paths.{reaches};
 
     /// The rule of these steps over a forest. It is refused with 12 (`BadLimit`) where it has no step or more than 16,
-    /// takes a bucket outside -1 to -65,536, or chooses a type above 15 or more than 10 items; else with 14 (`BadRule`)
+    /// takes a bucket outside -1 to -65,536, or chooses a type above 15 or more than 10 items, or sets
+    /// no tries or more than 200; else with 14 (`BadRule`)
     /// where the steps are not in the grammar, or take a bucket that the forest has not.
     pub fn new(kind: RuleKind, steps: Vec<Step>, forest: &Forest) -> Result<Self, Refusal>
         ensures { Judges result (rule_fault kind steps.items forest.now)
@@ -131,6 +101,6 @@ fn takes_above(step: &Step, forest: &Forest, osd: u32) -> bool
 {
     match step {
         Step::Take(bucket) => forest.is_above_device(*bucket, osd),
-        Step::Choose(_) | Step::Emit => false,
+        _ => false,
     }
 }

@@ -4,21 +4,17 @@ ghost use Rattle.std.specs.Prelude.{◌≡◌};
 ghost use Rattle.crush.specs.Run.{numrep_of};
 
 use crate::bucket::Bucket;
-use crate::choose::{Choice, Position, Tries};
+use crate::choose::{Choice, Position};
+use crate::chooser::Chooser;
 use crate::forest::Forest;
 use crate::limits::MAX_SIZE;
 use crate::placement::Placement;
-use crate::rule::{Choose, Mode, Rule, Step};
-use crate::work::{Lists, Work};
+use crate::rule::Rule;
+use crate::step::{Choose, Mode, Step};
+use crate::work::{FIRST_TRIES, Lists, Work};
 use refusal::Memory;
 use std::alloc::AllocError;
 use std::mem;
-
-/// How often a choose step tries, after its first try (`choose_total_tries`).
-const RETRIES: u8 = 50;
-
-/// How often a step tries for a leaf below a chosen bucket (`chooseleaf_descend_once`).
-const LEAF_TRIES: u8 = 1;
 
 /// How many items a choose step seeks in a pool of this size.
 fn numrep(choose: Choose, size: u8) -> u8
@@ -31,31 +27,28 @@ fn numrep(choose: Choose, size: u8) -> u8
     }
 }
 
-impl Placement<'_> {
-    ghost use Rattle.std.specs.Prelude.{◌≡◌, ◌-◌, ◌≤◌, length, OnOk, ◌++◌, []};
-    ghost use Rattle.std.specs.List.{fold};
+impl Chooser<'_> {
+    ghost use Rattle.std.specs.Prelude.{◌≡◌, ◌-◌, ◌<◌, ◌≤◌, length, OnOk, ◌++◌};
     ghost use Rattle.crush.specs.Forest.{IsPickable};
     ghost use Rattle.crush.specs.Limits.{max_size};
-    ghost use Rattle.crush.specs.Placed.{world};
-    ghost use Rattle.crush.specs.Run.{segment_of, chosen_from, after_step, progress_of};
+    ghost use Rattle.crush.specs.Placed.{choosing};
+    ghost use Rattle.crush.specs.Run.{segment_of, chosen_from};
 
     /// Adds what a step that packs gives below one bucket.
     fn add_packed(
         &self,
-        choose: Choose,
-        tries: Tries,
         size: u8,
         start: &Bucket,
         chosen: &mut Vec<Choice>,
         found: &mut Vec<Option<i32>>,
     ) -> Result<(), AllocError>
         requires within { IsPickable start.now }
-        requires packed { choose.mode ≡ Mode.Firstn }
+        requires packed { self.now.choose.mode ≡ Mode.Firstn }
         ensures { OnOk result (found.new.items ≡ found.old.items
-            ++ segment_of (world self.now) choose tries size (size - length found.old.items) start.now) }
+            ++ segment_of (choosing self.now) start.now (size - length found.old.items)) }
     {
         let room = usize::from(size).saturating_sub(found.len());
-        self.firstn(choose, tries, start, numrep(choose, size), room, chosen)?;
+        self.firstn(start, room, chosen)?;
         for choice in chosen.iter() {
             found.push(Some(choice.leaf))?;
         }
@@ -65,24 +58,21 @@ impl Placement<'_> {
     /// Adds what a step that keeps positions gives below one bucket.
     fn add_positions(
         &self,
-        choose: Choose,
-        tries: Tries,
         size: u8,
         start: &Bucket,
         found: &mut Vec<Option<i32>>,
     ) -> Result<(), AllocError>
         requires within { IsPickable start.now }
-        requires kept { choose.mode ≡ Mode.Indep }
-        requires some { 1 ≤ size }
+        requires kept { self.now.choose.mode ≡ Mode.Indep }
+        requires some { 0 < self.now.numrep }
         requires few { size ≤ max_size }
         ensures { OnOk result (found.new.items ≡ found.old.items
-            ++ segment_of (world self.now) choose tries size (size - length found.old.items) start.now) }
+            ++ segment_of (choosing self.now) start.now (size - length found.old.items)) }
     {
-        let numrep = numrep(choose, size);
         let room = usize::from(size).saturating_sub(found.len());
         let mut all = [Position::Open; MAX_SIZE];
-        let positions = &mut all[..room.min(usize::from(numrep))];
-        self.indep(choose, tries, start, numrep, positions);
+        let positions = &mut all[..room.min(usize::from(self.numrep))];
+        self.indep(start, positions);
         for position in positions.iter() {
             found.push(position.leaf())?;
         }
@@ -92,75 +82,89 @@ impl Placement<'_> {
     /// Adds what a choose step gives below one bucket.
     fn add_segment(
         &self,
-        choose: Choose,
-        tries: Tries,
         size: u8,
         start: &Bucket,
         chosen: &mut Vec<Choice>,
         found: &mut Vec<Option<i32>>,
     ) -> Result<(), AllocError>
         requires within { IsPickable start.now }
-        requires some { 1 ≤ size }
+        requires some { 0 < self.now.numrep }
         requires few { size ≤ max_size }
         ensures { OnOk result (found.new.items ≡ found.old.items
-            ++ segment_of (world self.now) choose tries size (size - length found.old.items) start.now) }
+            ++ segment_of (choosing self.now) start.now (size - length found.old.items)) }
     {
-        match choose.mode {
-            Mode::Firstn => self.add_packed(choose, tries, size, start, chosen, found),
-            Mode::Indep => self.add_positions(choose, tries, size, start, found),
+        match self.choose.mode {
+            Mode::Firstn => self.add_packed(size, start, chosen, found),
+            Mode::Indep => self.add_positions(size, start, found),
         }
     }
 
     /// Makes the working list of a choose step, a segment for each bucket of the one before.
-    fn choose(
+    fn segments(
         &self,
-        choose: Choose,
-        tries: Tries,
         size: u8,
         working: &[Option<i32>],
         chosen: &mut Vec<Choice>,
         found: &mut Vec<Option<i32>>,
     ) -> Result<(), AllocError>
-        requires some { 1 ≤ size }
+        requires some { 0 < self.now.numrep }
         requires few { size ≤ max_size }
-        ensures { OnOk result (found.new.items ≡ chosen_from (world self.now) choose tries size working.now) }
+        ensures { OnOk result (found.new.items ≡ chosen_from (choosing self.now) size working.now) }
     {
         found.clear();
         for entry in working {
             if let Some(item) = entry {
-                if let Some(bucket) = self.forest.bucket(*item) {
-                    self.add_segment(choose, tries, size, bucket, chosen, found)?;
+                if let Some(bucket) = self.placement.forest.bucket(*item) {
+                    self.add_segment(size, bucket, chosen, found)?;
                 }
             }
         }
         Ok(())
     }
+}
+
+impl Placement<'_> {
+    ghost use Rattle.std.specs.Prelude.{◌≡◌, ◌≤◌, OnOk};
+    ghost use Rattle.std.specs.List.{fold};
+    ghost use Rattle.crush.specs.Limits.{max_size};
+    ghost use Rattle.crush.specs.Placed.{world, progress};
+    ghost use Rattle.crush.specs.Run.{choosing_of, chosen_from, no_progress, after_step};
+
+    /// Chooses below the buckets of the working list.
+    fn choose(&self, choose: Choose, size: u8, lists: &mut Lists) -> Result<(), AllocError>
+        requires some { 1 ≤ size }
+        requires few { size ≤ max_size }
+        ensures working { OnOk result (lists.new.working.items
+            ≡ chosen_from (choosing_of (world self.now) size lists.old.tries choose) size lists.old.working.items) }
+        ensures emitted { lists.new.emitted ≡ lists.old.emitted }
+        ensures tries { lists.new.tries ≡ lists.old.tries }
+    {
+        let chooser = Chooser {
+            placement: *self,
+            choose,
+            tries: lists.tries,
+            numrep: numrep(choose, size),
+        };
+        chooser.segments(size, &lists.working, &mut lists.chosen, &mut lists.found)?;
+        mem::swap(&mut lists.working, &mut lists.found);
+        Ok(())
+    }
 
     /// Takes one step of a rule.
     #[tactic(auto, unfolding(crate::specs::Run::after_step))]
-    fn step(&self, step: Step, tries: Tries, size: u8, lists: &mut Lists) -> Result<(), AllocError>
+    fn step(&self, step: Step, size: u8, lists: &mut Lists) -> Result<(), AllocError>
         requires some { 1 ≤ size }
         requires few { size ≤ max_size }
-        ensures { let before = progress_of lists.old.working.items lists.old.emitted.items in
-            OnOk result (progress_of lists.new.working.items lists.new.emitted.items
-            ≡ after_step (world self.now) tries size before step) }
+        ensures { OnOk result (progress lists.new ≡ after_step (world self.now) size (progress lists.old) step) }
     {
         match step {
+            Step::SetChooseTries(tries) => lists.tries.total = tries,
+            Step::SetChooseleafTries(tries) => lists.tries.leaf = tries,
             Step::Take(id) => {
                 lists.working.clear();
                 lists.working.push(Some(id))?;
             }
-            Step::Choose(choose) => {
-                self.choose(
-                    choose,
-                    tries,
-                    size,
-                    &lists.working,
-                    &mut lists.chosen,
-                    &mut lists.found,
-                )?;
-                mem::swap(&mut lists.working, &mut lists.found);
-            }
+            Step::Choose(choose) => self.choose(choose, size, lists)?,
             Step::Emit => {
                 lists.emitted.extend_from_slice(&lists.working)?;
                 lists.emitted.truncate(usize::from(size));
@@ -171,22 +175,16 @@ impl Placement<'_> {
     }
 
     /// Takes the steps of a rule in order.
-    fn steps(
-        &self,
-        steps: &[Step],
-        tries: Tries,
-        size: u8,
-        lists: &mut Lists,
-    ) -> Result<(), AllocError>
+    fn steps(&self, steps: &[Step], size: u8, lists: &mut Lists) -> Result<(), AllocError>
         requires some { 1 ≤ size }
         requires few { size ≤ max_size }
-        ensures { OnOk result (progress_of lists.new.working.items lists.new.emitted.items
-            ≡ fold (after_step (world self.now) tries size) (progress_of [] []) steps.now) }
+        ensures { OnOk result (progress lists.new ≡ fold (after_step (world self.now) size) no_progress steps.now) }
     {
+        lists.tries = FIRST_TRIES;
         lists.working.clear();
         lists.emitted.clear();
         for step in steps {
-            self.step(*step, tries, size, lists)?;
+            self.step(*step, size, lists)?;
         }
         Ok(())
     }
@@ -198,8 +196,9 @@ impl Rule {
     ghost use Rattle.crush.specs.World.{world_of};
     ghost use Rattle.crush.specs.Run.{run_of};
 
-    /// Places `x` by the rule in a pool of `size` places, 1 to 10. An OSD without a reweight is out. The one error is
-    /// `Memory` (30): after it the result is open, and the run is not counted.
+    /// Places `x` by the rule in a pool of `size` places, 1 to 10. A reweight is 65,536 for all of an OSD and 0 for
+    /// none; an OSD without one is out. The one error is `Memory` (30): after it the result is open, and the run is not
+    /// counted.
     #[tactic(auto, unfolding(crate::specs::Run::run_of))]
     pub fn run(
         &self,
@@ -217,11 +216,7 @@ impl Rule {
         ensures uncounted { OnErr result (work.new.runs ≡ work.old.runs) }
     {
         let placement = Placement { forest, weights, x };
-        let tries = Tries {
-            total: 1 + RETRIES,
-            leaf: LEAF_TRIES,
-        };
-        placement.steps(self.steps(), tries, size, &mut work.lists)?;
+        placement.steps(self.steps(), size, &mut work.lists)?;
         work.runs = work.runs.saturating_add(1);
         Ok(())
     }

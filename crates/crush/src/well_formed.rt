@@ -4,13 +4,19 @@ ghost use Rattle.std.specs.Prelude.{◌≡◌, ◌<◌, ◌≤◌, ◌&&◌, ◌
 ghost use Rattle.std.specs.List.{list_all};
 ghost use Rattle.crush.specs.Forest.{level_of, weight_of};
 ghost use Rattle.crush.specs.Limits.{max_items, max_buckets, max_devices};
-ghost use Rattle.crush.specs.WellFormed.{item_limits_ok, bucket_limits_ok, forest_limits_ok, has_own_ids, is_item_ok, has_items_below, has_items_once, is_even, weights_ok, forest_ok, IsDescending, IsNotAscending};
+ghost use Rattle.crush.specs.WellFormed.{is_bucket_id, item_limits_ok, bucket_limits_ok, forest_limits_ok, has_own_ids, is_item_ok, has_items_below, has_items_once, is_even, weights_ok, forest_ok, IsDescending, IsNotAscending};
 
 use crate::bucket::{Bucket, BucketKind, Item};
-use crate::grammar::is_bucket_id;
 use crate::limits::{LOWEST_BUCKET, MAX_BUCKETS, MAX_DEVICES, MAX_ITEMS, MAX_LEVEL};
 use crate::met::are_met_once;
 use crate::search::{is_known, level_of};
+
+/// Whether a bucket may have this id.
+pub(crate) fn is_bucket_id(id: i32) -> bool
+    ensures { result ≡ is_bucket_id id }
+{
+    LOWEST_BUCKET <= id && id < 0
+}
 
 /// Whether an item is within the limits.
 fn is_item_within(item: &Item) -> bool

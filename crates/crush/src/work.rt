@@ -1,20 +1,30 @@
 //! The room that runs of rules work in.
 
-use crate::choose::Choice;
+use crate::choose::{Choice, Tries};
 use crate::forest::Forest;
 use crate::limits::MAX_SIZE;
 use refusal::Memory;
 use std::alloc::Global;
 use std::marker::Model;
 
-/// The lists that a run works on.
+/// What a run has come to, and the lists that it works in.
 #[derive(Debug, Drop)]
 pub(crate) struct Lists {
+    /// How often the next choose steps try.
+    pub tries: Tries,
+    /// What the next step works on.
     pub working: Vec<Option<i32>>,
+    /// What the present step makes of it.
     pub found: Vec<Option<i32>>,
+    /// The result so far.
     pub emitted: Vec<Option<i32>>,
+    /// What a step that packs has chosen below one bucket.
     pub chosen: Vec<Choice>,
 }
+
+/// How often the choose steps of a rule try that sets no tries: 50 tries after the first one (Ceph's
+/// `choose_total_tries`), and one for a leaf (`chooseleaf_descend_once`).
+pub(crate) const FIRST_TRIES: Tries = Tries { total: 51, leaf: 1 };
 
 /// What the last run left, the number of runs, and the room that runs work in. It serves any forest.
 #[derive(Debug, Drop)]
@@ -40,6 +50,7 @@ impl Work {
         ensures runs { IfOk result (λ work. work.runs ≡ 0) }
     {
         let lists = Lists {
+            tries: FIRST_TRIES,
             working: Vec::with_capacity(alloc, MAX_SIZE)?,
             found: Vec::with_capacity(alloc, MAX_SIZE)?,
             emitted: Vec::with_capacity(alloc, 2 * MAX_SIZE)?,

@@ -14,7 +14,7 @@ use Rattle.crush.specs.Descent.{descent}
 use Rattle.crush.specs.WellFormed.{is_known, IsForest}
 use Rattle.crush_laws.specs.Descents.{LeadsAstray, LeadsToWanted, DescentEnds}
 use Rattle.keylist.proofs.Counts.{find-place}
-use Rattle.crush.proofs.Pickable.{bucket_at-pickable}
+use Rattle.crush.proofs.PickableBuckets.{bucket_at-pickable}
 use Rattle.crush_laws.proofs.RunsReached.{typed, item_known}
 use Rattle.crush_laws.proofs.DescentsWithin.{IsDevice, within_by}
 
@@ -52,6 +52,7 @@ ends_by w r wanted n b false None t e known later =
     }
 ends_by w r wanted n b false (Some below) t e known later = picked_first w r wanted b below (descent w r wanted n below) e (later below e)
 
+-- a descent with as many picks as its bucket has types below it
 ends : (w : World) (r : Bucket → ℕ) (wanted n : ℕ) (b : Bucket) → IsForest w.buckets → bucket_at w.buckets b.id ≡ Some b → b.level ≤ n → Ends w r wanted b (descent w r wanted n b)
 unfolding descent
 ends w r wanted zero b forest e low = absurd (let some = typed w.buckets b.id b forest e in omega arith)
@@ -65,5 +66,6 @@ ends w r wanted (suc n) b forest e low =
     let under : below.level ≤ n = (let less = picked.1 in omega arith) in
     ends w r wanted n below forest (ap (bucket_at w.buckets) same ∙ is) under))
 
+-- so a descent ends at the wanted type or at a device
 pub descent_ends : DescentEnds
 descent_ends w r wanted b forest e = ends w r wanted b.level b forest e (omega arith)

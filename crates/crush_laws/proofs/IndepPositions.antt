@@ -1,5 +1,5 @@
 -- what choosing for positions leaves: no item twice, nothing that is out, and what is decided stays
-use Rattle.std.proofs.Common.{◌≡◌, ◌≢◌, ℕ, ◌+◌, ◌<◌, ℤ, Bool, true, false, not, cond, ◌&&◌, eqb, List, [], ◌∷◌, length, get_or, set, replicate, Option, Some, None, inl, inr, sym, ap, refl, ◌∙◌, subst, arith, length-set}
+use Rattle.std.proofs.Common.{◌≡◌, ◌≢◌, ℕ, suc, zero, ◌-◌, ◌+◌, ◌<◌, ℤ, Bool, true, false, not, cond, ◌&&◌, eqb, List, [], ◌∷◌, length, get_or, set, replicate, Option, Some, None, inl, inr, sym, ap, refl, ◌∙◌, subst, arith, length-set}
 use Rattle.std.specs.List.{All, AllPairs, range_with_len, list_any, fold}
 use Rattle.std.proofs.lemmas.Bool.{cases_Bool, cases_eq, false≢true}
 use Rattle.std.proofs.lemmas.Bool.Decides.{Decides-int_eq}
@@ -12,13 +12,13 @@ use Rattle.crush.specs.declared.choose.Choice.{Choice}
 use Rattle.crush.specs.declared.choose.Picked.{Picked}
 use Rattle.crush.specs.declared.choose.Position.{Position}
 use Rattle.crush.specs.declared.choose.Position.TheVariants.{Open, Hole, Filled}
-use Rattle.crush.specs.declared.choose.Tries.{Tries}
-use Rattle.crush.specs.declared.rule.Choose.{Choose}
-use Rattle.crush.specs.World.{World, is_out}
+use Rattle.crush.specs.Choosing.{Choosing}
+use Rattle.crush.specs.World.{is_out}
 use Rattle.crush.specs.Descent.{leaf_below, item_below}
-use Rattle.crush.proofs.Settled.{range_append}
+use Rattle.crush.proofs.Rounds.{range_append}
 use Rattle.crush.specs.Indep.{number_in, numbers_in, holds_item, is_open, filled_with, position_with, position_at, position_of, after_turn, after_round, indep}
-use Rattle.crush_laws.specs.Choices.{takes_devices, AreApart, HoldsNoneOut, ArePositions, IndepIsPositions, IndepKeepsPositions}
+use Rattle.crush_laws.specs.Choices.{takes_devices, AreApart, HoldsNoneOut, ArePositions, in_rounds, IndepIsPositions, IndepKeepsPositions, IndepLooksBack}
+use Rattle.crush_laws.proofs.Folds.{fold_keeps}
 use Rattle.crush_laws.proofs.LeafSearches.{leaf_accepted, other_holds, no_device, not_true}
 
 -- what a position becomes, by the tests that are made
@@ -32,6 +32,7 @@ pub record FillsBy (held to_leaf barred : Bool) (leaf : Option ℤ) (item : ℤ)
   pub taken : to_leaf ≡ true → leaf ≡ Some e.leaf
   pub itself : to_leaf ≡ false → (e.leaf ≡ item) × (barred ≡ false)
 
+-- what an item that fills a position says of it
 pub filled_by : (held to_leaf barred : Bool) (leaf : Option ℤ) (item : ℤ) (e : Choice) → position_by held to_leaf barred leaf item ≡ Filled e → FillsBy held to_leaf barred leaf item e
 unfolding position_by
 filled_by true to_leaf barred leaf item e h = absurd (cc)
@@ -47,31 +48,34 @@ filled_by false false false leaf item e h =
     record { apart = refl; item_is = ap (λ c. c.item) same; taken = λ q. absurd (cc); itself = λ _. (sym (ap (λ c. c.leaf) same), refl) }
 
 -- a choice that may fill a position
-record MayFill (w : World) (c : Choose) (positions : List Position) (e : Choice) : Type 0 where
+record MayFill (k : Choosing) (positions : List Position) (e : Choice) : Type 0 where
   item : list_any (holds_item e.item) positions ≡ false
-  inside : takes_devices c ≡ true → is_out w e.leaf ≡ false
+  inside : takes_devices k.choose ≡ true → is_out k.world e.leaf ≡ false
 
-fills_with : (w : World) (c : Choose) (t : Tries) (numrep : ℕ) (positions : List Position) (rep : ℕ) (p : Picked) (e : Choice) → position_with w c t numrep positions rep p ≡ Filled e → MayFill w c positions e
+-- an item that fills a position may
+fills_with : (k : Choosing) (positions : List Position) (rep : ℕ) (p : Picked) (e : Choice) → position_with k positions rep p ≡ Filled e → MayFill k positions e
 unfolding position_with position_by
-fills_with w c t numrep positions rep p e h =
-    let accepts : ℤ → Bool = λ d. not (is_out w d) in
-    let rs = numbers_in numrep (rep + p.r) t.leaf in
-    let is = filled_by (list_any (holds_item p.item) positions) c.to_leaf (eqb c.level 0 && is_out w p.item) (leaf_below w accepts rs p.item) p.item e h in
+fills_with k positions rep p e h =
+    let accepts : ℤ → Bool = λ d. not (is_out k.world d) in
+    let rs = numbers_in k.numrep (rep + p.r) k.tries.leaf in
+    let is = filled_by (list_any (holds_item p.item) positions) k.choose.to_leaf (eqb k.choose.level 0 && is_out k.world p.item) (leaf_below k.world accepts rs p.item) p.item e h in
     record {
       item = ap (λ i. list_any (holds_item i) positions) (sym is.item_is) ∙ is.apart;
-      inside = λ takes. elim (cases_Bool c.to_leaf) [
-        | inl leafy ↦ not_true _ (leaf_accepted w accepts rs p.item e.leaf (is.taken leafy))
-        | inr bare ↦ ap (is_out w) (is.itself bare).0 ∙ no_device _ _ (is.itself bare).1 (other_holds _ _ takes bare)
+      inside = λ takes. elim (cases_Bool k.choose.to_leaf) [
+        | inl leafy ↦ not_true _ (leaf_accepted k.world accepts rs p.item e.leaf (is.taken leafy))
+        | inr bare ↦ ap (is_out k.world) (is.itself bare).0 ∙ no_device _ _ (is.itself bare).1 (other_holds _ _ takes bare)
       ];
     }
 
-fills_at : (w : World) (c : Choose) (t : Tries) (numrep : ℕ) (positions : List Position) (rep : ℕ) (found : Option Picked) (e : Choice) → position_at w c t numrep positions rep found ≡ Filled e → MayFill w c positions e
-fills_at w c t numrep positions rep None e h = absurd (cc)
-fills_at w c t numrep positions rep (Some p) e h = fills_with w c t numrep positions rep p e h
+-- so may what a descent found
+fills_at : (k : Choosing) (positions : List Position) (rep : ℕ) (found : Option Picked) (e : Choice) → position_at k positions rep found ≡ Filled e → MayFill k positions e
+fills_at k positions rep None e h = absurd (cc)
+fills_at k positions rep (Some p) e h = fills_with k positions rep p e h
 
-fills_of : (w : World) (c : Choose) (t : Tries) (numrep : ℕ) (start : Bucket) (round : ℕ) (positions : List Position) (rep : ℕ) (e : Choice) → position_of w c t numrep start round positions rep ≡ Filled e → MayFill w c positions e
+-- and what a round fills it with
+fills_of : (k : Choosing) (start : Bucket) (round : ℕ) (positions : List Position) (rep : ℕ) (e : Choice) → position_of k start round positions rep ≡ Filled e → MayFill k positions e
 unfolding position_of
-fills_of w c t numrep start round positions rep e h = fills_at w c t numrep positions rep (item_below w (number_in numrep rep round) c.level start) e h
+fills_of k start round positions rep e h = fills_at k positions rep (item_below k.world (number_in k.numrep rep round) k.choose.level start) e h
 
 -- a position that does not hold an item is apart from one that does
 apart_from : (q : Position) (e : Choice) → holds_item e.item q ≡ false → AreApart q (Filled e) × AreApart (Filled e) q
@@ -79,6 +83,7 @@ apart_from Open e h = (tt, tt)
 apart_from Hole e h = (tt, tt)
 apart_from (Filled o) e h = (λ same. false≢true (sym h ∙ (Decides-int_eq o.item e.item).1 same), λ same. false≢true (sym h ∙ (Decides-int_eq o.item e.item).1 (sym same)))
 
+-- a position that holds nothing is apart from all
 apart_from_empty : (q p : Position) → ((e : Choice) → p ≡ Filled e → ⊥) → AreApart q p × AreApart p q
 apart_from_empty Open Open h = (tt, tt)
 apart_from_empty Open Hole h = (tt, tt)
@@ -88,6 +93,7 @@ apart_from_empty (Filled o) Open h = (tt, tt)
 apart_from_empty (Filled o) Hole h = (tt, tt)
 apart_from_empty q (Filled e) h = absurd (h e refl)
 
+-- an item that no position holds is at none
 not_held : (item : ℤ) (positions : List Position) → list_any (holds_item item) positions ≡ false → (k : ℕ) (d : Position) → k < length positions → holds_item item (get_or positions k d) ≡ false
 not_held item positions none k d within = elim (cases_Bool (holds_item item (get_or positions k d))) [
   | inl held ↦ absurd (false≢true (sym none ∙ list_any_at (holds_item item) positions k d within held))
@@ -95,15 +101,16 @@ not_held item positions none k d within = elim (cases_Bool (holds_item item (get
 ]
 
 -- a new position is apart from all
-apart_of : (w : World) (c : Choose) (positions : List Position) (p : Position) → ((e : Choice) → p ≡ Filled e → MayFill w c positions e) → (k : ℕ) (d : Position) → k < length positions → AreApart (get_or positions k d) p × AreApart p (get_or positions k d)
-apart_of w c positions Open h k d within = apart_from_empty (get_or positions k d) Open (λ e q. absurd (cc))
-apart_of w c positions Hole h k d within = apart_from_empty (get_or positions k d) Hole (λ e q. absurd (cc))
-apart_of w c positions (Filled e) h k d within = apart_from (get_or positions k d) e (not_held e.item positions (h e refl).item k d within)
+apart_of : (k : Choosing) (positions : List Position) (p : Position) → ((e : Choice) → p ≡ Filled e → MayFill k positions e) → (i : ℕ) (d : Position) → i < length positions → AreApart (get_or positions i d) p × AreApart p (get_or positions i d)
+apart_of k positions Open h i d within = apart_from_empty (get_or positions i d) Open (λ e q. absurd (cc))
+apart_of k positions Hole h i d within = apart_from_empty (get_or positions i d) Hole (λ e q. absurd (cc))
+apart_of k positions (Filled e) h i d within = apart_from (get_or positions i d) e (not_held e.item positions (h e refl).item i d within)
 
-inside_of : (w : World) (c : Choose) (positions : List Position) (p : Position) → ((e : Choice) → p ≡ Filled e → MayFill w c positions e) → takes_devices c ≡ true → HoldsNoneOut w p
-inside_of w c positions Open h takes = tt
-inside_of w c positions Hole h takes = tt
-inside_of w c positions (Filled e) h takes = (h e refl).inside takes
+-- a new position holds none that is out
+inside_of : (k : Choosing) (positions : List Position) (p : Position) → ((e : Choice) → p ≡ Filled e → MayFill k positions e) → takes_devices k.choose ≡ true → HoldsNoneOut k.world p
+inside_of k positions Open h takes = tt
+inside_of k positions Hole h takes = tt
+inside_of k positions (Filled e) h takes = (h e refl).inside takes
 
 -- a write of a position that is apart from all
 pairs_set : (positions : List Position) (rep : ℕ) (p : Position) → AllPairs AreApart positions → ((k : ℕ) (d : Position) → k < length positions → AreApart (get_or positions k d) p × AreApart p (get_or positions k d)) → AllPairs AreApart (set positions rep p)
@@ -126,51 +133,52 @@ pairs_set positions rep p all apart i j d lt within =
       ]
     ]
 
-positions_turn : (w : World) (c : Choose) (t : Tries) (numrep : ℕ) (start : Bucket) (round count : ℕ) (positions : List Position) (rep : ℕ) (undecided : Bool) → ArePositions w c count positions → ArePositions w c count (cond undecided (set positions rep (position_of w c t numrep start round positions rep)) positions)
-positions_turn w c t numrep start round count positions rep false s = s
-positions_turn w c t numrep start round count positions rep true s =
-    let p = position_of w c t numrep start round positions rep in
-    let fills = fills_of w c t numrep start round positions rep in
+-- a turn keeps the positions
+positions_turn : (k : Choosing) (start : Bucket) (round count : ℕ) (positions : List Position) (rep : ℕ) (undecided : Bool) → ArePositions k count positions → ArePositions k count (cond undecided (set positions rep (position_of k start round positions rep)) positions)
+positions_turn k start round count positions rep false s = s
+positions_turn k start round count positions rep true s =
+    let p = position_of k start round positions rep in
+    let fills = fills_of k start round positions rep in
     record {
       counted = length-set positions rep p ∙ s.counted;
-      items_once = pairs_set positions rep p s.items_once (apart_of w c positions p fills);
-      none_out = λ takes. All-set (HoldsNoneOut w) positions rep p (inside_of w c positions p fills takes) (s.none_out takes);
+      items_once = pairs_set positions rep p s.items_once (apart_of k positions p fills);
+      none_out = λ takes. All-set (HoldsNoneOut k.world) positions rep p (inside_of k positions p fills takes) (s.none_out takes);
     }
 
--- what each step of a fold keeps the fold keeps
-pub fold_keeps : {A B : Type 0} (P : B → Type 0) (f : B → A → B) → ((b : B) (x : A) → P b → P (f b x)) → (b : B) (xs : List A) → P b → P (fold f b xs)
-fold_keeps P f step b [] s = s
-fold_keeps P f step b (x ∷ xs) s = fold_keeps P f step (f b x) xs (step b x s)
-
-positions_round : (w : World) (c : Choose) (t : Tries) (numrep : ℕ) (start : Bucket) (count : ℕ) (positions : List Position) (round : ℕ) → ArePositions w c count positions → ArePositions w c count (after_round w c t numrep start positions round)
+-- a round keeps them
+positions_round : (k : Choosing) (start : Bucket) (count : ℕ) (positions : List Position) (round : ℕ) → ArePositions k count positions → ArePositions k count (after_round k start positions round)
 unfolding after_round
-positions_round w c t numrep start count positions round s =
-    let P : List Position → Type 0 = ArePositions w c count in
-    fold_keeps P (after_turn w c t numrep start round) (λ ps rep q. positions_turn w c t numrep start round count ps rep (is_open (get_or ps rep Hole)) q) positions (range_with_len 0 (length positions)) s
+positions_round k start count positions round s =
+    let P : List Position → Type 0 = ArePositions k count in
+    fold_keeps P (after_turn k start round) (λ ps rep q. positions_turn k start round count ps rep (is_open (get_or ps rep Hole)) q) positions (range_with_len 0 (length positions)) s
 
-none_yet : (w : World) (c : Choose) (count : ℕ) → ArePositions w c count (replicate count Open)
-none_yet w c count =
+-- open positions hold nothing twice
+none_yet : (k : Choosing) (count : ℕ) → ArePositions k count (replicate count Open)
+none_yet k count =
     let open_at : All (λ p. p ≡ Open) (replicate count Open) = All-replicate (λ p. p ≡ Open) count Open refl in
     record {
       counted = length-replicate count Open;
       items_once = λ i j d lt within. (let P : Position → Type 0 = λ q. AreApart q (get_or (replicate count Open) j d) in subst P (sym (open_at i d (omega arith))) tt);
-      none_out = λ takes. All-replicate (HoldsNoneOut w) count Open tt;
+      none_out = λ takes. All-replicate (HoldsNoneOut k.world) count Open tt;
     }
 
+-- so all rounds leave positions
 pub indep_is_positions : IndepIsPositions
 unfolding indep
-indep_is_positions w c t start numrep count =
-    let P : List Position → Type 0 = ArePositions w c count in
-    fold_keeps P (after_round w c t numrep start) (λ ps round q. positions_round w c t numrep start count ps round q) (replicate count Open) (range_with_len 0 t.total) (none_yet w c count)
+indep_is_positions k start count =
+    let P : List Position → Type 0 = ArePositions k count in
+    fold_keeps P (after_round k start) (λ ps round q. positions_round k start count ps round q) (replicate count Open) (range_with_len 0 k.tries.total) (none_yet k count)
 
 -- a decided position of the list before stands in the list after
 record StaysIn (before after : List Position) : Type 0 where
   decided : (i : ℕ) → is_open (get_or before i Hole) ≡ false → get_or after i Hole ≡ get_or before i Hole
 
+-- a turn leaves what is decided
 stays_turn : (positions : List Position) (rep : ℕ) (p : Position) (undecided : Bool) → is_open (get_or positions rep Hole) ≡ undecided → StaysIn positions (cond undecided (set positions rep p) positions)
 stays_turn positions rep p false e = record { decided = λ i h. refl }
 stays_turn positions rep p true e = record { decided = λ i h. get_or-set_other positions rep i p Hole (λ same. false≢true (sym h ∙ ap (λ m. is_open (get_or positions m Hole)) same ∙ e)) }
 
+-- so do turns one after another
 stays_fold : {A : Type 0} (f : List Position → A → List Position) → ((ps : List Position) (x : A) → StaysIn ps (f ps x)) → (ps : List Position) (xs : List A) → StaysIn ps (fold f ps xs)
 stays_fold f step ps [] = record { decided = λ i h. refl }
 stays_fold f step ps (x ∷ xs) =
@@ -178,26 +186,54 @@ stays_fold f step ps (x ∷ xs) =
     let later = stays_fold f step (f ps x) xs in
     record { decided = λ i h. (let same = here.decided i h in later.decided i (ap is_open same ∙ h) ∙ same) }
 
-stays_round : (w : World) (c : Choose) (t : Tries) (numrep : ℕ) (start : Bucket) (positions : List Position) (round : ℕ) → StaysIn positions (after_round w c t numrep start positions round)
+-- and a round
+stays_round : (k : Choosing) (start : Bucket) (positions : List Position) (round : ℕ) → StaysIn positions (after_round k start positions round)
 unfolding after_round
-stays_round w c t numrep start positions round =
-    stays_fold (after_turn w c t numrep start round) (λ ps rep. stays_turn ps rep (position_of w c t numrep start round ps rep) (is_open (get_or ps rep Hole)) refl) positions (range_with_len 0 (length positions))
+stays_round k start positions round =
+    stays_fold (after_turn k start round) (λ ps rep. stays_turn ps rep (position_of k start round ps rep) (is_open (get_or ps rep Hole)) refl) positions (range_with_len 0 (length positions))
 
 -- how many rounds there are is nothing to a round
-same_round : (w : World) (c : Choose) (leaf m n numrep : ℕ) (start : Bucket) → after_round w c (record { total = m; leaf = leaf }) numrep start ≡ after_round w c (record { total = n; leaf = leaf }) numrep start
+same_round : (k : Choosing) (m n : ℕ) (start : Bucket) → after_round (in_rounds k m) start ≡ after_round (in_rounds k n) start
 unfolding after_round position_of position_with
-same_round w c leaf m n numrep start = refl
+same_round k m n start = refl
 
+-- so what some rounds decided stays through more
 pub indep_keeps_positions : IndepKeepsPositions
 unfolding indep
-indep_keeps_positions w c leaf rounds more start numrep count place =
-    let t : ℕ → Tries = λ n. record { total = n; leaf = leaf } in
-    let F : ℕ → List Position → ℕ → List Position = λ n. after_round w c (t n) numrep start in
+indep_keeps_positions k start rounds more count place =
+    let F : ℕ → List Position → ℕ → List Position = λ n. after_round (in_rounds k n) start in
     let none = replicate count Open in
     let first = fold (F rounds) none (range_with_len 0 rounds) in
     let whole : fold (F (rounds + more)) none (range_with_len 0 (rounds + more)) ≡ fold (F rounds) first (range_with_len (0 + rounds) more) =
-    ap (λ f. fold f none (range_with_len 0 (rounds + more))) (same_round w c leaf (rounds + more) rounds numrep start)
+    ap (λ f. fold f none (range_with_len 0 (rounds + more))) (same_round k (rounds + more) rounds start)
     ∙ ap (fold (F rounds) none) (range_append 0 rounds more)
     ∙ fold-append (F rounds) none (range_with_len 0 rounds) (range_with_len (0 + rounds) more) in
-    let stays = stays_fold (F rounds) (stays_round w c (t rounds) numrep start) first (range_with_len (0 + rounds) more) in
+    let stays = stays_fold (F rounds) (stays_round (in_rounds k rounds) start) first (range_with_len (0 + rounds) more) in
     λ h. ap (λ ps. get_or ps place Hole) whole ∙ stays.decided place h
+
+-- a turn leaves every other position alone
+turn_apart : (ps : List Position) (rep place : ℕ) (p : Position) (undecided : Bool) → place ≢ rep → get_or (cond undecided (set ps rep p) ps) place Hole ≡ get_or ps place Hole
+turn_apart ps rep place p true ne = get_or-set_other ps rep place p Hole ne
+turn_apart ps rep place p false ne = refl
+
+-- so do the turns of later positions
+later_turns : (k : Choosing) (start : Bucket) (round : ℕ) (ps : List Position) (place a m : ℕ) → place < a → get_or (fold (after_turn k start round) ps (range_with_len a m)) place Hole ≡ get_or ps place Hole
+later_turns k start round ps place a zero before = refl
+later_turns k start round ps place a (suc m) before =
+    let next = after_turn k start round ps a in
+    later_turns k start round next place (a + 1) m (omega arith)
+    ∙ turn_apart ps a place (position_of k start round ps a) (is_open (get_or ps a Hole)) (λ same. omega arith)
+
+-- so a round leaves a position as its own turn does
+pub indep_looks_back : IndepLooksBack
+unfolding after_round
+indep_looks_back k start round positions place within =
+    let f = after_turn k start round in
+    let n = length positions in
+    let rest = n - (place + 1) in
+    let whole : (place + 1) + rest ≡ n = omega arith in
+    let first = fold f positions (range_with_len 0 (place + 1)) in
+    ap (λ m. get_or (fold f positions (range_with_len 0 m)) place Hole) (sym whole)
+    ∙ ap (λ xs. get_or (fold f positions xs) place Hole) (range_append 0 (place + 1) rest)
+    ∙ ap (λ ps. get_or ps place Hole) (fold-append f positions (range_with_len 0 (place + 1)) (range_with_len (0 + (place + 1)) rest))
+    ∙ later_turns k start round first place (0 + (place + 1)) rest (omega arith)

@@ -28,5 +28,6 @@ module _ (buckets : List Bucket) where
       let both = and_parts (is_known buckets 1024 item.id) (nat_lt (level_of buckets item.id) b.level) (list_all-at (λ i. is_known buckets 1024 i.id && nat_lt (level_of buckets i.id) b.level) b.items j d j_in inner) in
       lower item.id b.level (bucket_at buckets item.id) refl both.0 both.1
 
+-- the law
 pub buckets_lead_down : BucketsLeadDown
 buckets_lead_down buckets id b forest found = leads-down buckets forest id b found

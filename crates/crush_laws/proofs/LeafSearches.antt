@@ -11,6 +11,7 @@ use Rattle.crush.specs.Forest.{bucket_at}
 use Rattle.crush.specs.World.{World}
 use Rattle.crush.specs.Descent.{device_below, leaf_below}
 
+-- one more element of a search
 passes_by : (p : ℤ → Bool) (x found : ℤ) (passes : Bool) (rest : Option ℤ) → p x ≡ passes → (rest ≡ Some found → p found ≡ true) → cond passes (Some x) rest ≡ Some found → p found ≡ true
 passes_by p x found true rest e later h = let same : x ≡ found = cc in sym (ap p same) ∙ e
 passes_by p x found false rest e later h = later h
@@ -20,6 +21,7 @@ find_passes : (p : ℤ → Bool) (xs : List ℤ) (found : ℤ) → find p xs ≡
 find_passes p [] found h = absurd (cc)
 find_passes p (x ∷ xs) found h = passes_by p x found (p x) (find p xs) refl (find_passes p xs found) h
 
+-- what is found below a bucket is acceptable
 found_in : (w : World) (accepts : ℤ → Bool) (rs : List (Bucket → ℕ)) (b : Option Bucket) (leaf : ℤ) → option_and_then (λ b. find accepts (filter_map (device_below w b) rs)) b ≡ Some leaf → accepts leaf ≡ true
 found_in w accepts rs None leaf h = absurd (cc)
 found_in w accepts rs (Some b) leaf h = find_passes accepts (filter_map (device_below w b) rs) leaf h
@@ -42,14 +44,17 @@ neither true b h = absurd (cc)
 neither false true h = absurd (cc)
 neither false false h = (refl, refl)
 
+-- where the first of two tests fails the second holds
 pub other_holds : (a b : Bool) → (a || b) ≡ true → a ≡ false → b ≡ true
 other_holds true b h fails = absurd (cc)
 other_holds false b h fails = h
 
+-- a device at type 0 is not out where it is not barred
 pub no_device : (level_zero out : Bool) → (level_zero && out) ≡ false → level_zero ≡ true → out ≡ false
 no_device true out h z = h
 no_device false out h z = absurd (cc)
 
+-- a test that fails
 pub not_true : (b : Bool) → not b ≡ true → b ≡ false
 not_true true h = absurd (cc)
 not_true false h = refl

@@ -1,3 +1,4 @@
+pub mod Folds
 pub mod LeafSearches
 pub mod FirstnSegments
 pub mod IndepPositions
@@ -9,3 +10,4 @@ pub mod RunsReached
 pub mod DescentEnds
 pub mod ItemsLeadDown
 pub mod RuleBlocks
+pub mod RunsFit

@@ -1,19 +1,21 @@
 -- The steps of a rule are those of its blocks.
-use Rattle.std.proofs.Common.{◌≡◌, ◌<◌, true, false, List, [], ◌∷◌, ◌++◌, length, All, refl, sym, ap, ◌∙◌, inl, inr, arith, append_assoc}
+use Rattle.std.proofs.Common.{◌≡◌, Bool, cond, ◌<◌, true, false, List, [], ◌∷◌, ◌++◌, length, All, refl, sym, ap, ◌∙◌, inl, inr, arith, append_assoc}
 use Rattle.std.specs.List.{slice_split, onto_first, AllByRecursion}
 use Rattle.std.proofs.lemmas.Bool.{and_parts, cases_Bool, false≢true}
 use Rattle.std.proofs.lemmas.List.Elements.{All-from_recursion, recursion_from_All}
 use Rattle.std.proofs.lemmas.List.Splits.{slice_split-cons_yes, slice_split-cons_no, slice_split_none, slice_split_at, length-slice_split}
 use Rattle.std.proofs.lemmas.List.Sums.{AllPass-from_list_all, list_all-from_AllPass}
-use Rattle.crush.specs.declared.rule.RuleKind.{RuleKind}
-use Rattle.crush.specs.declared.rule.Step.TheVariants as step
-use Rattle.crush.specs.declared.rule.Step.{Step}
-use Rattle.crush.specs.Grammar.{is_emit, is_block, are_blocks, is_rule}
+use Rattle.crush.specs.declared.step.RuleKind.{RuleKind}
+use Rattle.crush.specs.declared.step.Step.TheVariants as step
+use Rattle.crush.specs.declared.step.Step.{Step}
+use Rattle.crush.specs.Grammar.{is_emit, is_block, sets_tries, is_piece, are_blocks, is_rule}
 use Rattle.crush.proofs.LastSteps.{is_rule-at_last}
 use Rattle.crush_laws.specs.Rules.{steps_of, IsGrammatical, RulesAreBlocks}
 
 -- a step that emits is an emit
 emit-is : (x : Step) → is_emit x ≡ true → x ≡ step.Emit
+emit-is (step.SetChooseTries _) e = absurd (false≢true e)
+emit-is (step.SetChooseleafTries _) e = absurd (false≢true e)
 emit-is (step.Take _) e = absurd (false≢true e)
 emit-is (step.Choose _) e = absurd (false≢true e)
 emit-is step.Emit e = refl
@@ -24,6 +26,24 @@ block-plain kind (step.Take _ ∷ step.Choose _ ∷ []) e = (refl, (refl, tt))
 block-plain kind (step.Take _ ∷ step.Choose _ ∷ step.Choose _ ∷ []) e = (refl, (refl, (refl, tt)))
 block-plain kind (step.Take _ ∷ step.Choose _ ∷ step.Choose _ ∷ step.Choose _ ∷ []) e = (refl, (refl, (refl, (refl, tt))))
 block-plain kind _ e = absurd (false≢true e)
+
+-- nor does a step that sets tries before it
+piece-by : (kind : RuleKind) (x : Step) (rest : List Step) (sets : Bool) → sets_tries x ≡ sets → cond sets (is_piece kind rest) (is_block kind (x ∷ rest)) ≡ true → (is_piece kind rest ≡ true → AllByRecursion (λ y. is_emit y ≡ false) rest) → AllByRecursion (λ y. is_emit y ≡ false) (x ∷ rest)
+piece-by kind x rest true sets e below = (no_emit x sets, below e)
+  where
+    no_emit : (y : Step) → sets_tries y ≡ true → is_emit y ≡ false
+    no_emit (step.SetChooseTries _) h = refl
+    no_emit (step.SetChooseleafTries _) h = refl
+    no_emit (step.Take _) h = refl
+    no_emit (step.Choose _) h = refl
+    no_emit step.Emit h = absurd (false≢true h)
+piece-by kind x rest false sets e below = block-plain kind (x ∷ rest) e
+
+-- so no step of a piece emits
+piece-plain : (kind : RuleKind) (piece : List Step) → is_piece kind piece ≡ true → AllByRecursion (λ x. is_emit x ≡ false) piece
+unfolding is_piece
+piece-plain kind [] e = absurd (false≢true e)
+piece-plain kind (x ∷ rest) e = piece-by kind x rest (sets_tries x) refl e (piece-plain kind rest)
 
 -- the pieces between the emits, each with its emit, are the steps
 steps_of-split : (xs : List Step) → steps_of (slice_split is_emit xs) ≡ xs ++ step.Emit ∷ []
@@ -42,16 +62,18 @@ front_of : List Step → List (List Step) → List Step
 front_of b [] = b
 front_of b (c ∷ cs) = b ++ step.Emit ∷ front_of c cs
 
+-- the steps of blocks end with the last emit
 steps_of-front : (b : List Step) (bs : List (List Step)) → steps_of (b ∷ bs) ≡ front_of b bs ++ step.Emit ∷ []
 unfolding front_of
 steps_of-front b [] = refl
 steps_of-front b (c ∷ cs) = rw (steps_of-front c cs, append_assoc)
 
-split-front : (kind : RuleKind) (b : List Step) (bs : List (List Step)) → AllByRecursion (λ c. is_block kind c ≡ true) (b ∷ bs) → slice_split is_emit (front_of b bs) ≡ b ∷ bs
+-- parted at the emits they are the blocks
+split-front : (kind : RuleKind) (b : List Step) (bs : List (List Step)) → AllByRecursion (λ c. is_piece kind c ≡ true) (b ∷ bs) → slice_split is_emit (front_of b bs) ≡ b ∷ bs
 unfolding front_of
-split-front kind b [] lawful = slice_split_none is_emit b (All-from_recursion (λ x. is_emit x ≡ false) b (block-plain kind b lawful.0))
+split-front kind b [] lawful = slice_split_none is_emit b (All-from_recursion (λ x. is_emit x ≡ false) b (piece-plain kind b lawful.0))
 split-front kind b (c ∷ cs) lawful =
-    let first = slice_split_at is_emit b step.Emit (front_of c cs) (All-from_recursion (λ x. is_emit x ≡ false) b (block-plain kind b lawful.0)) refl in
+    let first = slice_split_at is_emit b step.Emit (front_of c cs) (All-from_recursion (λ x. is_emit x ≡ false) b (piece-plain kind b lawful.0)) refl in
     first ∙ ap (λ parts. b ∷ parts) (split-front kind c cs lawful.1)
 
 -- steps with a last one
@@ -59,6 +81,7 @@ with-last : (y : Step) (ys : List Step) → (rest : List Step) × (x : Step) × 
 with-last y [] = ([], y, refl)
 with-last y (z ∷ zs) = let rest = with-last z zs in (y ∷ rest.0, rest.1, ap (λ l. y ∷ l) rest.2)
 
+-- steps that pass are those of blocks
 grammatical : (kind : RuleKind) (steps : List Step) → is_rule kind steps ≡ true → IsGrammatical kind steps
 unfolding are_blocks
 grammatical kind [] rule = absurd (false≢true rule)
@@ -68,17 +91,18 @@ grammatical kind (y ∷ ys) rule =
     record {
       blocks = slice_split is_emit last.0;
       some = omega (arith, length-slice_split is_emit last.0);
-      lawful = AllPass-from_list_all (is_block kind) (slice_split is_emit last.0) both.1;
+      lawful = AllPass-from_list_all (is_piece kind) (slice_split is_emit last.0) both.1;
       made = rw (last.2, emit-is last.1 both.0) (sym (steps_of-split last.0));
     }
 
-lawful-rule : (kind : RuleKind) (blocks : List (List Step)) → 0 < length blocks → All (λ block. is_block kind block ≡ true) blocks → is_rule kind (steps_of blocks) ≡ true
+-- the steps of blocks pass
+lawful-rule : (kind : RuleKind) (blocks : List (List Step)) → 0 < length blocks → All (λ block. is_piece kind block ≡ true) blocks → is_rule kind (steps_of blocks) ≡ true
 unfolding are_blocks
 lawful-rule kind [] some lawful = absurd (omega arith)
 lawful-rule kind (b ∷ bs) some lawful =
     let front = front_of b bs in
-    let parts = split-front kind b bs (recursion_from_All (λ block. is_block kind block ≡ true) (b ∷ bs) lawful) in
-    is_rule-at_last kind (steps_of (b ∷ bs)) front step.Emit (steps_of-front b bs) ∙ rw parts (list_all-from_AllPass (is_block kind) (b ∷ bs) lawful)
+    let parts = split-front kind b bs (recursion_from_All (λ block. is_piece kind block ≡ true) (b ∷ bs) lawful) in
+    is_rule-at_last kind (steps_of (b ∷ bs)) front step.Emit (steps_of-front b bs) ∙ rw parts (list_all-from_AllPass (is_piece kind) (b ∷ bs) lawful)
 
 -- the test of the grammar holds of the steps of blocks alone
 pub rules_are_blocks : RulesAreBlocks

@@ -13,9 +13,9 @@ use Rattle.std.proofs.lemmas.List.Folds.{list_any_at, list_any-from_Any}
 use Rattle.rjenkins.specs.Jenkins.{hash2_of}
 use Rattle.crush.specs.declared.bucket.Bucket.{Bucket}
 use Rattle.crush.specs.declared.bucket.Item.{Item}
-use Rattle.crush.specs.declared.rule.RuleKind.{RuleKind}
-use Rattle.crush.specs.declared.rule.Step.{Step}
-use Rattle.crush.specs.declared.rule.Step.TheVariants.{Take, Choose as Chooses, Emit}
+use Rattle.crush.specs.declared.step.RuleKind.{RuleKind}
+use Rattle.crush.specs.declared.step.Step.{Step}
+use Rattle.crush.specs.declared.step.Step.TheVariants.{SetChooseTries, SetChooseleafTries, Take, Choose as Chooses, Emit}
 use Rattle.crush.specs.Forest.{bucket_at, level_of}
 use Rattle.crush.specs.Grammar.{step_limits_ok, IsLawful}
 use Rattle.crush_laws.specs.Runs.{RunPlacesReached, RunReadsReached}
@@ -24,11 +24,11 @@ use Rattle.crush.proofs.Above.{IsItemOf, IsPath, IsAbove, and-some}
 use Rattle.crush.specs.Run.{run_of}
 use Rattle.crush.specs.WellFormed.{is_within, bucket_limits_ok, is_known, IsForest}
 use Rattle.crush.specs.World.{world_of, is_out}
-use Rattle.crush.proofs.Bounds.{limits-each}
-use Rattle.crush.proofs.Chains.{above-tested}
+use Rattle.crush.proofs.ForestLimits.{limits-each}
+use Rattle.crush.proofs.Climbs.{above-tested}
 use Rattle.keylist.proofs.Counts.{find-place}
-use Rattle.crush.proofs.Pickable.{bucket_at-pickable}
-use Rattle.crush.proofs.Places.{int_eq-yes}
+use Rattle.crush.proofs.PickableBuckets.{bucket_at-pickable}
+use Rattle.crush.proofs.IdSearches.{int_eq-yes}
 use Rattle.keylist.proofs.Each.{list_all-at}
 use Rattle.crush_laws.proofs.RunsWithin.{IsIn, TakesIn, run_same, run_in}
 use Rattle.crush_laws.proofs.DescentsWithin.{other, IsDevice, HasIn, AreAlike}
@@ -41,6 +41,8 @@ path_more buckets (next ∷ between) top mid item path held = (path.0, path_more
 -- a step takes a bucket, or one above it
 TakesTo : List Bucket → ℤ → Step → Type 0
 TakesTo buckets item (Take top) = (top ≡ item) ⊎ IsAbove buckets top item
+TakesTo buckets item (SetChooseTries n) = ⊥
+TakesTo buckets item (SetChooseleafTries n) = ⊥
 TakesTo buckets item (Chooses c) = ⊥
 TakesTo buckets item Emit = ⊥
 
@@ -48,22 +50,30 @@ TakesTo buckets item Emit = ⊥
 abbrev IsHeld : List Bucket → List Step → ℤ → Type 0
 IsHeld buckets steps item = Any (TakesTo buckets item) steps
 
+-- what takes a bucket takes its items too
 takes_below : (buckets : List Bucket) (id item : ℤ) (s : Step) → IsItemOf buckets id item → TakesTo buckets id s → TakesTo buckets item s
 unfolding TakesTo
 takes_below buckets id item (Take top) held (inl same) = inr (record { between = []; path = subst (λ t. IsItemOf buckets t item) (sym same) held })
 takes_below buckets id item (Take top) held (inr above) = inr (record { between = above.between ++ id ∷ []; path = path_more buckets above.between top id item above.path held })
+takes_below buckets id item (SetChooseTries n) held h = h
+takes_below buckets id item (SetChooseleafTries n) held h = h
 takes_below buckets id item (Chooses c) held h = h
 takes_below buckets id item Emit held h = h
 
+-- a step takes what it takes
 takes_itself : (buckets : List Bucket) (steps : List Step) (k : ℕ) (s : Step) → k < length steps → get_or steps k s ≡ s → TakesIn (IsHeld buckets steps) s
 unfolding TakesTo
+takes_itself buckets steps k (SetChooseTries n) within e = tt
+takes_itself buckets steps k (SetChooseleafTries n) within e = tt
 takes_itself buckets steps k (Take id) within e = (k, Take id, within, e, inl refl)
 takes_itself buckets steps k (Chooses c) within e = tt
 takes_itself buckets steps k Emit within e = tt
 
+-- so all steps take what they hold
 takes_held : (buckets : List Bucket) (steps : List Step) → All (TakesIn (IsHeld buckets steps)) steps
 takes_held buckets steps = λ k d within. takes_itself buckets steps k (get_or steps k d) within (get_or_default steps k (get_or steps k d) d within)
 
+-- what is there
 is_there : (o : Option Bucket) → is_some o ≡ true → (b : Bucket) × (o ≡ Some b)
 is_there None h = absurd (cc)
 is_there (Some b) h = (b, refl)
@@ -95,6 +105,7 @@ item_known buckets id b k d forest e within =
     let parts = and_parts (is_known buckets 1024 (get_or b.items k d).id) (nat_lt (level_of buckets (get_or b.items k d).id) b.level) both in
     (parts.0, ltb-true _ _ parts.1)
 
+-- with a bucket all its items are held
 held_items : (buckets : List Bucket) (steps : List Step) (id : ℤ) (b : Bucket) → IsForest buckets → IsHeld buckets steps id → bucket_at buckets id ≡ Some b → HasIn (IsHeld buckets steps) buckets b
 held_items buckets steps id b forest held e =
     let place = find-place (λ c. int_eq c.id id) buckets b e in
@@ -115,9 +126,12 @@ takes_device buckets n (Take top) forest limits (inl same) =
     let device : int_lt (pos n) (pos 0) ≡ true = ap (λ t. int_lt t (pos 0)) (sym same) ∙ low in
     absurd (omega (arith, ints, device))
 takes_device buckets n (Take top) forest limits (inr above) = (above-tested buckets forest top (pos n)).1 above
+takes_device buckets n (SetChooseTries t) forest limits h = absurd h
+takes_device buckets n (SetChooseleafTries t) forest limits h = absurd h
 takes_device buckets n (Chooses c) forest limits h = absurd h
 takes_device buckets n Emit forest limits h = absurd h
 
+-- the same of the steps of a rule
 held_reached : (buckets : List Bucket) (kind : RuleKind) (steps : List Step) (n : ℕ) → IsForest buckets → IsLawful kind steps → IsHeld buckets steps (pos n) → reaches buckets steps (pos n) ≡ true
 held_reached buckets kind steps n forest lawful held =
     let limits : step_limits_ok held.1 ≡ true = rw held.3 at (list_all-at step_limits_ok steps held.0 held.1 held.2 (and_parts _ _ lawful.limits).1) in
@@ -128,6 +142,7 @@ out_alike : (buckets : List Bucket) (weights others : List ℕ) (x n : ℕ) → 
 unfolding is_out
 out_alike buckets weights others x n same = ap (λ weight. nat_lt weight 65536 && nat_le weight (hash2_of x n % 65536)) same
 
+-- two lists that agree on what is reached agree on what is held
 held_alike : (buckets : List Bucket) (kind : RuleKind) (steps : List Step) (weights others : List ℕ) (x : ℕ) → IsForest buckets → IsLawful kind steps → ((osd : ℕ) → IsTrue (reaches buckets steps (pos osd)) → slice_index weights osd ≡ slice_index others osd) → AreAlike (IsHeld buckets steps) (world_of buckets weights x) others
 held_alike buckets kind steps weights others x forest lawful agree = record {
   below = λ id b held e. held_items buckets steps id b forest held e;
@@ -138,10 +153,12 @@ held_alike buckets kind steps weights others x forest lawful agree = record {
       ap (is_out w) device.is ∙ same ∙ sym (ap (is_out (other w others)) device.is);
 }
 
+-- so a rule reads no other reweight
 pub run_reads_reached : RunReadsReached
 run_reads_reached buckets kind steps weights others x size forest lawful agree =
     run_same (IsHeld buckets steps) (world_of buckets weights x) others steps size (held_alike buckets kind steps weights others x forest lawful agree) (takes_held buckets steps)
 
+-- and places nothing else
 pub run_places_reached : RunPlacesReached
 run_places_reached buckets kind steps weights x size forest lawful osd there =
     let all = run_in (IsHeld buckets steps) (world_of buckets weights x) weights steps size (held_alike buckets kind steps weights weights x forest lawful (λ osd h. refl)) (takes_held buckets steps) in

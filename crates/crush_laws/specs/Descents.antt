@@ -10,7 +10,8 @@ use Rattle.crush.specs.WellFormed.{is_known, IsForest}
 -- the picks lead from a bucket, through the buckets between, to an item
 abbrev pub ArePicks : World → (Bucket → ℕ) → Bucket → List Bucket → ℤ → Type 0
 ArePicks w r b [] item = pick_of b w.x (r b) ≡ item
-ArePicks w r b (next ∷ between) item = (bucket_at w.buckets (pick_of b w.x (r b)) ≡ Some next) × ArePicks w r next between item
+ArePicks w r b (next ∷ between) item =
+    (bucket_at w.buckets (pick_of b w.x (r b)) ≡ Some next) × ArePicks w r next between item
 
 -- some picks lead from a bucket to an item
 pub record LeadsTo (w : World) (r : Bucket → ℕ) (b : Bucket) (item : ℤ) : Type 0 where
@@ -32,5 +33,6 @@ pub record LeadsToWanted (w : World) (r : Bucket → ℕ) (wanted : ℕ) (b : Bu
 -- in a forest a descent comes to an item of the wanted type, unless a device of another type stops it: never to an
 -- unknown item, and never to an end for want of levels
 abbrev pub DescentEnds : Type 0
-DescentEnds = (w : World) (r : Bucket → ℕ) (wanted : ℕ) (b : Bucket) → IsForest w.buckets → bucket_at w.buckets b.id ≡ Some b →
+DescentEnds = (w : World) (r : Bucket → ℕ) (wanted : ℕ) (b : Bucket) →
+    IsForest w.buckets → bucket_at w.buckets b.id ≡ Some b →
     MatchOption (item_below w r wanted b) (LeadsAstray w r wanted b) (λ p. LeadsToWanted w r wanted b p.item)

@@ -12,8 +12,10 @@ IsDeviceNumber (negsuc n) = ⊥
 
 -- each item of a bucket is a device, or a bucket of a type below that of its own
 abbrev pub LeadsDown : List Bucket → Bucket → Type 0
-LeadsDown buckets b = All (λ i. MatchOption (bucket_at buckets i.id) (IsDeviceNumber i.id) (λ c. c.level < b.level)) b.items
+LeadsDown buckets b =
+    All (λ i. MatchOption (bucket_at buckets i.id) (IsDeviceNumber i.id) (λ c. c.level < b.level)) b.items
 
 -- each bucket of a forest leads down
 abbrev pub BucketsLeadDown : Type 0
-BucketsLeadDown = (buckets : List Bucket) (id : ℤ) (b : Bucket) → IsForest buckets → bucket_at buckets id ≡ Some b → LeadsDown buckets b
+BucketsLeadDown = (buckets : List Bucket) (id : ℤ) (b : Bucket) →
+    IsForest buckets → bucket_at buckets id ≡ Some b → LeadsDown buckets b

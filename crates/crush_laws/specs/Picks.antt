@@ -1,16 +1,16 @@
 -- What the picks of each kind of bucket are (CRUSH paper, section 3.4).
-use Rattle.std.specs.Prelude.{◌<◌, ◌≡◌, ℕ, ◌+◌, ◌*◌, ◌^◌, map, [], ◌∷◌, true, false, List, length, slice_index}
+use Rattle.std.specs.Prelude.{◌<◌, ◌≡◌, ℕ, zero, suc, ◌+◌, ◌-◌, ◌*◌, ◌/◌, ◌^◌, if◌then◌else◌, map, [], ◌∷◌, true, false, List, length, slice_index}
 use Rattle.std.specs.List.{range_with_len}
 use Rattle.std.specs.List.Sorted.{IsPermutation}
 use Rattle.crush.specs.declared.bucket.Item.{Item}
 use Rattle.crush.specs.declared.bucket.Bucket.{Bucket}
-use Rattle.crush.specs.declared.bucket.BucketKind.TheVariants.{List as InList, Tree as InTree}
+use Rattle.crush.specs.declared.bucket.BucketKind.TheVariants.{Uniform, List as InList, Tree as InTree}
 use Rattle.crush.specs.Forest.{word, IsPickable}
 use Rattle.crush.specs.Items.{item_at}
 use Rattle.crush.specs.Uniform.{draw_order}
 use Rattle.crush.specs.Listed.{wins_at}
-use Rattle.crush.specs.Pick.{place_of}
-use Rattle.crush.specs.Tree.{height_of}
+use Rattle.crush.specs.Pick.{place_of, pick_of}
+use Rattle.crush.specs.Tree.{weight_between, goes_left, height_of, tree_place}
 
 -- the greatest place that wins its draw
 pub record IsGreatestWinner (x id r : ℕ) (items : List Item) (place : ℕ) : Type 0 where
@@ -18,25 +18,52 @@ pub record IsGreatestWinner (x id r : ℕ) (items : List Item) (place : ℕ) : T
   pub wins : wins_at x id r items place ≡ true
   pub none_later : (later : ℕ) → place < later → later < length items → wins_at x id r items later ≡ false
 
--- a uniform bucket draws each of its places once, so it picks each item at one of any n replica numbers in a row
+-- a uniform bucket draws each of its places once
 abbrev pub DrawsEachPlaceOnce : Type 0
 DrawsEachPlaceOnce = (x id n : ℕ) → IsPermutation (draw_order x id n) (range_with_len 0 n)
 
+-- so at the replica numbers from 0 up to its number of items a uniform bucket picks each of its items once
+abbrev pub UniformPicksEachOnce : Type 0
+UniformPicksEachOnce = (b : Bucket) (x : ℕ) → b.kind ≡ Uniform →
+    IsPermutation (map (λ r. pick_of b x r) (range_with_len 0 (length b.items))) (map (λ i. i.id) b.items)
+
 -- a list bucket picks the greatest place that wins its draw
 abbrev pub ListPicksGreatestWinner : Type 0
-ListPicksGreatestWinner = (b : Bucket) (x r : ℕ) → b.kind ≡ InList → IsPickable b → IsGreatestWinner x (word b.id) r b.items (place_of b x r)
+ListPicksGreatestWinner = (b : Bucket) (x r : ℕ) → b.kind ≡ InList → IsPickable b →
+    IsGreatestWinner x (word b.id) r b.items (place_of b x r)
 
 -- a tree bucket picks an item that weighs something
 abbrev pub TreePicksWeight : Type 0
-TreePicksWeight = (b : Bucket) (x r : ℕ) → b.kind ≡ InTree → IsPickable b → 0 < (item_at b.items (place_of b x r)).weight
+TreePicksWeight = (b : Bucket) (x r : ℕ) → b.kind ≡ InTree → IsPickable b →
+    0 < (item_at b.items (place_of b x r)).weight
 
--- a tree of n items has this depth, this many nodes, this root and these leaves, where the 2 ^ k places from `from` on are
--- node 2 * from + 2 ^ k
+-- the weight of the places under a node of height k
+abbrev pub weight_under : List Item → ℕ → ℕ → ℕ
+weight_under items k node = weight_between items ((node - 2 ^ k) / 2) (2 ^ k)
+
+-- the walk by the numbers of nodes, as Ceph has it: the children of a node of height k + 1 stand 2 ^ k before and after
+-- it, and a leaf is the node that is twice its place and one more
+unfoldable pub node_place : (ℕ → ℕ) → List Item → ℕ → ℕ → ℕ
+node_place draw items zero node = node / 2
+node_place draw items (suc k) node =
+    if goes_left (draw node) (weight_under items (suc k) node) (weight_under items k (node - 2 ^ k))
+    then node_place draw items k (node - 2 ^ k)
+    else node_place draw items k (node + 2 ^ k)
+
+-- the walk down a tree begins at the node of half its nodes, and goes by their numbers
+abbrev pub TreesAreWalkedByNodes : Type 0
+TreesAreWalkedByNodes = (draw : ℕ → ℕ) (items : List Item) →
+    let height = height_of (length items) in
+    tree_place draw items height 0 ≡ node_place draw items height (2 ^ height)
+
+-- a tree of n items has this depth, this many nodes, this root and these leaves; a walk that ends at a leaf ends at its
+-- place
 pub record HasShape (n depth nodes root : ℕ) (leaves : List ℕ) : Type 0 where
   pub of_depth : height_of n + 1 ≡ depth
   pub of_nodes : 2 ^ depth ≡ nodes
   pub of_root : 2 ^ height_of n ≡ root
   pub of_leaves : map (λ place. 2 * place + 1) (range_with_len 0 n) ≡ leaves
+  pub of_places : map (λ node. node / 2) leaves ≡ range_with_len 0 n
 
 -- the shapes of trees of 1 to 5 items and of 64
 pub record TreesHaveShapes : Type 0 where

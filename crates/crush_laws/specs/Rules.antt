@@ -1,20 +1,20 @@
 -- The grammar of rules, said by blocks.
 use Rattle.std.specs.Prelude.{◌≡◌, ◌<◌, ◌↔◌, All, ◌++◌, IsTrue, List, [], ◌∷◌, length}
-use Rattle.crush.specs.declared.rule.RuleKind.{RuleKind}
-use Rattle.crush.specs.declared.rule.Step.{Step}
-use Rattle.crush.specs.declared.rule.Step.TheVariants.{Emit}
-use Rattle.crush.specs.Grammar.{is_block, is_rule}
+use Rattle.crush.specs.declared.step.RuleKind.{RuleKind}
+use Rattle.crush.specs.declared.step.Step.{Step}
+use Rattle.crush.specs.declared.step.Step.TheVariants.{Emit}
+use Rattle.crush.specs.Grammar.{is_piece, is_rule}
 
 -- the steps of blocks, one after another, each ended by an emit
 abbrev pub steps_of : List (List Step) → List Step
 steps_of [] = []
 steps_of (block ∷ blocks) = block ++ Emit ∷ steps_of blocks
 
--- the steps are those of one or more blocks
+-- the steps are those of one or more blocks, each with the steps that set tries before it
 pub record IsGrammatical (kind : RuleKind) (steps : List Step) : Type 0 where
   pub blocks : List (List Step)
   pub some : 0 < length blocks
-  pub lawful : All (λ block. IsTrue (is_block kind block)) blocks
+  pub lawful : All (λ block. IsTrue (is_piece kind block)) blocks
   pub made : steps ≡ steps_of blocks
 
 -- the rules are the steps of one or more blocks

@@ -1,21 +1,28 @@
 -- What the run of a rule places, and by which reweights.
-use Rattle.std.specs.Prelude.{◌≡◌, IsTrue, ℕ, List, pos, Some, slice_index, Contains}
+use Rattle.std.specs.Prelude.{◌≡◌, ◌≤◌, length, IsTrue, ℕ, List, pos, Some, slice_index, Contains}
 use Rattle.crush.specs.declared.bucket.Bucket.{Bucket}
-use Rattle.crush.specs.declared.rule.RuleKind.{RuleKind}
-use Rattle.crush.specs.declared.rule.Step.{Step}
-use Rattle.crush.specs.World.{world_of}
+use Rattle.crush.specs.declared.step.RuleKind.{RuleKind}
+use Rattle.crush.specs.declared.step.Step.{Step}
+use Rattle.crush.specs.World.{World, world_of}
 use Rattle.crush.specs.Run.{run_of}
 use Rattle.crush.specs.Grammar.{IsLawful}
 use Rattle.crush.specs.Paths.{reaches}
 use Rattle.crush.specs.WellFormed.{IsForest}
 
+-- a rule places no more than the size of the pool
+abbrev pub RunsFit : Type 0
+RunsFit = (w : World) (steps : List Step) (size : ℕ) → length (run_of w steps size) ≤ size
+
 -- everything that a rule places is reached
 abbrev pub RunPlacesReached : Type 0
-RunPlacesReached = (buckets : List Bucket) (kind : RuleKind) (steps : List Step) (weights : List ℕ) (x size : ℕ) → IsForest buckets → IsLawful kind steps →
-    (osd : ℕ) → Contains (run_of (world_of buckets weights x) steps size) (Some (pos osd)) → IsTrue (reaches buckets steps (pos osd))
+RunPlacesReached = (buckets : List Bucket) (kind : RuleKind) (steps : List Step) (weights : List ℕ) (x size : ℕ) →
+    IsForest buckets → IsLawful kind steps →
+    (osd : ℕ) → Contains (run_of (world_of buckets weights x) steps size) (Some (pos osd)) →
+    IsTrue (reaches buckets steps (pos osd))
 
 -- two lists of reweights that agree on the devices that a rule reaches give the same places
 abbrev pub RunReadsReached : Type 0
-RunReadsReached = (buckets : List Bucket) (kind : RuleKind) (steps : List Step) (weights others : List ℕ) (x size : ℕ) → IsForest buckets → IsLawful kind steps →
+RunReadsReached = (buckets : List Bucket) (kind : RuleKind) (steps : List Step) (weights others : List ℕ) (x size : ℕ) →
+    IsForest buckets → IsLawful kind steps →
     ((osd : ℕ) → IsTrue (reaches buckets steps (pos osd)) → slice_index weights osd ≡ slice_index others osd) →
     run_of (world_of buckets weights x) steps size ≡ run_of (world_of buckets others x) steps size

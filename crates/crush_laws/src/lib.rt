@@ -4,10 +4,10 @@
 
 ghost use Rattle.crush_laws.specs.Forests.{BucketsLeadDown};
 ghost use Rattle.crush_laws.specs.Rules.{RulesAreBlocks};
-ghost use Rattle.crush_laws.specs.Picks.{DrawsEachPlaceOnce, ListPicksGreatestWinner, TreePicksWeight, TreesHaveShapes};
+ghost use Rattle.crush_laws.specs.Picks.{DrawsEachPlaceOnce, UniformPicksEachOnce, ListPicksGreatestWinner, TreePicksWeight, TreesAreWalkedByNodes, TreesHaveShapes};
 ghost use Rattle.crush_laws.specs.Descents.{DescentEnds};
-ghost use Rattle.crush_laws.specs.Choices.{FirstnIsSegment, IndepIsPositions, IndepKeepsPositions};
-ghost use Rattle.crush_laws.specs.Runs.{RunPlacesReached, RunReadsReached};
+ghost use Rattle.crush_laws.specs.Choices.{FirstnIsSegment, IndepIsPositions, IndepKeepsPositions, IndepLooksBack};
+ghost use Rattle.crush_laws.specs.Runs.{RunsFit, RunPlacesReached, RunReadsReached};
 
 /// Each item of a bucket of a forest is a device, or a bucket of a lower type.
 pub fn buckets_lead_down()
@@ -19,9 +19,14 @@ pub fn rules_are_blocks()
     ensures { RulesAreBlocks }
 {}
 
-/// A uniform bucket draws each of its places once, so it picks all of its items at n replica numbers in a row.
+/// A uniform bucket draws each of its places once.
 pub fn uniform_draws_each_place_once()
     ensures { DrawsEachPlaceOnce }
+{}
+
+/// At the replica numbers from 0 up to its number of items a uniform bucket picks each of its items once.
+pub fn uniform_picks_each_once()
+    ensures { UniformPicksEachOnce }
 {}
 
 /// A list bucket picks the greatest place whose item wins its draw.
@@ -34,7 +39,12 @@ pub fn tree_picks_weight()
     ensures { TreePicksWeight }
 {}
 
-/// A tree of n items has as many levels of halves as hold them; its nodes are numbered by their intervals.
+/// The walk down a tree is the one by the numbers of its nodes.
+pub fn trees_are_walked_by_nodes()
+    ensures { TreesAreWalkedByNodes }
+{}
+
+/// The depth, the number of nodes, the root and the leaves of trees of 1 to 5 items and of 64.
 pub fn trees_have_shapes()
     ensures { TreesHaveShapes }
 {}
@@ -58,6 +68,16 @@ pub fn indep_is_positions()
 /// What a round decided for a position stays through all later rounds.
 pub fn indep_keeps_positions()
     ensures { IndepKeepsPositions }
+{}
+
+/// What a round makes of a position is decided at its turn: the turns of later positions change nothing.
+pub fn indep_looks_back()
+    ensures { IndepLooksBack }
+{}
+
+/// A rule places no more than the size of the pool.
+pub fn runs_fit()
+    ensures { RunsFit }
 {}
 
 /// Every device that a rule places is one that it reaches.

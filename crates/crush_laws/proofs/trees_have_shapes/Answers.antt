@@ -5,10 +5,10 @@ use Rattle.crush_laws.proofs.trees_have_shapes.Goals as goal
 
 pub returns : goal.returns
 returns c = record {
-  one = record { of_depth = refl; of_nodes = refl; of_root = refl; of_leaves = refl };
-  two = record { of_depth = refl; of_nodes = refl; of_root = refl; of_leaves = refl };
-  three = record { of_depth = refl; of_nodes = refl; of_root = refl; of_leaves = refl };
-  four = record { of_depth = refl; of_nodes = refl; of_root = refl; of_leaves = refl };
-  five = record { of_depth = refl; of_nodes = refl; of_root = refl; of_leaves = refl };
-  most = (map (λ place. 2 * place + 1) (range_with_len 0 64), record { of_depth = refl; of_nodes = refl; of_root = refl; of_leaves = refl }, refl);
+  one = record { of_depth = refl; of_nodes = refl; of_root = refl; of_leaves = refl; of_places = refl };
+  two = record { of_depth = refl; of_nodes = refl; of_root = refl; of_leaves = refl; of_places = refl };
+  three = record { of_depth = refl; of_nodes = refl; of_root = refl; of_leaves = refl; of_places = refl };
+  four = record { of_depth = refl; of_nodes = refl; of_root = refl; of_leaves = refl; of_places = refl };
+  five = record { of_depth = refl; of_nodes = refl; of_root = refl; of_leaves = refl; of_places = refl };
+  most = (map (λ place. 2 * place + 1) (range_with_len 0 64), record { of_depth = refl; of_nodes = refl; of_root = refl; of_leaves = refl; of_places = refl }, refl);
 }

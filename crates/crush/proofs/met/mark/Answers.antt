@@ -4,7 +4,7 @@ use Rattle.std.proofs.lemmas.List.{get_or_default}
 use Rattle.crush.specs.declared.bucket.Item.{Item}
 use Rattle.crush.specs.Slots.{slot, marks}
 use Rattle.crush.specs.WellFormed.{is_known}
-use Rattle.crush.proofs.Marks.{marked_twice, marked_more}
+use Rattle.crush.proofs.ItemMarks.{marked_twice, marked_more}
 use Rattle.keylist.proofs.Each.{list_all-at}
 use Rattle.crush.proofs.met.mark.Goals as goal
 use mir.Val.{SFits}

@@ -1,8 +1,8 @@
 use Rattle.std.proofs.Common.{refl, w32}
 use Rattle.std.specs.Ordering.{int_eq}
 use Rattle.std.proofs.lemmas.Int.{to_z-of_z}
-use Rattle.crush.proofs.Marks.{known-found, is_some-position}
-use Rattle.crush.proofs.Places.{placed}
+use Rattle.crush.proofs.ItemMarks.{known-found, is_some-position}
+use Rattle.crush.proofs.IdSearches.{placed}
 use Rattle.crush.proofs.met.slot_of.Goals as goal
 
 pub unwrap-requires : goal.unwrap-requires

@@ -1,8 +1,8 @@
 use Rattle.std.proofs.Common.{refl, sym, ◌∙◌, w32}
 use Rattle.std.specs.Ordering.{int_eq}
 use Rattle.std.proofs.lemmas.Int.{to_z-of_z}
-use Rattle.crush.proofs.Pickable.{found, not_found}
-use Rattle.crush.proofs.Places.{placed}
+use Rattle.crush.proofs.PickableBuckets.{found, not_found}
+use Rattle.crush.proofs.IdSearches.{placed}
 use Rattle.crush.proofs.search.bucket_of.Goals as goal
 
 pub returns-in_err-place : goal.returns-in_err-place

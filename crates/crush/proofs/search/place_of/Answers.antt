@@ -2,7 +2,7 @@ use Rattle.std.proofs.Common.{◌∙◌, sym, ap, w32, rules}
 use Rattle.std.specs.Ordering.{int_cmp, int_eq}
 use Rattle.std.proofs.lemmas.Int.{to_z-of_z}
 use Rattle.std.proofs.lemmas.Fn.{always_returns_same}
-use Rattle.crush.proofs.Places.{searched, met}
+use Rattle.crush.proofs.IdSearches.{searched, met}
 use Rattle.crush.proofs.search.place_of.Goals as goal
 
 pub returns-in-Some : goal.returns-in-Some

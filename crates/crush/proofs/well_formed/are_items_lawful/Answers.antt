@@ -1,5 +1,5 @@
 use Rattle.std.proofs.Common.{sym, ◌∙◌}
-use Rattle.crush.proofs.Bounds.{has_items_below-more}
+use Rattle.crush.proofs.ForestLimits.{has_items_below-more}
 use Rattle.crush.proofs.well_formed.are_items_lawful.Goals as goal
 
 -- known below max_osd, so below the most devices

@@ -1,7 +1,7 @@
 use Rattle.std.proofs.Common.{rules, tests}
 use Rattle.std.specs.Prelude.{int_lt}
 use Rattle.std.proofs.lemmas.Fn.{always_returns_same}
-use Rattle.crush.proofs.Ids.{own_ids-tested}
+use Rattle.crush.proofs.OwnIds.{own_ids-tested}
 use Rattle.crush.proofs.well_formed.have_own_ids.Goals as goal
 
 pub returns : goal.returns

@@ -1,5 +1,5 @@
 use Rattle.std.proofs.Common.{◌∙◌}
-use Rattle.crush.proofs.Weighing.{is_even-first}
+use Rattle.crush.proofs.EvenWeights.{is_even-first}
 use Rattle.crush.proofs.well_formed.is_even.Goals as goal
 
 pub returns : goal.returns

@@ -1,7 +1,7 @@
 use Rattle.std.proofs.Common.{SFits, w32, ◌∙◌, rules}
 use Rattle.std.proofs.lemmas.Int.{to_z-of_z}
 use Rattle.crush.specs.Items.{item_at}
-use Rattle.crush.proofs.Trees.{picked_at}
+use Rattle.crush.proofs.TreeWalks.{picked_at}
 use Rattle.crush.proofs.bucket.Bucket.pick.Goals as goal
 
 pub returns : goal.returns

@@ -1,7 +1,7 @@
 use Rattle.std.proofs.Common.{◌≡◌, w32, find, Some, None, ℤ, sym, rules}
 use Rattle.std.proofs.lemmas.Int.{to_z-of_z}
 use Rattle.crush.specs.Paths.{has_item}
-use Rattle.crush.proofs.Chains.{climb-level, climb-there, climb-nowhere, climb-smaller}
+use Rattle.crush.proofs.Climbs.{climb-level, climb-there, climb-nowhere, climb-smaller}
 use Rattle.crush.proofs.forest.Forest.ancestor.Goals as goal
 use mir.Val.{SFits}
 

@@ -1,6 +1,6 @@
 use Rattle.std.proofs.Common.{sym, w32}
 use Rattle.std.proofs.lemmas.Int.{to_z-of_z}
-use Rattle.crush.proofs.Pickable.{IfSome-pickable, device-has_none}
+use Rattle.crush.proofs.PickableBuckets.{IfSome-pickable, device-has_none}
 use Rattle.crush.proofs.forest.Forest.bucket.Goals as goal
 
 pub returns-clause-within : goal.returns-clause-within

@@ -2,7 +2,7 @@ use Rattle.std.proofs.Common.{◌≡◌, ◌≢◌, w32, find, Some, None, refl,
 use Rattle.std.proofs.lemmas.Int.{to_z-of_z}
 use Rattle.std.proofs.lemmas.Bool.{false_from_ne_true}
 use Rattle.crush.specs.Paths.{has_item, is_above}
-use Rattle.crush.proofs.Chains.{climb-above, climb-found, climb-none, climb-smaller, above-tested}
+use Rattle.crush.proofs.Climbs.{climb-above, climb-found, climb-none, climb-smaller, above-tested}
 use Rattle.crush.proofs.forest.Forest.is_above.Goals as goal
 use mir.Val.{SFits, of_z, to_z}
 

@@ -1,6 +1,6 @@
 use Rattle.std.proofs.Common.{sym, arith, ◌≤◌}
 use Rattle.std.proofs.lemmas.Int.{ints}
-use Rattle.crush.proofs.Chains.{above-far}
+use Rattle.crush.proofs.Climbs.{above-far}
 use Rattle.crush.proofs.forest.Forest.is_above_device.Goals as goal
 
 -- a number that is no item's is past the last device

@@ -1,7 +1,7 @@
 use Rattle.std.proofs.Common.{sym, ◌∙◌, rules}
 use Rattle.std.proofs.lemmas.Fn.{always_returns_same}
 use Rattle.crush.proofs.Made.{descending-own, forest-passed, fault-forest, fault-none, own-ok}
-use Rattle.crush.proofs.Ordered.{by_id-sorted}
+use Rattle.crush.proofs.BucketsById.{by_id-sorted}
 use Rattle.crush.proofs.Sorted.{sorted-falls, own_ids-moved, limits-moved, bucket_at-moved}
 use Rattle.crush.proofs.forest.Forest.of_fitting.Goals as goal
 

@@ -1,5 +1,5 @@
 use Rattle.std.proofs.Common.{sym, ◌∙◌, arith}
-use Rattle.crush.proofs.Winners.{place_won, place_lost, place_none, weight_more}
+use Rattle.crush.proofs.ListWinners.{place_won, place_lost, place_none, weight_more}
 use Rattle.crush.proofs.pick.list.list_pick.Goals as goal
 
 pub returns-then-wins_draw-clause-place : goal.returns-then-wins_draw-clause-place

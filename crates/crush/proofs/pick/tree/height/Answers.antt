@@ -1,4 +1,4 @@
-use Rattle.crush.proofs.Trees.{height_is}
+use Rattle.crush.proofs.TreeWalks.{height_is}
 use Rattle.crush.proofs.pick.tree.height.Goals as goal
 
 pub returns : goal.returns

@@ -1,5 +1,6 @@
-use Rattle.crush.proofs.Trees.{IsAt}
+use Rattle.crush.specs.Tree.{draw_at}
+use Rattle.crush.proofs.TreeWalks.{IsAt}
 use Rattle.crush.proofs.pick.tree.tree_pick.Given as goal
 
 abbrev pub invariant-loop-k : goal.invariant-loop-k
-invariant-loop-k l = IsAt l.x l.id l.r l.items l.k l.from l.weight
+invariant-loop-k l = IsAt (draw_at l.x l.id l.r) l.items l.k l.from l.weight

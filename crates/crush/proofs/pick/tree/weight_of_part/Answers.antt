@@ -1,5 +1,5 @@
 use Rattle.std.proofs.Common.{◌∙◌, arith}
-use Rattle.crush.proofs.Trees.{part_weight, part_le}
+use Rattle.crush.proofs.TreeWalks.{part_weight, part_le}
 use Rattle.crush.proofs.pick.tree.weight_of_part.Goals as goal
 
 pub total_weight-requires : goal.total_weight-requires

@@ -1,7 +1,7 @@
 use Rattle.std.proofs.Common.{◌≡◌, ◌-◌, ◌%◌, length, ap, ◌∙◌, arith}
 use Rattle.rjenkins.specs.Jenkins.{hash3_of}
 use Rattle.crush.specs.Uniform.{places_drawn}
-use Rattle.crush.proofs.Drawn.{drawn_step}
+use Rattle.crush.proofs.UniformDraws.{drawn_step}
 use Rattle.crush.proofs.pick.uniform.draw.Goals as goal
 
 pub loop-p-preserved : goal.loop-p-preserved

@@ -1,6 +1,6 @@
 use Rattle.std.proofs.Common.{◌<◌, ℕ, length, subst, sym, ap, ◌∙◌}
 use Rattle.std.proofs.lemmas.List.FromFn.{length-range_with_len}
-use Rattle.crush.proofs.Drawn.{take-range, drawn-numbered, uniform_place_below}
+use Rattle.crush.proofs.UniformDraws.{take-range, drawn-numbered, uniform_place_below}
 use Rattle.crush.proofs.pick.uniform.uniform_pick.Goals as goal
 
 pub returns-clause-place : goal.returns-clause-place

@@ -1,0 +1,8 @@
+use Rattle.std.proofs.Common.{◌≡◌}
+use Rattle.std.specs.List.{fold, range_with_len}
+use Rattle.crush.specs.Placed.{choosing}
+use Rattle.crush.specs.Indep.{after_turn}
+use Rattle.crush.proofs.chooser.Chooser.take_round.Given as goal
+
+abbrev pub invariant-loop-rep : goal.invariant-loop-rep
+invariant-loop-rep l = l.positions ≡ fold (after_turn (choosing l.self) l.start l.round) l.initial.positions (range_with_len 0 l.rep)

@@ -1,9 +1,0 @@
-use Rattle.std.proofs.Common.{◌≡◌, length, replicate}
-use Rattle.std.specs.List.{fold, range_with_len}
-use Rattle.crush.specs.declared.choose.Position.TheVariants.{Open}
-use Rattle.crush.specs.Placed.{world}
-use Rattle.crush.specs.Indep.{after_round}
-use Rattle.crush.proofs.placement.Placement.indep.Given as goal
-
-abbrev pub invariant-loop-round : goal.invariant-loop-round
-invariant-loop-round l = l.positions ≡ fold (after_round (world l.self) l.choose l.tries l.numrep l.start) (replicate (length l.fn.positions) Open) (range_with_len 0 l.round)

@@ -1,0 +1,15 @@
+//! What a choose step goes by.
+
+use crate::choose::Tries;
+use crate::placement::Placement;
+use crate::step::Choose;
+
+/// What a choose step goes by: the placement, the step, how often it tries, and how many items it seeks below each
+/// bucket.
+#[derive(Clone, Copy)]
+pub(crate) struct Chooser<'a> {
+    pub placement: Placement<'a>,
+    pub choose: Choose,
+    pub tries: Tries,
+    pub numrep: u8,
+}
