@@ -4,22 +4,22 @@ use Rattle.std.specs.Prelude.{⊤}
 use Rattle.serde_json.specs.Data.{Data, string}
 use Rattle.crush.specs.declared.bucket.BucketKind.{BucketKind}
 use Rattle.crush.specs.declared.bucket.BucketKind.TheVariants.{Uniform, List as Listed, Tree}
-use Rattle.crush.specs.declared.rule.Mode.{Mode}
-use Rattle.crush.specs.declared.rule.Mode.TheVariants.{Firstn, Indep}
-use Rattle.crush.specs.declared.rule.RuleKind.{RuleKind}
-use Rattle.crush.specs.declared.rule.RuleKind.TheVariants.{Replicated, Erasure}
+use Rattle.crush.specs.declared.step.Mode.{Mode}
+use Rattle.crush.specs.declared.step.Mode.TheVariants.{Firstn, Indep}
+use Rattle.crush.specs.declared.step.RuleKind.{RuleKind}
+use Rattle.crush.specs.declared.step.RuleKind.TheVariants.{Replicated, Erasure}
 use Rattle.stated.specs.declared.parts.MapParts.{MapParts}
 use Rattle.stated.specs.declared.parts.BucketPart.{BucketPart}
 use Rattle.stated.specs.declared.parts.ItemPart.{ItemPart}
 use Rattle.stated.specs.declared.parts.RulePart.{RulePart}
 use Rattle.stated.specs.declared.parts.StepPart.{StepPart}
-use Rattle.stated.specs.declared.parts.StepPart.TheVariants.{Take, Choose, Emit}
+use Rattle.stated.specs.declared.parts.StepPart.TheVariants.{SetChooseTries, SetChooseleafTries, Take, Choose, Emit}
 use Rattle.stated.specs.declared.parts.PoolPart.{PoolPart}
 use Rattle.stated.specs.declared.parts.OsdPart.{OsdPart}
 use Rattle.stated.specs.declared.parts.ExceptionPart.{ExceptionPart}
 use Rattle.stated.specs.declared.parts.PairPart.{PairPart}
 use Rattle.mapjson.specs.Json.{number_of, list_of}
-use Rattle.mapjson.specs.MapTexts.{item_of, bucket_kind_of, bucket_of, rule_kind_of, step_of, step_by, take_of, choose_of, emit_of, rule_of, pool_of, osd_of, pair_of, exception_of, stated_map}
+use Rattle.mapjson.specs.MapTexts.{item_of, bucket_kind_of, bucket_of, rule_kind_of, step_of, step_by, take_of, choose_of, emit_of, tries_of, leaf_tries_of, rule_of, pool_of, osd_of, pair_of, exception_of, map_of, in_its_version, stated_map}
 use Rattle.mapjson.specs.Written.{number_data, list_data, item_data, kind_word, bucket_data, use_word, step_data, rule_data, pool_data, osd_data, IsNamed, AreNamed, pair_data, exception_data, map_data}
 
 -- ---- values
@@ -67,7 +67,9 @@ choose_back Firstn true count level = rw (number_back count, number_back level)
 choose_back Indep true count level = rw (number_back count, number_back level)
 
 step_back : (s : StepPart) → step_of (step_data s) ≡ Some s
-unfolding step_of step_by take_of choose_of emit_of step_data
+unfolding step_of step_by take_of choose_of emit_of tries_of leaf_tries_of step_data
+step_back (SetChooseTries tries) = rw (number_back tries)
+step_back (SetChooseleafTries tries) = rw (number_back tries)
 step_back (Take id) = rw (number_back id)
 step_back (Choose c) = choose_back c.mode c.to_leaf c.count c.level
 step_back Emit = refl
@@ -103,9 +105,9 @@ exceptions_back stated entry back es named = entries_back (exception_of stated) 
 
 -- ---- the map
 
-pub map_back : (p : MapParts) → AreNamed p.pg_upmap → AreNamed p.pg_upmap_items → stated_map (map_data p) ≡ Some p
-unfolding stated_map map_data
-map_back p explicit items = rw (
+parts_back : (p : MapParts) → AreNamed p.pg_upmap → AreNamed p.pg_upmap_items → map_of (map_data p) ≡ Some p
+unfolding map_of map_data
+parts_back p explicit items = rw (
   number_back p.version,
   number_back p.epoch,
   number_back p.max_osd,
@@ -116,3 +118,8 @@ map_back p explicit items = rw (
   exceptions_back number_of number_data number_back p.pg_upmap explicit,
   exceptions_back pair_of pair_data pair_back p.pg_upmap_items items,
 )
+
+-- parts that set tries in version 2 alone
+pub map_back : (p : MapParts) → AreNamed p.pg_upmap → AreNamed p.pg_upmap_items → in_its_version p ≡ Some p → stated_map (map_data p) ≡ Some p
+unfolding stated_map
+map_back p explicit items version = rw (parts_back p explicit items, version) refl

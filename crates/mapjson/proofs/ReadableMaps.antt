@@ -11,16 +11,16 @@ use Rattle.serde_json.specs.Data.{Data}
 use Rattle.serde_json.specs.View.{items_of}
 use Rattle.crush.specs.declared.bucket.BucketKind.{BucketKind}
 use Rattle.crush.specs.declared.bucket.BucketKind.TheVariants.{Uniform, List as Listed, Tree}
-use Rattle.crush.specs.declared.rule.Mode.{Mode}
-use Rattle.crush.specs.declared.rule.Mode.TheVariants.{Firstn, Indep}
-use Rattle.crush.specs.declared.rule.RuleKind.{RuleKind}
-use Rattle.crush.specs.declared.rule.RuleKind.TheVariants.{Replicated, Erasure}
+use Rattle.crush.specs.declared.step.Mode.{Mode}
+use Rattle.crush.specs.declared.step.Mode.TheVariants.{Firstn, Indep}
+use Rattle.crush.specs.declared.step.RuleKind.{RuleKind}
+use Rattle.crush.specs.declared.step.RuleKind.TheVariants.{Replicated, Erasure}
 use Rattle.stated.specs.declared.parts.MapParts.{MapParts}
 use Rattle.stated.specs.declared.parts.BucketPart.{BucketPart}
 use Rattle.stated.specs.declared.parts.ItemPart.{ItemPart}
 use Rattle.stated.specs.declared.parts.RulePart.{RulePart}
 use Rattle.stated.specs.declared.parts.StepPart.{StepPart}
-use Rattle.stated.specs.declared.parts.StepPart.TheVariants.{Take, Choose, Emit}
+use Rattle.stated.specs.declared.parts.StepPart.TheVariants.{SetChooseTries, SetChooseleafTries, Take, Choose, Emit}
 use Rattle.stated.specs.declared.parts.PoolPart.{PoolPart}
 use Rattle.stated.specs.declared.parts.OsdPart.{OsdPart}
 use Rattle.stated.specs.declared.parts.ExceptionPart.{ExceptionPart}
@@ -28,7 +28,6 @@ use Rattle.stated.specs.declared.parts.PairPart.{PairPart}
 use Rattle.stated.specs.declared.pg.Pg.{Pg}
 use Rattle.stated.specs.PgText.{group_text}
 use Rattle.stated.specs.Parts.{pg_of, is_osd_id, pair_fits, exception_fits, exceptions_fit, is_between, has_between, is_bucket_id, item_fits, bucket_fits, step_fits, rule_fits, pool_fits, osd_fits, head_fits, lists_fit, parts_fit}
-use Rattle.crush.proofs.Judging.{decides-le}
 use Rattle.mapjson.specs.Written.{number_data, kind_word, item_data, bucket_data, use_word, choose_word, step_data, rule_data, pool_data, osd_data, pair_data, exception_data, map_data}
 use Rattle.mapjson.proofs.Readable.{IsReadable, ItemsReadable}
 
@@ -44,10 +43,10 @@ IsHigh (pos n) = n < 2 ^ 64
 IsHigh (negsuc n) = ⊤
 
 number_within : (low high z : ℤ) → IsLow low → IsHigh high → int_le low z ≡ true → int_le z high ≡ true → IsReadable (number_data z)
-number_within low (pos h) (pos n) l u above below = let most : pos n ≤ℤ pos h = (decides-le (pos n) (pos h)).0 below in omega (arith, ints)
-number_within low (negsuc h) (pos n) l u above below = let most : pos n ≤ℤ negsuc h = (decides-le (pos n) (negsuc h)).0 below in absurd (omega (arith, ints))
-number_within (negsuc b) high (negsuc n) l u above below = let least : negsuc b ≤ℤ negsuc n = (decides-le (negsuc b) (negsuc n)).0 above in omega (arith, ints)
-number_within (pos b) high (negsuc n) l u above below = let least : pos b ≤ℤ negsuc n = (decides-le (pos b) (negsuc n)).0 above in absurd (omega (arith, ints))
+number_within low (pos h) (pos n) l u above below = let most : pos n ≤ℤ pos h = grind (arith, ints) in omega (arith, ints)
+number_within low (negsuc h) (pos n) l u above below = let most : pos n ≤ℤ negsuc h = grind (arith, ints) in absurd (omega (arith, ints))
+number_within (negsuc b) high (negsuc n) l u above below = let least : negsuc b ≤ℤ negsuc n = grind (arith, ints) in omega (arith, ints)
+number_within (pos b) high (negsuc n) l u above below = let least : pos b ≤ℤ negsuc n = grind (arith, ints) in absurd (omega (arith, ints))
 
 number_between : (low high z : ℤ) → IsLow low → IsHigh high → is_between low high z ≡ true → IsReadable (number_data z)
 unfolding is_between
@@ -106,6 +105,8 @@ choose_ascii Indep true = refl
 
 step_readable : (s : StepPart) → step_fits s ≡ true → IsReadable (step_data s)
 unfolding step_fits step_data
+step_readable (SetChooseTries tries) h = (refl, (number_between (pos 1) (pos 200) tries tt (omega arith) h, tt))
+step_readable (SetChooseleafTries tries) h = (refl, (number_between (pos 1) (pos 200) tries tt (omega arith) h, tt))
 step_readable (Take id) h = (refl, (id_readable id h, tt))
 step_readable (Choose c) h =
     let p = and_parts (is_between (pos 0) (pos 10) c.count) _ h in (
@@ -232,7 +233,7 @@ map_readable p h =
     let buckets = and_parts _ (list_all bucket_fits p.buckets) rules.0 in
     let head = and_parts (head_fits p) (lists_fit p) buckets.0 in
     let max_osd = and_parts _ (is_between (pos 1) (pos 1024) p.max_osd) head.0 in
-    let version = and_parts (is_between (pos 1) (pos 1) p.version) (is_between (pos 1) (pos 2147483648) p.epoch) max_osd.0 in (
+    let version = and_parts (is_between (pos 1) (pos 2) p.version) (is_between (pos 1) (pos 2147483648) p.epoch) max_osd.0 in (
       (
         refl,
         entries_within bucket_fits bucket_data bucket_readable p.buckets buckets.1,
@@ -257,7 +258,7 @@ map_readable p h =
                     (
                       refl,
                       entries_within rule_fits rule_data rule_readable p.rules rules.1,
-                      (refl, number_between (pos 1) (pos 1) p.version tt (omega arith) version.0, tt),
+                      (refl, number_between (pos 1) (pos 2) p.version tt (omega arith) version.0, tt),
                     ),
                   ),
                 ),

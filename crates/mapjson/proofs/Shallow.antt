@@ -7,7 +7,7 @@ use Rattle.stated.specs.declared.parts.BucketPart.{BucketPart}
 use Rattle.stated.specs.declared.parts.ItemPart.{ItemPart}
 use Rattle.stated.specs.declared.parts.RulePart.{RulePart}
 use Rattle.stated.specs.declared.parts.StepPart.{StepPart}
-use Rattle.stated.specs.declared.parts.StepPart.TheVariants.{Take, Choose, Emit}
+use Rattle.stated.specs.declared.parts.StepPart.TheVariants.{SetChooseTries, SetChooseleafTries, Take, Choose, Emit}
 use Rattle.stated.specs.declared.parts.PoolPart.{PoolPart}
 use Rattle.stated.specs.declared.parts.OsdPart.{OsdPart}
 use Rattle.stated.specs.declared.parts.ExceptionPart.{ExceptionPart}
@@ -33,6 +33,8 @@ bucket_whole b = rw (number_whole b.id, list_whole item_data item_whole b.items,
 
 step_whole : (s : StepPart) → has_float (step_data s) ≡ false
 unfolding step_data
+step_whole (SetChooseTries tries) = rw (number_whole tries)
+step_whole (SetChooseleafTries tries) = rw (number_whole tries)
 step_whole (Take id) = rw (number_whole id)
 step_whole (Choose c) = rw (number_whole c.count, number_whole c.level)
 step_whole Emit = refl
@@ -85,6 +87,8 @@ bucket_flat b = omega (arith, list_flat 1 item_data item_flat b.items)
 
 step_flat : (s : StepPart) → depth (step_data s) ≤ 1
 unfolding step_data
+step_flat (SetChooseTries tries) = omega arith
+step_flat (SetChooseleafTries tries) = omega arith
 step_flat (Take id) = omega arith
 step_flat (Choose c) = omega arith
 step_flat Emit = omega arith

@@ -16,7 +16,7 @@ use Rattle.stated.specs.Parts.{is_osd_id, pair_fits, osd_fits, pool_fits, except
 use Rattle.osdmap.specs.Stated.{buckets_of, rules_ok, pools_ok, osds_ok, is_listed, exceptions_ok, explicit_of, all_exceptions_ok, map_fault, IsStated}
 use Rattle.osdmap.specs.PartsOf.{parts_of}
 use Rattle.mapjson.specs.Json.{stated_by}
-use Rattle.mapjson.specs.MapTexts.{stated_map, fault_of_stated, map_text_fault, StatesMap}
+use Rattle.mapjson.specs.MapTexts.{in_its_version, stated_map}
 use Rattle.mapjson.specs.Written.{AreNamed, map_data, written}
 use Rattle.mapjson.proofs.Texts.{json_of_some}
 use Rattle.mapjson.proofs.Readable.{read-compact_text, IsUtf8-compact_text}
@@ -31,54 +31,8 @@ unfolding written
 is_written m d bytes is text = text (ap has_float is ∙ map_whole (parts_of m)) ∙ ap compact_text is
 
 -- a text that is read as the value of some parts states them, where their groups are read back
-pub states_parts : (p : MapParts) (d : Data) (bytes : List ℕ) → AreNamed p.pg_upmap → AreNamed p.pg_upmap_items → d ≡ map_data p → IsUtf8 bytes → (depth d ≤ max_depth → read bytes ≡ Some d) → stated_by stated_map bytes ≡ Ok p
-states_parts p d bytes explicit items is utf8 reads =
+pub states_parts : (p : MapParts) (d : Data) (bytes : List ℕ) → AreNamed p.pg_upmap → AreNamed p.pg_upmap_items → in_its_version p ≡ Some p → d ≡ map_data p → IsUtf8 bytes → (depth d ≤ max_depth → read bytes ≡ Some d) → stated_by stated_map bytes ≡ Ok p
+states_parts p d bytes explicit items version is utf8 reads =
     let shallow : depth d ≤ max_depth = subst (λ v. depth v ≤ max_depth) (sym is) (omega (arith, map_flat p)) in
     ap (λ o. option_map_or (λ v. option_map_or (λ x. Ok x) (stated_map v) (Err BadField)) o (Err BadJson)) (json_of_some bytes d utf8 (reads shallow))
-    ∙ ap (λ o. option_map_or (λ x. Ok x) o (Err BadField)) (ap stated_map is ∙ map_back p explicit items)
-
--- ---- the text by itself, whether or not it was ever written
-
--- what is written of parts within the limits states them, where their groups are read back
-written_states : (m : ClusterMap) → parts_fit (parts_of m) ≡ true → AreNamed (parts_of m).pg_upmap → AreNamed (parts_of m).pg_upmap_items → stated_by stated_map (written m) ≡ Ok (parts_of m)
-unfolding written
-written_states m fits explicit items =
-    let p = parts_of m in
-    let readable = map_readable p fits in
-    states_parts p (map_data p) _ explicit items refl (IsUtf8-compact_text (map_data p) readable) (read-compact_text (map_data p) readable)
-
--- parts with no fault are within the limits, and their exceptions are of groups that are there
-lawful_fits : (p : MapParts) → map_fault p ≡ None → (parts_fit p ≡ true) × (all_exceptions_ok p ≡ true)
-unfolding map_fault
-lawful_fits p h = by_tests (parts_fit p) (forest_ok (buckets_of p) (nat_abs p.max_osd)) (rules_ok p) (pools_ok p) (osds_ok p) (all_exceptions_ok p) h
-  where
-    by_tests : (l f r q o x : Bool)
-        → (if not l then Some BadLimit else if not f then Some BadForest else if not r then Some BadRule else if not q then Some BadPool else if not o then Some BadOsd else if not x then Some BadException else None) ≡ None
-        → (l ≡ true) × (x ≡ true)
-    by_tests false f r q o x h = absurd cc
-    by_tests true false r q o x h = absurd cc
-    by_tests true true false q o x h = absurd cc
-    by_tests true true true false o x h = absurd cc
-    by_tests true true true true false x h = absurd cc
-    by_tests true true true true true false h = absurd cc
-    by_tests true true true true true true h = (refl, refl)
-
--- the groups of parts with no fault are read back
-lawful_named : (p : MapParts) → parts_fit p ≡ true → all_exceptions_ok p ≡ true → AreNamed p.pg_upmap × AreNamed p.pg_upmap_items
-unfolding parts_fit exceptions_fit all_exceptions_ok
-lawful_named p fits ok =
-    let items = and_parts _ (exceptions_fit pair_fits p.pg_upmap_items) fits in
-    let explicit = and_parts _ (exceptions_fit is_osd_id p.pg_upmap) items.0 in
-    let pools = (and_parts _ (list_all pool_fits p.pools) (and_parts _ (list_all osd_fits p.osds) explicit.0).0).1 in
-    let each = and_parts (exceptions_ok target is_set (map pool_of p.pools) (is_listed p.osds) (explicit_of p)) _ ok in (
-      exceptions_named target is_set (is_listed p.osds) nat_abs is_osd_id p.pools pools p.pg_upmap (and_parts _ (list_all (exception_fits is_osd_id) p.pg_upmap) explicit.1).1 (and_parts _ _ each.0).1,
-      exceptions_named sides are_pairs (is_listed p.osds) pair_of pair_fits p.pools pools p.pg_upmap_items (and_parts _ (list_all (exception_fits pair_fits) p.pg_upmap_items) items.1).1 (and_parts _ _ each.1).1,
-    )
-
--- what is written of a map whose own parts state it, without a fault, states that map
-pub written_back : (m : ClusterMap) → map_fault (parts_of m) ≡ None → IsStated (parts_of m) m → (map_text_fault (written m) ≡ None) × StatesMap (written m) m
-written_back m lawful is =
-    let ok = lawful_fits (parts_of m) lawful in
-    let named = lawful_named (parts_of m) ok.0 ok.1 in
-    let states = written_states m ok.0 named.0 named.1 in
-    (ap fault_of_stated states ∙ lawful, subst (λ r. IfOk r (λ parts. IsStated parts m)) (sym states) is)
+    ∙ ap (λ o. option_map_or (λ x. Ok x) o (Err BadField)) (ap stated_map is ∙ map_back p explicit items version)

@@ -7,12 +7,13 @@ use Rattle.stated.specs.declared.change.Reweight.{Reweight}
 use Rattle.stated.specs.declared.parts.PoolPart.{PoolPart}
 use Rattle.refusal.specs.declared.refused.Refusal.{Refusal}
 use Rattle.refusal.specs.declared.refused.Refusal.TheVariants.{BadLimit, BadPool}
+use Rattle.stated.specs.Limits.{max_pool_id, max_entries}
 use Rattle.stated.specs.Ordered.{IsOrdered}
-use Rattle.stated.specs.Parts.{is_between, has_between, is_osd_id, pool_fits, pg_fits, pair_fits, exceptions_fit, pool_of, pg_of, pair_of, exception_of}
+use Rattle.stated.specs.Parts.{has_enough_groups, is_between, has_between, is_osd_id, pool_fits, pg_fits, pair_fits, exceptions_fit, pool_of, pg_of, pair_of, exception_of}
 use Rattle.mapjson.specs.declared.change.RawChange.{RawChange}
 use Rattle.mapjson.specs.declared.change.RawReweight.{RawReweight}
 use Rattle.mapjson.specs.Json.{◌>>=◌, number_of, both_of, has_only, field, optional_list, stated_by, and_then, fault_in}
-use Rattle.mapjson.specs.MapTexts as stated
+use Rattle.mapjson.specs.MapTexts as texts
 
 -- ---- what is stated
 
@@ -30,14 +31,14 @@ unfoldable pub stated_change : Data → Option RawChange
 stated_change d = if has_only change_keys d then (do
   base ← field number_of (codes "base") d
   old_pools ← optional_list number_of (codes "old_pools") d
-  new_pools ← optional_list stated.pool_of (codes "new_pools") d
+  new_pools ← optional_list texts.pool_of (codes "new_pools") d
   down ← optional_list number_of (codes "down") d
   up ← optional_list number_of (codes "up") d
   weight ← optional_list reweight_of (codes "weight") d
-  old_upmap ← optional_list stated.pg_of (codes "old_upmap") d
-  old_items ← optional_list stated.pg_of (codes "old_items") d
-  new_upmap ← optional_list (stated.exception_of number_of) (codes "new_upmap") d
-  new_items ← optional_list (stated.exception_of stated.pair_of) (codes "new_items") d
+  old_upmap ← optional_list texts.pg_of (codes "old_upmap") d
+  old_items ← optional_list texts.pg_of (codes "old_items") d
+  new_upmap ← optional_list (texts.exception_of number_of) (codes "new_upmap") d
+  new_items ← optional_list (texts.exception_of texts.pair_of) (codes "new_items") d
   Some (record {
     base = base;
     old_pools = old_pools;
@@ -55,7 +56,7 @@ stated_change d = if has_only change_keys d then (do
 
 -- a pool's id
 unfoldable pub is_pool_id : ℤ → Bool
-is_pool_id z = is_between (pos 1) (pos 65535) z
+is_pool_id z = is_between (pos 1) (pos max_pool_id) z
 
 -- an OSD's id and a reweight of 32 bits
 unfoldable pub reweight_fits : RawReweight → Bool
@@ -63,7 +64,7 @@ reweight_fits w = is_osd_id w.osd && is_between (pos 0) (pos 4294967295) w.weigh
 
 -- at most 131,072 entries, each within its limits
 abbrev pub entries_fit : {X : Type 0} → (X → Bool) → List X → Bool
-entries_fit fits xs = has_between 0 131072 xs && list_all fits xs
+entries_fit fits xs = has_between 0 max_entries xs && list_all fits xs
 
 -- every number and every length of the change
 unfoldable pub change_fits : RawChange → Bool
@@ -73,10 +74,6 @@ change_fits c =
     && entries_fit is_osd_id c.down && entries_fit is_osd_id c.up && entries_fit reweight_fits c.weight
     && entries_fit pg_fits c.old_upmap && entries_fit pg_fits c.old_items
     && exceptions_fit is_osd_id c.new_upmap && exceptions_fit pair_fits c.new_items
-
--- no more groups for placement than groups
-unfoldable pub has_enough_groups : PoolPart → Bool
-has_enough_groups p = int_le p.pgp_num p.pg_num
 
 -- ---- the change
 

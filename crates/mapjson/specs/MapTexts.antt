@@ -1,20 +1,22 @@
 -- The parts of a map that a JSON text (RFC 8259) states. The form is this program's own.
-use Rattle.std.specs.Prelude.{ℕ, Bool, true, false, List, [], ◌∷◌, codes, Option, Some, None, option_map, Result, Ok, Err, IfOk, if◌then◌else◌}
+use Rattle.std.specs.Prelude.{ℕ, pos, Bool, true, false, not, ◌&&◌, List, [], ◌∷◌, codes, Option, Some, None, option_map, Result, Ok, Err, IfOk, if◌then◌else◌}
+use Rattle.std.specs.List.{list_any}
+use Rattle.std.specs.Ordering.{int_eq}
 use Rattle.std.specs.Str.{bytes_eq}
 use Rattle.serde_json.specs.Data.{Data}
 use Rattle.serde_json.specs.Find.{as_bool, as_str}
 use Rattle.crush.specs.declared.bucket.BucketKind.{BucketKind}
 use Rattle.crush.specs.declared.bucket.BucketKind.TheVariants.{Uniform, List as Listed, Tree}
-use Rattle.crush.specs.declared.rule.Mode.{Mode}
-use Rattle.crush.specs.declared.rule.Mode.TheVariants.{Firstn, Indep}
-use Rattle.crush.specs.declared.rule.RuleKind.{RuleKind}
-use Rattle.crush.specs.declared.rule.RuleKind.TheVariants.{Replicated, Erasure}
+use Rattle.crush.specs.declared.step.Mode.{Mode}
+use Rattle.crush.specs.declared.step.Mode.TheVariants.{Firstn, Indep}
+use Rattle.crush.specs.declared.step.RuleKind.{RuleKind}
+use Rattle.crush.specs.declared.step.RuleKind.TheVariants.{Replicated, Erasure}
 use Rattle.stated.specs.declared.parts.MapParts.{MapParts}
 use Rattle.stated.specs.declared.parts.BucketPart.{BucketPart}
 use Rattle.stated.specs.declared.parts.ItemPart.{ItemPart}
 use Rattle.stated.specs.declared.parts.RulePart.{RulePart}
 use Rattle.stated.specs.declared.parts.StepPart.{StepPart}
-use Rattle.stated.specs.declared.parts.StepPart.TheVariants.{Take, Choose, Emit}
+use Rattle.stated.specs.declared.parts.StepPart.TheVariants.{SetChooseTries, SetChooseleafTries, Take, Choose, Emit}
 use Rattle.stated.specs.declared.parts.PoolPart.{PoolPart}
 use Rattle.stated.specs.declared.parts.OsdPart.{OsdPart}
 use Rattle.stated.specs.declared.parts.ExceptionPart.{ExceptionPart}
@@ -81,6 +83,17 @@ choose_of mode to_leaf d = if has_count 3 d then (do
   level ← place number_of 2 d
   Some (Choose (record { mode = mode; to_leaf = to_leaf; count = count; level = level }))) else None
 
+-- ["set_choose_tries", n] and ["set_chooseleaf_tries", n]
+unfoldable pub tries_of : Data → Option StepPart
+tries_of d = if has_count 2 d then (do
+  tries ← place number_of 1 d
+  Some (SetChooseTries tries)) else None
+
+unfoldable pub leaf_tries_of : Data → Option StepPart
+leaf_tries_of d = if has_count 2 d then (do
+  tries ← place number_of 1 d
+  Some (SetChooseleafTries tries)) else None
+
 -- a step, by its word
 unfoldable pub step_by : List ℕ → Data → Option StepPart
 step_by word d =
@@ -90,6 +103,8 @@ step_by word d =
     else if bytes_eq word (codes "chooseleaf_firstn") then choose_of Firstn true d
     else if bytes_eq word (codes "chooseleaf_indep") then choose_of Indep true d
     else if bytes_eq word (codes "emit") then emit_of d
+    else if bytes_eq word (codes "set_choose_tries") then tries_of d
+    else if bytes_eq word (codes "set_chooseleaf_tries") then leaf_tries_of d
     else None
 
 -- a step, whose word stands first
@@ -150,9 +165,17 @@ map_keys =
     codes "buckets" ∷ codes "epoch" ∷ codes "max_osd" ∷ codes "osds" ∷ codes "pg_upmap" ∷ codes "pg_upmap_items"
     ∷ codes "pools" ∷ codes "rules" ∷ codes "version" ∷ []
 
+-- whether a step sets tries
+abbrev pub sets_tries : StepPart → Bool
+sets_tries (SetChooseTries _) = true
+sets_tries (SetChooseleafTries _) = true
+sets_tries (Take _) = false
+sets_tries (Choose _) = false
+sets_tries Emit = false
+
 -- the parts of a map: all are required but the exceptions, which may be missing
-unfoldable pub stated_map : Data → Option MapParts
-stated_map d = if has_only map_keys d then (do
+unfoldable pub map_of : Data → Option MapParts
+map_of d = if has_only map_keys d then (do
   version ← field number_of (codes "version") d
   epoch ← field number_of (codes "epoch") d
   max_osd ← field number_of (codes "max_osd") d
@@ -173,6 +196,14 @@ stated_map d = if has_only map_keys d then (do
     pg_upmap = pg_upmap;
     pg_upmap_items = pg_upmap_items;
   })) else None
+
+-- rules set tries in maps of version 2 alone
+abbrev pub in_its_version : MapParts → Option MapParts
+in_its_version p = if not (int_eq p.version (pos 2)) && list_any (λ r. list_any sets_tries r.steps) p.rules then None else Some p
+
+-- the parts of a map of its version
+unfoldable pub stated_map : Data → Option MapParts
+stated_map d = map_of d >>= in_its_version
 
 -- a text that states no map, or a map with a fault
 abbrev pub fault_of_stated : Result MapParts Refusal → Option Refusal

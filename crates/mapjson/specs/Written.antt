@@ -7,16 +7,16 @@ use Rattle.serde_json.specs.View.{items_of}
 use Rattle.serde_json.specs.Written.{compact_text}
 use Rattle.crush.specs.declared.bucket.BucketKind.{BucketKind}
 use Rattle.crush.specs.declared.bucket.BucketKind.TheVariants.{Uniform, List as Listed, Tree}
-use Rattle.crush.specs.declared.rule.Mode.{Mode}
-use Rattle.crush.specs.declared.rule.Mode.TheVariants.{Firstn, Indep}
-use Rattle.crush.specs.declared.rule.RuleKind.{RuleKind}
-use Rattle.crush.specs.declared.rule.RuleKind.TheVariants.{Replicated, Erasure}
+use Rattle.crush.specs.declared.step.Mode.{Mode}
+use Rattle.crush.specs.declared.step.Mode.TheVariants.{Firstn, Indep}
+use Rattle.crush.specs.declared.step.RuleKind.{RuleKind}
+use Rattle.crush.specs.declared.step.RuleKind.TheVariants.{Replicated, Erasure}
 use Rattle.stated.specs.declared.parts.MapParts.{MapParts}
 use Rattle.stated.specs.declared.parts.BucketPart.{BucketPart}
 use Rattle.stated.specs.declared.parts.ItemPart.{ItemPart}
 use Rattle.stated.specs.declared.parts.RulePart.{RulePart}
 use Rattle.stated.specs.declared.parts.StepPart.{StepPart}
-use Rattle.stated.specs.declared.parts.StepPart.TheVariants.{Take, Choose, Emit}
+use Rattle.stated.specs.declared.parts.StepPart.TheVariants.{SetChooseTries, SetChooseleafTries, Take, Choose, Emit}
 use Rattle.stated.specs.declared.parts.PoolPart.{PoolPart}
 use Rattle.stated.specs.declared.parts.OsdPart.{OsdPart}
 use Rattle.stated.specs.declared.parts.ExceptionPart.{ExceptionPart}
@@ -25,9 +25,7 @@ use Rattle.stated.specs.Parts.{pg_of}
 use Rattle.stated.specs.declared.pg_text.PgParts.{PgParts}
 use Rattle.stated.specs.PgText.{parts_in, group_text}
 use Rattle.osdmap.specs.Maps.{ClusterMap}
-use Rattle.osdmap.specs.Laws.{IsTextEpoch}
 use Rattle.osdmap.specs.PartsOf.{parts_of}
-use Rattle.mapjson.specs.MapTexts.{map_text_fault, StatesMap}
 
 -- ---- values
 
@@ -87,6 +85,8 @@ choose_word Indep true = codes "chooseleaf_indep"
 
 -- a step: ["take", bucket], [word, count, type] or ["emit"]
 unfoldable pub step_data : StepPart → Data
+step_data (SetChooseTries tries) = list_of (string (codes "set_choose_tries") ∷ number_data tries ∷ [])
+step_data (SetChooseleafTries tries) = list_of (string (codes "set_chooseleaf_tries") ∷ number_data tries ∷ [])
 step_data (Take id) = list_of (string (codes "take") ∷ number_data id ∷ [])
 step_data (Choose c) = list_of (string (choose_word c.mode c.to_leaf) ∷ number_data c.count ∷ number_data c.level ∷ [])
 step_data Emit = list_of (string (codes "emit") ∷ [])
@@ -154,7 +154,3 @@ map_data p = object_of (
 -- the text of a map: its buckets by id downwards, its rules, pools and OSDs by id upwards, and its exceptions by group upwards
 unfoldable pub written : ClusterMap → List ℕ
 written m = compact_text (map_data (parts_of m))
-
--- the text of a map whose epoch a text may have is read back as that map
-abbrev pub IsReadBack : ClusterMap → Type 0
-IsReadBack m = IsTextEpoch m.epoch → (map_text_fault (written m) ≡ None) × StatesMap (written m) m

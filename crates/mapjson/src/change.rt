@@ -1,3 +1,5 @@
+//! Changes as JSON texts state them.
+
 ghost use Rattle.std.specs.Prelude.{◌≡◌};
 ghost use Rattle.serde_json.specs.View.{view};
 ghost use Rattle.mapjson.specs.Json.{Answers};
@@ -7,11 +9,12 @@ mod limits;
 mod within;
 
 use crate::fault::Fault;
-use crate::stated::{FromJson, field, has_only, optional_list, stated_by};
-use crush::Entries;
+use crate::values::{FromJson, field, has_only, optional_list, stated_by};
+use keylist::Entries;
 use limits::change_fits;
-use osdmap::{ChangeParts, ExceptionPart, PairPart, PgParts, PoolPart, Refusal};
+use refusal::Refusal;
 use serde_json::Value;
+use stated::{ChangeParts, ExceptionPart, PairPart, PgParts, PoolPart};
 use std::alloc::Global;
 use within::{base_within, parts_within};
 

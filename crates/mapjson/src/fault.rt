@@ -1,4 +1,6 @@
-use osdmap::Refusal;
+//! Why a value is not read.
+
+use refusal::Refusal;
 use std::alloc::AllocFailed;
 
 /// Why a value is not read.

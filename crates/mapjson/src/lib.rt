@@ -8,19 +8,19 @@ ghost use Rattle.osdmap.specs.PartsOf.{parts_of};
 ghost use Rattle.mapjson.specs.Json.{stated_by};
 ghost use Rattle.mapjson.specs.MapTexts.{stated_map, map_text_fault, StatesMap};
 ghost use Rattle.mapjson.specs.ChangeTexts.{change_text_fault, StatesChange};
-ghost use Rattle.mapjson.specs.Written.{written, IsReadBack};
+ghost use Rattle.mapjson.specs.Written.{written};
 
 mod change;
 mod fault;
 mod map;
-mod stated;
+mod values;
 mod written;
 
 use crate::change::change_of;
-use crate::stated::stated_by;
+use crate::values::stated_by;
 use crate::written::ToJson;
-use crush::Memory;
-use osdmap::{Change, MapParts, OsdMap, Refusal};
+use osdmap::{Change, MapParts, OsdMap};
+use refusal::{Memory, Refusal};
 use std::alloc::Global;
 
 /// The map that a text states: `BadJson` (10) where the text is not UTF-8, is no JSON or nests deeper than 127;
@@ -57,11 +57,4 @@ pub fn write_map(alloc: Global, map: &OsdMap) -> Result<Vec<u8>, Memory>
 {
     let value = map.to_json(alloc)?;
     Ok(value.to_vec(alloc)?)
-}
-
-/// A law: the text of a map of an epoch of 1 to 2,147,483,648 is read back as that map.
-pub fn written_map_is_read_back(map: &OsdMap)
-    ensures { IsReadBack map.now }
-{
-    map.states_itself();
 }

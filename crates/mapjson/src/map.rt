@@ -1,16 +1,19 @@
+//! Maps as JSON texts state them.
+
 ghost use Rattle.std.specs.Prelude.{◌≡◌};
+ghost use Rattle.std.specs.List.{list_any};
 ghost use Rattle.serde_json.specs.View.{view};
 ghost use Rattle.mapjson.specs.Json.{Reads};
-ghost use Rattle.mapjson.specs.MapTexts.{bucket_kind_of, item_of, bucket_of, rule_kind_of, emit_of, take_of, choose_of, step_by, step_of, rule_of, pool_of, osd_of, pg_of, exception_of, pair_of, stated_map};
+ghost use Rattle.mapjson.specs.MapTexts.{bucket_kind_of, item_of, bucket_of, rule_kind_of, emit_of, take_of, choose_of, step_by, step_of, rule_of, pool_of, osd_of, pg_of, exception_of, pair_of, tries_of, leaf_tries_of, sets_tries, map_of, stated_map};
 
 use crate::fault::Fault;
-use crate::stated::{FromJson, field, has_count, has_only, optional_list, place, text};
+use crate::values::{FromJson, field, has_count, has_only, optional_list, place, text};
 use crush::{BucketKind, Mode, RuleKind};
-use osdmap::{
+use serde_json::Value;
+use stated::{
     BucketPart, ChoosePart, ExceptionPart, ItemPart, MapParts, OsdPart, PairPart, PgParts,
     PoolPart, RulePart, StepPart,
 };
-use serde_json::Value;
 use std::alloc::Global;
 
 impl FromJson for BucketKind {
@@ -80,6 +83,30 @@ fn emit_step(value: &Value) -> Result<StepPart, Fault>
     Ok(StepPart::Emit)
 }
 
+/// `[word, tries]`: how often later choose steps try.
+#[tactic(auto, unfolding(crate::specs::MapTexts::tries_of))]
+fn tries_step(alloc: Global, value: &Value) -> Result<StepPart, Fault>
+    ensures { Reads result (tries_of (view value.now)) }
+{
+    if !has_count(value, 2) {
+        return Err(Fault::Field);
+    }
+    let tries = place(alloc, value, 1)?;
+    Ok(StepPart::SetChooseTries(tries))
+}
+
+/// `[word, tries]`: how often later choose steps try for a leaf.
+#[tactic(auto, unfolding(crate::specs::MapTexts::leaf_tries_of))]
+fn leaf_tries_step(alloc: Global, value: &Value) -> Result<StepPart, Fault>
+    ensures { Reads result (leaf_tries_of (view value.now)) }
+{
+    if !has_count(value, 2) {
+        return Err(Fault::Field);
+    }
+    let tries = place(alloc, value, 1)?;
+    Ok(StepPart::SetChooseleafTries(tries))
+}
+
 /// `["take", bucket]`.
 #[tactic(auto, unfolding(crate::specs::MapTexts::take_of))]
 fn take_step(alloc: Global, value: &Value) -> Result<StepPart, Fault>
@@ -122,6 +149,8 @@ fn step_by(alloc: Global, word: &str, value: &Value) -> Result<StepPart, Fault>
         "chooseleaf_firstn" => choose_step(alloc, value, Mode::Firstn, true),
         "chooseleaf_indep" => choose_step(alloc, value, Mode::Indep, true),
         "emit" => emit_step(value),
+        "set_choose_tries" => tries_step(alloc, value),
+        "set_chooseleaf_tries" => leaf_tries_step(alloc, value),
         _ => Err(Fault::Field),
     }
 }
@@ -240,33 +269,69 @@ const MAP_KEYS: [&str; 9] = [
     "version",
 ];
 
+/// The parts of a map, whatever its version.
+#[tactic(auto, unfolding(crate::specs::MapTexts::map_of))]
+fn map_of(alloc: Global, value: &Value) -> Result<MapParts, Fault>
+    ensures { Reads result (map_of (view value.now)) }
+{
+    if !has_only(value, &MAP_KEYS) {
+        return Err(Fault::Field);
+    }
+    let version = field(alloc, value, "version")?;
+    let epoch = field(alloc, value, "epoch")?;
+    let max_osd = field(alloc, value, "max_osd")?;
+    let buckets = field(alloc, value, "buckets")?;
+    let rules = field(alloc, value, "rules")?;
+    let pools = field(alloc, value, "pools")?;
+    let osds = field(alloc, value, "osds")?;
+    let pg_upmap = optional_list(alloc, value, "pg_upmap")?;
+    let pg_upmap_items = optional_list(alloc, value, "pg_upmap_items")?;
+    Ok(MapParts {
+        version,
+        epoch,
+        max_osd,
+        buckets,
+        rules,
+        pools,
+        osds,
+        pg_upmap,
+        pg_upmap_items,
+    })
+}
+
+/// Whether a step sets tries.
+fn sets_tries(step: &StepPart) -> bool
+    ensures { result ≡ sets_tries step.now }
+{
+    match step {
+        StepPart::SetChooseTries(_) | StepPart::SetChooseleafTries(_) => true,
+        StepPart::Take(_) | StepPart::Choose(_) | StepPart::Emit => false,
+    }
+}
+
+/// Whether a rule sets tries.
+fn rule_sets_tries(rule: &RulePart) -> bool
+    ensures { result ≡ list_any sets_tries rule.now.steps }
+{
+    rule.steps.iter().any(|step| sets_tries(step))
+}
+
+/// Whether one of some rules sets tries.
+fn set_tries(rules: &[RulePart]) -> bool
+    ensures { result ≡ list_any (λ r. list_any sets_tries r.steps) rules.now }
+{
+    rules.iter().any(|rule| rule_sets_tries(rule))
+}
+
 impl FromJson for MapParts {
     ghost stated = { stated_map };
 
     #[tactic(auto, unfolding(crate::specs::MapTexts::stated_map))]
     fn from_json(alloc: Global, value: &Value) -> Result<MapParts, Fault> {
-        if !has_only(value, &MAP_KEYS) {
+        let parts = map_of(alloc, value)?;
+        if parts.version != 2 && set_tries(&parts.rules) {
             return Err(Fault::Field);
         }
-        let version = field(alloc, value, "version")?;
-        let epoch = field(alloc, value, "epoch")?;
-        let max_osd = field(alloc, value, "max_osd")?;
-        let buckets = field(alloc, value, "buckets")?;
-        let rules = field(alloc, value, "rules")?;
-        let pools = field(alloc, value, "pools")?;
-        let osds = field(alloc, value, "osds")?;
-        let pg_upmap = optional_list(alloc, value, "pg_upmap")?;
-        let pg_upmap_items = optional_list(alloc, value, "pg_upmap_items")?;
-        Ok(MapParts {
-            version,
-            epoch,
-            max_osd,
-            buckets,
-            rules,
-            pools,
-            osds,
-            pg_upmap,
-            pg_upmap_items,
-        })
+        Ok(parts)
     }
 }

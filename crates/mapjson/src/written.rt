@@ -1,5 +1,8 @@
+//! What is written of a map, as JSON values.
+
 ghost use Rattle.std.specs.Prelude.{◌≡◌, ◌++◌, IfOk, map, option_map, filter_map, ℤ, pos, ⊤};
-ghost use Rattle.std.specs.List.{range_with_len, All};
+ghost use Rattle.std.specs.List.{range_with_len, list_any, All};
+ghost use Rattle.crush.specs.Grammar.{sets_tries};
 ghost use Rattle.serde_json.specs.Data.{Data};
 ghost use Rattle.serde_json.specs.View.{view};
 ghost use Rattle.stated.specs.declared.parts.MapParts.{MapParts};
@@ -10,13 +13,14 @@ ghost use Rattle.stated.specs.declared.parts.StepPart.{StepPart};
 ghost use Rattle.stated.specs.declared.parts.PoolPart.{PoolPart};
 ghost use Rattle.stated.specs.declared.parts.ExceptionPart.{ExceptionPart};
 ghost use Rattle.stated.specs.declared.parts.PairPart.{PairPart};
-ghost use Rattle.osdmap.specs.PartsOf.{item_part, bucket_part, step_part, rule_part, pool_part, osd_part, part_listed, osd_parts, pg_part, pair_part, exception_part, parts_of};
+ghost use Rattle.osdmap.specs.PartsOf.{item_part, bucket_part, step_part, rule_part, pool_part, osd_part, part_listed, osd_parts, pg_part, pair_part, exception_part, version_of, parts_of};
 ghost use Rattle.mapjson.specs.Written.{list_data, kind_word, item_data, bucket_data, use_word, choose_word, step_data, rule_data, pool_data, osd_data, number_data, IsNamed, AreNamed, pair_data, exception_data, map_data};
 
 use crush::{Bucket, BucketKind, Item, Mode, RuleKind, Step};
-use osdmap::pg_text::group_text_is_read_back;
 use osdmap::{Exception, NumberedRule, OsdMap, Pair, Pool};
 use serde_json::{Value, json};
+use stated::Blank;
+use stated::pg_text::group_text_is_read_back;
 use std::alloc::{AllocError, Global};
 
 /// What is written as a JSON value: that of the part of a map which states it.
@@ -109,7 +113,7 @@ impl ToJson for Bucket {
 
     #[tactic(auto, unfolding(crate::specs::Written::bucket_data))]
     fn to_json(&self, alloc: Global) -> Result<Value, AllocError> {
-        let items = list(alloc, self.items.as_slice())?;
+        let items = list(alloc, &self.items)?;
         json!(in alloc; {"id": self.id, "items": items, "kind": kind_word(self.kind), "type": self.level})
     }
 }
@@ -124,6 +128,8 @@ impl ToJson for Step {
     #[tactic(auto, unfolding(crate::specs::Written::step_data))]
     fn to_json(&self, alloc: Global) -> Result<Value, AllocError> {
         match self {
+            Step::SetChooseTries(tries) => json!(in alloc; ["set_choose_tries", *tries]),
+            Step::SetChooseleafTries(tries) => json!(in alloc; ["set_chooseleaf_tries", *tries]),
             Step::Take(id) => json!(in alloc; ["take", *id]),
             Step::Choose(c) => json!(in alloc; [choose_word(c.mode, c.to_leaf), c.count, c.level]),
             Step::Emit => json!(in alloc; ["emit"]),
@@ -222,7 +228,7 @@ impl ToJson for Pair {
     }
 }
 
-impl<E: ToJson + Copy> ToJson for Exception<E> {
+impl<E: ToJson + Blank> ToJson for Exception<E> {
     ghost Part = { ExceptionPart E.Part };
 
     ghost part = { exception_part E.part };
@@ -235,9 +241,40 @@ impl<E: ToJson + Copy> ToJson for Exception<E> {
     fn to_json(&self, alloc: Global) -> Result<Value, AllocError> {
         group_text_is_read_back(self.pg.pool, self.pg.number);
         let pg = format!(in alloc; "{}", self.pg)?;
-        let entries = list(alloc, self.entries.as_slice())?;
+        let entries = list(alloc, &self.entries)?;
         json!(in alloc; [pg, entries])
     }
+}
+
+/// Whether a step sets tries.
+fn sets_tries(step: &Step) -> bool
+    ensures { result ≡ sets_tries step.now }
+{
+    match step {
+        Step::SetChooseTries(_) | Step::SetChooseleafTries(_) => true,
+        Step::Take(_) | Step::Choose(_) | Step::Emit => false,
+    }
+}
+
+/// Whether a rule sets tries.
+fn rule_sets_tries(rule: &NumberedRule) -> bool
+    ensures { result ≡ list_any sets_tries rule.now.rule.steps }
+{
+    rule.rule.steps().iter().any(|step| sets_tries(step))
+}
+
+/// Whether one of some rules sets tries.
+fn set_tries(rules: &[NumberedRule]) -> bool
+    ensures { result ≡ list_any (λ r. list_any sets_tries r.rule.steps) rules.now }
+{
+    rules.iter().any(|rule| rule_sets_tries(rule))
+}
+
+/// The version of the form in which rules are written: 2 where one of them sets tries, else 1.
+fn version(rules: &[NumberedRule]) -> u32
+    ensures { pos result ≡ version_of rules.now }
+{
+    if set_tries(rules) { 2 } else { 1 }
 }
 
 impl ToJson for OsdMap {
@@ -266,7 +303,7 @@ impl ToJson for OsdMap {
             "pg_upmap_items": pg_upmap_items,
             "pools": pools,
             "rules": rules,
-            "version": 1u32,
+            "version": version(self.rules()),
         })
     }
 }

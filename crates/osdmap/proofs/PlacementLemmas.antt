@@ -4,11 +4,10 @@ use mathlib.Core.Bool.{false≢true}
 use Rattle.std.specs.List.{find, list_all, fold}
 use Rattle.std.specs.Option.{option_map_or}
 use Rattle.std.proofs.lemmas.Grind.{common_steps}
-use Rattle.crush.specs.declared.rule.Step.{Step}
-use Rattle.crush.specs.declared.rule.Step.TheVariants.{Take, Choose as Chooses, Emit}
+use Rattle.crush.specs.declared.step.Step.{Step}
+use Rattle.crush.specs.declared.step.Step.TheVariants.{SetChooseTries, SetChooseleafTries, Take, Choose as Chooses, Emit}
 use Rattle.crush.specs.World.{World}
-use Rattle.crush.specs.Run.{Progress, after_step, progress_of, run_of, all_tries}
-use Rattle.crush.specs.declared.choose.Tries.{Tries}
+use Rattle.crush.specs.Run.{Progress, no_progress, after_step, run_of}
 use Rattle.stated.specs.declared.rules.NumberedRule.{NumberedRule}
 use Rattle.stated.specs.Pools.{PoolFacts}
 use Rattle.stated.specs.CrushMaps.{rule_at}
@@ -27,19 +26,21 @@ rule_there rules p has = elim (rule_at rules p.rule) as (λ r. option_map_or (λ
 ] has
 
 -- a rule's result is no longer than the pool's size
-short_step : (w : World) (tries : Tries) (size : ℕ) (s : Progress) (step : Step) → length s.emitted ≤ size → length (after_step w tries size s step).emitted ≤ size
+short_step : (w : World) (size : ℕ) (s : Progress) (step : Step) → length s.emitted ≤ size → length (after_step w size s step).emitted ≤ size
 unfolding after_step
-short_step w tries size s (Take id) short = short
-short_step w tries size s (Chooses c) short = short
-short_step w tries size s Emit short = simp length-take (omega arith)
+short_step w size s (SetChooseTries n) short = short
+short_step w size s (SetChooseleafTries n) short = short
+short_step w size s (Take id) short = short
+short_step w size s (Chooses c) short = short
+short_step w size s Emit short = simp length-take (omega arith)
 
-short_steps : (w : World) (tries : Tries) (size : ℕ) (s : Progress) (steps : List Step) → length s.emitted ≤ size → length (fold (after_step w tries size) s steps).emitted ≤ size
-short_steps w tries size s [] short = short
-short_steps w tries size s (step ∷ steps) short = short_steps w tries size (after_step w tries size s step) steps (short_step w tries size s step short)
+short_steps : (w : World) (size : ℕ) (s : Progress) (steps : List Step) → length s.emitted ≤ size → length (fold (after_step w size) s steps).emitted ≤ size
+short_steps w size s [] short = short
+short_steps w size s (step ∷ steps) short = short_steps w size (after_step w size s step) steps (short_step w size s step short)
 
 pub short_run : (w : World) (steps : List Step) (size : ℕ) → length (run_of w steps size) ≤ size
 unfolding run_of
-short_run w steps size = short_steps w all_tries size (progress_of [] []) steps (omega arith)
+short_run w steps size = short_steps w size no_progress steps (omega arith)
 
 -- so it is no longer than what the size is at most
 pub short_within : (w : World) (steps : List Step) (size most : ℕ) → size ≤ most → length (run_of w steps size) ≤ most

@@ -3,8 +3,8 @@ use Rattle.std.specs.Prelude.{◌≡◌, length, ℕ, ◌==◌, nat_le, Bool, tr
 use Rattle.std.specs.List.{find, list_all, All}
 use Rattle.std.specs.Option.{option_map, option_map_or}
 use Rattle.crush.specs.declared.bucket.Bucket.{Bucket}
-use Rattle.crush.specs.declared.rule.RuleKind.{RuleKind}
-use Rattle.crush.specs.declared.rule.RuleKind.TheVariants.{Replicated, Erasure}
+use Rattle.crush.specs.declared.step.RuleKind.{RuleKind}
+use Rattle.crush.specs.declared.step.RuleKind.TheVariants.{Replicated, Erasure}
 use Rattle.crush.specs.WellFormed.{forest_ok, IsForest}
 use Rattle.stated.specs.declared.osd.Presence.{Presence}
 use Rattle.stated.specs.declared.osd.OsdState.{OsdState}

@@ -1,17 +1,18 @@
 -- The parts that state a map.
-use Rattle.std.specs.Prelude.{ℕ, ◌==◌, Bool, not, ◌||◌, pos, List, length, map, filter_map, Option, Some, None, option_and_then, if◌then◌else◌}
-use Rattle.std.specs.List.{range_with_len}
+use Rattle.std.specs.Prelude.{ℕ, ◌==◌, Bool, not, ◌||◌, ℤ, pos, List, length, map, filter_map, Option, Some, None, option_and_then, if◌then◌else◌}
+use Rattle.std.specs.List.{range_with_len, list_any}
 use Rattle.crush.specs.declared.bucket.Item.{Item}
 use Rattle.crush.specs.declared.bucket.Bucket.{Bucket}
-use Rattle.crush.specs.declared.rule.Step.{Step}
-use Rattle.crush.specs.declared.rule.Step.TheVariants.{Take as TakeBucket, Choose as ChooseBy, Emit as EmitAll}
+use Rattle.crush.specs.declared.step.Step.{Step}
+use Rattle.crush.specs.declared.step.Step.TheVariants.{SetChooseTries as TryFor, SetChooseleafTries as TryForLeaves, Take as TakeBucket, Choose as ChooseBy, Emit as EmitAll}
+use Rattle.crush.specs.Grammar.{sets_tries}
 use Rattle.stated.specs.declared.osd.OsdState.{OsdState}
 use Rattle.stated.specs.declared.parts.MapParts.{MapParts}
 use Rattle.stated.specs.declared.parts.BucketPart.{BucketPart}
 use Rattle.stated.specs.declared.parts.ItemPart.{ItemPart}
 use Rattle.stated.specs.declared.parts.RulePart.{RulePart}
 use Rattle.stated.specs.declared.parts.StepPart.{StepPart}
-use Rattle.stated.specs.declared.parts.StepPart.TheVariants.{Take, Choose as Chooses, Emit}
+use Rattle.stated.specs.declared.parts.StepPart.TheVariants.{SetChooseTries, SetChooseleafTries, Take, Choose as Chooses, Emit}
 use Rattle.stated.specs.declared.parts.PoolPart.{PoolPart}
 use Rattle.stated.specs.declared.parts.OsdPart.{OsdPart}
 use Rattle.stated.specs.declared.parts.ExceptionPart.{ExceptionPart}
@@ -31,6 +32,8 @@ abbrev pub bucket_part : Bucket → BucketPart
 bucket_part b = record { id = b.id; level = pos b.level; kind = b.kind; items = map item_part b.items }
 
 abbrev pub step_part : Step → StepPart
+step_part (TryFor n) = SetChooseTries (pos n)
+step_part (TryForLeaves n) = SetChooseleafTries (pos n)
 step_part (TakeBucket id) = Take id
 step_part (ChooseBy c) = Chooses (record { mode = c.mode; to_leaf = c.to_leaf; count = pos c.count; level = pos c.level })
 step_part EmitAll = Emit
@@ -74,10 +77,14 @@ pair_part p = record { from = pos p.from; to = pos p.to }
 abbrev pub exception_part : {E P : Type 0} → (E → P) → Exception E → ExceptionPart P
 exception_part entry_part e = record { pg = pg_part e.pg; entries = map entry_part e.entries }
 
+-- a map is written in version 2 where a rule of it sets tries, else in version 1
+abbrev pub version_of : List NumberedRule → ℤ
+version_of rules = if list_any (λ r. list_any sets_tries r.rule.steps) rules then pos 2 else pos 1
+
 -- each list in the map's order
 unfoldable pub parts_of : ClusterMap → MapParts
 parts_of m = record {
-  version = pos 1;
+  version = version_of m.rules;
   epoch = pos m.epoch;
   max_osd = pos (length m.presences);
   buckets = map bucket_part m.buckets;

@@ -3,7 +3,7 @@ use Rattle.std.specs.Prelude.{◌≡◌, ℕ, ◌+◌, ◌-◌, ◌/◌, ◌^◌
 use Rattle.std.specs.List.{find}
 use Rattle.std.specs.Option.{option_map_or}
 use Rattle.rjenkins.specs.Jenkins.{hash2_of}
-use Rattle.crush.specs.declared.rule.Step.{Step}
+use Rattle.crush.specs.declared.step.Step.{Step}
 use Rattle.crush.specs.World.{world_of}
 use Rattle.crush.specs.Run.{Ran, run_of}
 use Rattle.stated.specs.declared.pg.Pg.{Pg}

@@ -10,8 +10,8 @@ use Rattle.crush.specs.declared.bucket.Item.{Item}
 use Rattle.crush.specs.declared.bucket.Bucket.{Bucket}
 use Rattle.crush.specs.declared.bucket.BucketKind.{BucketKind}
 use Rattle.crush.specs.declared.bucket.BucketKind.TheVariants.{Uniform, List as InList, Tree}
-use Rattle.crush.specs.declared.rule.Step.{Step}
-use Rattle.crush.specs.declared.rule.Step.TheVariants as step
+use Rattle.crush.specs.declared.step.Step.{Step}
+use Rattle.crush.specs.declared.step.Step.TheVariants as step
 use Rattle.crush.specs.Forest.{weight_of}
 use Rattle.crush.specs.WellFormed.{is_within, is_bucket_id as may_be_bucket, item_limits_ok, bucket_limits_ok, is_even, weights_ok}
 use Rattle.crush.specs.Grammar.{step_limits_ok}
@@ -88,6 +88,8 @@ buckets_fine (b ∷ bs) limits weights =
 
 step_fine : (s : Step) → step_limits_ok s ≡ true → step_fits (step_part s) ≡ true
 unfolding step_fits
+step_fine (step.SetChooseTries n) h = natural_fits 1 200 n (grind (arith, nat_tests, h)) (grind (arith, nat_tests, h))
+step_fine (step.SetChooseleafTries n) h = natural_fits 1 200 n (grind (arith, nat_tests, h)) (grind (arith, nat_tests, h))
 step_fine (step.Take id) h = bucket_id_fits id h
 step_fine (step.Choose c) h =
     let count = natural_fits 0 10 c.count (omega arith) (grind (arith, nat_tests, h)) in

@@ -1,18 +1,18 @@
 -- The parts of a map in which all holds state that map, and nothing is wrong with them.
-use Rattle.std.proofs.Common.{◌≡◌, ◌∙◌, ℕ, suc, ◌≤◌, ◌==◌, pos, nat_abs, Bool, true, ◌&&◌, nat_lt, List, [], ◌∷◌, map, length, Option, Some, None, refl, sym, ap, arith}
+use Rattle.std.proofs.Common.{◌≡◌, ◌∙◌, ℕ, suc, ◌≤◌, ◌==◌, pos, nat_abs, Bool, true, false, cond, ◌&&◌, nat_lt, List, [], ◌∷◌, map, length, Option, Some, None, refl, sym, ap, arith}
 use mathlib.Core.Bool.{false≢true}
 use Rattle.std.specs.Prelude.{nat_le, int_le}
-use Rattle.std.specs.List.{list_all, All}
+use Rattle.std.specs.List.{list_all, list_any, All}
 use Rattle.std.proofs.lemmas.Bool.Decides.{nat_tests}
 use Rattle.std.proofs.lemmas.List.Folds.{list_all-map}
 use Rattle.std.proofs.lemmas.List.Sorted.{IsPermutation-refl}
 use Rattle.std.proofs.lemmas.List.Sums.{AllPass-from_list_all}
 use Rattle.crush.specs.declared.bucket.Bucket.{Bucket}
 use Rattle.crush.specs.declared.bucket.Item.{Item}
-use Rattle.crush.specs.declared.rule.Step.{Step as RuleStep}
-use Rattle.crush.specs.declared.rule.Step.TheVariants as step
+use Rattle.crush.specs.declared.step.Step.{Step as RuleStep}
+use Rattle.crush.specs.declared.step.Step.TheVariants as step
 use Rattle.crush.specs.WellFormed.{forest_ok}
-use Rattle.crush.specs.Grammar.{rule_ok}
+use Rattle.crush.specs.Grammar.{sets_tries, rule_ok}
 use Rattle.keylist.proofs.Counts.{find-place}
 use Rattle.stated.specs.declared.exception.Exception.{Exception}
 use Rattle.stated.specs.declared.exception.Pair.{Pair}
@@ -24,8 +24,8 @@ use Rattle.keylist.specs.Keys.{is_distinct, entry_at}
 use Rattle.keylist.specs.Order.{IsRising}
 use Rattle.stated.specs.CrushMaps.{is_rule_over}
 use Rattle.osdmap.specs.Maps.{ClusterMap, osd_exists, has_rule, HoldsTogether}
-use Rattle.stated.specs.Parts.{pg_fits, is_osd_id, pair_fits, exception_fits, exceptions_fit, head_fits, lists_fit, parts_fit, item_of, bucket_of, step_of, pool_of, pair_of, exception_of}
-use Rattle.osdmap.specs.PartsOf.{item_part, bucket_part, step_part, rule_part, pool_part, pair_part, exception_part, parts_of}
+use Rattle.stated.specs.Parts.{is_between, pg_fits, is_osd_id, pair_fits, exception_fits, exceptions_fit, head_fits, lists_fit, parts_fit, item_of, bucket_of, step_of, pool_of, pair_of, exception_of}
+use Rattle.osdmap.specs.PartsOf.{item_part, bucket_part, step_part, rule_part, pool_part, pair_part, exception_part, version_of, parts_of}
 use Rattle.stated.specs.Incrementals.{Step}
 use Rattle.osdmap.specs.Changes.{change_fault, apply}
 use Rattle.osdmap_laws.specs.Laws.{IsTextEpoch, StatesItself}
@@ -48,6 +48,14 @@ map_own : {X Y : Type 0} (f : Y → X) (g : X → Y) → ((x : X) → f (g x) �
 map_own f g own [] = refl
 map_own f g own (x ∷ xs) = rw (own x, map_own f g own xs) refl
 
+-- the version of a map's own parts is one that a map may have
+version_fine : (rules : List NumberedRule) → is_between (pos 1) (pos 2) (version_of rules) ≡ true
+version_fine rules = by_tries (list_any (λ r. list_any sets_tries r.rule.steps) rules)
+  where
+    by_tries : (set : Bool) → is_between (pos 1) (pos 2) (cond set (pos 2) (pos 1)) ≡ true
+    by_tries true = natural_fits 1 2 2 (omega arith) (omega arith)
+    by_tries false = natural_fits 1 2 1 (omega arith) (omega arith)
+
 item_own : (i : Item) → item_of (item_part i) ≡ i
 item_own i = refl
 
@@ -55,6 +63,8 @@ bucket_own : (b : Bucket) → bucket_of (bucket_part b) ≡ b
 bucket_own b = rw (map_own item_of item_part item_own b.items) refl
 
 step_own : (s : RuleStep) → step_of (step_part s) ≡ s
+step_own (step.SetChooseTries n) = refl
+step_own (step.SetChooseleafTries n) = refl
 step_own (step.Take id) = refl
 step_own (step.Choose c) = refl
 step_own step.Emit = refl
@@ -164,7 +174,7 @@ module _ (m : ClusterMap) (holds : HoldsTogether m) where
   unfolding parts_fit head_fits lists_fit parts_of
   own_limits some most =
       rw (
-        natural_fits 1 1 1 (omega arith) (omega arith),
+        version_fine m.rules,
         natural_fits 1 2147483648 m.epoch some most,
         natural_fits 1 1024 (length m.presences) holds.some holds.few,
         count_fits bucket_part 1 512 m.buckets (grind (arith, nat_tests, holds.forest.limits)) (grind (arith, nat_tests, holds.forest.limits)),

@@ -6,8 +6,8 @@ use Rattle.std.proofs.lemmas.List.{length-map}
 use Rattle.std.proofs.lemmas.List.Sorted.{length_permutation}
 use Rattle.std.proofs.lemmas.List.Folds.{list_all-map}
 use Rattle.crush.specs.declared.bucket.Bucket.{Bucket}
-use Rattle.crush.specs.declared.rule.Step.{Step}
-use Rattle.crush.specs.declared.rule.Step.TheVariants as step
+use Rattle.crush.specs.declared.step.Step.{Step}
+use Rattle.crush.specs.declared.step.Step.TheVariants as step
 use Rattle.crush.specs.WellFormed.{forest_ok, IsForest}
 use Rattle.crush.specs.Grammar.{takes_known}
 use Rattle.refusal.specs.declared.refused.Refusal.{Refusal}
@@ -29,6 +29,8 @@ use Rattle.stated.proofs.Judged.{passed, refused}
 
 takes_same : (given sorted : List Bucket) → IsForestOf given sorted → (s : Step) → takes_known sorted s ≡ takes_known given s
 takes_same given sorted forest (step.Take id) = rw (forest.found id) refl
+takes_same given sorted forest (step.SetChooseTries n) = refl
+takes_same given sorted forest (step.SetChooseleafTries n) = refl
 takes_same given sorted forest (step.Choose c) = refl
 takes_same given sorted forest step.Emit = refl
 

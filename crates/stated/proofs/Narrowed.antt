@@ -10,7 +10,7 @@ use Rattle.stated.specs.declared.parts.ItemPart.{ItemPart}
 use Rattle.stated.specs.declared.parts.RulePart.{RulePart}
 use Rattle.stated.specs.declared.parts.ChoosePart.{ChoosePart}
 use Rattle.stated.specs.declared.parts.StepPart.{StepPart}
-use Rattle.stated.specs.declared.parts.StepPart.TheVariants.{Take, Choose as Chooses, Emit}
+use Rattle.stated.specs.declared.parts.StepPart.TheVariants.{SetChooseTries, SetChooseleafTries, Take, Choose as Chooses, Emit}
 use Rattle.stated.specs.declared.parts.OsdPart.{OsdPart}
 use Rattle.stated.specs.Parts.{is_between, has_between, is_bucket_id, item_fits, bucket_fits, step_fits, rule_fits, osd_fits, item_of, bucket_of, step_of}
 use Rattle.crush.specs.WellFormed.{is_within, is_bucket_id as may_be_bucket, item_limits_ok, bucket_limits_ok, forest_limits_ok}
@@ -49,6 +49,14 @@ bucket_id b h = bucket_is_item b.id (grind arith)
 pub bucket_level : (b : BucketPart) → bucket_fits b ≡ true → IsTrue (is_between (pos 0) (pos 255) b.level)
 unfolding bucket_fits
 bucket_level b h = byte_between 1 15 b.level (omega arith) (grind arith)
+
+pub some_tries : (n : ℤ) → step_fits (SetChooseTries n) ≡ true → IsTrue (is_between (pos 0) (pos 255) n)
+unfolding step_fits
+some_tries n h = byte_between 1 200 n (omega arith) h
+
+pub leaf_tries : (n : ℤ) → step_fits (SetChooseleafTries n) ≡ true → IsTrue (is_between (pos 0) (pos 255) n)
+unfolding step_fits
+leaf_tries n h = byte_between 1 200 n (omega arith) h
 
 pub take_id : (id : ℤ) → step_fits (Take id) ≡ true → IsTrue (is_between (negsuc 65535) (pos 1023) id)
 unfolding step_fits
@@ -134,6 +142,8 @@ forest_limits buckets max_osd fits count some few =
 
 step_within : (s : StepPart) → step_fits s ≡ true → step_limits_ok (step_of s) ≡ true
 unfolding step_fits
+step_within (SetChooseTries n) h = level_within 1 200 n h
+step_within (SetChooseleafTries n) h = level_within 1 200 n h
 step_within (Take id) h = bucket_id_within id h
 step_within (Chooses c) h =
     let count = (natural_between 0 10 c.count (grind arith)).most in

@@ -1,6 +1,10 @@
 -- The limits of maps and changes that are none of a forest or a rule (those are crush's), each named once.
 use Rattle.std.specs.Prelude.{ℕ}
 
+-- the greatest version of the form in which maps are stated
+abbrev pub max_version : ℕ
+max_version = 2
+
 -- the greatest first epoch
 abbrev pub max_first_epoch : ℕ
 max_first_epoch = 2147483648

@@ -4,15 +4,15 @@ use Rattle.std.specs.List.{list_all}
 use Rattle.std.specs.Option.{option_map_or}
 use Rattle.crush.specs.declared.bucket.Item.{Item}
 use Rattle.crush.specs.declared.bucket.Bucket.{Bucket}
-use Rattle.crush.specs.declared.rule.Step.{Step}
-use Rattle.crush.specs.declared.rule.Step.TheVariants.{Take as TakeBucket, Choose as ChooseBy, Emit as EmitAll}
+use Rattle.crush.specs.declared.step.Step.{Step}
+use Rattle.crush.specs.declared.step.Step.TheVariants.{SetChooseTries as TryFor, SetChooseleafTries as TryForLeaves, Take as TakeBucket, Choose as ChooseBy, Emit as EmitAll}
 use Rattle.crush.specs.Rules.{Recipe}
 use Rattle.stated.specs.declared.parts.MapParts.{MapParts}
 use Rattle.stated.specs.declared.parts.BucketPart.{BucketPart}
 use Rattle.stated.specs.declared.parts.ItemPart.{ItemPart}
 use Rattle.stated.specs.declared.parts.RulePart.{RulePart}
 use Rattle.stated.specs.declared.parts.StepPart.{StepPart}
-use Rattle.stated.specs.declared.parts.StepPart.TheVariants.{Take, Choose as Chooses, Emit}
+use Rattle.stated.specs.declared.parts.StepPart.TheVariants.{SetChooseTries, SetChooseleafTries, Take, Choose as Chooses, Emit}
 use Rattle.stated.specs.declared.parts.PoolPart.{PoolPart}
 use Rattle.stated.specs.declared.parts.OsdPart.{OsdPart}
 use Rattle.stated.specs.declared.parts.ExceptionPart.{ExceptionPart}
@@ -24,8 +24,8 @@ use Rattle.stated.specs.declared.exception.Pair.{Pair}
 use Rattle.refusal.specs.declared.refused.Refusal.{Refusal}
 use Rattle.refusal.specs.declared.refused.Refusal.TheVariants.{BadLimit, BadPool}
 use Rattle.refusal.specs.Outcomes.{refused_unless}
-use Rattle.crush.specs.Limits.{max_buckets, max_items, lowest_bucket, max_level, max_devices, max_steps, max_count, max_size}
-use Rattle.stated.specs.Limits.{max_first_epoch, max_osd_id, max_item_weight, max_rules, max_rule_id, max_pools, max_pool_id, max_groups, full_weight, max_entries}
+use Rattle.crush.specs.Limits.{max_buckets, max_items, lowest_bucket, max_level, max_devices, max_steps, max_tries, max_count, max_size}
+use Rattle.stated.specs.Limits.{max_version, max_first_epoch, max_osd_id, max_item_weight, max_rules, max_rule_id, max_pools, max_pool_id, max_groups, full_weight, max_entries}
 use Rattle.stated.specs.Pools.{PoolFacts}
 
 -- ---- limits
@@ -49,6 +49,8 @@ unfoldable pub bucket_fits : BucketPart → Bool
 bucket_fits b = is_bucket_id b.id && is_between (pos 1) (pos max_level) b.level && has_between 1 max_items b.items && list_all item_fits b.items
 
 unfoldable pub step_fits : StepPart → Bool
+step_fits (SetChooseTries tries) = is_between (pos 1) (pos max_tries) tries
+step_fits (SetChooseleafTries tries) = is_between (pos 1) (pos max_tries) tries
 step_fits (Take id) = is_bucket_id id
 step_fits (Chooses c) = is_between (pos 0) (pos max_count) c.count && is_between (pos 0) (pos max_level) c.level
 step_fits Emit = true
@@ -87,7 +89,7 @@ exceptions_fit fits es = has_between 0 max_entries es && list_all (exception_fit
 -- the numbers that stand alone
 unfoldable pub head_fits : MapParts → Bool
 head_fits p =
-    is_between (pos 1) (pos 1) p.version && is_between (pos 1) (pos max_first_epoch) p.epoch
+    is_between (pos 1) (pos max_version) p.version && is_between (pos 1) (pos max_first_epoch) p.epoch
     && is_between (pos 1) (pos max_devices) p.max_osd
 
 -- how many buckets, rules and pools there are
@@ -110,6 +112,8 @@ abbrev pub bucket_of : BucketPart → Bucket
 bucket_of b = record { id = b.id; level = nat_abs b.level; kind = b.kind; items = map item_of b.items }
 
 abbrev pub step_of : StepPart → Step
+step_of (SetChooseTries tries) = TryFor (nat_abs tries)
+step_of (SetChooseleafTries tries) = TryForLeaves (nat_abs tries)
 step_of (Take id) = TakeBucket id
 step_of (Chooses c) = ChooseBy (record { mode = c.mode; to_leaf = c.to_leaf; count = nat_abs c.count; level = nat_abs c.level })
 step_of Emit = EmitAll

@@ -1,6 +1,6 @@
 -- A pool: how many groups it has, and the rule and size by which they are placed (Ceph, osd_types.h, pg_pool_t).
 use Rattle.std.specs.Prelude.{ℕ, ◌≤◌, ◌<◌}
-use Rattle.crush.specs.declared.rule.RuleKind.{RuleKind}
+use Rattle.crush.specs.declared.step.RuleKind.{RuleKind}
 use Rattle.crush.specs.Limits.{max_size}
 use Rattle.stated.specs.Limits.{max_pool_id, max_groups, max_rule_id}
 

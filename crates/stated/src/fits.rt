@@ -7,7 +7,7 @@ ghost use Rattle.stated.specs.Parts.{item_fits, bucket_fits, step_fits, rule_fit
 use crate::entry_part::exceptions_fit;
 use crate::limits::{
     FULL_WEIGHT, LOWEST_BUCKET, MAX_COUNT, MAX_FIRST_EPOCH, MAX_GROUPS, MAX_ITEM_WEIGHT, MAX_LEVEL,
-    MAX_OSDS, MAX_POOL_ID, MAX_POOLS, MAX_RULE_ID, MAX_RULES, MAX_SIZE, VERSION,
+    MAX_OSDS, MAX_POOL_ID, MAX_POOLS, MAX_RULE_ID, MAX_RULES, MAX_SIZE, MAX_TRIES, MAX_VERSION,
 };
 use crate::numbers::{has_between, is_between, is_bucket_id};
 use crate::parts::{BucketPart, ItemPart, MapParts, OsdPart, PoolPart, RulePart, StepPart};
@@ -48,6 +48,8 @@ fn step_fits(step: &StepPart) -> bool
     ensures { result ≡ step_fits step.now }
 {
     match step {
+        StepPart::SetChooseTries(tries) => is_between(1, MAX_TRIES, *tries),
+        StepPart::SetChooseleafTries(tries) => is_between(1, MAX_TRIES, *tries),
         StepPart::Take(id) => is_bucket_id(*id),
         StepPart::Choose(choose) => is_between(0, MAX_COUNT, choose.count)
             && is_between(0, MAX_LEVEL, choose.level),
@@ -111,7 +113,7 @@ fn all_osds_fit(osds: &[OsdPart]) -> bool
 fn head_fits(parts: &MapParts) -> bool
     ensures { result ≡ head_fits parts.now }
 {
-    is_between(VERSION, VERSION, parts.version)
+    is_between(1, MAX_VERSION, parts.version)
         && is_between(1, MAX_FIRST_EPOCH, parts.epoch)
         && is_between(1, MAX_OSDS, parts.max_osd)
 }

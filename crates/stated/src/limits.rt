@@ -3,8 +3,8 @@
 
 use crush::limits;
 
-/// The version of the form in which maps are stated.
-pub const VERSION: i128 = 1;
+/// The greatest version of the form in which maps are stated. The least is 1.
+pub const MAX_VERSION: i128 = 2;
 /// The greatest first epoch.
 pub const MAX_FIRST_EPOCH: i128 = 2_147_483_648;
 /// The greatest `max_osd`.
@@ -21,6 +21,8 @@ pub const MAX_RULES: usize = 32;
 pub const MAX_RULE_ID: i128 = 255;
 /// The greatest count of a choose step.
 pub const MAX_COUNT: i128 = limits::MAX_COUNT as i128;
+/// The most tries that a step of a rule sets. The least is 1.
+pub const MAX_TRIES: i128 = limits::MAX_TRIES as i128;
 /// The greatest size of a pool.
 pub const MAX_SIZE: i128 = limits::MAX_SIZE as i128;
 /// How many places a set of a group has at most, and so how many entries an exception.

@@ -7,7 +7,7 @@ use keylist::Entries;
 /// A map as a text states it, its numbers untested: each is any whole number.
 #[derive(Debug, Drop)]
 pub struct MapParts {
-    /// The version of the form: 1.
+    /// The version of the form: 1 or 2.
     pub version: i128,
     /// The first epoch: 1 to 2,147,483,648.
     pub epoch: i128,
@@ -63,6 +63,10 @@ pub struct RulePart {
 /// A step as a text states it.
 #[derive(Clone, Copy, Debug, PartialEq, Eq)]
 pub enum StepPart {
+    /// How often later choose steps try: 1 to 200. Only in a map of version 2.
+    SetChooseTries(i128),
+    /// How often later choose steps try for a leaf: 1 to 200. Only in a map of version 2.
+    SetChooseleafTries(i128),
     /// A bucket: -1 down to -65,536.
     Take(i128),
     /// Some items below each of those chosen before.

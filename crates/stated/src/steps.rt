@@ -15,6 +15,8 @@ fn step_of(part: &StepPart) -> Step
     ensures { result ≡ step_of part.now }
 {
     match part {
+        StepPart::SetChooseTries(tries) => Step::SetChooseTries(byte(*tries)),
+        StepPart::SetChooseleafTries(tries) => Step::SetChooseleafTries(byte(*tries)),
         StepPart::Take(bucket) => Step::Take(item_id(*bucket)),
         StepPart::Choose(choose) => Step::Choose(Choose {
             mode: choose.mode,

@@ -1,12 +1,15 @@
 //! The limits of a change as a text states it.
 ghost use Rattle.std.specs.Prelude.{◌≡◌};
 ghost use Rattle.std.specs.List.{list_all};
+ghost use Rattle.stated.specs.Limits.{max_entries};
 ghost use Rattle.stated.specs.Parts.{has_between, is_osd_id, pg_fits, pool_fits};
 ghost use Rattle.mapjson.specs.ChangeTexts.{is_pool_id, reweight_fits, entries_fit, change_fits};
 
 use super::{RawChange, RawReweight};
-use osdmap::limits::{MAX_ENTRIES, MAX_POOL_ID, all_pools_fit, has_between, is_between, is_osd_id};
-use osdmap::{PgParts, PoolPart, exceptions_fit, pg_fits};
+use stated::fits::all_pools_fit;
+use stated::limits::{MAX_ENTRIES, MAX_POOL_ID};
+use stated::numbers::{has_between, is_between, is_osd_id};
+use stated::{PgParts, PoolPart, exceptions_fit, pg_fits};
 
 /// The greatest epoch.
 const MAX_EPOCH: i128 = u64::MAX as i128;
@@ -15,7 +18,7 @@ const MAX_WEIGHT: i128 = u32::MAX as i128;
 
 /// Whether a list of a change is no longer than it may be.
 fn is_short<T>(list: &[T]) -> bool
-    ensures { result ≡ has_between 0 131072 list.now }
+    ensures { result ≡ has_between 0 max_entries list.now }
 {
     has_between(0, MAX_ENTRIES, list)
 }
@@ -100,13 +103,13 @@ pub(super) fn change_fits(change: &RawChange) -> bool
     ensures { result ≡ change_fits change.now }
 {
     is_between(0, MAX_EPOCH, change.base)
-        && pool_ids_fit(change.old_pools.as_slice())
-        && pools_fit(change.new_pools.as_slice())
-        && osds_fit(change.down.as_slice())
-        && osds_fit(change.up.as_slice())
-        && reweights_fit(change.weight.as_slice())
-        && groups_fit(change.old_upmap.as_slice())
-        && groups_fit(change.old_items.as_slice())
-        && exceptions_fit(change.new_upmap.as_slice())
-        && exceptions_fit(change.new_items.as_slice())
+        && pool_ids_fit(&change.old_pools)
+        && pools_fit(&change.new_pools)
+        && osds_fit(&change.down)
+        && osds_fit(&change.up)
+        && reweights_fit(&change.weight)
+        && groups_fit(&change.old_upmap)
+        && groups_fit(&change.old_items)
+        && exceptions_fit(&change.new_upmap)
+        && exceptions_fit(&change.new_items)
 }

@@ -3,14 +3,15 @@ ghost use Rattle.std.specs.Prelude.{◌≡◌, true, IsTrue, All, IfOk, map, pos
 ghost use Rattle.std.specs.List.{list_all};
 ghost use Rattle.refusal.specs.declared.refused.Refusal.TheVariants.{BadPool};
 ghost use Rattle.refusal.specs.Outcomes.{refused_unless};
-ghost use Rattle.stated.specs.Parts.{is_between, is_osd_id, pool_fits, pool_of, pg_of};
+ghost use Rattle.stated.specs.Parts.{has_enough_groups, is_between, is_osd_id, pool_fits, pool_of, pg_of};
 ghost use Rattle.refusal.specs.Outcomes.{Makes};
-ghost use Rattle.mapjson.specs.ChangeTexts.{has_enough_groups, reweight_fits, change_fits, reweight_within, parts_within};
+ghost use Rattle.mapjson.specs.ChangeTexts.{reweight_fits, change_fits, reweight_within, parts_within};
 
 use super::{RawChange, RawReweight};
-use crush::Entries;
-use osdmap::limits::word;
-use osdmap::{ChangeParts, Pg, PgParts, Pool, PoolPart, Refusal, Reweight, exceptions_of};
+use keylist::Entries;
+use refusal::Refusal;
+use stated::numbers::word;
+use stated::{ChangeParts, Pg, PgParts, Pool, PoolPart, Reweight, exceptions_of};
 use std::alloc::{AllocError, Global};
 
 /// Numbers that are words, as words.
@@ -22,7 +23,7 @@ fn words(alloc: Global, numbers: &[i128]) -> Result<Vec<u32>, AllocError>
 }
 
 /// A reweight that is within the limits.
-#[tactic(auto, unfolding(crate::specs::ChangeTexts::reweight_fits, osdmap::specs::Parts::is_osd_id, osdmap::specs::Parts::is_between))]
+#[tactic(auto, unfolding(crate::specs::ChangeTexts::reweight_fits, stated::specs::Parts::is_osd_id, stated::specs::Parts::is_between))]
 fn reweight(stated: &RawReweight) -> Reweight
     requires { IsTrue (reweight_fits stated.now) }
     ensures { result ≡ reweight_within stated.now }
@@ -48,15 +49,6 @@ fn groups(alloc: Global, stated: &[PgParts]) -> Result<Vec<Pg>, AllocError>
     stated.iter().map(|one| one.group()).collect(alloc)
 }
 
-/// A pool whose numbers are within the limits: `BadPool` (15) where it has more groups for placement than groups.
-#[tactic(auto, unfolding(crate::specs::ChangeTexts::has_enough_groups))]
-fn pool(stated: PoolPart) -> Result<Pool, Refusal>
-    requires { pool_fits stated ≡ true }
-    ensures { Makes result (refused_unless (has_enough_groups stated) BadPool) (λ pool. pool ≡ pool_of stated) }
-{
-    Pool::new(stated)
-}
-
 /// Pools whose numbers are within the limits: `BadPool` (15) where one of them has more groups for placement than
 /// groups.
 fn pools(alloc: Global, stated: &[PoolPart]) -> Result<Vec<Pool>, Refusal>
@@ -65,7 +57,7 @@ fn pools(alloc: Global, stated: &[PoolPart]) -> Result<Vec<Pool>, Refusal>
 {
     let mut pools = Vec::with_capacity(alloc, stated.len())?;
     for part in stated {
-        pools.push(pool(*part)?)?;
+        pools.push(Pool::of_fitting(*part)?)?;
     }
     Ok(pools)
 }
@@ -77,20 +69,20 @@ pub(super) fn parts_within(alloc: Global, change: &RawChange) -> Result<ChangePa
     ensures { Makes result (refused_unless (list_all has_enough_groups change.now.new_pools) BadPool) (λ parts. parts ≡ parts_within change.now) }
 {
     Ok(ChangeParts {
-        old_pools: Entries::new(words(alloc, change.old_pools.as_slice())?),
-        new_pools: Entries::new(pools(alloc, change.new_pools.as_slice())?),
-        down: Entries::new(words(alloc, change.down.as_slice())?),
-        up: Entries::new(words(alloc, change.up.as_slice())?),
-        weight: Entries::new(reweights(alloc, change.weight.as_slice())?),
-        old_upmap: Entries::new(groups(alloc, change.old_upmap.as_slice())?),
-        old_items: Entries::new(groups(alloc, change.old_items.as_slice())?),
-        new_upmap: Entries::new(exceptions_of(alloc, change.new_upmap.as_slice())?),
-        new_items: Entries::new(exceptions_of(alloc, change.new_items.as_slice())?),
+        old_pools: Entries::new(words(alloc, &change.old_pools)?),
+        new_pools: Entries::new(pools(alloc, &change.new_pools)?),
+        down: Entries::new(words(alloc, &change.down)?),
+        up: Entries::new(words(alloc, &change.up)?),
+        weight: Entries::new(reweights(alloc, &change.weight)?),
+        old_upmap: Entries::new(groups(alloc, &change.old_upmap)?),
+        old_items: Entries::new(groups(alloc, &change.old_items)?),
+        new_upmap: Entries::new(exceptions_of(alloc, &change.new_upmap)?),
+        new_items: Entries::new(exceptions_of(alloc, &change.new_items)?),
     })
 }
 
 /// The base of a change that is within the limits.
-#[tactic(auto, unfolding(crate::specs::ChangeTexts::change_fits, osdmap::specs::Parts::is_between))]
+#[tactic(auto, unfolding(crate::specs::ChangeTexts::change_fits, stated::specs::Parts::is_between))]
 pub(super) fn base_within(change: &RawChange) -> u64
     requires { change_fits change.now ≡ true }
     ensures { result ≡ nat_abs change.now.base }

@@ -15,6 +15,5 @@ word-requires c =
     let fits : SFits w128 c.args.part.now.id = search rules in
     rw to_z-of_z (rule_id _ c.requires)
 
-
 pub of_fitting-requires : goal.of_fitting-requires
 of_fitting-requires c = rw (c.in_ok-steps.ensures, c.deref.ensures) (rule_limits _ c.requires)

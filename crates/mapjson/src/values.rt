@@ -1,3 +1,5 @@
+//! What JSON values state.
+
 ghost use Rattle.std.specs.Prelude.{◌≡◌, ◌⊎◌, Option, Some, None, MatchResult, map, string_bytes};
 ghost use Rattle.std.specs.BTreeMap.{keys};
 ghost use Rattle.std.specs.List.{list_all, list_any};
@@ -8,8 +10,8 @@ ghost use Rattle.serde_json.specs.View.{view, items_view, members_view};
 ghost use Rattle.mapjson.specs.Json.{Reads, Answers, json_of, stated_by, number_of, entries_of, list_of, has_count, place, both_of, has_only, keys_of, field, optional_list, has_only_keys};
 
 use crate::fault::Fault;
-use crush::Entries;
-use osdmap::Refusal;
+use keylist::Entries;
+use refusal::Refusal;
 use serde_json::{Map, Value};
 use std::alloc::Global;
 

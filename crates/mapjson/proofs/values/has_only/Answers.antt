@@ -2,7 +2,7 @@ use Rattle.std.proofs.Common.{◌∙◌, sym, ap, map, false}
 use Rattle.std.specs.Option.{option_map_or}
 use Rattle.mapjson.specs.Json.{has_only_keys}
 use Rattle.mapjson.proofs.Lists.{has_only_keys_view}
-use Rattle.mapjson.proofs.stated.has_only.Goals as goal
+use Rattle.mapjson.proofs.values.has_only.Goals as goal
 
 pub returns-in-Some : goal.returns-in-Some
 returns-in-Some c =
