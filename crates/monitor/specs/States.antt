@@ -5,9 +5,14 @@ use Rattle.refusal.specs.declared.refused.Refusal.{Refusal}
 use Rattle.refusal.specs.declared.refused.Refusal.TheVariants.{BadLimit, StaleEpoch, JournalFull}
 use Rattle.osdmap.specs.Maps.{ClusterMap}
 use Rattle.osdmap.specs.Evals.{evals_of}
+use Rattle.stated.specs.Limits.{max_first_epoch}
 use Rattle.stated.specs.Incrementals.{Step}
 use Rattle.osdmap.specs.Changes.{change_fault, apply, after, IsLawful}
 use Rattle.refusal.specs.Outcomes.{Gives}
+
+-- the greatest capacity of a journal
+abbrev pub max_journal : ℕ
+max_journal = 65536
 
 -- what callers see of a state: the first map, the changes since, how many there may be, and the present map
 pub record History : Type 0 where
@@ -22,8 +27,8 @@ pub record IsKept (h : History) : Type 0 where
   pub lawful : IsLawful h.first h.journal
   pub within : length h.journal ≤ h.capacity
   pub map : h.map ≡ after h.first h.journal
-  pub early : h.first.epoch ≤ 2147483648
-  pub short : h.capacity ≤ 65536
+  pub early : h.first.epoch ≤ max_first_epoch
+  pub short : h.capacity ≤ max_journal
 
 -- a state at its beginning
 abbrev pub opened : ClusterMap → ℕ → History
@@ -31,7 +36,7 @@ opened m capacity = record { first = m; journal = []; capacity = capacity; map =
 
 -- what refuses to open: a first epoch above 2,147,483,648, or a capacity that is not 1 to 65,536
 abbrev pub open_fault : ClusterMap → ℕ → Option Refusal
-open_fault m capacity = if nat_le m.epoch 2147483648 && (nat_le 1 capacity && nat_le capacity 65536) then None else Some BadLimit
+open_fault m capacity = if nat_le m.epoch max_first_epoch && (nat_le 1 capacity && nat_le capacity max_journal) then None else Some BadLimit
 
 -- ---- commits
 
@@ -39,11 +44,12 @@ open_fault m capacity = if nat_le m.epoch 2147483648 && (nat_le 1 capacity && na
 abbrev pub next_step : History → ChangeParts → Step
 next_step h change = record { epoch = h.map.epoch + 1; change = change }
 
--- the first refusal that applies: the base is not the present epoch; what refuses the change; the journal is full
+-- a refusal, else another
 abbrev pub unless : Option Refusal → Option Refusal → Option Refusal
 unless (Some r) other = Some r
 unless None other = other
 
+-- the first refusal that applies: the base is not the present epoch; what refuses the change; the journal is full
 unfoldable pub commit_fault : History → ℕ → ChangeParts → Option Refusal
 commit_fault h base change =
     if not (base == h.map.epoch) then Some (StaleEpoch h.map.epoch)

@@ -1,5 +1,9 @@
+//! The state of a monitor: the first map, the changes since, and the present map.
+
 use crush::Work;
-use osdmap::{Change, Incremental, OsdMap, Pg, Refusal, UpSet, limits};
+use osdmap::{Change, Incremental, OsdMap, Pg, UpSet};
+use refusal::Refusal;
+use stated::limits;
 use std::alloc::Global;
 use std::marker::Model;
 
@@ -31,7 +35,6 @@ impl State {
     ghost use Rattle.std.specs.Prelude.{◌≡◌, ◌≤◌, IfOk, MatchResult};
     ghost use Rattle.std.specs.Result.{result_err};
     ghost use Rattle.osdmap.specs.Changes.{epoch_after};
-    ghost use Rattle.osdmap.specs.Sets.{places_of};
     ghost use Rattle.refusal.specs.Outcomes.{Gives};
     ghost use Rattle.osdmap.specs.Placement.{group_fault, up_set, Places, RunsOnce};
     ghost use Rattle.monitor.specs.States.{opened, IsKept, Commits, commit_fault, open_fault};

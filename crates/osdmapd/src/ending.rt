@@ -1,5 +1,5 @@
 //! How a run of the program ends.
-use osdmap::Refusal;
+use refusal::Refusal;
 use std::fmt;
 
 /// Why a run ends before all is done.

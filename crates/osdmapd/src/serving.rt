@@ -6,7 +6,7 @@ ghost use Rattle.osdmapd.specs.Serving.{Answered, Serves};
 
 use mapjson::read_map;
 use monitor::State;
-use osdmap::Refusal;
+use refusal::Refusal;
 use session::{Buffer, Sink, WriteFailed, write_whole};
 use std::alloc::Global;
 

@@ -14,7 +14,7 @@ mod written;
 use crate::choices::LineError;
 use crate::line::options;
 use crate::serving::{Fault, serve};
-use osdmap::Refusal;
+use refusal::Refusal;
 use session::Buffer;
 use std::alloc::{AllocError, Global};
 use std::process::Abort;

@@ -3,8 +3,8 @@ use Rattle.std.specs.Prelude.{ℕ, List, [], ◌∷◌, ◌++◌, codes, Option,
 use Rattle.std.specs.Fmt.{decimal}
 use Rattle.stated.specs.declared.pg.Pg.{Pg}
 use Rattle.refusal.specs.declared.refused.Refusal.{Refusal}
-use Rattle.refusal.specs.declared.refused.Refusal.TheVariants.{BadJson, BadField, BadLimit, BadForest, BadRule, BadPool, BadOsd, BadException, StaleEpoch, UnknownOsd, BadWeight, UnknownPool, PoolExists, UnknownGroup, BadNewException, DuplicatePart, JournalFull, Memory, BadCommand}
-use Rattle.osdmap.specs.Refusals.{number_of, name_of}
+use Rattle.refusal.specs.declared.refused.Refusal.TheVariants.{BadJson, BadField, BadLimit, BadForest, BadRule, BadPool, BadOsd, BadException, StaleEpoch, UnknownOsd, BadWeight, UnknownPool, PoolExists, UnknownGroup, BadNewException, DuplicatePart, JournalFull, BalanceRule, Memory, SeatSpent, NotSealed, BadCommand, AwaitSpent}
+use Rattle.refusal.specs.Refusals.{number_of, name_of}
 use Rattle.stated.specs.PgText.{group_text}
 use Rattle.osdmap.specs.Primary.{primary_of}
 
@@ -72,8 +72,12 @@ detail_of UnknownGroup = []
 detail_of BadNewException = []
 detail_of DuplicatePart = []
 detail_of JournalFull = []
+detail_of BalanceRule = []
 detail_of Memory = []
+detail_of SeatSpent = []
+detail_of NotSealed = []
 detail_of BadCommand = []
+detail_of AwaitSpent = []
 
 -- `err NUMBER NAME`
 unfoldable pub refusal_text : Refusal → List ℕ

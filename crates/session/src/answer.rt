@@ -1,10 +1,10 @@
 //! What the commands of a script answer.
 ghost use Rattle.std.specs.Prelude.{◌≡◌, ◌++◌, OnOk};
 ghost use Rattle.std.specs.String.{string_bytes};
-ghost use Rattle.osdmap.specs.Sets.{places_of};
 ghost use Rattle.session.specs.Texts.{osd_text, set_text, up_text, refusal_text};
 
-use osdmap::{Pg, Refusal, UpSet};
+use osdmap::{Pg, UpSet};
+use refusal::Refusal;
 use std::alloc::AllocError;
 
 /// What a command answers.

@@ -13,10 +13,11 @@ ghost use Rattle.session.specs.Ends.{Answers};
 use crate::answer::Answer;
 use crate::command::{Command, first_line, read_command};
 use crate::sink::{Sink, WriteFailed, write_whole};
-use crush::{Forest, Memory, Work};
+use crush::{Forest, Work};
 use mapjson::{read_change, write_map};
 use monitor::State;
-use osdmap::{OsdMap, Refusal};
+use osdmap::OsdMap;
+use refusal::{Memory, Refusal};
 use std::alloc::Global;
 
 /// Why a session stops before its script ends.

@@ -3,7 +3,7 @@ use super::ONE_DEVICE;
 use super::changed::FOUR_DEVICES;
 use super::texts::{edited, repeated};
 use mapjson::read_map;
-use osdmap::Refusal;
+use refusal::Refusal;
 use std::alloc::Global;
 use std::test::Fail;
 

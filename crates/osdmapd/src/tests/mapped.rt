@@ -3,7 +3,8 @@ use super::put_out;
 use super::texts::edited;
 use crush::Work;
 use mapjson::read_map;
-use osdmap::{OsdMap, OsdState, Pg, Refusal, UpSet, stable_mod};
+use osdmap::{OsdMap, OsdState, Pg, UpSet, stable_mod};
+use refusal::Refusal;
 use std::test::Fail;
 
 #[test]

@@ -1,7 +1,7 @@
 //! Texts that state a map or a change, and texts that do not.
 use super::ONE_DEVICE;
 use mapjson::{read_change, read_map};
-use osdmap::Refusal;
+use refusal::Refusal;
 use std::alloc::Global;
 use std::test::Fail;
 

@@ -1,6 +1,6 @@
 //! Worked runs over larger forests, erasure pools and reweights.
 use super::{ONE_DEVICE, Run};
-use osdmap::Refusal;
+use refusal::Refusal;
 
 /// An erasure pool of two places over one device.
 const ERASURE_OF_TWO: &str =
