@@ -84,21 +84,23 @@ leads_to_devices k id b forest takes there = record {
       item_number k.world r id b p forest there (ap (λ level. item_below k.world r level b) (sym zero) ∙ is);
 }
 
--- so what it makes of a working list are devices
+-- so what it adds for an entry of the working list are devices
 entry_devices : (k : Choosing) (size : ℕ) (found : List (Option ℤ)) (entry : Option ℤ) → IsForest k.world.buckets → takes_devices k.choose ≡ true → All (IsIn IsDeviceNumber) found → All (IsIn IsDeviceNumber) (after_entry k size found entry)
 entry_devices k size found None forest takes all = all
 entry_devices k size found (Some item) forest takes all = bucket_in IsDeviceNumber k size found (bucket_at k.world.buckets item) (λ b there. leads_to_devices k item b forest takes there) all
 
+-- so what it makes of a working list are devices, whatever the list
 working_devices : (k : Choosing) (size : ℕ) (working : List (Option ℤ)) → IsForest k.world.buckets → takes_devices k.choose ≡ true → All (IsIn IsDeviceNumber) (chosen_from k size working)
 working_devices k size working forest takes =
     fold_keeps (All (IsIn IsDeviceNumber)) (after_entry k size) (λ found entry all. entry_devices k size found entry forest takes all) [] working (λ i d within. absurd (omega arith))
 
--- the last choice of a block takes devices
+-- a last choice by its parts
 last_by : (leafy served : Bool) (level : ℕ) → (served && cond leafy (nat_lt 0 level) (eqb level 0)) ≡ true → (leafy || eqb level 0) ≡ true
 last_by true served level e = refl
 last_by false true level e = e
 last_by false false level e = absurd (false≢true e)
 
+-- so its last choice takes devices
 last_takes : (kind : RuleKind) (c : Choose) → is_last kind c ≡ true → takes_devices c ≡ true
 last_takes kind c e = last_by c.to_leaf (serves kind c.mode) c.level e
 
@@ -107,6 +109,7 @@ record EndsAtDevices (before after : Progress) : Type 0 where
   working : All (IsIn IsDeviceNumber) after.working
   emitted : after.emitted ≡ before.emitted
 
+-- a block ends so
 block_ends : (w : World) (size : ℕ) (kind : RuleKind) (block : List Step) (p : Progress) → IsForest w.buckets → is_block kind block ≡ true → EndsAtDevices p (fold (after_step w size) p block)
 unfolding after_step
 block_ends w size kind (step.Take id ∷ step.Choose a ∷ []) p forest e =
