@@ -196,9 +196,9 @@ impl Rule {
     ghost use Rattle.crush.specs.World.{world_of};
     ghost use Rattle.crush.specs.Run.{run_of};
 
-    /// Places `x` by the rule in a pool of `size` places, 1 to 10. A reweight is 65,536 for all of an OSD and 0 for
-    /// none; an OSD without one is out. The one error is `Memory` (30): after it the result is open, and the run is not
-    /// counted.
+    /// Places `x` by the rule in a pool of `size` places, 1 to 10, as many as a pool may have. A reweight is 65,536 for
+    /// all of an OSD and 0 for none; an OSD without one is out. The one error is `Memory` (30): after it the result is
+    /// open, and the run is not counted.
     #[tactic(auto, unfolding(crate::specs::Run::run_of))]
     pub fn run(
         &self,
