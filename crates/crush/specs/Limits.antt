@@ -33,6 +33,10 @@ max_count = 10
 abbrev pub max_size : ℕ
 max_size = 10
 
+-- the reweight of a device that takes its whole share
+abbrev pub full_weight : ℕ
+full_weight = 65536
+
 -- the most tries that a step sets
 abbrev pub max_tries : ℕ
 max_tries = 200

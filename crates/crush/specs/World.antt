@@ -3,6 +3,7 @@ use Rattle.std.specs.Prelude.{ℕ, ◌%◌, ℤ, Bool, ◌&&◌, List, slice_ind
 use Rattle.rjenkins.specs.Jenkins.{hash2_of}
 use Rattle.crush.specs.declared.bucket.Bucket.{Bucket}
 use Rattle.crush.specs.Forest.{word}
+use Rattle.crush.specs.Limits.{full_weight}
 
 -- the buckets, the reweights of the devices by number, and the input
 pub record World : Type 0 where
@@ -13,9 +14,9 @@ pub record World : Type 0 where
 abbrev pub world_of : List Bucket → List ℕ → ℕ → World
 world_of buckets weights x = record { buckets = buckets; weights = weights; x = x }
 
--- a device is in at reweight 65536 and above, out at 0, and else in exactly where its hash is below the reweight; a
+-- a device is in at its full reweight and above, out at 0, and else in exactly where its hash is below the reweight; a
 -- device without a reweight has 0
 unfoldable pub is_out : World → ℤ → Bool
 is_out w device =
     let weight = slice_index w.weights (word device) in
-    nat_lt weight 65536 && nat_le weight (hash2_of w.x (word device) % 65536)
+    nat_lt weight full_weight && nat_le weight (hash2_of w.x (word device) % full_weight)

@@ -25,5 +25,8 @@ pub const MAX_COUNT: u8 = 10;
 /// The most places of a pool, which has at least 1.
 pub const MAX_SIZE: usize = 10;
 
+/// The reweight of a device that takes its whole share. 0 takes none.
+pub const FULL_WEIGHT: u32 = 65_536;
+
 /// The most tries that a step of a rule sets. The least is 1.
 pub const MAX_TRIES: u8 = 200;

@@ -6,6 +6,7 @@ ghost use Rattle.std.specs.Option.{option_copied, option_map_or};
 use crate::bucket::Bucket;
 use crate::choose::{Draw, Picked};
 use crate::forest::Forest;
+use crate::limits::FULL_WEIGHT;
 use rjenkins::hash2;
 
 /// The type of an item, by its bucket if it is one: 0 for a device.
@@ -41,7 +42,7 @@ impl Placement<'_> {
     {
         let number = device.cast_unsigned();
         let weight = self.weights.get(number as usize).copied().unwrap_or(0);
-        weight < 65536 && weight <= hash2(self.x, number) % 65536
+        weight < FULL_WEIGHT && weight <= hash2(self.x, number) % FULL_WEIGHT
     }
 
     /// The item of the wanted type below a bucket.

@@ -32,7 +32,7 @@ impl Chooser<'_> {
     ghost use Rattle.crush.specs.Forest.{IsPickable};
     ghost use Rattle.crush.specs.Limits.{max_size};
     ghost use Rattle.crush.specs.Placed.{choosing};
-    ghost use Rattle.crush.specs.Run.{segment_of, chosen_from};
+    ghost use Rattle.crush.specs.Run.{segment_of, after_entry, chosen_from};
 
     /// Adds what a step that packs gives below one bucket.
     fn add_packed(
@@ -99,6 +99,27 @@ impl Chooser<'_> {
         }
     }
 
+    /// Adds what a choose step gives below an entry of the working list: nothing below a device or a hole.
+    fn add_entry(
+        &self,
+        size: u8,
+        entry: Option<i32>,
+        chosen: &mut Vec<Choice>,
+        found: &mut Vec<Option<i32>>,
+    ) -> Result<(), AllocError>
+        requires some { 0 < self.now.numrep }
+        requires few { size ≤ max_size }
+        ensures { OnOk result (found.new.items ≡ after_entry (choosing self.now) size found.old.items entry) }
+    {
+        let Some(item) = entry else {
+            return Ok(());
+        };
+        match self.placement.forest.bucket(item) {
+            Some(bucket) => self.add_segment(size, bucket, chosen, found),
+            None => Ok(()),
+        }
+    }
+
     /// Makes the working list of a choose step, a segment for each bucket of the one before.
     fn segments(
         &self,
@@ -113,11 +134,7 @@ impl Chooser<'_> {
     {
         found.clear();
         for entry in working {
-            if let Some(item) = entry {
-                if let Some(bucket) = self.placement.forest.bucket(*item) {
-                    self.add_segment(size, bucket, chosen, found)?;
-                }
-            }
+            self.add_entry(size, *entry, chosen, found)?;
         }
         Ok(())
     }
@@ -196,9 +213,9 @@ impl Rule {
     ghost use Rattle.crush.specs.World.{world_of};
     ghost use Rattle.crush.specs.Run.{run_of};
 
-    /// Places `x` by the rule in a pool of `size` places, 1 to 10. A reweight is 65,536 for all of an OSD and 0 for
-    /// none; an OSD without one is out. The one error is `Memory` (30): after it the result is open, and the run is not
-    /// counted.
+    /// Places `x` by the rule in a pool of `size` places, 1 to 10, as many as a pool may have. A reweight is 65,536 for
+    /// all of an OSD and 0 for none; an OSD without one is out. The one error is `Memory` (30): after it the result is
+    /// open, and the run is not counted.
     #[tactic(auto, unfolding(crate::specs::Run::run_of))]
     pub fn run(
         &self,

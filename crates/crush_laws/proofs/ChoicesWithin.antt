@@ -38,6 +38,18 @@ device_at R w vs r level start p s h is e = descent_device R w vs r start.level 
 abbrev pub other_step : Choosing → List ℕ → Choosing
 other_step k vs = record k { world = other k.world vs }
 
+-- what the items below a bucket lead to: leaves in a set, and items in it where the step takes no leaves
+pub record LeadsIn (D : ℤ → Type 0) (k : Choosing) (start : Bucket) : Type 0 where
+  pub leaf : (r : Bucket → ℕ) (p : Picked) (accepts : ℤ → Bool) (rs : List (Bucket → ℕ)) (leaf : ℤ) → item_below k.world r k.choose.level start ≡ Some p → leaf_below k.world accepts rs p.item ≡ Some leaf → D leaf
+  pub bare : (r : Bucket → ℕ) (p : Picked) → item_below k.world r k.choose.level start ≡ Some p → k.choose.to_leaf ≡ false → D p.item
+
+-- a set that holds, with each bucket, all items of that bucket
+pub leads_in : (R : ℤ → Type 0) (k : Choosing) (vs : List ℕ) (start : Bucket) → AreAlike R k.world vs → HasIn R k.world.buckets start → LeadsIn R k start
+leads_in R k vs start s h = record {
+  leaf = λ r p accepts rs leaf is e. leaf_in R k.world vs accepts rs p.item leaf s (descent_in R k.world vs r k.choose.level start.level start p s h is) e;
+  bare = λ r p is none. descent_in R k.world vs r k.choose.level start.level start p s h is;
+}
+
 -- ---- packing
 
 -- an item comes to the same under both lists
@@ -51,15 +63,15 @@ attempt_same R k vs chosen r item s holds device =
     ap (λ l. attempt_by held k.choose.to_leaf (eqb k.choose.level 0 && is_out k.world item) l item) leaf
     ∙ ap (λ b. attempt_by held k.choose.to_leaf b (leaf_below v (is_free v chosen) (numbers_from r k.tries.leaf) item) item) (barred_same R k.world vs k.choose.level item s holds device)
 
--- and its leaf is in the set
-attempt_in : (R : ℤ → Type 0) (k : Choosing) (vs : List ℕ) (chosen : List Choice) (r : ℕ) (item : ℤ) (e : Choice) → AreAlike R k.world vs → R item → attempt_with k chosen r item ≡ Chosen e → R e.leaf
+-- the leaf of a chosen item is in a set of leaves
+attempt_in : (D : ℤ → Type 0) (k : Choosing) (chosen : List Choice) (r : ℕ) (item : ℤ) (e : Choice) → ((accepts : ℤ → Bool) (rs : List (Bucket → ℕ)) (leaf : ℤ) → leaf_below k.world accepts rs item ≡ Some leaf → D leaf) → (k.choose.to_leaf ≡ false → D item) → attempt_with k chosen r item ≡ Chosen e → D e.leaf
 unfolding attempt_with attempt_by
-attempt_in R k vs chosen r item e s holds h =
+attempt_in D k chosen r item e leaves bare h =
     let rs = numbers_from r k.tries.leaf in
     let is = chosen_by (list_any (λ o. int_eq o.item item) chosen) k.choose.to_leaf (eqb k.choose.level 0 && is_out k.world item) (leaf_below k.world (is_free k.world chosen) rs item) item e h in
     elim (cases_Bool k.choose.to_leaf) [
-      | inl leafy ↦ leaf_in R k.world vs (is_free k.world chosen) rs item e.leaf s holds (is.taken leafy)
-      | inr bare ↦ subst R (is.item_is ∙ sym (is.itself bare).0) holds
+      | inl leafy ↦ leaves (is_free k.world chosen) rs e.leaf (is.taken leafy)
+      | inr none ↦ subst D (is.item_is ∙ sym (is.itself none).0) (bare none)
     ]
 
 -- so does what a descent found
@@ -67,10 +79,10 @@ attempt_at_same : (R : ℤ → Type 0) (k : Choosing) (vs : List ℕ) (chosen : 
 attempt_at_same R k vs chosen r None s h q = refl
 attempt_at_same R k vs chosen r (Some p) s h q = attempt_same R k vs chosen r p.item s (h p refl) (q p refl)
 
--- and its leaf is in the set
-attempt_at_in : (R : ℤ → Type 0) (k : Choosing) (vs : List ℕ) (chosen : List Choice) (r : ℕ) (found : Option Picked) (e : Choice) → AreAlike R k.world vs → ((p : Picked) → found ≡ Some p → R p.item) → attempt_at k chosen r found ≡ Chosen e → R e.leaf
-attempt_at_in R k vs chosen r None e s h is = absurd (cc)
-attempt_at_in R k vs chosen r (Some p) e s h is = attempt_in R k vs chosen r p.item e s (h p refl) is
+-- so is that of what a descent found
+attempt_at_in : (D : ℤ → Type 0) (k : Choosing) (chosen : List Choice) (r : ℕ) (found : Option Picked) (e : Choice) → ((p : Picked) (accepts : ℤ → Bool) (rs : List (Bucket → ℕ)) (leaf : ℤ) → found ≡ Some p → leaf_below k.world accepts rs p.item ≡ Some leaf → D leaf) → ((p : Picked) → found ≡ Some p → k.choose.to_leaf ≡ false → D p.item) → attempt_at k chosen r found ≡ Chosen e → D e.leaf
+attempt_at_in D k chosen r None e leaves bare is = absurd (cc)
+attempt_at_in D k chosen r (Some p) e leaves bare is = attempt_in D k chosen r p.item e (λ accepts rs leaf. leaves p accepts rs leaf refl) (bare p refl) is
 
 -- so does a try
 attempt_of_same : (R : ℤ → Type 0) (k : Choosing) (vs : List ℕ) (chosen : List Choice) (start : Bucket) (r : ℕ) → AreAlike R k.world vs → HasIn R k.world.buckets start → attempt_of k chosen start r ≡ attempt_of (other_step k vs) chosen start r
@@ -79,11 +91,11 @@ attempt_of_same R k vs chosen start r s h =
     attempt_at_same R k vs chosen r (item_below k.world (λ _. r) k.choose.level start) s (λ p is. descent_in R k.world vs (λ _. r) k.choose.level start.level start p s h is) (λ p is e. device_at R k.world vs (λ _. r) k.choose.level start p s h is e)
     ∙ ap (attempt_at (other_step k vs) chosen r) (descent_same k.world vs (λ _. r) k.choose.level start.level start)
 
--- and its leaf is in the set
-attempt_of_in : (R : ℤ → Type 0) (k : Choosing) (vs : List ℕ) (chosen : List Choice) (start : Bucket) (r : ℕ) (e : Choice) → AreAlike R k.world vs → HasIn R k.world.buckets start → attempt_of k chosen start r ≡ Chosen e → R e.leaf
+-- and of what a try chose
+attempt_of_in : (D : ℤ → Type 0) (k : Choosing) (chosen : List Choice) (start : Bucket) (r : ℕ) (e : Choice) → LeadsIn D k start → attempt_of k chosen start r ≡ Chosen e → D e.leaf
 unfolding attempt_of
-attempt_of_in R k vs chosen start r e s h is =
-    attempt_at_in R k vs chosen r (item_below k.world (λ _. r) k.choose.level start) e s (λ p found. descent_in R k.world vs (λ _. r) k.choose.level start.level start p s h found) is
+attempt_of_in D k chosen start r e s is =
+    attempt_at_in D k chosen r (item_below k.world (λ _. r) k.choose.level start) e (λ p accepts rs leaf. s.leaf (λ _. r) p accepts rs leaf) (λ p. s.bare (λ _. r) p) is
 
 -- so does a replica
 replica_same : (R : ℤ → Type 0) (k : Choosing) (vs : List ℕ) (chosen : List Choice) (start : Bucket) (n r : ℕ) → AreAlike R k.world vs → HasIn R k.world.buckets start → replica_of k chosen start n r ≡ replica_of (other_step k vs) chosen start n r
@@ -92,13 +104,13 @@ replica_same R k vs chosen start n r s h =
     let each : attempt_of k chosen start ≡ attempt_of (other_step k vs) chosen start = λ i r. attempt_of_same R k vs chosen start r s h i in
     ap (λ (f : ℕ → Attempt). unwrap_or (find (λ a. not (is_failed a)) (map f (range_with_len r n))) Failed) each
 
--- and its leaf is in the set
-replica_in : (R : ℤ → Type 0) (k : Choosing) (vs : List ℕ) (chosen : List Choice) (start : Bucket) (n r : ℕ) (e : Choice) → AreAlike R k.world vs → HasIn R k.world.buckets start → replica_of k chosen start n r ≡ Chosen e → R e.leaf
+-- and of a replica
+replica_in : (D : ℤ → Type 0) (k : Choosing) (chosen : List Choice) (start : Bucket) (n r : ℕ) (e : Choice) → LeadsIn D k start → replica_of k chosen start n r ≡ Chosen e → D e.leaf
 unfolding replica_of
-replica_in R k vs chosen start zero r e s h is = absurd (cc)
-replica_in R k vs chosen start (suc n) r e s h is = elim (first_of (attempt_of k chosen start r) (find (λ a. not (is_failed a)) (map (attempt_of k chosen start) (range_with_len (r + 1) n))) e is) [
-  | inl here ↦ attempt_of_in R k vs chosen start r e s h here
-  | inr later ↦ replica_in R k vs chosen start n (r + 1) e s h later
+replica_in D k chosen start zero r e s is = absurd (cc)
+replica_in D k chosen start (suc n) r e s is = elim (first_of (attempt_of k chosen start r) (find (λ a. not (is_failed a)) (map (attempt_of k chosen start) (range_with_len (r + 1) n))) e is) [
+  | inl here ↦ attempt_of_in D k chosen start r e s here
+  | inr later ↦ replica_in D k chosen start n (r + 1) e s later
 ]
 
 -- one replica more
@@ -122,12 +134,12 @@ either_in : (R : ℤ → Type 0) (more : Bool) (xs ys : List Choice) → All (λ
 either_in R true xs ys p q = p
 either_in R false xs ys p q = q
 
--- and what it gives is in the set
-pub firstn_in : (R : ℤ → Type 0) (k : Choosing) (vs : List ℕ) (start : Bucket) (limit : ℕ) → AreAlike R k.world vs → HasIn R k.world.buckets start → All (λ e. R e.leaf) (firstn k start limit)
+-- so the leaves of all that is packed are in the set
+pub firstn_in : (D : ℤ → Type 0) (k : Choosing) (start : Bucket) (limit : ℕ) → LeadsIn D k start → All (λ e. D e.leaf) (firstn k start limit)
 unfolding firstn
-firstn_in R k vs start limit s h =
-    fold_keeps (All (λ e. R e.leaf)) (after_replica k start limit)
-    (λ chosen rep all. either_in R (ltb (length chosen) limit) _ chosen (with_in R chosen (replica_of k chosen start k.tries.total rep) all (λ e is. replica_in R k vs chosen start k.tries.total rep e s h is)) all)
+firstn_in D k start limit s =
+    fold_keeps (All (λ e. D e.leaf)) (after_replica k start limit)
+    (λ chosen rep all. either_in D (ltb (length chosen) limit) _ chosen (with_in D chosen (replica_of k chosen start k.tries.total rep) all (λ e is. replica_in D k chosen start k.tries.total rep e s is)) all)
     [] (range_with_len 0 k.numrep) (λ i d within. absurd (omega arith))
 
 -- ---- choosing for positions
@@ -150,16 +162,16 @@ position_same R k vs positions rep p s holds device =
     ap (λ l. position_by held k.choose.to_leaf (eqb k.choose.level 0 && is_out k.world p.item) l p.item) leaf
     ∙ ap (λ b. position_by held k.choose.to_leaf b (leaf_below v (accepts v) rs p.item) p.item) (barred_same R k.world vs k.choose.level p.item s holds device)
 
--- and fills it with a leaf in the set
-filled_in : (R : ℤ → Type 0) (k : Choosing) (vs : List ℕ) (positions : List Position) (rep : ℕ) (p : Picked) (e : Choice) → AreAlike R k.world vs → R p.item → position_with k positions rep p ≡ Filled e → R e.leaf
+-- the leaf of an item that fills a position is in a set of leaves
+filled_in : (D : ℤ → Type 0) (k : Choosing) (positions : List Position) (rep : ℕ) (p : Picked) (e : Choice) → ((accepts : ℤ → Bool) (rs : List (Bucket → ℕ)) (leaf : ℤ) → leaf_below k.world accepts rs p.item ≡ Some leaf → D leaf) → (k.choose.to_leaf ≡ false → D p.item) → position_with k positions rep p ≡ Filled e → D e.leaf
 unfolding position_with position_by
-filled_in R k vs positions rep p e s holds h =
+filled_in D k positions rep p e leaves bare h =
     let accepts : ℤ → Bool = λ d. not (is_out k.world d) in
     let rs = numbers_in k.numrep (rep + p.r) k.tries.leaf in
     let is = filled_by (list_any (holds_item p.item) positions) k.choose.to_leaf (eqb k.choose.level 0 && is_out k.world p.item) (leaf_below k.world accepts rs p.item) p.item e h in
     elim (cases_Bool k.choose.to_leaf) [
-      | inl leafy ↦ leaf_in R k.world vs accepts rs p.item e.leaf s holds (is.taken leafy)
-      | inr bare ↦ subst R (sym (is.itself bare).0) holds
+      | inl leafy ↦ leaves accepts rs e.leaf (is.taken leafy)
+      | inr none ↦ subst D (sym (is.itself none).0) (bare none)
     ]
 
 -- so does what a descent found
@@ -167,10 +179,10 @@ position_at_same : (R : ℤ → Type 0) (k : Choosing) (vs : List ℕ) (position
 position_at_same R k vs positions rep None s h q = refl
 position_at_same R k vs positions rep (Some p) s h q = position_same R k vs positions rep p s (h p refl) (q p refl)
 
--- and its leaf is in the set
-position_at_in : (R : ℤ → Type 0) (k : Choosing) (vs : List ℕ) (positions : List Position) (rep : ℕ) (found : Option Picked) (e : Choice) → AreAlike R k.world vs → ((p : Picked) → found ≡ Some p → R p.item) → position_at k positions rep found ≡ Filled e → R e.leaf
-position_at_in R k vs positions rep None e s h is = absurd (cc)
-position_at_in R k vs positions rep (Some p) e s h is = filled_in R k vs positions rep p e s (h p refl) is
+-- so is that of what a descent found
+position_at_in : (D : ℤ → Type 0) (k : Choosing) (positions : List Position) (rep : ℕ) (found : Option Picked) (e : Choice) → ((p : Picked) (accepts : ℤ → Bool) (rs : List (Bucket → ℕ)) (leaf : ℤ) → found ≡ Some p → leaf_below k.world accepts rs p.item ≡ Some leaf → D leaf) → ((p : Picked) → found ≡ Some p → k.choose.to_leaf ≡ false → D p.item) → position_at k positions rep found ≡ Filled e → D e.leaf
+position_at_in D k positions rep None e leaves bare is = absurd (cc)
+position_at_in D k positions rep (Some p) e leaves bare is = filled_in D k positions rep p e (λ accepts rs leaf. leaves p accepts rs leaf refl) (bare p refl) is
 
 -- a position becomes the same in a round
 position_of_same : (R : ℤ → Type 0) (k : Choosing) (vs : List ℕ) (start : Bucket) (round : ℕ) (positions : List Position) (rep : ℕ) → AreAlike R k.world vs → HasIn R k.world.buckets start → position_of k start round positions rep ≡ position_of (other_step k vs) start round positions rep
@@ -186,12 +198,12 @@ held_in R Open h = tt
 held_in R Hole h = tt
 held_in R (Filled e) h = h e refl
 
--- so does a position of a round
-position_of_in : (R : ℤ → Type 0) (k : Choosing) (vs : List ℕ) (start : Bucket) (round : ℕ) (positions : List Position) (rep : ℕ) → AreAlike R k.world vs → HasIn R k.world.buckets start → HoldsIn R (position_of k start round positions rep)
+-- and what a position becomes in a round
+position_of_in : (D : ℤ → Type 0) (k : Choosing) (start : Bucket) (round : ℕ) (positions : List Position) (rep : ℕ) → LeadsIn D k start → HoldsIn D (position_of k start round positions rep)
 unfolding position_of
-position_of_in R k vs start round positions rep s h =
+position_of_in D k start round positions rep s =
     let r = number_in k.numrep rep round in
-    held_in R _ (λ e is. position_at_in R k vs positions rep (item_below k.world r k.choose.level start) e s (λ p found. descent_in R k.world vs r k.choose.level start.level start p s h found) is)
+    held_in D _ (λ e is. position_at_in D k positions rep (item_below k.world r k.choose.level start) e (λ p accepts rs leaf. s.leaf r p accepts rs leaf) (λ p. s.bare r p) is)
 
 -- a round is the same
 round_same : (R : ℤ → Type 0) (k : Choosing) (vs : List ℕ) (start : Bucket) → AreAlike R k.world vs → HasIn R k.world.buckets start → after_round k start ≡ after_round (other_step k vs) start
@@ -210,13 +222,13 @@ turn_in R ps rep p true holds all = All-set (HoldsIn R) ps rep p holds all
 turn_in R ps rep p false holds all = all
 
 -- nor does a round
-round_in : (R : ℤ → Type 0) (k : Choosing) (vs : List ℕ) (start : Bucket) (positions : List Position) (round : ℕ) → AreAlike R k.world vs → HasIn R k.world.buckets start → All (HoldsIn R) positions → All (HoldsIn R) (after_round k start positions round)
+round_in : (D : ℤ → Type 0) (k : Choosing) (start : Bucket) (positions : List Position) (round : ℕ) → LeadsIn D k start → All (HoldsIn D) positions → All (HoldsIn D) (after_round k start positions round)
 unfolding after_round
-round_in R k vs start positions round s h all =
-    fold_keeps (All (HoldsIn R)) (after_turn k start round) (λ ps rep q. turn_in R ps rep _ (is_open (get_or ps rep Hole)) (position_of_in R k vs start round ps rep s h) q) positions (range_with_len 0 (length positions)) all
+round_in D k start positions round s all =
+    fold_keeps (All (HoldsIn D)) (after_turn k start round) (λ ps rep q. turn_in D ps rep _ (is_open (get_or ps rep Hole)) (position_of_in D k start round ps rep s) q) positions (range_with_len 0 (length positions)) all
 
--- and what it gives is in the set
-pub indep_in : (R : ℤ → Type 0) (k : Choosing) (vs : List ℕ) (start : Bucket) (count : ℕ) → AreAlike R k.world vs → HasIn R k.world.buckets start → All (HoldsIn R) (indep k start count)
+-- so the leaves of all positions are in the set
+pub indep_in : (D : ℤ → Type 0) (k : Choosing) (start : Bucket) (count : ℕ) → LeadsIn D k start → All (HoldsIn D) (indep k start count)
 unfolding indep
-indep_in R k vs start count s h =
-    fold_keeps (All (HoldsIn R)) (after_round k start) (λ ps round q. round_in R k vs start ps round s h q) (replicate count Open) (range_with_len 0 k.tries.total) (All-replicate (HoldsIn R) count Open tt)
+indep_in D k start count s =
+    fold_keeps (All (HoldsIn D)) (after_round k start) (λ ps round q. round_in D k start ps round s q) (replicate count Open) (range_with_len 0 k.tries.total) (All-replicate (HoldsIn D) count Open tt)

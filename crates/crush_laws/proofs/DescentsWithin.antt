@@ -104,7 +104,7 @@ descent_device R w vs r (suc n) b p s h e =
     (λ below is later. descent_device R w vs r n below p s (s.below item below holds is) later) e
 
 -- the item of a descent that found one
-device_by : (o : Option Picked) (d : ℤ) → option_map (λ p. p.item) o ≡ Some d → (p : Picked) × (o ≡ Some p) × (p.item ≡ d)
+pub device_by : (o : Option Picked) (d : ℤ) → option_map (λ p. p.item) o ≡ Some d → (p : Picked) × (o ≡ Some p) × (p.item ≡ d)
 device_by None d h = absurd (cc)
 device_by (Some p) d h = (p, refl, cc)
 
@@ -146,7 +146,7 @@ leaf_same R w vs accepts accepts' rs item s holds alike =
     either_bucket (bucket_at w.buckets item) _ _ (λ b is. sought_same R w vs accepts accepts' b rs s (s.below item b holds is) alike)
 
 -- one more device in a search that stays in the set
-found_by : (R : ℤ → Type 0) (accepts : ℤ → Bool) (o : Option ℤ) (xs : List ℤ) (found : ℤ) → ((d : ℤ) → o ≡ Some d → R d) → (find accepts xs ≡ Some found → R found) → find accepts (cons_option o xs) ≡ Some found → R found
+pub found_by : (R : ℤ → Type 0) (accepts : ℤ → Bool) (o : Option ℤ) (xs : List ℤ) (found : ℤ) → ((d : ℤ) → o ≡ Some d → R d) → (find accepts xs ≡ Some found → R found) → find accepts (cons_option o xs) ≡ Some found → R found
 found_by R accepts None xs found here later h = later h
 found_by R accepts (Some d) xs found here later h = taken (accepts d) h
   where
@@ -161,7 +161,7 @@ found_in R w vs accepts b (r ∷ rs) found s h e =
     found_by R accepts (device_below w b r) (filter_map (device_below w b) rs) found (λ d is. device_in R w vs b r d s h is) (found_in R w vs accepts b rs found s h) e
 
 -- what is found below the bucket that is there
-leaf_by : (R : ℤ → Type 0) (o : Option Bucket) (f : Bucket → Option ℤ) (leaf : ℤ) → ((b : Bucket) → o ≡ Some b → f b ≡ Some leaf → R leaf) → option_and_then f o ≡ Some leaf → R leaf
+pub leaf_by : (R : ℤ → Type 0) (o : Option Bucket) (f : Bucket → Option ℤ) (leaf : ℤ) → ((b : Bucket) → o ≡ Some b → f b ≡ Some leaf → R leaf) → option_and_then f o ≡ Some leaf → R leaf
 leaf_by R None f leaf h e = absurd (cc)
 leaf_by R (Some b) f leaf h e = h b refl e
 

@@ -11,3 +11,4 @@ pub mod DescentEnds
 pub mod ItemsLeadDown
 pub mod RuleBlocks
 pub mod RunsFit
+pub mod DevicesPlaced

@@ -1,6 +1,5 @@
 -- What a rule emits is cut at the size of the pool.
-use Rattle.std.proofs.Common.{◌≡◌, ℕ, ◌≤◌, ℤ, List, [], ◌++◌, length, take, Option, arith}
-use Rattle.std.specs.List.{fold}
+use Rattle.std.proofs.Common.{ℕ, ◌≤◌, ◌++◌, length, arith}
 use Rattle.std.proofs.lemmas.List.{length-take}
 use Rattle.crush.specs.declared.step.Step.{Step}
 use Rattle.crush.specs.declared.step.Step.TheVariants.{SetChooseTries, SetChooseleafTries, Take, Choose as Chooses, Emit}

@@ -87,7 +87,7 @@ typed buckets id b forest e =
     grind (arith, nat_tests, level)
 
 -- a known item of type 0 is a device
-known_device : (buckets : List Bucket) (id : ℤ) → IsForest buckets → is_known buckets 1024 id ≡ true → level_of buckets id ≡ 0 → IsDevice id
+pub known_device : (buckets : List Bucket) (id : ℤ) → IsForest buckets → is_known buckets 1024 id ≡ true → level_of buckets id ≡ 0 → IsDevice id
 known_device buckets (pos n) forest known none = record { osd = n; is = refl }
 known_device buckets (negsuc n) forest known none =
     let there = is_there (bucket_at buckets (negsuc n)) known in

@@ -18,7 +18,7 @@ use Rattle.crush.specs.Firstn.{firstn}
 use Rattle.crush.specs.Indep.{indep, leaf_at}
 use Rattle.crush.specs.Run.{segment_by, segment_of, after_bucket, after_entry, choosing_of, Progress, no_progress, after_step, run_of}
 use Rattle.crush_laws.proofs.DescentsWithin.{other, HasIn, AreAlike}
-use Rattle.crush_laws.proofs.ChoicesWithin.{other_step, firstn_same, firstn_in, HoldsIn, indep_same, indep_in}
+use Rattle.crush_laws.proofs.ChoicesWithin.{other_step, LeadsIn, leads_in, firstn_same, firstn_in, HoldsIn, indep_same, indep_in}
 
 -- an entry that names nothing outside the set
 abbrev pub IsIn : (ℤ → Type 0) → Option ℤ → Type 0
@@ -44,12 +44,12 @@ leaf_is_in R Open h = tt
 leaf_is_in R Hole h = tt
 leaf_is_in R (Filled e) h = h
 
--- and it is in the set
-segment_by_in : (R : ℤ → Type 0) (mode : Mode) (k : Choosing) (vs : List ℕ) (b : Bucket) (room : ℕ) → AreAlike R k.world vs → HasIn R k.world.buckets b → All (IsIn R) (segment_by mode k b room)
-segment_by_in R Firstn k vs b room s h = All-map (IsIn R) (λ (e : Choice). Some e.leaf) (firstn k b room) (firstn_in R k vs b room s h)
-segment_by_in R Indep k vs b room s h =
+-- the segment below a bucket is in the set of what its items lead to
+pub segment_by_in : (D : ℤ → Type 0) (mode : Mode) (k : Choosing) (b : Bucket) (room : ℕ) → LeadsIn D k b → All (IsIn D) (segment_by mode k b room)
+segment_by_in D Firstn k b room s = All-map (IsIn D) (λ (e : Choice). Some e.leaf) (firstn k b room) (firstn_in D k b room s)
+segment_by_in D Indep k b room s =
     let ps = indep k b (min k.numrep room) in
-    All-map (IsIn R) leaf_at ps (All-weaker (HoldsIn R) (λ p. IsIn R (leaf_at p)) (leaf_is_in R) ps (indep_in R k vs b (min k.numrep room) s h))
+    All-map (IsIn D) leaf_at ps (All-weaker (HoldsIn D) (λ p. IsIn D (leaf_at p)) (leaf_is_in D) ps (indep_in D k b (min k.numrep room) s))
 
 -- an entry of the working list
 bucket_same : (R : ℤ → Type 0) (k : Choosing) (vs : List ℕ) (size : ℕ) (found : List (Option ℤ)) (o : Option Bucket) → AreAlike R k.world vs → ((b : Bucket) → o ≡ Some b → HasIn R k.world.buckets b) → after_bucket k size found o ≡ after_bucket (other_step k vs) size found o
@@ -57,11 +57,11 @@ unfolding segment_of
 bucket_same R k vs size found None s h = refl
 bucket_same R k vs size found (Some b) s h = ap (λ ys. found ++ ys) (segment_by_same R k.choose.mode k vs b (size - length found) s (h b refl))
 
--- and it adds nothing outside the set
-bucket_in : (R : ℤ → Type 0) (k : Choosing) (vs : List ℕ) (size : ℕ) (found : List (Option ℤ)) (o : Option Bucket) → AreAlike R k.world vs → ((b : Bucket) → o ≡ Some b → HasIn R k.world.buckets b) → All (IsIn R) found → All (IsIn R) (after_bucket k size found o)
+-- so is what a bucket of the working list adds
+pub bucket_in : (D : ℤ → Type 0) (k : Choosing) (size : ℕ) (found : List (Option ℤ)) (o : Option Bucket) → ((b : Bucket) → o ≡ Some b → LeadsIn D k b) → All (IsIn D) found → All (IsIn D) (after_bucket k size found o)
 unfolding segment_of
-bucket_in R k vs size found None s h all = all
-bucket_in R k vs size found (Some b) s h all = All-append (IsIn R) found _ all (segment_by_in R k.choose.mode k vs b (size - length found) s (h b refl))
+bucket_in D k size found None s all = all
+bucket_in D k size found (Some b) s all = All-append (IsIn D) found _ all (segment_by_in D k.choose.mode k b (size - length found) (s b refl))
 
 -- an entry adds the same
 entry_same : (R : ℤ → Type 0) (k : Choosing) (vs : List ℕ) (size : ℕ) (found : List (Option ℤ)) (entry : Option ℤ) → AreAlike R k.world vs → IsIn R entry → after_entry k size found entry ≡ after_entry (other_step k vs) size found entry
@@ -71,7 +71,7 @@ entry_same R k vs size found (Some item) s holds = bucket_same R k vs size found
 -- and nothing outside the set
 entry_in : (R : ℤ → Type 0) (k : Choosing) (vs : List ℕ) (size : ℕ) (found : List (Option ℤ)) (entry : Option ℤ) → AreAlike R k.world vs → IsIn R entry → All (IsIn R) found → All (IsIn R) (after_entry k size found entry)
 entry_in R k vs size found None s holds all = all
-entry_in R k vs size found (Some item) s holds all = bucket_in R k vs size found (bucket_at k.world.buckets item) s (λ b is. s.below item b holds is) all
+entry_in R k vs size found (Some item) s holds all = bucket_in R k size found (bucket_at k.world.buckets item) (λ b is. leads_in R k vs b s (s.below item b holds is)) all
 
 -- the working list
 working_same : (R : ℤ → Type 0) (k : Choosing) (vs : List ℕ) (size : ℕ) (found working : List (Option ℤ)) → AreAlike R k.world vs → All (IsIn R) working → fold (after_entry k size) found working ≡ fold (after_entry (other_step k vs) size) found working

@@ -7,7 +7,7 @@ ghost use Rattle.crush_laws.specs.Rules.{RulesAreBlocks};
 ghost use Rattle.crush_laws.specs.Picks.{DrawsEachPlaceOnce, UniformPicksEachOnce, ListPicksGreatestWinner, TreePicksWeight, TreesAreWalkedByNodes, TreesHaveShapes};
 ghost use Rattle.crush_laws.specs.Descents.{DescentEnds};
 ghost use Rattle.crush_laws.specs.Choices.{FirstnIsSegment, IndepIsPositions, IndepKeepsPositions, IndepLooksBack};
-ghost use Rattle.crush_laws.specs.Runs.{RunsFit, RunPlacesReached, RunReadsReached};
+ghost use Rattle.crush_laws.specs.Runs.{RunsFit, RunPlacesDevices, RunPlacesReached, RunReadsReached};
 
 /// Each item of a bucket of a forest is a device, or a bucket of a lower type.
 pub fn buckets_lead_down()
@@ -78,6 +78,11 @@ pub fn indep_looks_back()
 /// A rule places no more than the size of the pool.
 pub fn runs_fit()
     ensures { RunsFit }
+{}
+
+/// What a rule places are devices.
+pub fn run_places_devices()
+    ensures { RunPlacesDevices }
 {}
 
 /// Every device that a rule places is one that it reaches.

@@ -1,4 +1,4 @@
-use Rattle.std.proofs.Common.{◌≡◌, take, []}
+use Rattle.std.proofs.Common.{◌≡◌, take}
 use Rattle.std.specs.List.{fold}
 use Rattle.crush.specs.Placed.{world, progress}
 use Rattle.crush.specs.Run.{no_progress, after_step}
