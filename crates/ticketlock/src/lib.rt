@@ -11,6 +11,8 @@ pub mod read_guard;
 mod reading;
 mod slots;
 mod table;
+#[cfg(test)]
+mod tests;
 pub mod tokens;
 pub mod turn;
 pub mod view;
