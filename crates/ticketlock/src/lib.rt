@@ -7,6 +7,7 @@ pub mod fact;
 pub mod laws;
 pub mod limits;
 pub mod lock;
+mod patience;
 pub mod read_guard;
 mod reading;
 mod slots;

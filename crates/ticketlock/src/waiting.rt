@@ -5,10 +5,10 @@ ghost use Rattle.ticketlock.specs.Callers.{IsSeatOf, IsQueuedReadOf, IsQueuedWri
 
 use crate::fact::Fact;
 use crate::lock::Lock;
+use crate::patience::Patience;
 use crate::read_guard::ReadGuard;
 use crate::tokens::{QueuedRead, QueuedWrite, Seat, TurnRead, TurnWrite};
 use crate::write_guard::WriteGuard;
-use crossbeam_utils::Backoff;
 use std::sync::Wait;
 
 impl<T: Fact + Drop> Lock<T> {
@@ -17,14 +17,14 @@ impl<T: Fact + Drop> Lock<T> {
         ensures own { IsTurnReadOf self.now result }
         ensures same { IsSame queued.place result.place × (result.place.draws ≡ queued.place.draws) }
     {
-        let backoff = Backoff::new();
+        let mut patience = Patience::new();
         let mut waiting = queued;
         for _ in rt.forever() {
             match self.poll_read(waiting) {
                 Ok(turn) => return turn,
                 Err(again) => waiting = again,
             }
-            backoff.snooze();
+            patience.wait();
         }
         unreachable!()
     }
@@ -33,14 +33,14 @@ impl<T: Fact + Drop> Lock<T> {
         requires { IsTurnReadOf self.now turn }
         ensures { (result.turn ≡ turn) × IsReadOf self.now result }
     {
-        let backoff = Backoff::new();
+        let mut patience = Patience::new();
         let mut waiting = turn;
         for _ in rt.forever() {
             match self.try_read(waiting) {
                 Ok(guard) => return guard,
                 Err(again) => waiting = again,
             }
-            backoff.snooze();
+            patience.wait();
         }
         unreachable!()
     }
@@ -50,14 +50,14 @@ impl<T: Fact + Drop> Lock<T> {
         ensures own { IsTurnWriteOf self.now result }
         ensures same { IsSame queued.place result.place × (result.place.draws ≡ queued.place.draws) }
     {
-        let backoff = Backoff::new();
+        let mut patience = Patience::new();
         let mut waiting = queued;
         for _ in rt.forever() {
             match self.poll_write(waiting) {
                 Ok(turn) => return turn,
                 Err(again) => waiting = again,
             }
-            backoff.snooze();
+            patience.wait();
         }
         unreachable!()
     }
@@ -67,14 +67,14 @@ impl<T: Fact + Drop> Lock<T> {
         ensures same { (result.turn ≡ turn) × IsWriteOf self.now result }
         ensures fact { T.fact (first_of self.now) result.value }
     {
-        let backoff = Backoff::new();
+        let mut patience = Patience::new();
         let mut waiting = turn;
         for _ in rt.forever() {
             match self.try_write(waiting) {
                 Ok(guard) => return guard,
                 Err(again) => waiting = again,
             }
-            backoff.snooze();
+            patience.wait();
         }
         unreachable!()
     }
