@@ -45,3 +45,17 @@ IsAlone views = (i j : ℕ) (v u : View) → get_elem? views i ≡ some v → ge
 abbrev pub Excludes : Type 0
 Excludes = (seats : ℕ) (steps : List (Step × ℕ)) (last : World) → seats ≤ 1024 → Runs (start seats) steps last
     → IsKept last × IsAlone last.views
+
+-- it reads
+abbrev pub IsReading : Stage → Type 0
+IsReading Idle = ⊥
+IsReading (Waiting t kind) = ⊥
+IsReading (Next t) = ⊥
+IsReading (Reading t) = Unit {0}
+IsReading (Writing t) = ⊥
+IsReading (Closing t) = ⊥
+
+-- The rule does not forbid to share: of two seats, some list of steps from the start leads to a world where both read
+abbrev pub CanShare : Type 0
+CanShare = (steps : List (Step × ℕ)) × (last : World) × Runs (start 2) steps last × (v : View) × (u : View)
+    × (last.views ≡ v ∷ u ∷ []) × IsReading v.stage × IsReading u.stage

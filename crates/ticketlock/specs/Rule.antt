@@ -159,8 +159,13 @@ pub record IsCounted (w : World) : Type 0 where
 
 -- The five points
 pub record IsKept (w : World) : Type 0 where
+  -- W is at most R, and R at most U
   pub order : (w.writer_word ≤ w.reader_word) × (w.reader_word ≤ w.draw_word)
+  -- each ticket from R up to below U is held once, and no other is
   pub tickets : IsHeldOnce w
+  -- those who read or close number R - W
   pub insiders : w.writer_word + total (λ v. inside v.stage) w.views ≡ w.reader_word
+  -- who is next has the ticket R; who writes has the ticket R, and W is the same
   pub served : Each (λ v. IsServed w.reader_word w.writer_word v.stage) w.views
+  -- U is the sum of all draws, each seat's at most 2^40
   pub counted : IsCounted w

@@ -24,7 +24,7 @@ mod writing;
 
 pub use error::LockError;
 pub use fact::Fact;
-pub use laws::interleavings;
+pub use laws::{interleavings, sharing};
 pub use lock::Lock;
 pub use read_guard::ReadGuard;
 pub use tokens::{QueuedRead, QueuedWrite, Seat, TurnRead, TurnWrite};

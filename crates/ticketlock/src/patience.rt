@@ -5,8 +5,8 @@ use crossbeam_utils::Backoff;
 /// How often a try follows another at once, before the thread backs off.
 const MAX_QUICK_TRIES: u32 = 200;
 
-/// The tries of a caller that waits. The first follow one another at once, since a hold is short; then it backs off, which
-/// lets other threads run, so that the one that is waited for gets a processor where there are more threads than these.
+/// The tries of a caller that waits. The first follow one another at once, since a hold is short; then it backs off,
+/// which lets other threads run: the one that is waited for may have no processor.
 #[derive(Drop)]
 pub(crate) struct Patience {
     tries: u32,
