@@ -3,7 +3,7 @@ ghost use Rattle.std.specs.Prelude.{◌≡◌, ◌≤◌, IsSome, IsSomeAnd};
 ghost use Rattle.ticketlock.specs.Standing.{IsAt};
 
 use crate::fact::Fact;
-use crate::slots::Hold;
+use crate::slots::{Hold, read_no_more};
 use crate::table::Words;
 use crate::tokens::{Seat, TurnRead};
 
@@ -39,13 +39,13 @@ impl<'a, T: Fact + Drop> ReadGuard<'a, T> {
         ensures { Becomes self.entry.turn.place result.place (gone_out (view_of self.entry.turn.place)) }
     {
         let ReadGuard { words, turn, claim } = self;
-        claim.leave();
+        let back = read_no_more(claim);
         let TurnRead {
             mut place,
             ticket: _,
             here: _,
         } = turn;
-        words.leave(&mut place);
+        words.leave(&mut place, back);
         Seat { place }
     }
 }

@@ -24,6 +24,13 @@ pub(crate) type Slot<T> = Counted<Option<Kept<T>>>;
 /// What was gained at a slot: to read the value there, or to put one there.
 pub(crate) type Hold<'a, T> = Claim<'a, Option<Kept<T>>>;
 
+/// That a caller is done with the slots. Only this module makes one, and the steps that leave the lock ask for it: so
+/// the value is back before another may enter.
+#[derive(Drop)]
+pub(crate) struct Back {
+    made: (),
+}
+
 /// Two slots, of which one has the value while nobody writes.
 #[derive(Drop)]
 pub(crate) struct Slots<T: Fact> {
@@ -100,7 +107,7 @@ impl<T: Fact + Drop> Slots<T> {
     /// Lets readers come to a value that has not been lent yet: a new slot lets none.
     pub fn open(&self) {
         if let Some((value, home)) = self.take() {
-            put_back(home, value);
+            let _ = put_back(home, value);
         }
     }
 
@@ -127,9 +134,18 @@ impl<T: Fact + Drop> Slots<T> {
 }
 
 /// Puts a value back, which cannot fail.
-pub(crate) fn put_back<T: Fact + Drop>(home: Hold<'_, T>, value: T)
+pub(crate) fn put_back<T: Fact + Drop>(home: Hold<'_, T>, value: T) -> Back
     requires right { home.right ≡ 2 }
     requires fact { T.fact home.tag.value value }
 {
     home.put(Some(Kept { value }), PRESENT);
+    Back { made: () }
+}
+
+/// Reads no longer.
+pub(crate) fn read_no_more<T: Fact>(claim: Hold<'_, T>) -> Back
+    requires { claim.right ≡ 1 }
+{
+    claim.leave();
+    Back { made: () }
 }

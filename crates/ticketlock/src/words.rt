@@ -6,6 +6,7 @@ ghost use Rattle.ticketlock.specs.Rule.{drawn_for, looked_at, gone_in, gone_out,
 ghost use Rattle.ticketlock.specs.Places.{opener, one_cut};
 ghost use Rattle.ticketlock.specs.Standing.{IsAt, Becomes, stage_of, view_of};
 
+use crate::slots::Back;
 use crate::table::{
     Cut, DRAW_WORD, DrawRead, DrawWrite, Enter, Leave, Look, Place, READER_WORD, WRITER_WORD, Words,
 };
@@ -101,7 +102,7 @@ impl Words {
     }
 
     /// A reader leaves.
-    pub fn leave(&self, place: &mut Place)
+    pub fn leave(&self, place: &mut Place, _back: Back)
         requires own { IsAt self.now place.old }
         requires reads { (t : ℕ) × (stage_of place.old ≡ Reading t) }
         ensures { Becomes place.old place.new (gone_out (view_of place.old)) }
@@ -111,7 +112,7 @@ impl Words {
     }
 
     /// A writer leaves, first step: the next reader may enter.
-    pub fn close(&self, place: &mut Place)
+    pub fn close(&self, place: &mut Place, _back: Back)
         requires own { IsAt self.now place.old }
         requires writes { (t : ℕ) × (stage_of place.old ≡ Writing t) }
         ensures { Becomes place.old place.new (gone_in (view_of place.old)) }

@@ -51,13 +51,13 @@ impl<'a, T: Fact + Drop> WriteGuard<'a, T> {
             home,
             value,
         } = self;
-        put_back(home, value);
+        let back = put_back(home, value);
         let TurnWrite {
             mut place,
             ticket: _,
             here: _,
         } = turn;
-        words.close(&mut place);
+        words.close(&mut place, back);
         words.end(&mut place);
         Seat { place }
     }

@@ -1,8 +1,8 @@
 -- Both draw to read, and one after the other looks and enters.
-use Rattle.std.proofs.Common.{ℕ, List, [], ◌∷◌, refl, arith}
+use Rattle.std.proofs.Common.{ℕ, [], ◌∷◌, refl, arith}
 use Rattle.ticketlock.specs.declared.view.View.{View}
 use Rattle.ticketlock.specs.declared.view.Kind.TheVariants.{Read}
-use Rattle.ticketlock.specs.Rule.{World, Step, draws, reader_looks, reader_enters, newcomer, drawn_for, looked_at, gone_in, with_view, draw_word_up, reader_word_up}
+use Rattle.ticketlock.specs.Rule.{World, draws, reader_looks, reader_enters, newcomer, drawn_for, looked_at, gone_in, with_view, draw_word_up, reader_word_up}
 use Rattle.ticketlock.specs.Law.{start}
 use Rattle.ticketlock.proofs.laws.sharing.Goals as goal
 
