@@ -1,0 +1,71 @@
+#!/usr/bin/env python3
+"""Measures the lock of `ticketlock` beside a read-write lock of the C library: holds in a second, in 1, 2 and 4 threads.
+
+    locks.py [FOLDER]
+
+Makes in FOLDER (a temporary one if none is given) a small repository of `ticketlock` and the program `lockbench.rt.txt`,
+proves and builds it with `rt run`, builds `lockbench.c` with `cc`, and runs both. Each number is the best of three runs. It is
+no part of the gate.
+"""
+
+import os
+import shutil
+import subprocess
+import sys
+import tempfile
+
+HERE = os.path.dirname(os.path.abspath(__file__))
+CRATE = os.path.join(os.path.dirname(HERE), "crates", "ticketlock")
+ROWS = [("readers alone", 0), ("writers alone", 1), ("99 reads to 1 write", 100)]
+THREADS = [1, 2, 4]
+HOLDS = 2000000
+
+
+def made(folder):
+    """The two programs, built in the folder."""
+    crates = os.path.join(folder, "crates")
+    bench = os.path.join(crates, "lockbench", "src")
+    os.makedirs(bench, exist_ok=True)
+    for part in ("src", "specs", "proofs"):
+        shutil.rmtree(os.path.join(crates, "ticketlock", part), ignore_errors=True)
+        shutil.copytree(os.path.join(CRATE, part), os.path.join(crates, "ticketlock", part))
+    shutil.copy(os.path.join(HERE, "lockbench.rt.txt"), os.path.join(bench, "main.rt"))
+    proofs = os.path.join(crates, "lockbench", "proofs")
+    os.makedirs(os.path.join(proofs, "work"), exist_ok=True)
+    shutil.copy(os.path.join(HERE, "lockbench.antt.txt"), os.path.join(proofs, "work", "Invariants.antt"))
+    with open(os.path.join(proofs, "Lib.antt"), "w", encoding="utf-8"):
+        pass
+    with open(os.path.join(folder, "crates.txt"), "w", encoding="utf-8") as f:
+        f.write("ticketlock: atomic_table counted_slot crossbeam_utils\nlockbench: ticketlock\n")
+    with open(os.path.join(folder, "HANDLES"), "w", encoding="utf-8") as f:
+        f.write("Handles allowed: Threads, Wait.\n")
+    ours = os.path.join(crates, "lockbench", "out", "lockbench")
+    subprocess.run(["rt", "run", "--", "1", "0", "1"], cwd=os.path.join(crates, "lockbench"), check=False,
+                   stdout=subprocess.DEVNULL)
+    theirs = os.path.join(folder, "lockbench-c")
+    subprocess.run(["cc", "-O2", "-pthread", "-o", theirs, os.path.join(HERE, "lockbench.c")], check=True)
+    return ours, theirs
+
+
+def nanoseconds(program, threads, every):
+    """The nanoseconds a hold, at best."""
+    times = []
+    for _ in range(3):
+        run = subprocess.run([program, str(threads), str(every), str(HOLDS)], capture_output=True, text=True, check=True)
+        times.append(int(run.stdout.split()[0]))
+    return min(times) / (threads * HOLDS)
+
+
+def main():
+    folder = sys.argv[1] if len(sys.argv) > 1 else tempfile.mkdtemp()
+    os.makedirs(folder, exist_ok=True)
+    ours, theirs = made(folder)
+    print(f"{'holds':22}{'threads':>8}{'ours, million/s':>18}{'C library':>12}{'ours/C':>8}{'ours, ns a hold':>18}")
+    for name, every in ROWS:
+        for threads in THREADS:
+            one, other = nanoseconds(ours, threads, every), nanoseconds(theirs, threads, every)
+            print(f"{name:22}{threads:8}{1000 / one:18.2f}{1000 / other:12.2f}{other / one:8.2f}{one:18.1f}", flush=True)
+
+
+if __name__ == "__main__":
+    main()

@@ -1,0 +1,10 @@
+pub mod Totals
+pub mod Views
+pub mod Draws
+pub mod Looks
+pub mod Entering
+pub mod Leaving
+pub mod Steps
+pub mod Runs
+pub mod Moves
+pub mod Cutting

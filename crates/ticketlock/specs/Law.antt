@@ -1,0 +1,61 @@
+-- What every list of steps keeps.
+use Rattle.std.specs.Prelude.{◌≡◌, ℕ, ◌≤◌, List, [], ◌∷◌, replicate}
+use mathlib.Core.Option.{some}
+use lib.ListN.{get_elem?}
+use Rattle.ticketlock.specs.declared.view.View.{View}
+use Rattle.ticketlock.specs.declared.view.Stage.{Stage}
+use Rattle.ticketlock.specs.declared.view.Stage.TheVariants.{Idle, Waiting, Next, Reading, Writing, Closing}
+use Rattle.ticketlock.specs.Rule.{World, Step, Takes, IsKept, newcomer}
+
+-- so many seats that are idle, and three words of 0
+abbrev pub start : ℕ → World
+start seats = record { draw_word = 0; reader_word = 0; writer_word = 0; views = replicate seats newcomer }
+
+-- the steps, each with the number of its seat, lead from the first world to the last
+abbrev pub Runs : World → List (Step × ℕ) → World → Type 0
+Runs first [] last = last ≡ first
+Runs first (s ∷ steps) last = (next : World) × (v : View) × (get_elem? first.views s.1 ≡ some v)
+    × Takes s.0 first s.1 v next × Runs next steps last
+
+-- it writes
+abbrev pub IsWriting : Stage → Type 0
+IsWriting Idle = ⊥
+IsWriting (Waiting t kind) = ⊥
+IsWriting (Next t) = ⊥
+IsWriting (Reading t) = ⊥
+IsWriting (Writing t) = Unit {0}
+IsWriting (Closing t) = ⊥
+
+-- it reads, closes or writes
+abbrev pub IsIn : Stage → Type 0
+IsIn Idle = ⊥
+IsIn (Waiting t kind) = ⊥
+IsIn (Next t) = ⊥
+IsIn (Reading t) = Unit {0}
+IsIn (Writing t) = Unit {0}
+IsIn (Closing t) = Unit {0}
+
+-- no seat that writes stands beside another that reads, closes or writes
+abbrev pub IsAlone : List View → Type 0
+IsAlone views = (i j : ℕ) (v u : View) → get_elem? views i ≡ some v → get_elem? views j ≡ some u → IsWriting v.stage
+    → IsIn u.stage → i ≡ j
+
+-- The law: of at most 1,024 seats, every list of steps from the start leads to a world that keeps the rule, and where
+-- a writer is alone
+abbrev pub Excludes : Type 0
+Excludes = (seats : ℕ) (steps : List (Step × ℕ)) (last : World) → seats ≤ 1024 → Runs (start seats) steps last
+    → IsKept last × IsAlone last.views
+
+-- it reads
+abbrev pub IsReading : Stage → Type 0
+IsReading Idle = ⊥
+IsReading (Waiting t kind) = ⊥
+IsReading (Next t) = ⊥
+IsReading (Reading t) = Unit {0}
+IsReading (Writing t) = ⊥
+IsReading (Closing t) = ⊥
+
+-- The rule does not forbid to share: of two seats, some list of steps from the start leads to a world where both read
+abbrev pub CanShare : Type 0
+CanShare = (steps : List (Step × ℕ)) × (last : World) × Runs (start 2) steps last × (v : View) × (u : View)
+    × (last.views ≡ v ∷ u ∷ []) × IsReading v.stage × IsReading u.stage

@@ -1,0 +1,133 @@
+//! The steps on the lock's words, one function for each kind.
+ghost use Rattle.std.specs.Prelude.{◌≡◌, ℕ, ◌≤◌, ◌<◌, ◌^◌, IfOk, IsTrue, ◌↔◌};
+ghost use Rattle.ticketlock.specs.declared.view.Stage.TheVariants.{Idle, Waiting, Next, Reading, Writing, Closing};
+ghost use Rattle.ticketlock.specs.declared.view.Kind.TheVariants.{Read, Write};
+ghost use Rattle.ticketlock.specs.Rule.{drawn_for, looked_at, gone_in, gone_out, newcomer};
+ghost use Rattle.ticketlock.specs.Places.{opener, one_cut};
+ghost use Rattle.ticketlock.specs.Standing.{IsAt, Becomes, stage_of, view_of};
+
+use crate::slots::Back;
+use crate::table::{
+    Cut, DRAW_WORD, DrawRead, DrawWrite, Enter, Leave, Look, Place, READER_WORD, WRITER_WORD, Words,
+};
+use atomic_table::Table;
+use std::alloc::{AllocError, Global};
+
+impl Words {
+    /// Three words of 0, and the place of the first seat, from which the others are cut off.
+    pub fn new(alloc: Global, seats: u32, limit: u64) -> Result<(Words, Place), AllocError>
+        requires { (0 < seats) × (seats ≤ 1024) × (limit ≤ 2 ^ 40) }
+        ensures { IfOk result (λ r. IsAt r.0 r.1 × (view_of r.1 ≡ opener seats) × (r.0.limit ≡ limit)) }
+    {
+        let (table, token) = Table::of_words(alloc, &[0, 0, 0], &seats)?;
+        Ok((Words { table, limit }, Place { token, draws: 0 }))
+    }
+
+    /// Cuts off the place of another seat.
+    pub fn cut(&self, place: &mut Place) -> Place
+        requires own { IsAt self.now place.old }
+        requires spare { 0 < (view_of place.old).spare }
+        ensures own { Becomes place.old place.new (one_cut (view_of place.old)) }
+        ensures new { IsAt self.now result × (view_of result ≡ newcomer) }
+    {
+        let Place { token, draws: _ } = place;
+        let token = self.table.shared.split_seat::<Cut>(token);
+        Place { token, draws: 0 }
+    }
+
+    /// Whether the seat has made its draws.
+    pub fn is_spent(&self, place: &Place) -> bool
+        ensures { IsTrue result ↔ (self.now.limit ≤ place.now.draws) }
+    {
+        place.draws >= self.limit
+    }
+
+    /// A draw to read.
+    pub fn draw_read(&self, place: &mut Place) -> u64
+        requires own { IsAt self.now place.old }
+        requires idle { stage_of place.old ≡ Idle }
+        requires room { place.old.draws < self.now.limit }
+        ensures { Becomes place.old place.new (drawn_for Read result (view_of place.old)) }
+    {
+        let Place { token, draws } = place;
+        let ticket = self.table.shared.fetch_add::<DrawRead>(token, DRAW_WORD, 1);
+        *draws += 1;
+        ticket
+    }
+
+    /// A draw to write.
+    pub fn draw_write(&self, place: &mut Place) -> u64
+        requires own { IsAt self.now place.old }
+        requires idle { stage_of place.old ≡ Idle }
+        requires room { place.old.draws < self.now.limit }
+        ensures { Becomes place.old place.new (drawn_for Write result (view_of place.old)) }
+    {
+        let Place { token, draws } = place;
+        let ticket = self
+            .table
+            .shared
+            .fetch_add::<DrawWrite>(token, DRAW_WORD, 1);
+        *draws += 1;
+        ticket
+    }
+
+    /// A reader's look.
+    pub fn look_read(&self, place: &mut Place) -> u64
+        requires own { IsAt self.now place.old }
+        requires waits { (t : ℕ) × (stage_of place.old ≡ Waiting t Read) }
+        ensures { Becomes place.old place.new (looked_at result (view_of place.old)) }
+    {
+        let Place { token, draws: _ } = place;
+        self.table.shared.load::<Look>(token, READER_WORD)
+    }
+
+    /// A writer's look.
+    pub fn look_write(&self, place: &mut Place) -> u64
+        requires own { IsAt self.now place.old }
+        requires waits { (t : ℕ) × (stage_of place.old ≡ Waiting t Write) }
+        ensures { Becomes place.old place.new (looked_at result (view_of place.old)) }
+    {
+        let Place { token, draws: _ } = place;
+        self.table.shared.load::<Look>(token, WRITER_WORD)
+    }
+
+    /// A reader enters.
+    pub fn enter(&self, place: &mut Place)
+        requires own { IsAt self.now place.old }
+        requires next { (t : ℕ) × (stage_of place.old ≡ Next t) }
+        ensures { Becomes place.old place.new (gone_in (view_of place.old)) }
+    {
+        let Place { token, draws: _ } = place;
+        self.table.shared.fetch_add::<Enter>(token, READER_WORD, 1);
+    }
+
+    /// A reader leaves.
+    pub fn leave(&self, place: &mut Place, _back: Back)
+        requires own { IsAt self.now place.old }
+        requires reads { (t : ℕ) × (stage_of place.old ≡ Reading t) }
+        ensures { Becomes place.old place.new (gone_out (view_of place.old)) }
+    {
+        let Place { token, draws: _ } = place;
+        self.table.shared.fetch_add::<Leave>(token, WRITER_WORD, 1);
+    }
+
+    /// A writer leaves, first step: the next reader may enter.
+    pub fn close(&self, place: &mut Place, _back: Back)
+        requires own { IsAt self.now place.old }
+        requires writes { (t : ℕ) × (stage_of place.old ≡ Writing t) }
+        ensures { Becomes place.old place.new (gone_in (view_of place.old)) }
+    {
+        let Place { token, draws: _ } = place;
+        self.table.shared.fetch_add::<Enter>(token, READER_WORD, 1);
+    }
+
+    /// A writer leaves, second step: the next writer may enter.
+    pub fn end(&self, place: &mut Place)
+        requires own { IsAt self.now place.old }
+        requires closes { (t : ℕ) × (stage_of place.old ≡ Closing t) }
+        ensures { Becomes place.old place.new (gone_out (view_of place.old)) }
+    {
+        let Place { token, draws: _ } = place;
+        self.table.shared.fetch_add::<Leave>(token, WRITER_WORD, 1);
+    }
+}
