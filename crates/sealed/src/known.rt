@@ -1,14 +1,16 @@
-//! A note that can be shown through a shared reference.
-ghost use Rattle.std.specs.Prelude.{◌≡◌, ℕ};
+//! What is known of one cell, in a form that a shared reference can show.
+ghost use Rattle.std.specs.Prelude.{◌≡◌, ℕ, IfSome};
 ghost use Rattle.std.specs.declared.option.Option.{Option};
 ghost use Rattle.std.specs.Coded.{coded_option};
-ghost use Rattle.once_cell.specs.Once.{noted};
+ghost use Rattle.once_cell.specs.Once.{noted, Agrees};
 ghost use denote.Sharing.{said};
 
 use once_cell::race::Note;
 use std::marker::{Model, PhantomData};
 
-/// What a caller has learned of one cell, which a shared reference can show.
+/// What is known of one cell. It takes no bytes, and unlike a `Note` it can be shown to many threads.
+///
+/// A clause reads the cell's name as `cell`, and the value, once it was seen, as `known`.
 pub struct Known<T> {
     marker: PhantomData<T>,
     pub ghost cell: { ℕ },
@@ -36,6 +38,21 @@ impl<T> Known<T> {
     pub fn tell(note: &mut Note<T>, from: &Known<T>)
         requires { note.old.cell ≡ from.now.cell }
         ensures { (note.new.cell ≡ note.old.cell) × (note.new.known ≡ from.now.known) }
+    {}
+
+    /// The same knowledge once more.
+    pub fn again(&self) -> Known<T>
+        ensures { (result.cell ≡ self.now.cell) × (result.known ≡ self.now.known) }
+    {
+        Known {
+            marker: PhantomData,
+        }
+    }
+
+    /// A cell shows one value: two who know a value of it know the same one.
+    pub fn agrees(&self, other: &Known<T>)
+        requires { self.now.cell ≡ other.now.cell }
+        ensures { IfSome other.now.known (Agrees self.now.known) }
     {}
 }
 
