@@ -42,7 +42,7 @@ impl<T> Known<T> {
 
     /// The same knowledge once more.
     pub fn again(&self) -> Known<T>
-        ensures { (result.cell ≡ self.now.cell) × (result.known ≡ self.now.known) }
+        ensures { result ≡ self.now }
     {
         Known {
             marker: PhantomData,

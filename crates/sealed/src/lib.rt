@@ -2,5 +2,9 @@
 #![tactic(auto)]
 
 mod known;
+mod pass;
+mod row;
 
 pub use known::Known;
+pub use pass::Pass;
+pub use row::Row;

@@ -3,7 +3,7 @@ use Rattle.std.proofs.Common.{◌≡◌, ℕ, List, [], ◌∷◌, refl, IfSome}
 use mir.Syntax.{a_type, named}
 use mir.Val.{Val, vunit, vptr}
 use mir.MapTy.{inst_fn}
-use base.Logic.{SProp, emp}
+use base.Logic.{SProp}
 use types.Kit.{‵, raw, ◌⊛◌, ◌$◌, ◌∵◌, !, qed, by, move, keep, drop, split, fsplit, fsplit3, fjoin, use2, rewrite, feq_i}
 use types.Run.{of_opd, unit_lit, returns, enter}
 use types.ByLocal.{alloc_all, pass_all, free_all, look_at, sets}
