@@ -1,5 +1,5 @@
 -- Lists that begin one another.
-use Rattle.std.proofs.Common.{◌≡◌, ℕ, ◌≤◌, min, List, [], ◌∷◌, ◌++◌, length, take, drop, refl, sym, ◌∙◌, ap, subst, arith, length-append, inl, inr}
+use Rattle.std.proofs.Common.{◌≡◌, ℕ, ◌≤◌, min, List, [], ◌∷◌, ◌++◌, length, take, drop, refl, sym, ◌∙◌, ap, subst, arith, length-append, append_assoc, inl, inr}
 use Rattle.std.proofs.lemmas.List.{append-nil, take-append-drop, take_all}
 use Rattle.std.proofs.lemmas.Bool.{cases_lt}
 use Rattle.sealed.specs.History.{Begins, OneBegins}
@@ -7,6 +7,14 @@ use Rattle.sealed.specs.History.{Begins, OneBegins}
 -- a list begins itself
 pub begins_itself : {T : Type 0} (xs : List T) → Begins xs xs
 begins_itself xs = ([], append-nil xs)
+
+-- a list begins what is longer by some more
+pub begins_more : {T : Type 0} (xs ys zs : List T) → ys ≡ xs ++ zs → Begins xs ys
+begins_more xs ys zs e = (zs, sym e)
+
+-- what begins a beginning begins the whole
+pub begins_on : {T : Type 0} (xs ys zs : List T) → Begins xs ys → Begins ys zs → Begins xs zs
+begins_on xs ys zs p q = (p.0 ++ q.0, sym (append_assoc xs p.0 q.0) ∙ (ap (λ w. w ++ q.0) p.1 ∙ q.1))
 
 -- a list that is the first part of another begins it
 pub begins_by : {T : Type 0} (xs ys : List T) (n : ℕ) → xs ≡ take n ys → Begins xs ys

@@ -60,9 +60,10 @@ impl<T> Pass<T> {
         Pass { tokens, len: 0 }
     }
 
-    /// How many values it has seen.
+    /// How many values it has seen, at most as many as the row has cells.
     pub fn len(&self) -> usize
-        ensures { result ≡ length self.now.history }
+        ensures len { result ≡ length self.now.history }
+        ensures within { length self.now.history ≤ length self.now.row }
     {
         self.len
     }
