@@ -4,6 +4,8 @@
 mod known;
 mod pass;
 mod row;
+#[cfg(test)]
+mod tests;
 
 pub use known::Known;
 pub use pass::Pass;
