@@ -7,6 +7,8 @@
 mod error;
 mod pass;
 mod row;
+#[cfg(test)]
+mod tests;
 
 pub use error::{NotSealed, RowError};
 pub use pass::Pass;
