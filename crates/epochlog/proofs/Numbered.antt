@@ -1,7 +1,6 @@
 -- Histories whose epochs go up by one.
-use Rattle.std.proofs.Common.{◌≡◌, ℕ, zero, suc, ◌+◌, List, [], ◌∷◌, ◌++◌, length, Some, slice_get, Option, None, Result, Ok, Err, IfSome, OnOk, OnErr, sym, ◌∙◌, ap, subst, arith}
+use Rattle.std.proofs.Common.{◌≡◌, ℕ, zero, suc, ◌+◌, List, [], ◌∷◌, ◌++◌, length, Some, slice_get, Option, None, Result, Ok, Err, IfSome, IfNone, OnOk, OnErr, sym, ◌∙◌, ap, subst, arith}
 use Rattle.std.specs.Prelude.{Contains}
-use Rattle.std.specs.Option.{MatchOption}
 use Rattle.std.proofs.lemmas.Option.{slice_get_within, get_or_from_slice_get, same_Some}
 use Rattle.osdmap.specs.Changes.{Step}
 use Rattle.epochlog.specs.Epochs.{IsNumbered, last_epoch}
@@ -28,9 +27,9 @@ pub contained : {T : Type 0} (xs : List T) (k : ℕ) (x : T) → slice_get xs k 
 contained xs k x e = (k, slice_get_within xs k x e, get_or_from_slice_get xs k x x e)
 
 -- where the history is as it was, or longer by an incremental of the next epoch
-pub numbered_if : {R : Type 0} (shown : R → Step) (o : Option R) (first : ℕ) (old new : Seen Step) → IsNumbered first old.history → MatchOption o (new ≡ old) (λ r. new.history ≡ old.history ++ shown r ∷ []) → IfSome o (λ r. (shown r).epoch ≡ last_epoch first old.history + 1) → IsNumbered first new.history
-numbered_if shown None first old new numbered same next = subst (λ s. IsNumbered first s.history) (sym same) numbered
-numbered_if shown (Some r) first old new numbered grown next = subst (IsNumbered first) (sym grown) (numbered_more first old.history (shown r) numbered next)
+pub numbered_if : {R : Type 0} (shown : R → Step) (o : Option R) (first : ℕ) (old new : Seen Step) → IsNumbered first old.history → IfSome o (λ r. new.history ≡ old.history ++ shown r ∷ []) → IfNone o (new ≡ old) → IfSome o (λ r. (shown r).epoch ≡ last_epoch first old.history + 1) → IsNumbered first new.history
+numbered_if shown None first old new numbered grown same next = subst (λ s. IsNumbered first s.history) (sym same) numbered
+numbered_if shown (Some r) first old new numbered grown same next = subst (IsNumbered first) (sym grown) (numbered_more first old.history (shown r) numbered next)
 
 pub numbered_on : {A B : Type 0} (r : Result A B) (i : Step) (first : ℕ) (old new : Seen Step) → IsNumbered first old.history → OnOk r (new.history ≡ old.history ++ i ∷ []) → OnErr r (new ≡ old) → i.epoch ≡ last_epoch first old.history + 1 → IsNumbered first new.history
 numbered_on (Ok a) i first old new numbered grown same next = subst (IsNumbered first) (sym grown) (numbered_more first old.history i numbered next)

@@ -3,14 +3,14 @@ use Rattle.std.specs.Prelude.{◌≡◌, ℕ, ◌+◌, ◌≤◌, List, [], ◌�
 use Rattle.osdmap.specs.Changes.{Step}
 pub use Rattle.sealed.specs.History.{Begins, OneBegins, longer}
 
--- which row it is: its first epoch, which is that of the map before any incremental, and the names of its cells, of which
--- there is one for each epoch after that
+-- which row it is: its first epoch, which is that of the map before any incremental, and the names of its cells, one for
+-- each epoch after that
 pub record Line : Type 0 where
   pub first : ℕ
   pub cells : List ℕ
 
--- what contracts see of a pass: the row that it is of, and its history, the incrementals that it has seen, in the order of
--- their epochs
+-- what contracts see of a pass: the row that it is of, and its history, the incrementals that it has seen, in the order
+-- of their epochs
 pub record Seen : Type 0 where
   pub row : Line
   pub history : List Step

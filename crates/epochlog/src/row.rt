@@ -1,6 +1,6 @@
 //! A row of sealed epochs.
-ghost use Rattle.std.specs.Prelude.{◌≡◌, ◌≢◌, ◌+◌, ◌-◌, ◌<◌, ◌≤◌, [], ◌∷◌, ◌++◌, length, IfOk, IfErr, OnErr, IfSome, Contains, slice_get, MatchResult};
-ghost use Rattle.std.specs.Option.{MatchOption};
+ghost use Rattle.std.specs.Prelude.{◌≡◌, ◌+◌, ◌-◌, ◌<◌, ◌≤◌, [], ◌∷◌, ◌++◌, length, Contains, slice_get};
+ghost use Rattle.std.specs.Prelude.{IfOk, IfErr, OnOk, OnErr, IfSome, IfNone};
 ghost use Rattle.epochlog.specs.Epochs.{epoch_of, IsWithinLimits};
 ghost use Rattle.epochlog.specs.Faults.{IsRefused};
 
@@ -38,7 +38,8 @@ impl Row {
     /// A row with no epoch sealed, for the epochs after `first`. `BadLimit` (12) where `first` is not 1 to
     /// 2,147,483,648 or `capacity` not 1 to 65,536 epochs; else `Memory` (30).
     pub fn new(alloc: Global, first: u64, capacity: u32) -> Result<Row, RowError>
-        ensures made { IfOk result (λ row. (row.first ≡ first) × (length row.cells ≡ capacity) × IsWithinLimits first capacity) }
+        ensures made { IfOk result (λ row. (row.first ≡ first) × (length row.cells ≡ capacity)) }
+        ensures limits { OnOk result (IsWithinLimits first capacity) }
         ensures refused { IfErr result (λ e. IsRefused e (IsWithinLimits first capacity)) }
     {
         if !(1..=MAX_FIRST_EPOCH).contains(&first) || !(1..=MAX_CAPACITY).contains(&capacity) {
@@ -97,7 +98,8 @@ impl Row {
     pub fn read_next<'a>(&'a self, pass: &mut Pass) -> Option<&'a Incremental>
         requires row { pass.old.row ≡ self.now }
         ensures row { pass.new.row ≡ pass.old.row }
-        ensures history { MatchOption result (pass.new ≡ pass.old) (λ r. pass.new.history ≡ pass.old.history ++ r.now ∷ []) }
+        ensures shown { IfSome result (λ r. pass.new.history ≡ pass.old.history ++ r.now ∷ []) }
+        ensures unchanged { IfNone result (pass.new ≡ pass.old) }
         ensures epoch { IfSome result (λ r. r.now.epoch ≡ epoch_of pass.old + 1) }
     {
         let next = pass.epoch() + 1;

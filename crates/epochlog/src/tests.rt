@@ -1,3 +1,4 @@
+//! A row of epochs and its passes by an example, and the limits of a row.
 ghost use Rattle.std.specs.Prelude.{◌≡◌, IfSome};
 
 use crate::{Pass, Row, RowError};

@@ -1,7 +1,7 @@
 //! What a reader has seen of a row.
-ghost use Rattle.std.specs.Prelude.{◌≡◌, ◌+◌, ◌<◌, ◌≤◌, [], ◌∷◌, ◌++◌, length, vec_len, take, drop, map, IfSome, IsSome, slice_get};
-ghost use Rattle.std.specs.List.{filter_map};
+ghost use Rattle.std.specs.Prelude.{◌≡◌, ◌+◌, ◌<◌, ◌≤◌, [], ◌∷◌, ◌++◌, length, vec_len, take, drop, IfSome, IsSome, slice_get};
 ghost use Rattle.sealed.specs.History.{Begins, OneBegins, longer};
+ghost use Rattle.sealed.specs.Tokens.{cells_of, values_of};
 
 use crate::known::Known;
 use once_cell::race::Note;
@@ -17,23 +17,23 @@ pub struct Pass<T> {
 }
 
 impl<T> Model for Pass<T> {
-    ghost use Rattle.std.specs.Prelude.{◌≡◌, length, map, take};
-    ghost use Rattle.std.specs.List.{filter_map};
+    ghost use Rattle.std.specs.Prelude.{◌≡◌, length};
     ghost use Rattle.sealed.specs.History.{Seen};
+    ghost use Rattle.sealed.specs.Tokens.{cells_of, values_of};
 
     ghost Value = { Seen T };
 
-    ghost view = { λ p. record { row = map (λ k. k.cell) p.tokens.items; history = filter_map (λ k. k.known) (take p.len p.tokens.items) } };
+    ghost view = { λ p. record { row = cells_of p.tokens.items; history = values_of p.len p.tokens.items } };
 
-    ghost invariant = { λ p. length (filter_map (λ k. k.known) (take p.len p.tokens.items)) ≡ p.len };
+    ghost invariant = { λ p. length (values_of p.len p.tokens.items) ≡ p.len };
 }
 
 // Two who know the values of the same first cells know the same values.
 fn agree<T>(mine: &Vec<Known<T>>, theirs: &Vec<Known<T>>, count: usize)
-    requires cells { map (λ k. k.cell) mine.now.items ≡ map (λ k. k.cell) theirs.now.items }
-    requires mine { length (filter_map (λ k. k.known) (take count mine.now.items)) ≡ count }
-    requires theirs { length (filter_map (λ k. k.known) (take count theirs.now.items)) ≡ count }
-    ensures { filter_map (λ k. k.known) (take count mine.now.items) ≡ filter_map (λ k. k.known) (take count theirs.now.items) }
+    requires cells { cells_of mine.now.items ≡ cells_of theirs.now.items }
+    requires mine { length (values_of count mine.now.items) ≡ count }
+    requires theirs { length (values_of count theirs.now.items) ≡ count }
+    ensures { values_of count mine.now.items ≡ values_of count theirs.now.items }
 {
     for i in 0..count {
         mine[i].agrees(&theirs[i]);
@@ -54,7 +54,7 @@ fn copy<T>(mine: &mut Vec<Known<T>>, theirs: &Vec<Known<T>>, count: usize)
 impl<T> Pass<T> {
     /// A pass that has seen nothing.
     pub(crate) fn unread(tokens: Vec<Known<T>>) -> Pass<T>
-        ensures row { result.row ≡ map (λ k. k.cell) tokens.items }
+        ensures row { result.row ≡ cells_of tokens.items }
         ensures history { result.history ≡ [] }
     {
         Pass { tokens, len: 0 }

@@ -1,6 +1,5 @@
 //! A row of cells that are sealed once each.
-ghost use Rattle.std.specs.Prelude.{◌≡◌, ◌<◌, [], ◌∷◌, ◌++◌, length, true, IfOk, OnOk, IfErr, OnErr, IfSome, slice_get};
-ghost use Rattle.std.specs.Option.{MatchOption};
+ghost use Rattle.std.specs.Prelude.{◌≡◌, ◌<◌, [], ◌∷◌, ◌++◌, length, true, IfOk, OnOk, IfErr, OnErr, IfSome, IfNone, slice_get};
 ghost use Rattle.std.specs.Fn.{FnOnceReturnsAt};
 ghost use Rattle.sealed.specs.History.{Seen};
 
@@ -95,7 +94,8 @@ impl<T> Row<T> {
         requires row { pass.old.row ≡ self.now }
         requires test { F.IsAlwaysCallable test }
         ensures row { pass.new.row ≡ pass.old.row }
-        ensures history { MatchOption result (pass.new ≡ pass.old) (λ r. pass.new.history ≡ pass.old.history ++ r.now ∷ []) }
+        ensures shown { IfSome result (λ r. pass.new.history ≡ pass.old.history ++ r.now ∷ []) }
+        ensures unchanged { IfNone result (pass.new ≡ pass.old) }
         ensures passes { IfSome result (λ r. FnOnceReturnsAt F.FnOnce test r.now true) }
     {
         let cell = self.cells.get(pass.len())?;
@@ -112,7 +112,8 @@ impl<T> Row<T> {
     pub fn read_next<'a>(&'a self, pass: &mut Pass<T>) -> Option<&'a T>
         requires row { pass.old.row ≡ self.now }
         ensures row { pass.new.row ≡ pass.old.row }
-        ensures history { MatchOption result (pass.new ≡ pass.old) (λ r. pass.new.history ≡ pass.old.history ++ r.now ∷ []) }
+        ensures shown { IfSome result (λ r. pass.new.history ≡ pass.old.history ++ r.now ∷ []) }
+        ensures unchanged { IfNone result (pass.new ≡ pass.old) }
     {
         self.read_next_if(pass, |_| true)
     }

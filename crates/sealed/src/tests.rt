@@ -1,3 +1,4 @@
+//! A row and its passes by examples, on one thread and on two.
 ghost use Rattle.std.specs.Prelude.{◌≡◌};
 
 use crate::{Pass, Row};
