@@ -1,0 +1,122 @@
+//! A row of sealed epochs.
+ghost use Rattle.std.specs.Prelude.{◌≡◌, ◌+◌, ◌-◌, ◌<◌, ◌≤◌, [], ◌∷◌, ◌++◌, length, Contains, slice_get};
+ghost use Rattle.std.specs.Prelude.{IfOk, IfErr, OnOk, OnErr, IfSome, IfNone};
+ghost use Rattle.epochlog.specs.Epochs.{epoch_of, IsWithinLimits};
+ghost use Rattle.epochlog.specs.Faults.{IsRefused};
+
+use crate::error::{NotSealed, RowError};
+use crate::pass::Pass;
+use crush::Memory;
+use osdmap::Incremental;
+use std::alloc::Global;
+use std::marker::Model;
+
+/// The greatest capacity of a row, in epochs.
+pub const MAX_CAPACITY: u32 = 65_536;
+/// The greatest first epoch of a row.
+pub const MAX_FIRST_EPOCH: u64 = 2_147_483_648;
+
+/// A row of epochs, which are sealed one after another and show one incremental each for good.
+#[derive(Drop)]
+pub struct Row {
+    first: u64,
+    cells: sealed::Row<Incremental>,
+}
+
+impl Model for Row {
+    ghost use Rattle.epochlog.specs.Epochs.{Line, IsWithinLimits};
+    ghost use Rattle.std.specs.Prelude.{length};
+
+    ghost Value = { Line };
+
+    ghost view = { λ r. record { first = r.first; cells = r.cells } };
+
+    ghost invariant = { λ r. IsWithinLimits r.first (length r.cells) };
+}
+
+impl Row {
+    /// A row with no epoch sealed, for the epochs after `first`. `BadLimit` (12) where `first` is not 1 to
+    /// 2,147,483,648 or `capacity` not 1 to 65,536 epochs; else `Memory` (30).
+    pub fn new(alloc: Global, first: u64, capacity: u32) -> Result<Row, RowError>
+        ensures made { IfOk result (λ row. (row.first ≡ first) × (length row.cells ≡ capacity)) }
+        ensures limits { OnOk result (IsWithinLimits first capacity) }
+        ensures refused { IfErr result (λ e. IsRefused e (IsWithinLimits first capacity)) }
+    {
+        if !(1..=MAX_FIRST_EPOCH).contains(&first) || !(1..=MAX_CAPACITY).contains(&capacity) {
+            return Err(RowError::BadLimit);
+        }
+        let cells = sealed::Row::new(alloc, capacity as usize)?;
+        Ok(Row { first, cells })
+    }
+
+    /// How many epochs it takes, 1 to 65,536.
+    pub fn capacity(&self) -> u32
+        ensures capacity { result ≡ length self.now.cells }
+        ensures limits { IsWithinLimits self.now.first result }
+    {
+        self.cells.capacity() as u32
+    }
+
+    /// A pass that has seen nothing, with room for the whole row.
+    ///
+    /// Fails only for want of memory (30).
+    pub fn pass(&self, alloc: Global) -> Result<Pass, Memory>
+        ensures row { IfOk result (λ pass. pass.row ≡ self.now) }
+        ensures history { IfOk result (λ pass. pass.history ≡ []) }
+    {
+        Ok(Pass {
+            first: self.first,
+            seen: self.cells.pass(alloc)?,
+        })
+    }
+
+    /// Seals the epoch after those that the pass has seen, which is that of the incremental, and answers it.
+    ///
+    /// `NotSealed` (32) with the very box where another sealed the epoch first: the pass is as it was.
+    pub fn seal(
+        &self,
+        pass: &mut Pass,
+        incremental: Box<Incremental>,
+    ) -> Result<u64, (Box<Incremental>, NotSealed)>
+        requires row { pass.old.row ≡ self.now }
+        requires room { length pass.old.history < length self.now.cells }
+        requires next { incremental.value.epoch ≡ epoch_of pass.old + 1 }
+        ensures row { pass.new.row ≡ pass.old.row }
+        ensures epoch { IfOk result (λ epoch. epoch ≡ incremental.value.epoch) }
+        ensures sealed { IfOk result (λ _. pass.new.history ≡ pass.old.history ++ incremental.value ∷ []) }
+        ensures back { IfErr result (λ back. back.0.value ≡ incremental.value) }
+        ensures unchanged { OnErr result (pass.new ≡ pass.old) }
+    {
+        let epoch = incremental.epoch();
+        match self.cells.seal(&mut pass.seen, incremental) {
+            Ok(()) => Ok(epoch),
+            Err(incremental) => Err((incremental, NotSealed)),
+        }
+    }
+
+    /// Shows the incremental of the epoch after those that the pass has seen, if that epoch is sealed.
+    pub fn read_next<'a>(&'a self, pass: &mut Pass) -> Option<&'a Incremental>
+        requires row { pass.old.row ≡ self.now }
+        ensures row { pass.new.row ≡ pass.old.row }
+        ensures shown { IfSome result (λ r. pass.new.history ≡ pass.old.history ++ r.now ∷ []) }
+        ensures unchanged { IfNone result (pass.new ≡ pass.old) }
+        ensures epoch { IfSome result (λ r. r.now.epoch ≡ epoch_of pass.old + 1) }
+    {
+        let next = pass.epoch() + 1;
+        // The number of what is found is looked at, so that a history needs no promise of other threads.
+        self.cells
+            .read_next_if(&mut pass.seen, |found| found.epoch() == next)
+    }
+
+    /// The incremental of an epoch that the pass has seen.
+    pub fn at<'a>(&'a self, pass: &Pass, epoch: u64) -> &'a Incremental
+        requires row { pass.now.row ≡ self.now }
+        requires after { self.now.first < epoch }
+        requires seen { epoch ≤ epoch_of pass.now }
+        ensures epoch { result.now.epoch ≡ epoch }
+        ensures shown { Contains pass.now.history result.now }
+        ensures place { slice_get pass.now.history (epoch - (self.now.first + 1)) ≡ Some result.now }
+    {
+        self.cells.at(&pass.seen, (epoch - self.first - 1) as usize)
+    }
+}
