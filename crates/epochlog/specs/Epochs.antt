@@ -1,6 +1,7 @@
 -- Sealed epochs, and what is seen of them.
-use Rattle.std.specs.Prelude.{◌≡◌, ℕ, ◌+◌, ◌≤◌, List, [], ◌∷◌}
-use Rattle.osdmap.specs.Changes.{Step}
+use Rattle.std.specs.Prelude.{◌≡◌, ℕ, ◌+◌, ◌≤◌, nat_le, Bool, ◌&&◌, List, [], ◌∷◌}
+use Rattle.stated.specs.Incrementals.{Step}
+use Rattle.stated.specs.Limits.{max_first_epoch}
 pub use Rattle.sealed.specs.History.{Begins, OneBegins, longer}
 
 -- which row it is: its first epoch, which is that of the map before any incremental, and the names of its cells, one for
@@ -29,6 +30,14 @@ last_epoch before (i ∷ is) = last_epoch i.epoch is
 abbrev pub epoch_of : Seen → ℕ
 epoch_of s = last_epoch s.row.first s.history
 
+-- the greatest capacity of a row
+abbrev pub max_capacity : ℕ
+max_capacity = 65536
+
 -- a first epoch and a capacity within their limits
 abbrev pub IsWithinLimits : ℕ → ℕ → Type 0
-IsWithinLimits first capacity = (1 ≤ first) × (first ≤ 2147483648) × (1 ≤ capacity) × (capacity ≤ 65536)
+IsWithinLimits first capacity = (1 ≤ first) × (first ≤ max_first_epoch) × (1 ≤ capacity) × (capacity ≤ max_capacity)
+
+-- the same as a test
+abbrev pub is_within_limits : ℕ → ℕ → Bool
+is_within_limits first capacity = nat_le 1 first && nat_le first max_first_epoch && (nat_le 1 capacity && nat_le capacity max_capacity)

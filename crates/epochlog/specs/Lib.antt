@@ -1,2 +1,1 @@
 pub mod Epochs
-pub mod Faults

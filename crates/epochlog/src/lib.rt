@@ -10,6 +10,6 @@ mod row;
 #[cfg(test)]
 mod tests;
 
-pub use error::{NotSealed, RowError};
+pub use error::NotSealed;
 pub use pass::Pass;
 pub use row::{MAX_CAPACITY, MAX_FIRST_EPOCH, Row};

@@ -1,20 +1,21 @@
 //! A row of sealed epochs.
 ghost use Rattle.std.specs.Prelude.{◌≡◌, ◌+◌, ◌-◌, ◌<◌, ◌≤◌, [], ◌∷◌, ◌++◌, length, Contains, slice_get};
 ghost use Rattle.std.specs.Prelude.{IfOk, IfErr, OnOk, OnErr, IfSome, IfNone};
-ghost use Rattle.epochlog.specs.Epochs.{epoch_of, IsWithinLimits};
-ghost use Rattle.epochlog.specs.Faults.{IsRefused};
+ghost use Rattle.refusal.specs.Outcomes.{refused_unless, Gives};
+ghost use Rattle.refusal.specs.declared.refused.Refusal.TheVariants.{BadLimit};
+ghost use Rattle.epochlog.specs.Epochs.{epoch_of, is_within_limits, IsWithinLimits};
 
-use crate::error::{NotSealed, RowError};
+use crate::error::NotSealed;
 use crate::pass::Pass;
-use crush::Memory;
-use osdmap::Incremental;
+use refusal::{Memory, Refusal};
+use stated::{Incremental, limits};
 use std::alloc::Global;
 use std::marker::Model;
 
 /// The greatest capacity of a row, in epochs.
 pub const MAX_CAPACITY: u32 = 65_536;
 /// The greatest first epoch of a row.
-pub const MAX_FIRST_EPOCH: u64 = 2_147_483_648;
+pub const MAX_FIRST_EPOCH: u64 = limits::MAX_FIRST_EPOCH as u64;
 
 /// A row of epochs, which are sealed one after another and show one incremental each for good.
 #[derive(Drop)]
@@ -37,13 +38,13 @@ impl Model for Row {
 impl Row {
     /// A row with no epoch sealed, for the epochs after `first`. `BadLimit` (12) where `first` is not 1 to
     /// 2,147,483,648 or `capacity` not 1 to 65,536 epochs; else `Memory` (30).
-    pub fn new(alloc: Global, first: u64, capacity: u32) -> Result<Row, RowError>
-        ensures made { IfOk result (λ row. (row.first ≡ first) × (length row.cells ≡ capacity)) }
+    pub fn new(alloc: Global, first: u64, capacity: u32) -> Result<Row, Refusal>
+        ensures made { Gives result (refused_unless (is_within_limits first capacity) BadLimit)
+            (λ row. (row.first ≡ first) × (length row.cells ≡ capacity)) }
         ensures limits { OnOk result (IsWithinLimits first capacity) }
-        ensures refused { IfErr result (λ e. IsRefused e (IsWithinLimits first capacity)) }
     {
         if !(1..=MAX_FIRST_EPOCH).contains(&first) || !(1..=MAX_CAPACITY).contains(&capacity) {
-            return Err(RowError::BadLimit);
+            return Err(Refusal::BadLimit);
         }
         let cells = sealed::Row::new(alloc, capacity as usize)?;
         Ok(Row { first, cells })

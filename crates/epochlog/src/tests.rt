@@ -1,9 +1,10 @@
 //! A row of epochs and its passes by an example, and the limits of a row.
 ghost use Rattle.std.specs.Prelude.{◌≡◌, IfSome};
 
-use crate::{Pass, Row, RowError};
-use crush::Entries;
-use osdmap::{Change, ChangeParts, Incremental};
+use crate::{Pass, Row};
+use keylist::Entries;
+use refusal::Refusal;
+use stated::{Change, ChangeParts, Incremental};
 use std::alloc::Global;
 use std::test::Fail;
 
@@ -85,7 +86,7 @@ fn two_read_what_each_other_sealed(rt: HostRuntime) -> Result<(), Fail> {
 fn limits_are_12(rt: HostRuntime) {
     for (first, capacity) in [(0, 1), (2_147_483_649, 1), (1, 0), (1, 65_537)] {
         let refused = Row::new(rt.alloc(), first, capacity).err();
-        assert_eq!(rt; refused, Some(RowError::BadLimit), "{first} {capacity}");
+        assert_eq!(rt; refused, Some(Refusal::BadLimit), "{first} {capacity}");
     }
     for (first, capacity) in [(1, 1), (2_147_483_648, 65_536)] {
         assert!(rt;

@@ -13,7 +13,7 @@ returns-in_err-pool c =
     let e = c.in_err-pool.field-0.0 in
     stops c.from_residual-in_err-pool.result (λ pools. pools.items ≡ map pool_of c.args.parts.now) (refused_unless (list_all (pool_ok c.args.rules.now) c.args.parts.now) BadPool) _ e
     (λ wrong.
-      let fails = refused _ BadPool e wrong in
-      let all : list_all (pool_ok c.args.rules.now) c.args.parts.now ≡ false = not_all (pool_ok c.args.rules.now) c.args.parts.now c.loop-part.part-index _ _ c.loop-part-test.true refl fails in
-      rw all (rw fails at wrong))
+    let fails = refused _ BadPool e wrong in
+    let all : list_all (pool_ok c.args.rules.now) c.args.parts.now ≡ false = not_all (pool_ok c.args.rules.now) c.args.parts.now c.loop-part.part-index _ _ c.loop-part-test.true refl fails in
+    rw all (rw fails at wrong))
     c.in_err-pool.ensures c.from_residual-in_err-pool.ensures.1
