@@ -1,14 +1,41 @@
-# run: builds the program and answers the example; test: the gate; bench: speeds, outside the gate.
-EXAMPLE = $(CURDIR)/examples/map.json $(CURDIR)/examples/script.txt
+# What there is to do here; `make` alone tells it. Each needs the Rattle kit (`rt` on the path), make and bash; tests and bench
+# also Python 3.
+MAP = $(CURDIR)/examples/map.json
+SCRIPT = $(CURDIR)/examples/script.txt
+PROGRAM = $(CURDIR)/crates/osdmapd/out/osdmapd
 
-.PHONY: run test bench
+.PHONY: help try run test gate runs bench
 
-run:
-	@cd crates/osdmapd && { rt run -- $(EXAMPLE) > /dev/null 2>&1 || test -x out/osdmapd; }
-	@crates/osdmapd/out/osdmapd $(EXAMPLE)
+help:
+	@echo 'make try    the example answered before any proof (about a minute)'
+	@echo 'make run    the program proved and built, then the example answered by it (about half an hour the first time on four cores)'
+	@echo 'make test   the gate: every proof from nothing, the edits that must not prove, the tests, then runs of the built program'
+	@echo 'make gate   the gate without the runs'
+	@echo 'make runs   the runs of the built program alone (seconds)'
+	@echo 'make bench  speeds of the built program, outside the gate'
 
-test:
+# Runs with checks in place of proofs.
+try:
+	@echo 'Nothing is proved by this: the program is built with checks and run once.' >&2
+	@cd crates/osdmapd && rt try --data map.json=$(MAP) --data script.txt=$(SCRIPT) -- map.json script.txt
+
+# The proofs go by on the screen, function by function; where one fails, nothing is run.
+$(PROGRAM): prove
+.PHONY: prove
+prove:
+	@cd crates/osdmapd && rt run -- $(MAP) $(SCRIPT) >&2
+
+run: prove
+	@echo 'The proved program answers:' >&2
+	@$(PROGRAM) $(MAP) $(SCRIPT)
+
+test: gate runs
+
+gate:
 	@bash .ci/gate
 
-bench: run
-	@python3 bench/speeds.py crates/osdmapd/out/osdmapd
+runs:
+	@python3 tests/run.py $(PROGRAM)
+
+bench: prove
+	@python3 bench/speeds.py $(PROGRAM)

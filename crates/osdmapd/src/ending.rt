@@ -1,4 +1,5 @@
 //! How a run of the program ends.
+
 use refusal::Refusal;
 use std::fmt;
 
@@ -22,8 +23,13 @@ pub enum Ending<'a> {
 }
 
 impl<'a> Ending<'a> {
+    ghost use Rattle.std.specs.Prelude.{◌≡◌};
+    ghost use Rattle.osdmapd.specs.Endings.{status_of};
+
     /// The exit status of the program.
-    pub fn status(&self) -> u8 {
+    pub fn status(&self) -> u8
+        ensures { result ≡ status_of self.now }
+    {
         match self {
             Ending::Usage(_) | Ending::NoText | Ending::TooManyScripts => 1,
             Ending::Map(_) => 2,
@@ -34,6 +40,11 @@ impl<'a> Ending<'a> {
 }
 
 impl<'a> fmt::Display for Ending<'a> {
+    ghost use Rattle.std.specs.Prelude.{Some};
+    ghost use Rattle.osdmapd.specs.Endings.{text_of};
+
+    ghost output = { λ ending. Some (text_of ending) };
+
     fn fmt<W: fmt::Write>(&self, f: &mut fmt::Formatter<W>) -> fmt::Result {
         match self {
             Ending::Usage(text) => f.write_str(text),

@@ -1,4 +1,5 @@
 //! The command line.
+
 ghost use Rattle.std.specs.Prelude.{◌≡◌, ◌≤◌, IfOk, vec_len};
 
 use crate::choices::{LineError, Options};
@@ -8,20 +9,33 @@ use monitor::state::MAX_JOURNAL;
 use std::alloc::{AllocError, Global};
 
 /// How many scripts can be run.
-const MOST_SCRIPTS: usize = 1;
+const MAX_SCRIPTS: usize = 1;
 
+/// What the program says of itself where help is asked for.
+const ABOUT: &str =
+    "Keeps the OSDMap of a Ceph-like cluster: reads a map, answers the lines of a script over it, one line each, \
+and ends. Statuses: 0 done, 1 command line, 2 map refused, 3 file or output, 4 memory. The formats of maps, changes, scripts and \
+answers are in docs/FORMATS.md.";
+
+/// The command line that the program takes.
 fn command<'a>(alloc: Global) -> Result<Command<'a>, AllocError> {
     let journal = Arg::new(alloc, "journal")
         .long("journal")
+        .value_name("N")
+        .help("How many changes the journal holds: 1 to 65536")
         .action(ArgAction::Set)
         .value_parser(value_parser!(u32).range(1..=i64::from(MAX_JOURNAL)))
         .default_value("1024");
-    let map = Arg::new(alloc, "MAP").required(true).action(ArgAction::Set);
+    let map = Arg::new(alloc, "MAP")
+        .help("The file of the first map, as JSON")
+        .required(true)
+        .action(ArgAction::Set);
     let scripts = Arg::new(alloc, "SCRIPT")
+        .help("The file of the script: lines such as up 1.0, epoch, dump, change {..}")
         .required(true)
         .num_args(1..)
         .action(ArgAction::Append);
-    let command = Command::new(alloc, "osdmapd");
+    let command = Command::new(alloc, "osdmapd").about(ABOUT);
     command.arg(journal)?.arg(map)?.arg(scripts)
 }
 
@@ -55,7 +69,7 @@ fn taken(alloc: Global, matches: &ArgMatches<'_>) -> Result<Options, LineError>
             .push(String::from_str(alloc, word)?)
             .map_err(AllocError::from)?;
     }
-    if scripts.len() > MOST_SCRIPTS {
+    if scripts.len() > MAX_SCRIPTS {
         return Err(LineError::TooMany);
     }
     if journal < 1 || journal > MAX_JOURNAL || scripts.is_empty() {
