@@ -4,7 +4,7 @@ MAP = $(CURDIR)/examples/map.json
 SCRIPT = $(CURDIR)/examples/script.txt
 PROGRAM = $(CURDIR)/crates/osdmapd/out/osdmapd
 
-.PHONY: help try run test gate runs bench
+.PHONY: help try prove run test gate runs bench
 
 help:
 	@echo 'make try    the example answered before any proof (about a minute)'
@@ -20,8 +20,6 @@ try:
 	@cd crates/osdmapd && rt try --data map.json=$(MAP) --data script.txt=$(SCRIPT) -- map.json script.txt
 
 # The proofs go by on the screen, function by function; where one fails, nothing is run.
-$(PROGRAM): prove
-.PHONY: prove
 prove:
 	@cd crates/osdmapd && rt run -- $(MAP) $(SCRIPT) >&2
 
