@@ -9,7 +9,8 @@ use Rattle.refusal.specs.declared.refused.Refusal.{Refusal}
 use Rattle.refusal.specs.declared.refused.Refusal.TheVariants.{UnknownOsd, BadWeight, UnknownPool, PoolExists, BadPool, UnknownGroup, BadNewException, DuplicatePart}
 use Rattle.stated.specs.declared.pg.Pg.{Pg}
 use Rattle.stated.specs.Incrementals.{Step}
-use Rattle.stated.specs.Limits.{max_pools, full_weight}
+use Rattle.stated.specs.Limits.{max_pools}
+use Rattle.crush.specs.Limits.{full_weight}
 use Rattle.stated.specs.Pools.{PoolFacts}
 use Rattle.keylist.specs.Keys.{is_distinct, has_key}
 use Rattle.keylist.specs.Puts.{put}

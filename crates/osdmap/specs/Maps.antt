@@ -14,7 +14,8 @@ use Rattle.stated.specs.declared.exception.Pair.{Pair}
 use Rattle.stated.specs.Exceptions.{key_of, is_exception, target, sides, is_set, are_pairs}
 use Rattle.keylist.specs.Order.{IsRising}
 use Rattle.crush.specs.Limits.{max_devices}
-use Rattle.stated.specs.Limits.{max_rules, max_pools, full_weight}
+use Rattle.stated.specs.Limits.{max_rules, max_pools}
+use Rattle.crush.specs.Limits.{full_weight}
 use Rattle.stated.specs.CrushMaps.{rule_at, is_rule_over}
 use Rattle.stated.specs.Pools.{PoolFacts, IsWithinLimits}
 

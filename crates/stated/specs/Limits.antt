@@ -34,10 +34,6 @@ max_pool_id = 65535
 abbrev pub max_groups : ℕ
 max_groups = 4096
 
--- the reweight of an OSD that takes its whole share, and the greatest in a map
-abbrev pub full_weight : ℕ
-full_weight = 65536
-
 -- how many exceptions of one kind a map has at most, and how many entries a list of a change
 abbrev pub max_entries : ℕ
 max_entries = 131072

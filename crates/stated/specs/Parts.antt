@@ -25,7 +25,8 @@ use Rattle.refusal.specs.declared.refused.Refusal.{Refusal}
 use Rattle.refusal.specs.declared.refused.Refusal.TheVariants.{BadLimit, BadPool}
 use Rattle.refusal.specs.Outcomes.{refused_unless}
 use Rattle.crush.specs.Limits.{max_buckets, max_items, lowest_bucket, max_level, max_devices, max_steps, max_tries, max_count, max_size}
-use Rattle.stated.specs.Limits.{max_version, max_first_epoch, max_osd_id, max_item_weight, max_rules, max_rule_id, max_pools, max_pool_id, max_groups, full_weight, max_entries}
+use Rattle.stated.specs.Limits.{max_version, max_first_epoch, max_osd_id, max_item_weight, max_rules, max_rule_id, max_pools, max_pool_id, max_groups, max_entries}
+use Rattle.crush.specs.Limits.{full_weight}
 use Rattle.stated.specs.Pools.{PoolFacts}
 
 -- ---- limits

@@ -6,11 +6,12 @@ ghost use Rattle.stated.specs.Parts.{item_fits, bucket_fits, step_fits, rule_fit
 
 use crate::entry_part::exceptions_fit;
 use crate::limits::{
-    FULL_WEIGHT, LOWEST_BUCKET, MAX_COUNT, MAX_FIRST_EPOCH, MAX_GROUPS, MAX_ITEM_WEIGHT, MAX_LEVEL,
-    MAX_OSDS, MAX_POOL_ID, MAX_POOLS, MAX_RULE_ID, MAX_RULES, MAX_SIZE, MAX_TRIES, MAX_VERSION,
+    FULL_WEIGHT, LOWEST_BUCKET, MAX_COUNT, MAX_FIRST_EPOCH, MAX_ITEM_WEIGHT, MAX_LEVEL, MAX_OSDS,
+    MAX_POOLS, MAX_RULE_ID, MAX_RULES, MAX_TRIES, MAX_VERSION,
 };
 use crate::numbers::{has_between, is_between, is_bucket_id};
 use crate::parts::{BucketPart, ItemPart, MapParts, OsdPart, PoolPart, RulePart, StepPart};
+use crate::pool::all_pools_fit;
 use crush::limits::{MAX_BUCKETS, MAX_ITEMS, MAX_STEPS};
 
 #[tactic(auto, unfolding(crate::specs::Parts::item_fits))]
@@ -75,25 +76,6 @@ fn all_rules_fit(rules: &[RulePart]) -> bool
     ensures { result ≡ list_all rule_fits rules.now }
 {
     rules.iter().all(|rule| rule_fits(rule))
-}
-
-/// Whether each number of a pool is within its limits.
-#[tactic(auto, unfolding(crate::specs::Parts::pool_fits))]
-pub fn pool_fits(pool: &PoolPart) -> bool
-    ensures { result ≡ pool_fits pool.now }
-{
-    is_between(1, MAX_POOL_ID, pool.id)
-        && is_between(1, MAX_GROUPS, pool.pg_num)
-        && is_between(1, MAX_GROUPS, pool.pgp_num)
-        && is_between(0, MAX_RULE_ID, pool.rule)
-        && is_between(1, MAX_SIZE, pool.size)
-}
-
-/// Whether each number of some pools is within its limits.
-pub fn all_pools_fit(pools: &[PoolPart]) -> bool
-    ensures { result ≡ list_all pool_fits pools.now }
-{
-    pools.iter().all(|pool| pool_fits(pool))
 }
 
 #[tactic(auto, unfolding(crate::specs::Parts::osd_fits))]

@@ -36,4 +36,4 @@ pub const MAX_GROUPS: i128 = 4_096;
 /// How many exceptions of one kind a map has at most, and how many entries a list of a change.
 pub const MAX_ENTRIES: usize = 131_072;
 /// The reweight of an OSD that takes its whole share.
-pub const FULL_WEIGHT: u32 = 65_536;
+pub const FULL_WEIGHT: u32 = limits::FULL_WEIGHT;

@@ -1,7 +1,11 @@
 //! Pools: how many groups they have, and the rule and size by which these are placed.
 
-use crate::fits::pool_fits;
-use crate::numbers::word;
+ghost use Rattle.std.specs.Prelude.{◌≡◌};
+ghost use Rattle.std.specs.List.{list_all};
+ghost use Rattle.stated.specs.Parts.{pool_fits};
+
+use crate::limits::{MAX_GROUPS, MAX_POOL_ID, MAX_RULE_ID, MAX_SIZE};
+use crate::numbers::{is_between, word};
 use crate::parts::PoolPart;
 use crush::RuleKind;
 use keylist::Keyed;
@@ -30,6 +34,25 @@ impl Model for Pool {
     ghost invariant = { λ p. IsWithinLimits (record { id = p.id; kind = p.kind; pg_num = p.pg_num; pgp_num = p.pgp_num; rule = p.rule; size = p.size }) };
 
     ghost inverse = { λ p. record { id = p.id; kind = p.kind; pg_num = p.pg_num; pgp_num = p.pgp_num; rule = p.rule; size = p.size } };
+}
+
+/// Whether each number of a pool is within its limits.
+#[tactic(auto, unfolding(crate::specs::Parts::pool_fits))]
+pub fn pool_fits(pool: &PoolPart) -> bool
+    ensures { result ≡ pool_fits pool.now }
+{
+    is_between(1, MAX_POOL_ID, pool.id)
+        && is_between(1, MAX_GROUPS, pool.pg_num)
+        && is_between(1, MAX_GROUPS, pool.pgp_num)
+        && is_between(0, MAX_RULE_ID, pool.rule)
+        && is_between(1, MAX_SIZE, pool.size)
+}
+
+/// Whether each number of some pools is within its limits.
+pub fn all_pools_fit(pools: &[PoolPart]) -> bool
+    ensures { result ≡ list_all pool_fits pools.now }
+{
+    pools.iter().all(|pool| pool_fits(pool))
 }
 
 impl Pool {

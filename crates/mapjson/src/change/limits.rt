@@ -6,9 +6,9 @@ ghost use Rattle.stated.specs.Parts.{has_between, is_osd_id, pg_fits, pool_fits}
 ghost use Rattle.mapjson.specs.ChangeTexts.{is_pool_id, reweight_fits, entries_fit, change_fits};
 
 use super::{RawChange, RawReweight};
-use stated::fits::all_pools_fit;
 use stated::limits::{MAX_ENTRIES, MAX_POOL_ID};
 use stated::numbers::{has_between, is_between, is_osd_id};
+use stated::pool::all_pools_fit;
 use stated::{PgParts, PoolPart, exceptions_fit, pg_fits};
 
 /// The greatest epoch.
