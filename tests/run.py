@@ -29,7 +29,7 @@ def written(value):
 
 
 def numbered(value, number):
-    """An entry with its number in the place of `#`, its negative in that of `-#`, and in hexadecimal in that of `#x`."""
+    """An entry with its number in place of `#`, the negative in place of `-#`, the hexadecimal in place of `#x`."""
     if isinstance(value, str):
         if value in ("#", "-#"):
             return number if value == "#" else -number
@@ -68,15 +68,28 @@ def text_of(parts):
     return text.replace("`", '"')
 
 
+def place_of(value, path):
+    """What holds the last word of a path, as `pools/0/size`, and that word."""
+    *way, last = [int(word) if word.isdigit() else word for word in path.split("/")]
+    for word in way:
+        value = value[word]
+    return value, last
+
+
 def with_values(value, values):
-    """A map with the values at some paths, as `pools/0/size`, replaced."""
+    """A map with the values at some paths replaced, or put there."""
     value = json.loads(json.dumps(value))
     for path, new in values.items():
-        *way, last = [int(word) if word.isdigit() else word for word in path.split("/")]
-        place = value
-        for word in way:
-            place = place[word]
+        place, last = place_of(value, path)
         place[last] = filled(new)
+    return value
+
+
+def without(value, path):
+    """A map without the key at a path."""
+    value = json.loads(json.dumps(value))
+    place, last = place_of(value, path)
+    del place[last]
     return value
 
 
@@ -210,6 +223,11 @@ def runs_of(row):
         epoch = json.loads(map_text(about))["epoch"]
         answers = [f"up {epoch} {group} {places}" for group, places in row["sets"].items()]
         return [one_run(dict(row, script=[f"up {group}" for group in row["sets"]], answers=answers), name, about)]
+    if "each_kind" in row:
+        return [one_run(row, f"{name}: {path} {json.dumps(kind)}", {"of": about, "values": {path: kind}})
+                for path in row["paths"] for kind in row["each_kind"]]
+    if "each_without" in row:
+        return [one_run(row, f"{name}: {path}", {"is": without(MAPS[about], path)}) for path in row["each_without"]]
     if "lines" in row:
         lines, answers = zip(*row["lines"])
         return [one_run(dict(row, script=lines, answers=answers), name, about)]
@@ -237,7 +255,8 @@ def items_by(explicit, pairs):
 
 
 def greatest():
-    """A map with the most buckets, items, rules, steps, pools, groups and OSDs that there may be, exceptions for every group."""
+    """A map with the most buckets, items, rules, steps, pools, groups and OSDs that there may be, and exceptions for
+    every group."""
     state = {"exists": True, "up": True, "weight": 65536}
     leaves = [{"id": -66 - h, "items": [[2 * h, 7], [2 * h + 1, 9]], "kind": "list", "type": 1} for h in range(447)]
     leaves[0]["items"] += [[osd, 5] for osd in range(894, 956)]
@@ -308,7 +327,8 @@ def maxima():
     one, times = written(MAPS["one device"]), 150_000
     yield Run("a script of a megabyte", {"map": one, "script": "up 1.0\n" * times},
               "session 1\n" + "up 1 1.0 [0] 0\n" * times)
-    yield Run("lines of a megabyte", {"map": one, "script": f'change{" " * 1000000}{{"base":1}}\n{"x" * 1000000}\nepoch'},
+    long_lines = f'change{" " * 1_000_000}{{"base":1}}\n{"x" * 1_000_000}\nepoch'
+    yield Run("lines of a megabyte", {"map": one, "script": long_lines},
               "session 1\nok 2 evals 0\nerr 33 BadCommand\nepoch 2\n")
 
 
