@@ -3,7 +3,14 @@
 
     tests/run.py [--total] [--only TEXT] PROGRAM
 
-A line a table says how many of its runs passed. README.md beside this file has the form of the tables.
+A table is a JSON file of rows. A row has a name, a map (one device where it has none), a script (`epoch` where it has
+none), and the answers, or by which name the map is refused. A map is a name of maps.json; or of such a map with values
+put at paths (`values`) and texts replaced (`texts`); or an object (`is`); or a bare text (`raw`). A line of a script is
+a text, or a change as an object. Where a row stands for many runs, or for many lines, a key says so: `each_values`,
+`each_text`, `each_kind` (at each of `paths`), `each_without`, `beginnings_of_map`; `lines` (each with its answer),
+`each_line` (one answer to all), `sets` (groups and what they are placed on), `beginnings_of_change`. A row with
+`arguments` says all itself: files, standard output, standard error, status. Entries repeated in a list are written as
+`filled` below reads them, and texts as `text_of` does. The greatest runs are made by this file (`maxima`).
 """
 
 import argparse
@@ -13,11 +20,10 @@ import pathlib
 import subprocess
 import sys
 import tempfile
-import time
 from concurrent.futures import ThreadPoolExecutor
 
 HERE = pathlib.Path(__file__).resolve().parent
-TABLES = ["worked", "placements", "limits", "texts", "program"]
+TABLES = ["worked", "placements", "limits", "texts", "program", "maxima"]
 SECONDS = 60
 
 
@@ -29,11 +35,11 @@ def written(value):
 
 
 def numbered(value, number):
-    """An entry with its number in place of `#`, the negative in place of `-#`, the hexadecimal in place of `#x`."""
+    """An entry with its number in place of `#`, its negative of `-#`; inside a text, of `#d`, in hexadecimal `#x`."""
     if isinstance(value, str):
         if value in ("#", "-#"):
             return number if value == "#" else -number
-        return value.replace("#x", f"{number:x}")
+        return value.replace("#x", f"{number:x}").replace("#d", str(number))
     if isinstance(value, list):
         return [numbered(entry, number) for entry in value]
     if isinstance(value, dict):
@@ -143,15 +149,22 @@ def coded(text):
 
 
 def started(run, command, folder):
-    """The result of a run in a folder."""
+    """The result of a run in a folder, its standard output a pipe, full, closed, or a pipe whose reader is gone."""
     arguments = [os.fsencode(word) for word in [str(command)] + run.arguments]
     if run.sink == "pipe":
         return subprocess.run(arguments, cwd=folder, stdin=subprocess.DEVNULL, capture_output=True, timeout=SECONDS)
     if run.sink == "closed":
         arguments = [b"sh", b"-c", b'exec "$0" "$@" >&-'] + arguments
-    with open("/dev/full", "wb") as full:
-        return subprocess.run(arguments, cwd=folder, stdin=subprocess.DEVNULL, stdout=full, stderr=subprocess.PIPE,
+    if run.sink == "gone":
+        reader, sink = os.pipe()
+        os.close(reader)
+    else:
+        sink = os.open("/dev/full", os.O_WRONLY)
+    try:
+        return subprocess.run(arguments, cwd=folder, stdin=subprocess.DEVNULL, stdout=sink, stderr=subprocess.PIPE,
                               timeout=SECONDS)
+    finally:
+        os.close(sink)
 
 
 def difference(what, wanted, got):
@@ -208,6 +221,8 @@ def runs_of(row):
     if "arguments" in row:
         files = {"map": map_text(about), "script": "epoch\n"}
         for path, data in row.get("files", {}).items():
+            if isinstance(data, dict):
+                data = map_text(data["map"])
             files[path] = lines_text(data) if isinstance(data, list) else data
         for path in row.get("without", []):
             del files[path]
@@ -266,19 +281,17 @@ def greatest():
              for r in range(64)]
     root = {"id": -1, "items": [[-2 - r, 67108863] for r in range(64)], "kind": "tree", "type": 15}
     steps = [["take", -1], ["choose_firstn", 0, 2], ["chooseleaf_firstn", 10, 1], ["emit"]] * 4
-    groups = [(pool, number) for pool in range(65504, 65536) for number in range(4096)]
-    explicit, pairs = {}, {}
-    for at, group in enumerate(groups):
-        explicit[group] = [(at * 7 + 3 * k) % 1024 for k in range(10)]
-        pairs[group] = [[(at * 7 + 3 * k) % 1024, (at * 7 + 3 * k + 1) % 1024] for k in range(at % 10 + 1)]
+    groups = [f"{pool}.{number:x}" for pool in range(65504, 65536) for number in range(4096)]
+    sets = [[(7 * at + 3 * place) % 1024 for place in range(10)] for at in range(1024)]
+    pairs = [[[osd, (osd + 1) % 1024] for osd in places[:10 if at % 16 == 5 else 1]] for at, places in enumerate(sets)]
     return {
         "buckets": [root] + racks + leaves, "epoch": 2147483648, "max_osd": 1024, "version": 1,
         "osds": [dict(state, id=osd) for osd in range(1024)],
         "pools": [{"id": pool, "kind": "replicated", "pg_num": 4096, "pgp_num": 4096 - pool % 5, "rule": pool % 256,
                    "size": 10} for pool in range(65504, 65536)],
         "rules": [{"id": rule, "kind": "replicated", "steps": steps} for rule in range(224, 256)],
-        "pg_upmap": [[f"{pool}.{number:x}", explicit[pool, number]] for pool, number in groups],
-        "pg_upmap_items": [[f"{pool}.{number:x}", pairs[pool, number]] for pool, number in groups],
+        "pg_upmap": [[group, sets[at % 1024]] for at, group in enumerate(groups)],
+        "pg_upmap_items": [[group, pairs[at % 1024]] for at, group in enumerate(groups)],
     }
 
 
@@ -313,12 +326,14 @@ def maxima():
         places = items_by(explicit, pairs)
         script.append(f"up {group}")
         answers.append(f"up {epoch} {group} [{','.join(map(str, places))}] {places[0]}")
-    script += ["change " + written(change), "dump"]
-    answers += [f"ok {epoch + 1} evals {32 * 4096}", "dump " + written(after)]
+    whole = {"base": epoch + 1, "old_upmap": [f"{pool['id']}.{n:x}" for pool in after["pools"] for n in range(4096)]}
+    script += ["change " + written(change), "dump", "change " + written(whole), "epoch"]
+    answers += [f"ok {epoch + 1} evals {32 * 4096}", "dump " + written(after), f"ok {epoch + 2} evals {32 * 4096}"]
+    answers.append(f"epoch {epoch + 2}")
 
     def read_back(output):
         # An epoch may be one past the greatest that a map may begin with, so the text goes back with that one.
-        text = output.decode().splitlines()[-1].removeprefix("dump ")
+        text = output.decode().splitlines()[-3].removeprefix("dump ")
         text = text.replace(f'"epoch":{epoch + 1}', f'"epoch":{epoch}')
         return Run("the greatest map read back", {"map": text, "script": "dump\n"}, "session 1\ndump " + text + "\n")
 
@@ -332,6 +347,14 @@ def maxima():
               "session 1\nok 2 evals 0\nerr 33 BadCommand\nepoch 2\n")
 
 
+def table_of(name):
+    """The runs of a table."""
+    if name == "maxima":
+        return maxima()
+    rows = json.loads((HERE / f"{name}.json").read_text())["runs"]
+    return (run for row in rows for run in runs_of(row))
+
+
 def main():
     parser = argparse.ArgumentParser(description=__doc__, formatter_class=argparse.RawDescriptionHelpFormatter)
     parser.add_argument("program", type=pathlib.Path)
@@ -340,20 +363,19 @@ def main():
     parser.add_argument("--show", type=int, default=10, help="how many failed runs of a table are shown")
     options = parser.parse_args()
     command, total, wrong = options.program.resolve(), 0, 0
-    tables = [(name, (run for row in json.loads((HERE / f"{name}.json").read_text())["runs"] for run in runs_of(row)))
-              for name in TABLES] + [("maxima", maxima())]
-    for name, runs in tables:
-        began = time.monotonic()
-        runs = [run for run in runs if options.only in run.name]
-        with ThreadPoolExecutor(4) as pool:
-            found = list(pool.map(lambda run: differences(run, command), runs))
-        failed = [(run, entries) for run, entries in zip(runs, found) if entries]
-        for run, entries in failed[:options.show]:
-            print(f"FAILED: {run.name}")
-            for entry in entries:
-                print(f"    {entry}")
-        print(f"{name}: {len(runs) - len(failed)} of {len(runs)} runs passed ({time.monotonic() - began:.1f} s)")
-        total, wrong = total + len(runs), wrong + len(failed)
+    with ThreadPoolExecutor(4) as pool:
+        # The greatest runs begin first, since they take the longest.
+        tables = {name: [] for name in TABLES}
+        for name in reversed(TABLES):
+            for run in table_of(name):
+                if options.only in run.name:
+                    tables[name].append((run, pool.submit(differences, run, command)))
+        for name, runs in tables.items():
+            failed = [(run, found.result()) for run, found in runs if found.result()]
+            for run, found in failed[:options.show]:
+                print("\n    ".join([f"FAILED: {run.name}"] + found))
+            print(f"{name}: {len(runs) - len(failed)} of {len(runs)} runs passed")
+            total, wrong = total + len(runs), wrong + len(failed)
     if options.total:
         print(f"{total - wrong} passed, {wrong} failed")
     return 1 if wrong else 0
