@@ -23,7 +23,7 @@ import tempfile
 from concurrent.futures import ThreadPoolExecutor
 
 HERE = pathlib.Path(__file__).resolve().parent
-TABLES = ["worked", "placements", "limits", "texts", "program", "maxima"]
+TABLES = ["worked", "placements", "changes", "limits", "texts", "program", "maxima"]
 SECONDS = 60
 
 
