@@ -1,15 +1,4 @@
-//! Worked runs of the program, and its command lines.
-ghost use Rattle.std.specs.Prelude.{◌≤◌};
-
-mod changed;
-mod forests;
-mod limits;
-mod mapped;
-mod placed;
-mod rules;
-mod texts;
-mod worked;
-mod written;
+//! Worked runs over texts, and command lines. The tables of `tests/` run the built program over many more.
 
 use crate::choices::LineError;
 use crate::line::options;
@@ -21,17 +10,11 @@ use std::process::Abort;
 use std::test::Fail;
 
 /// One device, one group of one replica.
-pub(crate) const ONE_DEVICE: &str =
+const ONE_DEVICE: &str =
     r#"{"buckets":[{"id":-1,"items":[[0,65536]],"kind":"uniform","type":10}],"epoch":1,"max_osd":1,"osds":[{"exists":true,"id":0,"up":true,"weight":65536}],"pg_upmap":[],"pg_upmap_items":[],"pools":[{"id":1,"kind":"replicated","pg_num":1,"pgp_num":1,"rule":0,"size":1}],"rules":[{"id":0,"kind":"replicated","steps":[["take",-1],["choose_firstn",0,0],["emit"]]}],"version":1}"#;
 /// The same with two replicas.
 const TWO_REPLICAS: &str =
     r#"{"buckets":[{"id":-1,"items":[[0,65536]],"kind":"uniform","type":10}],"epoch":1,"max_osd":1,"osds":[{"exists":true,"id":0,"up":true,"weight":65536}],"pg_upmap":[],"pg_upmap_items":[],"pools":[{"id":1,"kind":"replicated","pg_num":1,"pgp_num":1,"rule":0,"size":2}],"rules":[{"id":0,"kind":"replicated","steps":[["take",-1],["choose_firstn",0,0],["emit"]]}],"version":1}"#;
-/// The device twice in its bucket.
-const DEVICE_TWICE: &str =
-    r#"{"buckets":[{"id":-1,"items":[[0,65536],[0,65536]],"kind":"uniform","type":10}],"epoch":1,"max_osd":1,"osds":[{"exists":true,"id":0,"up":true,"weight":65536}],"pg_upmap":[],"pg_upmap_items":[],"pools":[{"id":1,"kind":"replicated","pg_num":1,"pgp_num":1,"rule":0,"size":1}],"rules":[{"id":0,"kind":"replicated","steps":[["take",-1],["choose_firstn",0,0],["emit"]]}],"version":1}"#;
-/// The device with the weight 0.
-const ITEM_WITHOUT_WEIGHT: &str =
-    r#"{"buckets":[{"id":-1,"items":[[0,0]],"kind":"uniform","type":10}],"epoch":1,"max_osd":1,"osds":[{"exists":true,"id":0,"up":true,"weight":65536}],"pg_upmap":[],"pg_upmap_items":[],"pools":[{"id":1,"kind":"replicated","pg_num":1,"pgp_num":1,"rule":0,"size":1}],"rules":[{"id":0,"kind":"replicated","steps":[["take",-1],["choose_firstn",0,0],["emit"]]}],"version":1}"#;
 /// What `dump` answers over one device, with the output's first line.
 const ONE_DEVICE_DUMPED: &str = r#"session 1
 dump {"buckets":[{"id":-1,"items":[[0,65536]],"kind":"uniform","type":10}],"epoch":1,"max_osd":1,"osds":[{"exists":true,"id":0,"up":true,"weight":65536}],"pg_upmap":[],"pg_upmap_items":[],"pools":[{"id":1,"kind":"replicated","pg_num":1,"pgp_num":1,"rule":0,"size":1}],"rules":[{"id":0,"kind":"replicated","steps":[["take",-1],["choose_firstn",0,0],["emit"]]}],"version":1}
@@ -41,19 +24,24 @@ const DUMPED_AFTER_A_CHANGE: &str = r#"session 1
 ok 2 evals 1
 dump {"buckets":[{"id":-1,"items":[[0,65536]],"kind":"uniform","type":10}],"epoch":2,"max_osd":1,"osds":[{"exists":true,"id":0,"up":false,"weight":0}],"pg_upmap":[],"pg_upmap_items":[],"pools":[{"id":1,"kind":"replicated","pg_num":1,"pgp_num":1,"rule":0,"size":1}],"rules":[{"id":0,"kind":"replicated","steps":[["take",-1],["choose_firstn",0,0],["emit"]]}],"version":1}
 "#;
+/// Four devices, and an explicit set for the one group.
+const FOUR_DEVICES: &str =
+    r#"{"buckets":[{"id":-1,"items":[[0,65536],[1,65536],[2,65536],[3,65536]],"kind":"uniform","type":10}],"epoch":1,"max_osd":4,"osds":[{"exists":true,"id":0,"up":true,"weight":65536},{"exists":true,"id":1,"up":true,"weight":65536},{"exists":true,"id":2,"up":true,"weight":65536},{"exists":true,"id":3,"up":true,"weight":65536}],"pg_upmap":[["1.0",[2,0,1]]],"pg_upmap_items":[],"pools":[{"id":1,"kind":"replicated","pg_num":1,"pgp_num":1,"rule":0,"size":3}],"rules":[{"id":0,"kind":"replicated","steps":[["take",-1],["choose_firstn",0,0],["emit"]]}],"version":1}"#;
 /// A map cut after its tenth byte.
 const CUT: &str = r#"{"buckets""#;
+/// An object that has none of the keys of a map.
+const NO_KEYS: &str = "{}";
 
 /// A run with a journal of 1,024 changes: its map, its script, and what it writes or why the map is refused.
 #[derive(Clone, Copy)]
-pub(crate) struct Run {
-    pub(crate) name: &'static str,
-    pub(crate) map: &'static str,
-    pub(crate) script: &'static str,
-    pub(crate) wanted: Result<&'static str, Refusal>,
+struct Run {
+    name: &'static str,
+    map: &'static str,
+    script: &'static str,
+    wanted: Result<&'static str, Refusal>,
 }
 
-const RUNS: [Run; 9] = [
+const RUNS: [Run; 10] = [
     Run {
         name: "a second replica is skipped after 51 collisions",
         map: TWO_REPLICAS,
@@ -67,28 +55,10 @@ const RUNS: [Run; 9] = [
         wanted: Ok("session 1\n"),
     },
     Run {
-        name: "one device twice in a bucket",
-        map: DEVICE_TWICE,
-        script: "epoch\n",
-        wanted: Err(Refusal::BadForest),
-    },
-    Run {
-        name: "an item of weight 0",
-        map: ITEM_WITHOUT_WEIGHT,
-        script: "epoch\n",
-        wanted: Err(Refusal::BadLimit),
-    },
-    Run {
         name: "an OSD goes down and comes up again",
         map: ONE_DEVICE,
         script: "change {\"base\":1,\"down\":[0]}\nup 1.0\nchange {\"base\":2,\"up\":[0]}\nup 1.0\n",
         wanted: Ok("session 1\nok 2 evals 0\nup 2 1.0 [] -1\nok 3 evals 0\nup 3 1.0 [0] 0\n"),
-    },
-    Run {
-        name: "one OSD both up and down, over one device",
-        map: ONE_DEVICE,
-        script: "change {\"base\":1,\"up\":[0],\"down\":[0]}\nepoch\n",
-        wanted: Ok("session 1\nerr 27 DuplicatePart\nepoch 1\n"),
     },
     Run {
         name: "the written form of a map is that map's text",
@@ -103,43 +73,50 @@ const RUNS: [Run; 9] = [
         wanted: Ok(DUMPED_AFTER_A_CHANGE),
     },
     Run {
-        name: "a map of one device cut after its tenth byte",
+        name: "a cut change, a line that is no command, a pool and a group that are not there",
+        map: ONE_DEVICE,
+        script: "change {\"base\":1\nhello\nup 9.0\nup 1.1\nepoch",
+        wanted: Ok(
+            "session 1\nerr 10 BadJson\nerr 33 BadCommand\nerr 23 UnknownPool\nerr 25 UnknownGroup\nepoch 1\n",
+        ),
+    },
+    Run {
+        name: "pairs act in order on an explicit set, so there and back leaves it",
+        map: FOUR_DEVICES,
+        script: "change {\"base\":1,\"new_items\":[[\"1.0\",[[1,3],[3,1]]]]}\nup 1.0\n",
+        wanted: Ok("session 1\nok 2 evals 1\nup 2 1.0 [2,0,1] 2\n"),
+    },
+    Run {
+        name: "the same change twice is stale the second time",
+        map: FOUR_DEVICES,
+        script: "change {\"base\":1,\"down\":[2]}\nchange {\"base\":1,\"down\":[2]}\nup 1.0\n",
+        wanted: Ok("session 1\nok 2 evals 0\nerr 20 StaleEpoch 2\nup 2 1.0 [0,1] 0\n"),
+    },
+    Run {
+        name: "a map cut after its tenth byte",
         map: CUT,
         script: "epoch\n",
         wanted: Err(Refusal::BadJson),
     },
+    Run {
+        name: "a map that is an object without keys",
+        map: NO_KEYS,
+        script: "epoch\n",
+        wanted: Err(Refusal::BadField),
+    },
 ];
 
-/// What a run of one script puts out.
-fn put_out(
-    alloc: Global,
-    journal: u32,
-    map: &str,
-    script: &str,
-) -> Result<Result<Buffer, Fault>, AllocError>
-    requires least { 1 ≤ journal }
-    requires most { journal ≤ 65536 }
-{
-    let script = Vec::from_slice(alloc, script.as_bytes())?;
-    let mut out = Buffer::new(alloc);
-    let scripts = [script];
-    match serve(alloc, journal, map.as_bytes(), &scripts, &mut out) {
-        Ok(()) => Ok(Ok(out)),
-        Err(fault) => Ok(Err(fault)),
-    }
-}
-
-/// Tests that a run puts out what is wanted, or is refused as is wanted.
+/// Tests that a run puts out what is wanted, or is refused as is wanted and puts out nothing.
 fn assert_run(rt: &impl Abort, alloc: Global, run: Run) -> Result<(), AllocError> {
-    match (put_out(alloc, 1024, run.map, run.script)?, run.wanted) {
-        (Ok(out), Ok(wanted)) => {
-            assert_eq!(rt; out.bytes(), wanted.as_bytes(), "{}", run.name);
-        }
-        (Err(fault), Err(refusal)) => {
-            assert_eq!(rt; fault, Fault::Map(refusal), "{}", run.name);
-        }
-        _ => assert!(rt; false, "{}", run.name),
-    }
+    let scripts = [Vec::from_slice(alloc, run.script.as_bytes())?];
+    let mut out = Buffer::new(alloc);
+    let served = serve(alloc, 1024, run.map.as_bytes(), &scripts, &mut out);
+    let (wanted, fault) = match run.wanted {
+        Ok(text) => (text, None),
+        Err(refusal) => ("", Some(Fault::Map(refusal))),
+    };
+    assert_eq!(rt; served.err(), fault, "{}", run.name);
+    assert_eq!(rt; out.bytes(), wanted.as_bytes(), "{}", run.name);
     Ok(())
 }
 
@@ -147,44 +124,6 @@ fn assert_run(rt: &impl Abort, alloc: Global, run: Run) -> Result<(), AllocError
 fn runs_as_worked(rt: HostRuntime) -> Result<(), Fail> {
     for run in RUNS {
         assert_run(&rt, rt.alloc(), run)?;
-    }
-    Ok(())
-}
-
-#[test]
-fn runs_over_larger_maps_as_worked(rt: HostRuntime) -> Result<(), Fail> {
-    for run in worked::RUNS {
-        assert_run(&rt, rt.alloc(), run)?;
-    }
-    Ok(())
-}
-
-#[test]
-fn runs_with_exceptions_as_worked(rt: HostRuntime) -> Result<(), Fail> {
-    for run in changed::RUNS {
-        assert_run(&rt, rt.alloc(), run)?;
-    }
-    Ok(())
-}
-
-#[test]
-fn a_journal_of_one_entry_is_full_after_one_change(rt: HostRuntime) -> Result<(), Fail> {
-    let script = "change {\"base\":1,\"down\":[2]}\nchange {\"base\":2,\"up\":[2]}\nup 1.0\n";
-    let wanted = "session 1\nok 2 evals 0\nerr 28 JournalFull\nup 2 1.0 [0,1] 0\n";
-    match put_out(rt.alloc(), 1, changed::FOUR_DEVICES, script)? {
-        Ok(out) => assert_eq!(rt; out.bytes(), wanted.as_bytes()),
-        Err(_) => assert!(rt; false),
-    }
-    Ok(())
-}
-
-#[test]
-fn a_change_without_effect_fills_the_journal(rt: HostRuntime) -> Result<(), Fail> {
-    let script = "change {\"base\":1,\"up\":[0]}\nchange {\"base\":2}\n";
-    let wanted = "session 1\nok 2 evals 0\nerr 28 JournalFull\n";
-    match put_out(rt.alloc(), 1, ONE_DEVICE, script)? {
-        Ok(out) => assert_eq!(rt; out.bytes(), wanted.as_bytes()),
-        Err(_) => assert!(rt; false),
     }
     Ok(())
 }

@@ -1,0 +1,385 @@
+#!/usr/bin/env python3
+"""Runs the built program over the tables beside this file and compares all that it puts out, byte by byte.
+
+    tests/run.py [--total] [--only TEXT] PROGRAM
+
+A table is a JSON file of rows. A row has a name, a map (one device where it has none), a script (`epoch` where it has
+none), and the answers, or by which name the map is refused. A map is a name of maps.json; or of such a map with values
+put at paths (`values`) and texts replaced (`texts`); or an object (`is`); or a bare text (`raw`). A line of a script is
+a text, or a change as an object. Where a row stands for many runs, or for many lines, a key says so: `each_values`,
+`each_text`, `each_kind` (at each of `paths`), `each_without`, `beginnings_of_map`; `lines` (each with its answer),
+`each_line` (one answer to all), `sets` (groups and what they are placed on), `beginnings_of_change`. A row with
+`arguments` says all itself: files, standard output, standard error, status. Entries repeated in a list are written as
+`filled` below reads them, and texts as `text_of` does. The greatest runs are made by this file (`maxima`).
+"""
+
+import argparse
+import json
+import os
+import pathlib
+import subprocess
+import sys
+import tempfile
+from concurrent.futures import ThreadPoolExecutor
+
+HERE = pathlib.Path(__file__).resolve().parent
+TABLES = ["worked", "placements", "changes", "limits", "texts", "program", "maxima"]
+SECONDS = 60
+
+
+# Texts and maps of a table
+
+def written(value):
+    """The written form: compact, keys in byte order."""
+    return json.dumps(value, separators=(",", ":"), sort_keys=True)
+
+
+def numbered(value, number):
+    """An entry with its number in place of `#`, its negative of `-#`; inside a text, of `#d`, in hexadecimal `#x`."""
+    if isinstance(value, str):
+        if value in ("#", "-#"):
+            return number if value == "#" else -number
+        return value.replace("#x", f"{number:x}").replace("#d", str(number))
+    if isinstance(value, list):
+        return [numbered(entry, number) for entry in value]
+    if isinstance(value, dict):
+        return {key: numbered(entry, number) for key, entry in value.items()}
+    return value
+
+
+def filled(value):
+    """A value in which `{"every": entry, "times": n}` in a list stands for n entries, and `{"every": entry, "from": a,
+    "to": b}` for one for each number from a to b."""
+    if isinstance(value, dict):
+        return {key: filled(entry) for key, entry in value.items()}
+    if not isinstance(value, list):
+        return value
+    entries = []
+    for entry in value:
+        if not (isinstance(entry, dict) and "every" in entry):
+            entries.append(filled(entry))
+        elif "times" in entry:
+            entries += [entry["every"]] * entry["times"]
+        else:
+            entries += [numbered(entry["every"], n) for n in range(entry["from"], entry["to"] + 1)]
+    return entries
+
+
+MAPS = filled(json.loads((HERE / "maps.json").read_text()))
+
+
+def text_of(parts):
+    """A text, or the text of parts `[text, times]`. A backtick stands for a double quote."""
+    text = parts if isinstance(parts, str) else "".join(part * times for part, times in parts)
+    return text.replace("`", '"')
+
+
+def place_of(value, path):
+    """What holds the last word of a path, as `pools/0/size`, and that word."""
+    *way, last = [int(word) if word.isdigit() else word for word in path.split("/")]
+    for word in way:
+        value = value[word]
+    return value, last
+
+
+def with_values(value, values):
+    """A map with the values at some paths replaced, or put there."""
+    value = json.loads(json.dumps(value))
+    for path, new in values.items():
+        place, last = place_of(value, path)
+        place[last] = filled(new)
+    return value
+
+
+def without(value, path):
+    """A map without the key at a path."""
+    value = json.loads(json.dumps(value))
+    place, last = place_of(value, path)
+    del place[last]
+    return value
+
+
+def replaced(text, old, new):
+    old, new = text_of(old), text_of(new)
+    if old not in text:
+        raise ValueError(f"{old} is not in the text")
+    return text.replace(old, new, 1)
+
+
+def map_text(about):
+    """The text of a map: by its name, as an object, as a bare text, or with values or texts replaced."""
+    if isinstance(about, str):
+        return written(MAPS[about])
+    if "raw" in about:
+        return text_of(about["raw"])
+    if "is" in about:
+        return written(filled(about["is"]))
+    text = written(with_values(MAPS[about["of"]], about.get("values", {})))
+    for old, new in about.get("texts", []):
+        text = replaced(text, old, new)
+    return text
+
+
+def line_text(line):
+    """A line of a script or an answer: a text or its parts, a change as an object, or the dump of a map."""
+    if isinstance(line, dict):
+        if "dump" in line:
+            return "dump " + map_text(line["dump"])
+        return "change " + json.dumps(filled(line), separators=(",", ":"))
+    return text_of(line)
+
+
+def lines_text(lines):
+    return "".join(line_text(line) + "\n" for line in filled(list(lines)))
+
+
+# Runs
+
+class Run:
+    """One run: arguments and files, and what is wanted. A wanted text that is None is some text, whichever."""
+
+    def __init__(self, name, files, output="", error="", status=0, arguments=None, sink="pipe", follow=None):
+        self.name, self.files, self.sink, self.follow = name, files, sink, follow
+        self.arguments = ["map", "script"] if arguments is None else arguments
+        self.wanted = {"status": status, "output": output, "error": error}
+
+
+def coded(text):
+    return text.encode("utf-8", "surrogateescape")
+
+
+def started(run, command, folder):
+    """The result of a run in a folder, its standard output a pipe, full, closed, or a pipe whose reader is gone."""
+    arguments = [os.fsencode(word) for word in [str(command)] + run.arguments]
+    if run.sink == "pipe":
+        return subprocess.run(arguments, cwd=folder, stdin=subprocess.DEVNULL, capture_output=True, timeout=SECONDS)
+    if run.sink == "closed":
+        arguments = [b"sh", b"-c", b'exec "$0" "$@" >&-'] + arguments
+    if run.sink == "gone":
+        reader, sink = os.pipe()
+        os.close(reader)
+    else:
+        sink = os.open("/dev/full", os.O_WRONLY)
+    try:
+        return subprocess.run(arguments, cwd=folder, stdin=subprocess.DEVNULL, stdout=sink, stderr=subprocess.PIPE,
+                              timeout=SECONDS)
+    finally:
+        os.close(sink)
+
+
+def difference(what, wanted, got):
+    """How a result differs from what is wanted, or None."""
+    if wanted is None:
+        return None if got else f"{what}: some text wanted, none put out"
+    if wanted == got:
+        return None
+    if isinstance(wanted, int):
+        return f"{what}: wanted {wanted}, got {got}"
+    wanted, got = wanted.split(b"\n"), got.split(b"\n")
+    for number, (left, right) in enumerate(zip(wanted, got), 1):
+        if left != right:
+            return f"{what}, line {number}: wanted {left[:300]}\n        got    {right[:300]}"
+    return f"{what}: wanted {len(wanted) - 1} lines, got {len(got) - 1}"
+
+
+def differences(run, command):
+    """All that differs in a run, and in the run that follows from its output where there is one."""
+    with tempfile.TemporaryDirectory() as folder:
+        for name, data in run.files.items():
+            path = pathlib.Path(folder) / name
+            if data is None:
+                path.mkdir()
+            else:
+                path.write_bytes(coded(data) if isinstance(data, str) else data)
+        try:
+            done = started(run, command, folder)
+        except subprocess.TimeoutExpired:
+            return [f"no end after {SECONDS} seconds"]
+    got = {"status": done.returncode, "output": done.stdout or b"", "error": done.stderr}
+    found = []
+    for what, wanted in run.wanted.items():
+        found.append(difference(what, coded(wanted) if isinstance(wanted, str) else wanted, got[what]))
+    found = [entry for entry in found if entry]
+    return found or (differences(run.follow(got["output"]), command) if run.follow else [])
+
+
+def one_run(row, name, about):
+    """The run of a row over one map."""
+    script = row.get("script", ["epoch"])
+    files = {"map": map_text(about), "script": script if isinstance(script, str) else lines_text(script)}
+    journal = ["--journal", row["journal"]] if "journal" in row else []
+    if "refused" in row:
+        wanted = {"error": f"map: {row['refused']}\n", "status": 2}
+    else:
+        wanted = {"output": "session 1\n" + lines_text(row["answers"])}
+    return Run(name, files, arguments=journal + ["map", "script"], **wanted)
+
+
+def runs_of(row):
+    """The runs of a row of a table."""
+    name, about = row["name"], row.get("map", "one device")
+    if "arguments" in row:
+        files = {"map": map_text(about), "script": "epoch\n"}
+        for path, data in row.get("files", {}).items():
+            if isinstance(data, dict):
+                data = map_text(data["map"])
+            files[path] = lines_text(data) if isinstance(data, list) else data
+        for path in row.get("without", []):
+            del files[path]
+        wanted = {key: row[key] for key in ("output", "error", "status", "sink") if key in row}
+        return [Run(name, files, arguments=row["arguments"], **wanted)]
+    if "each_values" in row:
+        return [one_run(row, f"{name}: {json.dumps(case)[:150]}", {"of": about, "values": case})
+                for case in row["each_values"]]
+    if "each_text" in row:
+        return [one_run(row, f"{name}: {json.dumps(case)[:150]}", {"of": about, "texts": [case]})
+                for case in row["each_text"]]
+    if "sets" in row:
+        epoch = json.loads(map_text(about))["epoch"]
+        answers = [f"up {epoch} {group} {places}" for group, places in row["sets"].items()]
+        return [one_run(dict(row, script=[f"up {group}" for group in row["sets"]], answers=answers), name, about)]
+    if "each_kind" in row:
+        return [one_run(row, f"{name}: {path} {json.dumps(kind)}", {"of": about, "values": {path: kind}})
+                for path in row["paths"] for kind in row["each_kind"]]
+    if "each_without" in row:
+        return [one_run(row, f"{name}: {path}", {"is": without(MAPS[about], path)}) for path in row["each_without"]]
+    if "lines" in row:
+        lines, answers = zip(*row["lines"])
+        return [one_run(dict(row, script=lines, answers=answers), name, about)]
+    if "each_line" in row:
+        lines = row["each_line"]
+        return [one_run(dict(row, script=lines, answers=[row["answer"]] * len(lines)), name, about)]
+    if "beginnings_of_map" in row:
+        text = map_text(about)
+        return [one_run(row, f"{name}: {length} bytes", {"raw": text[:length]}) for length in range(len(text))]
+    if "beginnings_of_change" in row:
+        text = text_of(row["beginnings_of_change"])
+        lines = ["change " + text[:length] for length in range(len(text))] + ["epoch"]
+        return [one_run(dict(row, script=lines, answers=["err 10 BadJson"] * len(text) + ["epoch 1"]), name, about)]
+    return [one_run(row, name, about)]
+
+
+# Every maximum at once
+
+def items_by(explicit, pairs):
+    """An explicit set under pairs, where every OSD may be placed."""
+    for left, right in pairs:
+        if left in explicit and right not in explicit:
+            explicit = [right if entry == left else entry for entry in explicit]
+    return explicit
+
+
+def greatest():
+    """A map with the most buckets, items, rules, steps, pools, groups and OSDs that there may be, and exceptions for
+    every group."""
+    state = {"exists": True, "up": True, "weight": 65536}
+    leaves = [{"id": -66 - h, "items": [[2 * h, 7], [2 * h + 1, 9]], "kind": "list", "type": 1} for h in range(447)]
+    leaves[0]["items"] += [[osd, 5] for osd in range(894, 956)]
+    leaves[1]["items"] += [[osd, 5] for osd in range(956, 1018)]
+    leaves[2]["items"] += [[osd, 5] for osd in range(1018, 1024)]
+    racks = [{"id": -2 - r, "items": [[-66 - h, 3] for h in range(r, 447, 64)], "kind": "uniform", "type": 2}
+             for r in range(64)]
+    root = {"id": -1, "items": [[-2 - r, 67108863] for r in range(64)], "kind": "tree", "type": 15}
+    steps = [["take", -1], ["choose_firstn", 0, 2], ["chooseleaf_firstn", 10, 1], ["emit"]] * 4
+    groups = [f"{pool}.{number:x}" for pool in range(65504, 65536) for number in range(4096)]
+    sets = [[(7 * at + 3 * place) % 1024 for place in range(10)] for at in range(1024)]
+    pairs = [[[osd, (osd + 1) % 1024] for osd in places[:10 if at % 16 == 5 else 1]] for at, places in enumerate(sets)]
+    return {
+        "buckets": [root] + racks + leaves, "epoch": 2147483648, "max_osd": 1024, "version": 1,
+        "osds": [dict(state, id=osd) for osd in range(1024)],
+        "pools": [{"id": pool, "kind": "replicated", "pg_num": 4096, "pgp_num": 4096 - pool % 5, "rule": pool % 256,
+                   "size": 10} for pool in range(65504, 65536)],
+        "rules": [{"id": rule, "kind": "replicated", "steps": steps} for rule in range(224, 256)],
+        "pg_upmap": [[group, sets[at % 1024]] for at, group in enumerate(groups)],
+        "pg_upmap_items": [[group, pairs[at % 1024]] for at, group in enumerate(groups)],
+    }
+
+
+def changed(cluster):
+    """A change of every part of the greatest map, and the map after it."""
+    after = dict(cluster, epoch=cluster["epoch"] + 1)
+    gone = [f"65504.{number:x}" for number in range(4096)]
+    pool = {"id": 1, "kind": "replicated", "pg_num": 4096, "pgp_num": 1, "rule": 255, "size": 1}
+    new_sets = [[f"1.{number:x}", [number % 512 * 2]] for number in range(4096)]
+    new_pairs = [[f"1.{number:x}", [[number % 512 * 2, 1]]] for number in range(4096)]
+    old_sets = [f"65505.{number:x}" for number in range(4096)]
+    old_pairs = [f"65506.{number:x}" for number in range(4096)]
+    change = {"base": cluster["epoch"], "old_pools": [65504], "new_pools": [pool], "down": list(range(1, 1024, 4)),
+              "up": list(range(0, 1024, 4)), "weight": [[osd, osd] for osd in range(2, 1024, 4)],
+              "old_upmap": old_sets, "old_items": old_pairs, "new_upmap": new_sets, "new_items": new_pairs}
+    after["pools"] = [pool] + cluster["pools"][1:]
+    after["osds"] = [dict(osd, up=osd["id"] % 4 != 1, weight=osd["id"] if osd["id"] % 4 == 2 else 65536)
+                     for osd in cluster["osds"]]
+    for key, old, new in (("pg_upmap", old_sets, new_sets), ("pg_upmap_items", old_pairs, new_pairs)):
+        left_out = set(gone) | set(old)
+        after[key] = new + [entry for entry in cluster[key] if entry[0] not in left_out]
+    return change, after
+
+
+def maxima():
+    """Every maximum at once: read, asked, changed in every part, written, and its written form read back."""
+    cluster = greatest()
+    change, after = changed(cluster)
+    asked = list(zip(cluster["pg_upmap"], cluster["pg_upmap_items"]))[::97]
+    epoch, script, answers = cluster["epoch"], [], ["session 1"]
+    for (group, explicit), (_, pairs) in asked:
+        places = items_by(explicit, pairs)
+        script.append(f"up {group}")
+        answers.append(f"up {epoch} {group} [{','.join(map(str, places))}] {places[0]}")
+    whole = {"base": epoch + 1, "old_upmap": [f"{pool['id']}.{n:x}" for pool in after["pools"] for n in range(4096)]}
+    script += ["change " + written(change), "dump", "change " + written(whole), "epoch"]
+    answers += [f"ok {epoch + 1} evals {32 * 4096}", "dump " + written(after), f"ok {epoch + 2} evals {32 * 4096}"]
+    answers.append(f"epoch {epoch + 2}")
+
+    def read_back(output):
+        # An epoch may be one past the greatest that a map may begin with, so the text goes back with that one.
+        text = output.decode().splitlines()[-3].removeprefix("dump ")
+        text = text.replace(f'"epoch":{epoch + 1}', f'"epoch":{epoch}')
+        return Run("the greatest map read back", {"map": text, "script": "dump\n"}, "session 1\ndump " + text + "\n")
+
+    yield Run("every maximum at once", {"map": written(cluster), "script": "\n".join(script) + "\n"},
+              "\n".join(answers) + "\n", follow=read_back)
+    one, times = written(MAPS["one device"]), 150_000
+    yield Run("a script of a megabyte", {"map": one, "script": "up 1.0\n" * times},
+              "session 1\n" + "up 1 1.0 [0] 0\n" * times)
+    long_lines = f'change{" " * 1_000_000}{{"base":1}}\n{"x" * 1_000_000}\nepoch'
+    yield Run("lines of a megabyte", {"map": one, "script": long_lines},
+              "session 1\nok 2 evals 0\nerr 33 BadCommand\nepoch 2\n")
+
+
+def table_of(name):
+    """The runs of a table."""
+    if name == "maxima":
+        return maxima()
+    rows = json.loads((HERE / f"{name}.json").read_text())["runs"]
+    return (run for row in rows for run in runs_of(row))
+
+
+def main():
+    parser = argparse.ArgumentParser(description=__doc__, formatter_class=argparse.RawDescriptionHelpFormatter)
+    parser.add_argument("program", type=pathlib.Path)
+    parser.add_argument("--total", action="store_true", help="end with a line 'N passed, M failed'")
+    parser.add_argument("--only", default="", help="only runs whose name has this text")
+    parser.add_argument("--show", type=int, default=10, help="how many failed runs of a table are shown")
+    options = parser.parse_args()
+    command, total, wrong = options.program.resolve(), 0, 0
+    with ThreadPoolExecutor(4) as pool:
+        # The greatest runs begin first, since they take the longest.
+        tables = {name: [] for name in TABLES}
+        for name in reversed(TABLES):
+            for run in table_of(name):
+                if options.only in run.name:
+                    tables[name].append((run, pool.submit(differences, run, command)))
+        for name, runs in tables.items():
+            failed = [(run, found.result()) for run, found in runs if found.result()]
+            for run, found in failed[:options.show]:
+                print("\n    ".join([f"FAILED: {run.name}"] + found))
+            print(f"{name}: {len(runs) - len(failed)} of {len(runs)} runs passed")
+            total, wrong = total + len(runs), wrong + len(failed)
+    if options.total:
+        print(f"{total - wrong} passed, {wrong} failed")
+    return 1 if wrong else 0
+
+
+if __name__ == "__main__":
+    sys.exit(main())
