@@ -1,5 +1,5 @@
--- What a line answers at a state, and the state that it leaves: a question is answered by the map alone, and a change is a
--- step of the state.
+-- What a line answers at a state, and the state that it leaves: a question is answered by the map alone, and a change
+-- is a step of the state.
 use Rattle.std.specs.Prelude.{◌≡◌, ℕ, List, Option, Some, None, Result, Ok, Err, MatchResult}
 use Rattle.stated.specs.declared.change.ChangeParts.{ChangeParts}
 use Rattle.refusal.specs.declared.refused.Refusal.{Refusal}
@@ -21,10 +21,12 @@ abbrev pub Finds : ClusterMap → Question → Result (List ℕ) Refusal → Typ
 Finds m Epoch r = r ≡ Ok (epoch_text m.epoch)
 Finds m Dump r = Gives r None (λ text. text ≡ dump_text (written m))
 Finds m (Up pg) r =
-    Gives r (group_fault m pg) (λ text. (places : List (Option ℕ)) × Places up_set m pg places × (text ≡ up_text m.epoch pg places))
+    Gives r (group_fault m pg)
+    (λ text. (places : List (Option ℕ)) × Places up_set m pg places × (text ≡ up_text m.epoch pg places))
 
--- what a change answers, the new epoch and the evaluations: its text is read, where a growth may be refused at any time,
--- and then what it states is committed; a text that is refused changes nothing
+-- what a change answers, the new epoch and the evaluations: its text is read, where a growth may be refused in place of
+-- any answer, and then what it states is committed, where it may only be refused with nothing else against it; a text
+-- that is refused changes nothing
 abbrev pub Changes : History → List ℕ → Result (ℕ × ℕ) Refusal → History → Type 0
 Changes old text r new =
     (read : Result (ℕ × ChangeParts) Refusal) × Makes read (change_text_fault text) (StatesChange text)

@@ -10,7 +10,7 @@ has_sink_failed (Ok done) = false
 has_sink_failed (Err Write) = true
 has_sink_failed (Err Memory) = false
 
--- the line takes an answer and leaves a state, and the answer is out whole where nothing fails, and else a beginning of it
+-- a line is taken with an answer, which is out whole where nothing fails, and else a beginning of it
 abbrev pub Ends : {S : Type 0} → (List ℕ → S → Type 0) → S → List ℕ → List ℕ → Result Unit SessionError → Type 0
 Ends takes left before after r =
     (answer : List ℕ) × takes answer left

@@ -127,7 +127,8 @@ fn answer_line<W: Sink>(
 ) -> Result<(), SessionError>
     requires some { 0 < length line.now }
     requires open { W.has_failed sink.old ≡ false }
-    ensures out { Ends (Takes Answers Unchanged state.old line.now) state.new (W.written sink.old) (W.written sink.new) result }
+    ensures out { Ends (Takes Answers Unchanged state.old line.now) state.new
+        (W.written sink.old) (W.written sink.new) result }
     ensures failed { W.has_failed sink.new ≡ has_sink_failed result }
 {
     let reply = obey(alloc, state, &mut room.work, read_command(line));
@@ -142,9 +143,9 @@ fn answer_line<W: Sink>(
 /// Runs a script: does the command of each line in order, and writes its answer whole before the next command. A line
 /// that is no command answers `BadCommand` (33), a refused one its number and name, and the session goes on.
 ///
-/// It stops with `Write` only where the sink has failed, which is not written to again, and with `Memory` only where the
-/// session or the text of an answer found no memory and the sink has not failed; what is out is then a beginning of the
-/// answers up to the last command done.
+/// It stops with `Write` only where the sink has failed, which is not written to again, and with `Memory` only where
+/// the session or the text of an answer found no memory and the sink has not failed; what is out is then a beginning of
+/// the answers up to the last command done.
 pub fn run<W: Sink>(
     alloc: Global,
     state: &mut State,
@@ -152,8 +153,12 @@ pub fn run<W: Sink>(
     sink: &mut W,
 ) -> Result<(), SessionError>
     requires { W.has_failed sink.old ≡ false }
-    ensures ok { OnOk result ((bytes : List ℕ) × IsTranscript Answers Unchanged state.old (lines_in script.now) bytes state.new × (W.written sink.new ≡ W.written sink.old ++ bytes)) }
-    ensures err { OnErr result ((out : List ℕ) × Stops Answers Unchanged state.old (lines_in script.now) out state.new × (W.written sink.new ≡ W.written sink.old ++ out)) }
+    ensures ok { OnOk result ((bytes : List ℕ)
+        × IsTranscript Answers Unchanged state.old (lines_in script.now) bytes state.new
+        × (W.written sink.new ≡ W.written sink.old ++ bytes)) }
+    ensures err { OnErr result ((out : List ℕ)
+        × Stops Answers Unchanged state.old (lines_in script.now) out state.new
+        × (W.written sink.new ≡ W.written sink.old ++ out)) }
     ensures failed { W.has_failed sink.new ≡ has_sink_failed result }
 {
     let mut room = Room::new(alloc, state.map().forest())?;

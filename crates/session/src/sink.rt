@@ -19,8 +19,8 @@ pub trait Sink {
     /// Whether a write has failed, or has taken nothing of a text that is not empty.
     ghost has_failed: { Self → Bool };
 
-    /// Puts the first of the bytes behind those before, and answers how many; a write that fails puts none, and no other
-    /// follows it.
+    /// Puts the first of the bytes behind those before, and answers how many. A write that fails puts none, and no
+    /// other may follow it.
     fn write(&mut self, bytes: &[u8]) -> Result<usize, WriteFailed>
         requires { has_failed self.old ≡ false }
         ensures puts { Puts (written self.old) bytes.now (written self.new) result }
