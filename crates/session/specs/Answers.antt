@@ -1,47 +1,49 @@
--- What a command answers at a state, and the state that it leaves.
-use Rattle.std.specs.Prelude.{◌≡◌, ℕ, ◌⊎◌, List, Option, Some, None, MatchOption, ◌+◌}
-use Rattle.stated.specs.declared.pg.Pg.{Pg}
+-- What a line answers at a state, and the state that it leaves: a question is answered by the map alone, and a change
+-- is a step of the state.
+use Rattle.std.specs.Prelude.{◌≡◌, ℕ, List, Option, Some, None, Result, Ok, Err, MatchResult}
 use Rattle.stated.specs.declared.change.ChangeParts.{ChangeParts}
 use Rattle.refusal.specs.declared.refused.Refusal.{Refusal}
-use Rattle.refusal.specs.declared.refused.Refusal.TheVariants.{Memory as OutOfMemory, BadCommand}
+use Rattle.refusal.specs.declared.refused.Refusal.TheVariants.{BadCommand}
+use Rattle.refusal.specs.Outcomes.{Gives, Makes}
 use Rattle.osdmap.specs.Maps.{ClusterMap}
 use Rattle.osdmap.specs.Placement.{group_fault, up_set, Places}
 use Rattle.mapjson.specs.ChangeTexts.{change_text_fault, StatesChange}
 use Rattle.mapjson.specs.Written.{written}
-use Rattle.osdmap.specs.Evals.{evals_of}
-use Rattle.monitor.specs.States.{History, commit_fault, committed}
-use Rattle.session.specs.Commands.{Command, up, epoch, dump, change}
-use Rattle.session.specs.Texts.{up_text, epoch_text, dump_text, ok_text, refusal_text}
+use Rattle.monitor.specs.States.{History, Commits}
+use Rattle.session.specs.declared.command.Question.{Question}
+use Rattle.session.specs.declared.command.Question.TheVariants.{Up, Epoch, Dump}
+use Rattle.session.specs.Commands.{Command, ask, change, command_in}
+use Rattle.session.specs.Texts.{up_text, epoch_text, dump_text, ok_text, refusal_text, line_of}
 
--- a refusal is answered, and nothing is changed
-abbrev pub Refuses : History → Refusal → List ℕ → History → Type 0
-Refuses old r answer new = (answer ≡ refusal_text r) × (new ≡ old)
+-- the line that a question finds in a map, or why it is refused: for want of memory only where nothing else refuses it,
+-- and the epoch never
+abbrev pub Finds : ClusterMap → Question → Result (List ℕ) Refusal → Type 0
+Finds m Epoch r = r ≡ Ok (epoch_text m.epoch)
+Finds m Dump r = Gives r None (λ text. text ≡ dump_text (written m))
+Finds m (Up pg) r =
+    Gives r (group_fault m pg)
+    (λ text. (places : List (Option ℕ)) × Places up_set m pg places × (text ≡ up_text m.epoch pg places))
 
--- `up`: the up set of the group, or why there is none
-abbrev pub Looks : ClusterMap → Pg → List ℕ → Type 0
-Looks m pg answer =
-    MatchOption (group_fault m pg)
-    ((places : List (Option ℕ)) × Places up_set m pg places × (answer ≡ up_text m.epoch pg places))
-    (λ r. answer ≡ refusal_text r)
+-- what a change answers, the new epoch and the evaluations: its text is read, where a growth may be refused in place of
+-- any answer, and then what it states is committed, where it may only be refused with nothing else against it; a text
+-- that is refused changes nothing
+abbrev pub Changes : History → List ℕ → Result (ℕ × ℕ) Refusal → History → Type 0
+Changes old text r new =
+    (read : Result (ℕ × ChangeParts) Refusal) × Makes read (change_text_fault text) (StatesChange text)
+    × MatchResult read (λ stated. Commits old new stated.0 stated.1 r) (λ e. (r ≡ Err e) × (new ≡ old))
 
--- a change that was read: what its commit answers, and the state with it; the new epoch is the next after the base
-abbrev pub Commits : History → ℕ × ChangeParts → List ℕ → History → Type 0
-Commits old read answer new =
-    MatchOption (commit_fault old read.0 read.1)
-    ((new ≡ committed old read.1) × (answer ≡ ok_text (read.0 + 1) (evals_of new.map read.1)))
-    (λ r. Refuses old r answer new)
+-- what a command answers, and the state that it leaves; none is a line that is no command
+abbrev pub Does : History → Option Command → List ℕ → History → Type 0
+Does old None answer new = (answer ≡ refusal_text BadCommand) × (new ≡ old)
+Does old (Some (ask question)) answer new =
+    ((r : Result (List ℕ) Refusal) × Finds old.map question r × (answer ≡ line_of (λ text. text) r)) × (new ≡ old)
+Does old (Some (change text)) answer new =
+    (r : Result (ℕ × ℕ) Refusal) × Changes old text r new × (answer ≡ line_of (λ ok. ok_text ok.0 ok.1) r)
 
--- `change`: why its text states none, or what its commit answers
-abbrev pub Changes : History → List ℕ → List ℕ → History → Type 0
-Changes old text answer new =
-    MatchOption (change_text_fault text)
-    ((read : ℕ × ChangeParts) × StatesChange text read × Commits old read answer new)
-    (λ r. Refuses old r answer new)
+-- what a line answers, and the state that it leaves
+abbrev pub Answers : History → List ℕ → List ℕ → History → Type 0
+Answers old line answer new = Does old (command_in line) answer new
 
--- a command's answer; a growth may be refused, and then nothing is changed
-abbrev pub AnswersCommand : History → Option Command → List ℕ → History → Type 0
-AnswersCommand old None answer new = Refuses old BadCommand answer new
-AnswersCommand old (Some epoch) answer new = (answer ≡ epoch_text old.map.epoch) × (new ≡ old)
-AnswersCommand old (Some dump) answer new = Refuses old OutOfMemory answer new ⊎ ((answer ≡ dump_text (written old.map)) × (new ≡ old))
-AnswersCommand old (Some (up pg)) answer new = Refuses old OutOfMemory answer new ⊎ (Looks old.map pg answer × (new ≡ old))
-AnswersCommand old (Some (change text)) answer new = Refuses old OutOfMemory answer new ⊎ Changes old text answer new
+-- the link of a session that has its state alone: each line finds what the one before it left
+abbrev pub Unchanged : History → History → Type 0
+Unchanged left found = found ≡ left

@@ -3,10 +3,11 @@ use Rattle.std.specs.Prelude.{ℕ, ◌==◌, Bool, List, [], ◌∷◌, length, 
 use Rattle.std.specs.List.{onto_first}
 use Rattle.std.specs.Option.{option_map}
 use Rattle.std.specs.Str.{bytes_eq}
-use Rattle.stated.specs.declared.pg.Pg.{Pg}
 use Rattle.stated.specs.PgText.{group_in}
 use Rattle.session.specs.declared.command.Command.{Command as Read}
-use Rattle.session.specs.declared.command.Command.TheVariants.{Up, Epoch, Dump, Change}
+use Rattle.session.specs.declared.command.Command.TheVariants.{Ask, Change}
+use Rattle.session.specs.declared.command.Question.{Question}
+use Rattle.session.specs.declared.command.Question.TheVariants.{Up, Epoch, Dump}
 
 -- the byte of a newline
 abbrev pub is_newline : ℕ → Bool
@@ -17,18 +18,14 @@ unfoldable pub lines_in : List ℕ → List (List ℕ)
 lines_in [] = []
 lines_in (c ∷ cs) = if is_newline c then [] ∷ lines_in cs else onto_first c (lines_in cs)
 
--- what a line asks for: the up set of a group, the epoch, the written form of the map, or a change that a JSON text states
+-- what a line asks for: a question about the map, or a change that a JSON text states
 pub data Command : Type 0 where
-  up : Pg → Command
-  epoch : Command
-  dump : Command
+  ask : Question → Command
   change : List ℕ → Command
 
 -- the command that was read of a line
 abbrev pub shown : Read → Command
-shown (Up pg) = up pg
-shown Epoch = epoch
-shown Dump = dump
+shown (Ask question) = ask question
 shown (Change text) = change text.now
 
 -- what stands behind a word and its space
@@ -38,12 +35,12 @@ behind word line = if bytes_eq (take (length word) line) word then Some (drop (l
 -- the command of a line; none where the line is not `epoch`, `dump`, `change ` and a text, or `up ` and a group
 unfoldable pub command_in : List ℕ → Option Command
 command_in line =
-    if bytes_eq line (codes "epoch") then Some epoch
-    else if bytes_eq line (codes "dump") then Some dump
+    if bytes_eq line (codes "epoch") then Some (ask Epoch)
+    else if bytes_eq line (codes "dump") then Some (ask Dump)
     else elim (behind (codes "change ") line) [
       | Some text ↦ Some (change text)
       | None ↦ elim (behind (codes "up ") line) [
-        | Some group ↦ option_map up (group_in group)
+        | Some group ↦ option_map (λ pg. ask (Up pg)) (group_in group)
         | None ↦ None
       ]
     ]

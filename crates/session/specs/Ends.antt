@@ -1,14 +1,17 @@
--- What a line leaves: its answer, and how much of it is out.
-use Rattle.std.specs.Prelude.{◌≡◌, ℕ, true, false, List, ◌++◌, Bool, Result, MatchResult}
-use Rattle.monitor.specs.States.{History}
+-- How much of a line's answer is out, and what an end says of the sink.
+use Rattle.std.specs.Prelude.{◌≡◌, ℕ, true, false, Bool, List, ◌++◌, Result, Ok, Err, MatchResult}
 use Rattle.session.specs.declared.session.SessionError.{SessionError}
-use Rattle.session.specs.declared.session.SessionError.TheVariants.{Write}
+use Rattle.session.specs.declared.session.SessionError.TheVariants.{Write, Memory}
 use Rattle.session.specs.Sinks.{HasPut}
-use Rattle.session.specs.Transcripts.{AnswersLine}
 
--- the line is answered, whole where nothing fails, and else a beginning of its answer is out
-abbrev pub Answers : {W : Type 0} → (W → List ℕ) → (W → Bool) → History → List ℕ → History → W → W → Result Unit SessionError → Type 0
-Answers written has_failed old line new before after r =
-    (answer : List ℕ) × AnswersLine old line answer new × MatchResult r
-    (λ _. (written after ≡ written before ++ answer) × (has_failed after ≡ false))
-    (λ e. ((rest : List ℕ) × HasPut (written before) answer rest (written after)) × (e ≡ Write → has_failed after ≡ true))
+-- whether the sink has failed: at `Write`, and else not
+abbrev pub has_sink_failed : Result Unit SessionError → Bool
+has_sink_failed (Ok done) = false
+has_sink_failed (Err Write) = true
+has_sink_failed (Err Memory) = false
+
+-- a line is taken with an answer, which is out whole where nothing fails, and else a beginning of it
+abbrev pub Ends : {S : Type 0} → (List ℕ → S → Type 0) → S → List ℕ → List ℕ → Result Unit SessionError → Type 0
+Ends takes left before after r =
+    (answer : List ℕ) × takes answer left
+    × MatchResult r (λ _. after ≡ before ++ answer) (λ _. (rest : List ℕ) × HasPut before answer rest after)

@@ -2,7 +2,7 @@ pub mod Sinks
 pub mod Buffers
 pub mod Commands
 pub mod Texts
-pub mod Shown
+pub mod Replies
 pub mod Answers
 pub mod Transcripts
 pub mod Ends

@@ -1,5 +1,5 @@
 -- The bytes of each answer.
-use Rattle.std.specs.Prelude.{ℕ, List, [], ◌∷◌, ◌++◌, codes, Option, Some, None}
+use Rattle.std.specs.Prelude.{ℕ, List, [], ◌∷◌, ◌++◌, codes, Option, Some, None, Result, Ok, Err}
 use Rattle.std.specs.Fmt.{decimal}
 use Rattle.stated.specs.declared.pg.Pg.{Pg}
 use Rattle.refusal.specs.declared.refused.Refusal.{Refusal}
@@ -82,3 +82,8 @@ detail_of AwaitSpent = []
 -- `err NUMBER NAME`
 unfoldable pub refusal_text : Refusal → List ℕ
 refusal_text r = codes "err " ++ decimal (number_of r) ++ codes " " ++ name_of r ++ detail_of r ++ newline
+
+-- the line of what a command answers, or of why it is refused
+abbrev pub line_of : {X : Type 0} → (X → List ℕ) → Result X Refusal → List ℕ
+line_of text (Ok x) = text x
+line_of text (Err refusal) = refusal_text refusal

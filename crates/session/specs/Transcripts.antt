@@ -1,29 +1,40 @@
--- What a session writes.
+-- What a session writes, whatever it speaks with. S is what its answers depend on. `answers found line answer left`:
+-- at what it finds, a line that is not empty is answered so, and leaves that. `link left found`: the next line may find
+-- this where the one before left that; where a session is alone the same, where others write between what they may have
+-- made.
 use Rattle.std.specs.Prelude.{◌≡◌, ◌⊎◌, ℕ, List, [], ◌∷◌, ◌++◌}
-use Rattle.monitor.specs.States.{History}
-use Rattle.session.specs.Commands.{command_in}
-use Rattle.session.specs.Answers.{AnswersCommand}
 
--- a line's answer: none where it is empty, else that of its command
-abbrev pub AnswersLine : History → List ℕ → List ℕ → History → Type 0
-AnswersLine old [] answer new = (answer ≡ []) × (new ≡ old)
-AnswersLine old (c ∷ cs) answer new = AnswersCommand old (command_in (c ∷ cs)) answer new
+-- how a line is answered: what it finds, the line, its answer, and what it leaves
+abbrev pub Answering : Type 0 → Type 1
+Answering S = S → List ℕ → List ℕ → S → Type 0
 
--- the bytes are the answers of the lines in order, each at the state that the line meets
-unfoldable pub IsTranscript : History → List (List ℕ) → List ℕ → History → Type 0
-IsTranscript first [] bytes last = (bytes ≡ []) × (last ≡ first)
-IsTranscript first (line ∷ lines) bytes last =
-    (answer : List ℕ) × (rest : List ℕ) × (next : History) × AnswersLine first line answer next × IsTranscript next lines rest last × (bytes ≡ answer ++ rest)
+-- what one line leaves, and what the next may find
+abbrev pub Link : Type 0 → Type 1
+Link S = S → S → Type 0
+
+-- a line is taken: an empty one answers nothing and finds nothing, any other is answered
+abbrev pub Takes : {S : Type 0} → Answering S → Link S → S → List ℕ → List ℕ → S → Type 0
+Takes answers link before [] answer left = (answer ≡ []) × (left ≡ before)
+Takes {S = S} answers link before (c ∷ cs) answer left =
+    (found : S) × link before found × answers found (c ∷ cs) answer left
+
+-- the bytes are the answers of the lines in order
+unfoldable pub IsTranscript : {S : Type 0} → Answering S → Link S → S → List (List ℕ) → List ℕ → S → Type 0
+IsTranscript answers link first [] bytes last = (bytes ≡ []) × (last ≡ first)
+IsTranscript {S = S} answers link first (line ∷ lines) bytes last =
+    (answer : List ℕ) × (rest : List ℕ) × (left : S) × Takes answers link first line answer left
+    × IsTranscript answers link left lines rest last × (bytes ≡ answer ++ rest)
 
 -- of the answer to the next line a beginning is out
-abbrev pub Breaks : History → List (List ℕ) → List ℕ → List ℕ → History → Type 0
-Breaks between lines before out last =
-    (line : List ℕ) × (others : List (List ℕ)) × (answer : List ℕ) × (part : List ℕ) × (missing : List ℕ) × (lines ≡ line ∷ others)
-    × AnswersLine between line answer last × (answer ≡ part ++ missing) × (out ≡ before ++ part)
+abbrev pub Breaks : {S : Type 0} → Answering S → Link S → S → List (List ℕ) → List ℕ → List ℕ → S → Type 0
+Breaks answers link between lines before out last =
+    (line : List ℕ) × (others : List (List ℕ)) × (answer : List ℕ) × (part : List ℕ) × (missing : List ℕ)
+    × (lines ≡ line ∷ others) × Takes answers link between line answer last
+    × (answer ≡ part ++ missing) × (out ≡ before ++ part)
 
 -- a session that stops: some lines are answered whole; no other has begun, or the answer to the next is cut off
-abbrev pub Stops : History → List (List ℕ) → List ℕ → History → Type 0
-Stops first lines out last =
-    (whole : List (List ℕ)) × (others : List (List ℕ)) × (answers : List ℕ) × (between : History) × (lines ≡ whole ++ others)
-    × IsTranscript first whole answers between
-    × (((out ≡ answers) × (last ≡ between)) ⊎ Breaks between others answers out last)
+abbrev pub Stops : {S : Type 0} → Answering S → Link S → S → List (List ℕ) → List ℕ → S → Type 0
+Stops {S = S} answers link first lines out last =
+    (whole : List (List ℕ)) × (others : List (List ℕ)) × (before : List ℕ) × (between : S) × (lines ≡ whole ++ others)
+    × IsTranscript answers link first whole before between
+    × (((out ≡ before) × (last ≡ between)) ⊎ Breaks answers link between others before out last)

@@ -13,15 +13,22 @@ const CHANGE: &[u8] = b"change ";
 
 const UP: &[u8] = b"up ";
 
+/// A question about the map.
+#[derive(Clone, Copy, Debug)]
+pub(crate) enum Question {
+    /// The up set of a group.
+    Up(Pg),
+    /// The epoch.
+    Epoch,
+    /// The written form of the map.
+    Dump,
+}
+
 /// A command of a script.
 #[derive(Clone, Copy, Debug)]
 pub(crate) enum Command<'a> {
-    /// Asks for the up set of a group.
-    Up(Pg),
-    /// Asks for the epoch.
-    Epoch,
-    /// Asks for the written form of the map.
-    Dump,
+    /// Asks a question, and changes nothing.
+    Ask(Question),
     /// Commits the change that a JSON text states.
     Change(&'a [u8]),
 }
@@ -52,14 +59,14 @@ pub(crate) fn read_command(line: &[u8]) -> Option<Command<'_>>
     ensures { option_map shown result ≡ command_in line.now }
 {
     if line == EPOCH {
-        return Some(Command::Epoch);
+        return Some(Command::Ask(Question::Epoch));
     }
     if line == DUMP {
-        return Some(Command::Dump);
+        return Some(Command::Ask(Question::Dump));
     }
     if let Some(text) = line.strip_prefix(CHANGE) {
         return Some(Command::Change(text));
     }
     let group = line.strip_prefix(UP)?;
-    Some(Command::Up(Pg::parse(group)?))
+    Some(Command::Ask(Question::Up(Pg::parse(group)?)))
 }

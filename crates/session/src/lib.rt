@@ -1,8 +1,8 @@
 //! A session: a script of commands, and the answers to them.
 #![tactic(auto)]
 
-mod answer;
 mod command;
+mod reply;
 mod session;
 mod sink;
 

@@ -1,17 +1,18 @@
 //! A session: each line of a script in turn, and its answer to a sink.
-ghost use Rattle.std.specs.Prelude.{◌≡◌, ◌<◌, ◌++◌, ℕ, List, length, false, true, OnOk, OnErr, IfOk, IfErr};
+ghost use Rattle.std.specs.Prelude.{◌≡◌, ◌<◌, ◌++◌, ℕ, List, length, false, OnOk, OnErr, IfOk};
 ghost use Rattle.std.specs.Option.{option_map};
 ghost use Rattle.std.specs.String.{string_bytes};
 ghost use Rattle.session.specs.declared.session.SessionError.TheVariants.{Write as CannotWrite, Memory as OutOfMemory};
 ghost use Rattle.mapjson.specs.Written.{written};
+ghost use Rattle.session.specs.Texts.{line_of};
 ghost use Rattle.session.specs.Commands.{lines_in, shown};
-ghost use Rattle.session.specs.Shown.{answer_text, CommitsStated};
-ghost use Rattle.session.specs.Answers.{AnswersCommand};
-ghost use Rattle.session.specs.Transcripts.{IsTranscript, Stops};
-ghost use Rattle.session.specs.Ends.{Answers};
+ghost use Rattle.session.specs.Replies.{reply_text, told};
+ghost use Rattle.session.specs.Answers.{Finds, Changes, Does, Answers, Unchanged};
+ghost use Rattle.session.specs.Transcripts.{Takes, IsTranscript, Stops};
+ghost use Rattle.session.specs.Ends.{Ends, has_sink_failed};
 
-use crate::answer::Answer;
-use crate::command::{Command, first_line, read_command};
+use crate::command::{Command, Question, first_line, read_command};
+use crate::reply::{Reply, push_line};
 use crate::sink::{Sink, WriteFailed, write_whole};
 use crush::{Forest, Work};
 use mapjson::{read_change, write_map};
@@ -72,38 +73,47 @@ fn dump(alloc: Global, map: &OsdMap) -> Result<String, Memory>
     }
 }
 
+/// What a question finds in the map.
+fn find(alloc: Global, state: &State, work: &mut Work, question: Question) -> Result<Reply, Refusal>
+    ensures { Finds state.now.map question (told result) }
+{
+    match question {
+        Question::Epoch => Ok(Reply::Epoch(state.map().epoch())),
+        Question::Dump => {
+            let text = dump(alloc, state.map())?;
+            Ok(Reply::Dump(text))
+        }
+        Question::Up(pg) => {
+            let (epoch, set) = state.answer_up(pg, work)?;
+            Ok(Reply::Up { epoch, pg, set })
+        }
+    }
+}
+
 /// Commits the change that a text states: the new epoch, and the number of groups whose placement it can alter.
 fn change(alloc: Global, state: &mut State, text: &[u8]) -> Result<(u64, usize), Refusal>
-    ensures { CommitsStated state.old text.now result state.new }
+    ensures { Changes state.old text.now result state.new }
 {
     let (base, change) = read_change(alloc, text)?;
     state.commit(alloc, base, change)
 }
 
-/// What a command answers; `None` is a line that is no command.
-fn answer_command(
+/// Does a command; `None` is a line that is no command.
+fn obey(
     alloc: Global,
     state: &mut State,
     work: &mut Work,
     command: Option<Command<'_>>,
-) -> Answer
-    ensures { AnswersCommand state.old (option_map shown command.entry) (answer_text result) state.new }
+) -> Result<Reply, Refusal>
+    ensures { Does state.old (option_map shown command.entry) (line_of reply_text result) state.new }
 {
     match command {
-        None => Answer::Refused(Refusal::BadCommand),
-        Some(Command::Epoch) => Answer::Epoch(state.map().epoch()),
-        Some(Command::Dump) => match dump(alloc, state.map()) {
-            Ok(text) => Answer::Dump(text),
-            Err(Memory) => Answer::Refused(Refusal::Memory),
-        },
-        Some(Command::Up(pg)) => match state.answer_up(pg, work) {
-            Ok((epoch, set)) => Answer::Up { epoch, pg, set },
-            Err(refusal) => Answer::Refused(refusal),
-        },
-        Some(Command::Change(text)) => match change(alloc, state, text) {
-            Ok((epoch, evals)) => Answer::Changed { epoch, evals },
-            Err(refusal) => Answer::Refused(refusal),
-        },
+        None => Err(Refusal::BadCommand),
+        Some(Command::Ask(question)) => find(alloc, state, work, question),
+        Some(Command::Change(text)) => {
+            let (epoch, evals) = change(alloc, state, text)?;
+            Ok(Reply::Changed { epoch, evals })
+        }
     }
 }
 
@@ -117,11 +127,13 @@ fn answer_line<W: Sink>(
 ) -> Result<(), SessionError>
     requires some { 0 < length line.now }
     requires open { W.has_failed sink.old ≡ false }
-    ensures answers { Answers W.written W.has_failed state.old line.now state.new sink.old sink.new result }
+    ensures out { Ends (Takes Answers Unchanged state.old line.now) state.new
+        (W.written sink.old) (W.written sink.new) result }
+    ensures failed { W.has_failed sink.new ≡ has_sink_failed result }
 {
-    let answer = answer_command(alloc, state, &mut room.work, read_command(line));
+    let reply = obey(alloc, state, &mut room.work, read_command(line));
     room.text.clear();
-    if answer.push_to(&mut room.text).is_err() {
+    if push_line(&mut room.text, &reply).is_err() {
         return Err(SessionError::Memory);
     }
     write_whole(sink, room.text.as_bytes())?;
@@ -131,8 +143,9 @@ fn answer_line<W: Sink>(
 /// Runs a script: does the command of each line in order, and writes its answer whole before the next command. A line
 /// that is no command answers `BadCommand` (33), a refused one its number and name, and the session goes on.
 ///
-/// It stops with `Write` where the sink has failed, and with `Memory` where the session or the text of an answer found
-/// no memory; what is out is then a beginning of the answers up to the last command done.
+/// It stops with `Write` only where the sink has failed, which is not written to again, and with `Memory` only where
+/// the session or the text of an answer found no memory and the sink has not failed; what is out is then a beginning of
+/// the answers up to the last command done.
 pub fn run<W: Sink>(
     alloc: Global,
     state: &mut State,
@@ -140,10 +153,13 @@ pub fn run<W: Sink>(
     sink: &mut W,
 ) -> Result<(), SessionError>
     requires { W.has_failed sink.old ≡ false }
-    ensures ok { OnOk result ((bytes : List ℕ) × IsTranscript state.old (lines_in script.now) bytes state.new × (W.written sink.new ≡ W.written sink.old ++ bytes)) }
-    ensures err { OnErr result ((out : List ℕ) × Stops state.old (lines_in script.now) out state.new × (W.written sink.new ≡ W.written sink.old ++ out)) }
-    ensures cause { IfErr result (λ e. e ≡ SessionError.Write → W.has_failed sink.new ≡ true) }
-    ensures open { OnOk result (W.has_failed sink.new ≡ false) }
+    ensures ok { OnOk result ((bytes : List ℕ)
+        × IsTranscript Answers Unchanged state.old (lines_in script.now) bytes state.new
+        × (W.written sink.new ≡ W.written sink.old ++ bytes)) }
+    ensures err { OnErr result ((out : List ℕ)
+        × Stops Answers Unchanged state.old (lines_in script.now) out state.new
+        × (W.written sink.new ≡ W.written sink.old ++ out)) }
+    ensures failed { W.has_failed sink.new ≡ has_sink_failed result }
 {
     let mut room = Room::new(alloc, state.map().forest())?;
     let mut rest = script;

@@ -10,7 +10,7 @@ pub struct WriteFailed;
 
 /// Takes the bytes of answers.
 pub trait Sink {
-    ghost use Rattle.std.specs.Prelude.{◌≡◌, ℕ, List, Bool, ◌||◌};
+    ghost use Rattle.std.specs.Prelude.{◌≡◌, ℕ, List, Bool, false};
     ghost use Rattle.session.specs.Sinks.{is_refused, Puts};
 
     /// The bytes put so far.
@@ -19,10 +19,12 @@ pub trait Sink {
     /// Whether a write has failed, or has taken nothing of a text that is not empty.
     ghost has_failed: { Self → Bool };
 
-    /// Puts the first of the bytes behind those before, and answers how many; a write that fails puts none.
+    /// Puts the first of the bytes behind those before, and answers how many. A write that fails puts none, and no
+    /// other may follow it.
     fn write(&mut self, bytes: &[u8]) -> Result<usize, WriteFailed>
+        requires { has_failed self.old ≡ false }
         ensures puts { Puts (written self.old) bytes.now (written self.new) result }
-        ensures fails { has_failed self.new ≡ (has_failed self.old || is_refused bytes.now result) };
+        ensures fails { has_failed self.new ≡ is_refused bytes.now result };
 
     /// Whether a write has failed, or has taken nothing of a text that is not empty.
     fn failed(&self) -> bool

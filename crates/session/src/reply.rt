@@ -1,15 +1,16 @@
-//! What the commands of a script answer.
+//! What the commands of a script answer, and its line.
 ghost use Rattle.std.specs.Prelude.{◌≡◌, ◌++◌, OnOk};
 ghost use Rattle.std.specs.String.{string_bytes};
-ghost use Rattle.session.specs.Texts.{osd_text, set_text, up_text, refusal_text};
+ghost use Rattle.session.specs.Texts.{osd_text, set_text, up_text, refusal_text, line_of};
+ghost use Rattle.session.specs.Replies.{reply_text};
 
 use osdmap::{Pg, UpSet};
 use refusal::Refusal;
 use std::alloc::AllocError;
 
-/// What a command answers.
+/// What a command that is not refused answers.
 #[derive(Debug, Drop)]
-pub(crate) enum Answer {
+pub(crate) enum Reply {
     /// The up set of a group at an epoch.
     Up { epoch: u64, pg: Pg, set: UpSet },
     /// The epoch.
@@ -18,8 +19,6 @@ pub(crate) enum Answer {
     Dump(String),
     /// The epoch after a change, and the number of groups whose placement the change can alter.
     Changed { epoch: u64, evals: usize },
-    /// Why the command is refused.
-    Refused(Refusal),
 }
 
 /// An OSD in decimal, or a word where there is none.
@@ -69,20 +68,27 @@ fn push_refusal(text: &mut String, refusal: Refusal) -> Result<(), AllocError>
     text.push_str("\n")
 }
 
-impl Answer {
-    ghost use Rattle.session.specs.Shown.{answer_text};
-
-    /// Puts the answer's line behind a text. The one error is out of memory.
+impl Reply {
+    /// Puts the reply's line behind a text. The one error is out of memory.
     #[tactic(auto, unfolding(crate::specs::Texts::epoch_text, crate::specs::Texts::dump_text, crate::specs::Texts::ok_text))]
-    pub(crate) fn push_to(&self, text: &mut String) -> Result<(), AllocError>
-        ensures { OnOk result (string_bytes text.new ≡ string_bytes text.old ++ answer_text self.now) }
+    fn push_to(&self, text: &mut String) -> Result<(), AllocError>
+        ensures { OnOk result (string_bytes text.new ≡ string_bytes text.old ++ reply_text self.now) }
     {
         match self {
-            Answer::Up { epoch, pg, set } => push_up(text, *epoch, *pg, set),
-            Answer::Epoch(epoch) => writeln!(text, "epoch {epoch}"),
-            Answer::Dump(map) => writeln!(text, "dump {map}"),
-            Answer::Changed { epoch, evals } => writeln!(text, "ok {epoch} evals {evals}"),
-            Answer::Refused(refusal) => push_refusal(text, *refusal),
+            Reply::Up { epoch, pg, set } => push_up(text, *epoch, *pg, set),
+            Reply::Epoch(epoch) => writeln!(text, "epoch {epoch}"),
+            Reply::Dump(map) => writeln!(text, "dump {map}"),
+            Reply::Changed { epoch, evals } => writeln!(text, "ok {epoch} evals {evals}"),
         }
+    }
+}
+
+/// Puts the line of a reply or a refusal behind a text. The one error is out of memory.
+pub(crate) fn push_line(text: &mut String, reply: &Result<Reply, Refusal>) -> Result<(), AllocError>
+    ensures { OnOk result (string_bytes text.new ≡ string_bytes text.old ++ line_of reply_text reply.now) }
+{
+    match reply {
+        Ok(reply) => reply.push_to(text),
+        Err(refusal) => push_refusal(text, *refusal),
     }
 }

@@ -1,7 +1,7 @@
 use Rattle.std.proofs.Common.{◌≡◌, ◌++◌, drop}
 use Rattle.std.specs.String.{string_bytes}
 use Rattle.session.specs.Texts.{more_places}
-use Rattle.session.proofs.answer.push_set.Given as goal
+use Rattle.session.proofs.reply.push_set.Given as goal
 
 -- the text so far, with the places that are left
 abbrev pub invariant-loop-place : goal.invariant-loop-place
