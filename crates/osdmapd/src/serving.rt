@@ -1,8 +1,10 @@
 //! What the program does with its files.
-ghost use Rattle.std.specs.Prelude.{◌≡◌, ◌≢◌, ◌≤◌, length, false, IfSome, slice_get};
+ghost use Rattle.std.specs.Prelude.{◌≡◌, ◌≢◌, ◌≤◌, ◌++◌, ℕ, List, length, false, is_err};
+ghost use Rattle.std.specs.Prelude.{OnOk, OnErr, IfSome, slice_get};
 ghost use Rattle.refusal.specs.declared.refused.Refusal.TheVariants.{Memory as OutOfMemory};
 ghost use Rattle.osdmapd.specs.declared.serving.Fault.TheVariants.{Output as NoOutput};
-ghost use Rattle.osdmapd.specs.Serving.{Answered, Serves};
+ghost use Rattle.session.specs.Sinks.{HasPut};
+ghost use Rattle.osdmapd.specs.Serving.{heading, Answered, Serves, has_output_failed};
 
 use mapjson::read_map;
 use monitor::State;
@@ -64,8 +66,21 @@ fn answered(alloc: Global, journal: u32, map: &[u8], script: &[u8]) -> Result<Bu
     }
 }
 
+/// Puts the heading and the answers to a sink. At an `Err` the sink has failed, and has a beginning of the two.
+fn put<W: Sink>(out: &mut W, answers: &[u8]) -> Result<(), WriteFailed>
+    requires { W.has_failed out.old ≡ false }
+    ensures whole { OnOk result (W.written out.new ≡ W.written out.old ++ heading ++ answers.now) }
+    ensures part { OnErr result ((rest : List ℕ)
+        × HasPut (W.written out.old) (heading ++ answers.now) rest (W.written out.new)) }
+    ensures failed { W.has_failed out.new ≡ is_err result }
+{
+    write_whole(out, HEADING)?;
+    write_whole(out, answers)
+}
+
 /// Runs a script over the map that a text states, and then puts its heading and its answers to a sink. Where the map is
-/// refused or memory is short, nothing is put.
+/// refused or memory is short, nothing is put. `Output` comes only where the map is not refused and the sink has failed,
+/// which then has a beginning of the two; at every other end it has not failed.
 pub fn serve<W: Sink>(
     alloc: Global,
     journal: u32,
@@ -77,10 +92,11 @@ pub fn serve<W: Sink>(
     requires most { journal ≤ 65536 }
     requires scripts { length scripts.now ≡ 1 }
     requires unfailed { W.has_failed out.old ≡ false }
-    ensures { IfSome (slice_get scripts.now 0) (λ script. Serves W.written W.has_failed journal map.now script.items out.old out.new result) }
+    ensures served { IfSome (slice_get scripts.now 0) (λ script.
+        Serves journal map.now script.items (W.written out.old) (W.written out.new) result) }
+    ensures failed { W.has_failed out.new ≡ has_output_failed result }
 {
     let answers = answered(alloc, journal, map, &scripts[0])?;
-    write_whole(out, HEADING)?;
-    write_whole(out, answers.bytes())?;
+    put(out, answers.bytes())?;
     Ok(())
 }
