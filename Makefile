@@ -8,7 +8,7 @@ PROGRAM = $(CURDIR)/crates/osdmapd/out/osdmapd
 
 help:
 	@echo 'make try    the example answered before any proof (78 seconds on a fresh clone)'
-	@echo 'make run    the program proved and built, then the example answered by it (about half an hour the first time on four cores)'
+	@echo 'make run    the program proved and built, then the example answered by it (slow the first time: every proof below it)'
 	@echo 'make test   the gate: every proof from nothing, the edits that must not prove, the tests, then runs of the built program'
 	@echo 'make gate   the gate without the runs'
 	@echo 'make runs   the runs of the built program alone (seconds)'
