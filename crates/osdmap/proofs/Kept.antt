@@ -27,7 +27,7 @@ use Rattle.stated.specs.Incrementals.{Step}
 use Rattle.osdmap.specs.Changes.{names_osds, weighs_rightly, pools_kept, pools_after, all_groups, names_groups, brings_new, brings_rightly, excepts_soundly, change_fault, apply, with_up, with_weight}
 use Rattle.keylist.proofs.Tests.{and_first, and_second, not_true}
 use Rattle.keylist.proofs.KeyedOrder.{rising-filter}
-use Rattle.keylist.proofs.KeyedMaps.{has-entry, entry-put, entry-without, list_all-puts, list_all-filter, All-puts, rising-puts}
+use Rattle.keylist.proofs.KeyedMaps.{has-entry, entry-put, entry-without, list_all-puts, list_all-filter, rising-puts}
 use Rattle.osdmap.proofs.Accepted.{Accepted, accepted}
 use Rattle.osdmap.proofs.AfterLemmas.{length-apply, length-with_weight}
 use Rattle.keylist.proofs.Each.{list_all-agree}
