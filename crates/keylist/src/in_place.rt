@@ -16,6 +16,7 @@ use std::cmp::Ordering;
 pub fn take_away<K: Keyed, G: Keyed>(list: &mut Vec<K>, gone: &[G])
     requires { IsNonDecreasingBy G.key_of gone.now }
     ensures items { list.new.items ≡ filter (λ e. not (has_key G.key_of gone.now (K.key_of e))) list.old.items }
+    ensures fewer { vec_len list.new ≤ vec_len list.old }
     ensures room { vec_capacity list.new ≡ vec_capacity list.old }
 {
     list.retain(

@@ -11,7 +11,9 @@ use crate::limits::{
     MAX_POOLS, MAX_RULE_ID, MAX_RULES, MAX_TRIES, MAX_VERSION,
 };
 use crate::numbers::{has_between, is_between, is_bucket_id};
-use crate::parts::{BucketPart, CrushParts, ItemPart, MapParts, OsdPart, PoolPart, RulePart, StepPart};
+use crate::parts::{
+    BucketPart, CrushParts, ItemPart, MapParts, OsdPart, PoolPart, RulePart, StepPart,
+};
 use crate::pool::all_pools_fit;
 use crush::limits::{MAX_BUCKETS, MAX_ITEMS, MAX_STEPS};
 

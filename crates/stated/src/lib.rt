@@ -27,8 +27,8 @@ pub use exception::{Entry, Exception, Explicit, Items, NamesGroup, Pair};
 pub use grow::Grow;
 pub use osd::{OsdState, Presence};
 pub use parts::{
-    BucketPart, ChoosePart, CrushParts, ExceptionPart, GrowPart, ItemPart, MapParts, OsdPart, PairPart, PoolPart,
-    RulePart, StepPart,
+    BucketPart, ChoosePart, CrushParts, ExceptionPart, GrowPart, ItemPart, MapParts, OsdPart,
+    PairPart, PoolPart, RulePart, StepPart,
 };
 pub use pg::Pg;
 pub use pg_text::PgParts;
