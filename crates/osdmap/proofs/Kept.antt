@@ -27,6 +27,7 @@ use Rattle.keylist.specs.Puts.{put}
 use Rattle.stated.specs.Exceptions.{key_of, has_group, target, sides, all_named, is_set, are_pairs, is_sound, is_exception, stays, is_among, exceptions_after}
 use Rattle.osdmap.specs.Maps.{ClusterMap, osd_exists, has_rule, is_presence, HoldsTogether}
 use Rattle.stated.specs.Incrementals.{Step}
+use Rattle.stated.specs.Ordered.{IsChange}
 use Rattle.osdmap.specs.Changes.{names_osds, weighs_rightly, pools_kept, pools_there, pools_after, buckets_after, rules_after, all_groups, names_groups, brings_new, has_devices_below, brings_forest, grows_from, brings_rightly, excepts_soundly, change_fault, apply, with_up, with_weight}
 use Rattle.keylist.proofs.Tests.{and_first, and_second, not_true}
 use Rattle.keylist.proofs.KeyedOrder.{rising-filter}
@@ -234,18 +235,12 @@ weights-after : (m : ClusterMap) (step : Step) → length (apply m step).weights
 unfolding apply
 weights-after m step = length-with_weight m.weights step.change.weight
 
--- what a change that is one brings
-pub record Brings (c : ChangeParts) : Type 0 where
-  pub pools : All IsWithinLimits c.new_pools
-  pub growths : All IsGrowth c.grow_pool
-  pub crush : IfSome c.new_crush IsCrushMap
-
-pub HoldsTogether-after : (m : ClusterMap) (step : Step) → change_fault m step.change ≡ None → Brings step.change → HoldsTogether m → HoldsTogether (apply m step)
+pub HoldsTogether-after : (m : ClusterMap) (step : Step) → change_fault m step.change ≡ None → IsChange step.change → HoldsTogether m → HoldsTogether (apply m step)
 unfolding apply
-HoldsTogether-after m step lawful brings holds =
+HoldsTogether-after m step lawful is holds =
     let ok = accepted m step.change lawful in
     let rightly = rightly-each m step.change ok.rightly in
-    let kept = crush-after m step.change brings.crush ok.forest holds in
+    let kept = crush-after m step.change is.crush_map ok.forest holds in
     record {
       some = subst (λ n. 1 ≤ n) (sym (length-apply m step)) holds.some;
       few = subst (λ n. n ≤ 1024) (sym (length-apply m step)) holds.few;
@@ -260,7 +255,7 @@ HoldsTogether-after m step lawful brings holds =
       rules_over = kept.crush.rules_over;
       few_pools = few-after m step.change rightly;
       pools_rise = pools-rise m step.change holds.pools_rise;
-      pools_within = within-after m step.change brings.pools brings.growths holds.pools_within;
+      pools_within = within-after m step.change is.pools_within is.growths_within holds.pools_within;
       ruled = ruled-after m step.change rightly;
       explicit_rise = exceptions-rise step.change.old_pools step.change.old_upmap step.change.new_upmap m.explicit holds.explicit_rise;
       explicit_sound = explicit-after m step ok holds;

@@ -3,12 +3,13 @@ use Rattle.osdmap.specs.Maps.{ClusterMap, HoldsTogether}
 use Rattle.osdmap.specs.Stored.{StoredMap}
 use Rattle.stated.specs.CrushMaps.{CrushFacts}
 use Rattle.stated.specs.Incrementals.{Step}
+use Rattle.stated.specs.Ordered.{IsChange}
 use Rattle.osdmap.specs.Changes.{apply}
 use Rattle.osdmap.proofs.Accepted.{accepted}
 use Rattle.osdmap.proofs.AfterLemmas.{length-with_up}
 use Rattle.osdmap.proofs.Coming.{comes}
 use Rattle.osdmap.proofs.Named.{all_below}
-use Rattle.osdmap.proofs.Kept.{Brings, Changed, HoldsTogether-after, assembled, buckets-ready, rules-ready}
+use Rattle.osdmap.proofs.Kept.{Changed, HoldsTogether-after, assembled, buckets-ready, rules-ready}
 use Rattle.osdmap.proofs.map.OsdMap.change_to.Goals as goal
 
 pub change_pools-requires-clause-new : goal.change_pools-requires-clause-new
@@ -100,9 +101,9 @@ made c =
 pub invariant_of-self : goal.invariant_of-self
 invariant_of-self c =
     let step : Step = record { epoch = c.args.epoch; change = c.args.change.now } in
-    let brings : Brings c.args.change.now = record { pools = c.parts-parts.ensures.pools_within; growths = c.parts-parts.ensures.growths_within; crush = c.parts-parts.ensures.crush_map } in
+    let is : IsChange c.args.change.now = record { in_order = c.parts-parts.ensures.in_order; pools_within = c.parts-parts.ensures.pools_within; growths_within = c.parts-parts.ensures.growths_within; crush_map = c.parts-parts.ensures.crush_map } in
     let held = subst (λ (k : StoredMap). HoldsTogether k.map) c.self.view_is c.self.invariant in
-    subst HoldsTogether (sym (made c)) (HoldsTogether-after c.args.self.now.map step c.requires.lawful brings held)
+    subst HoldsTogether (sym (made c)) (HoldsTogether-after c.args.self.now.map step c.requires.lawful is held)
 
 pub returns : goal.returns
 returns c = made c
