@@ -65,7 +65,7 @@ impl Room {
 
 /// The written form of a map.
 fn dump(alloc: Global, map: &OsdMap) -> Result<String, Memory>
-    ensures { IfOk result (λ text. string_bytes text ≡ written map.now) }
+    ensures { IfOk result (λ text. string_bytes text ≡ written map.now.map) }
 {
     match String::from_utf8(write_map(alloc, map)?) {
         Ok(text) => Ok(text),
