@@ -18,3 +18,4 @@ pub mod Indep
 pub mod Run
 pub mod Slots
 pub mod WellFormed
+pub mod Parents
