@@ -62,13 +62,13 @@ unfolding hash3_of
 hash3_lane a b c eh ea eb e1 ex e2 ey e3 e4 e5 = rw (e5, e4, e3, ey, e2, ex, e1, eh, ea, eb) refl
 
 -- the hash of four words, by its six mixes in one lane
-pub hash4_lane : (a b c d : ℕ) {a' c' d' x y h : ℕ} {m1 m2 m3 m4 m5 m6 : ℕ × ℕ × ℕ}
+pub hash4_lane : (a b c d : ℕ) {a' d' x y h : ℕ} {m1 m2 m3 m4 m5 m6 : ℕ × ℕ × ℕ}
     → a' ≡ a → h ≡ bit_xor (bit_xor (bit_xor (bit_xor seed a) b) c) d → m1 ≡ mixed a' b h
-    → c' ≡ c → d' ≡ d → m2 ≡ mixed c' d' m1.2
+    → d' ≡ d → m2 ≡ mixed c d' m1.2
     → x ≡ 231232 → m3 ≡ mixed m1.0 x m2.2
     → y ≡ 1232 → m4 ≡ mixed y m1.1 m3.2
     → m5 ≡ mixed m2.0 m3.1 m4.2
     → m6 ≡ mixed m4.0 m2.1 m5.2
     → m6.2 ≡ hash4_of a b c d
 unfolding hash4_of
-hash4_lane a b c d ea eh e1 ec ed e2 ex e3 ey e4 e5 e6 = rw (e6, e5, e4, ey, e3, ex, e2, ec, ed, e1, eh, ea) refl
+hash4_lane a b c d ea eh e1 ed e2 ex e3 ey e4 e5 e6 = rw (e6, e5, e4, ey, e3, ex, e2, ed, e1, eh, ea) refl

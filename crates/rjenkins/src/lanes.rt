@@ -1,4 +1,4 @@
-//! The hashes of three and of four words, for four values of one word side by side: less than twice the work of one.
+//! The hashes of three and of four words, four side by side: less than twice the work of one.
 
 ghost use Rattle.std.specs.Prelude.{◌≡◌, ℕ, ◌/◌, ◌^◌, ◌<◌, bit_xor, slice_index};
 ghost use Rattle.rjenkins.specs.Jenkins.{minus, shifted_left, seed, turned, mixed, hash3_of, hash4_of};
@@ -73,11 +73,11 @@ fn start3(a: u32, b: u32, c: u32x4) -> u32x4
 
 /// What the hashes of four words begin from.
 #[inline(always)]
-fn start4(a: u32, b: u32x4, c: u32, d: u32) -> u32x4
+fn start4(a: u32, b: u32x4, c: u32x4, d: u32) -> u32x4
     ensures { (j : ℕ) → j < 4 → slice_index result j
-        ≡ bit_xor (bit_xor (bit_xor (bit_xor seed a) (slice_index b j)) c) d }
+        ≡ bit_xor (bit_xor (bit_xor (bit_xor seed a) (slice_index b j)) (slice_index c j)) d }
 {
-    u32x4::splat(SEED ^ a) ^ b ^ u32x4::splat(c) ^ u32x4::splat(d)
+    u32x4::splat(SEED ^ a) ^ b ^ c ^ u32x4::splat(d)
 }
 
 /// The hashes of three words, the third of each lane its own.
@@ -94,14 +94,14 @@ fn hashes3(a: u32, b: u32, c: u32x4) -> u32x4
     h
 }
 
-/// The hashes of four words, the second of each lane its own.
+/// The hashes of four words, the second and the third of each lane its own.
 #[inline(always)]
-fn hashes4(a: u32, b: u32x4, c: u32, d: u32) -> u32x4
-    ensures { (j : ℕ) → j < 4 → slice_index result j ≡ hash4_of a (slice_index b j) c d }
+fn hashes4(a: u32, b: u32x4, c: u32x4, d: u32) -> u32x4
+    ensures { (j : ℕ) → j < 4 → slice_index result j ≡ hash4_of a (slice_index b j) (slice_index c j) d }
 {
     let h = start4(a, b, c, d);
     let (a, b, h) = mix(each(a), b, h);
-    let (c, d, h) = mix(each(c), each(d), h);
+    let (c, d, h) = mix(c, each(d), h);
     let (_, x, h) = mix(a, each(X), h);
     let (y, _, h) = mix(each(Y), b, h);
     let (_, _, h) = mix(c, x, h);
@@ -117,10 +117,10 @@ pub fn hash3_each(a: u32, b: u32, c: [u32; 4]) -> [u32; 4]
     hashes3(a, b, u32x4::from_array(c)).to_array()
 }
 
-/// The hashes of `a`, each word of `b`, `c` and `d`: for each what `hash4` answers.
+/// The hashes of `a`, each word of `b`, the word of `c` at the same place, and `d`: for each what `hash4` answers.
 #[inline(always)]
-pub fn hash4_each(a: u32, b: [u32; 4], c: u32, d: u32) -> [u32; 4]
-    ensures { (j : ℕ) → j < 4 → slice_index result j ≡ hash4_of a (slice_index b j) c d }
+pub fn hash4_each(a: u32, b: [u32; 4], c: [u32; 4], d: u32) -> [u32; 4]
+    ensures { (j : ℕ) → j < 4 → slice_index result j ≡ hash4_of a (slice_index b j) (slice_index c j) d }
 {
-    hashes4(a, u32x4::from_array(b), c, d).to_array()
+    hashes4(a, u32x4::from_array(b), u32x4::from_array(c), d).to_array()
 }

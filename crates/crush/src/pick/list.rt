@@ -35,7 +35,7 @@ fn hashes_from(items: &[Item], from: usize, x: u32, id: u32, r: u32) -> [u32; 4]
         items[from + 2].id.cast_unsigned(),
         items[from + 3].id.cast_unsigned(),
     ];
-    hash4_each(x, ids, r, id)
+    hash4_each(x, ids, [r; 4], id)
 }
 
 /// The place that a list bucket picks. It goes by blocks of four from the end; the first place needs no draw.

@@ -1,12 +1,13 @@
 //! A uniform bucket draws its places in an order, no further than to the place that it needs.
 
-ghost use Rattle.std.specs.Prelude.{◌≡◌, ◌<◌, ◌≤◌, length, slice_index};
+ghost use Rattle.std.specs.Prelude.{◌≡◌, ℕ, ◌<◌, ◌≤◌, length, slice_index};
 ghost use Rattle.std.specs.List.{range_with_len};
+ghost use Rattle.rjenkins.specs.Jenkins.{hash3_of};
 ghost use Rattle.crush.specs.Limits.{max_items};
 ghost use Rattle.crush.specs.Uniform.{places_drawn, uniform_place};
 
 use crate::limits::MAX_ITEMS;
-use rjenkins::hash3;
+use rjenkins::{hash3, hash3_each};
 
 /// The places of the greatest bucket, in order.
 const PLACES: [u8; MAX_ITEMS] = [
@@ -15,18 +16,40 @@ const PLACES: [u8; MAX_ITEMS] = [
     50, 51, 52, 53, 54, 55, 56, 57, 58, 59, 60, 61, 62, 63,
 ];
 
-/// Draws the places one after another up to the one that comes to stand at `last`, which it answers.
-fn draw(places: &mut [u8], x: u32, id: u32, last: u32) -> u8
+/// The hashes of the first draws, up to that of draw `last`: side by side where there are two or more.
+fn first_hashes(x: u32, id: u32, last: u32) -> [u32; 4]
+    ensures { (p : ℕ) → p ≤ last → p < 4 → slice_index result p ≡ hash3_of x id p }
+{
+    if last == 0 {
+        return [hash3(x, id, 0); 4];
+    }
+    hash3_each(x, id, [0, 1, 2, 3])
+}
+
+/// The hash of a draw: of the first draws, or its own.
+fn hash_of(firsts: [u32; 4], x: u32, id: u32, p: u32) -> u32
+    requires { p < 4 → slice_index firsts p ≡ hash3_of x id p }
+    ensures { result ≡ hash3_of x id p }
+{
+    match firsts.get(p as usize) {
+        Some(hash) => *hash,
+        None => hash3(x, id, p),
+    }
+}
+
+/// Draws the places one after another up to the one that comes to stand at `last`.
+fn draw(places: &mut [u8], x: u32, id: u32, last: u32)
     requires last { last < length places.old }
     requires few { length places.old ≤ max_items }
-    ensures { result ≡ slice_index (places_drawn x id 0 (length places.old) places.old) last }
+    ensures { (i : ℕ) → i ≤ last →
+        slice_index places.new i ≡ slice_index (places_drawn x id 0 (length places.old) places.old) i }
 {
     let count = places.len() as u32;
+    let firsts = first_hashes(x, id, last);
     for p in 0..last + 1 {
-        let member = hash3(x, id, p) % (count - p);
+        let member = hash_of(firsts, x, id, p) % (count - p);
         places.swap(p as usize, (p + member) as usize);
     }
-    places[last as usize]
 }
 
 /// The place that a uniform bucket of `count` items picks.
@@ -38,5 +61,7 @@ pub(super) fn uniform_pick(count: usize, x: u32, id: u32, r: u32) -> usize
 {
     let mut places = PLACES;
     let front = &mut places[..count];
-    draw(front, x, id, r % count as u32) as usize
+    let last = r % count as u32;
+    draw(front, x, id, last);
+    usize::from(front[last as usize])
 }
