@@ -191,6 +191,16 @@ walks draw k half node hash items w some eh en drawn low at =
       | inr stays ↦ (let e = ap (λ h. goes_left h w.weight left) (sym drawn) ∙ stays in rw stays (walks_right draw k w.from half node w.weight left items some eh en refl at low e))
     ]
 
+-- the halves of a node are within the tree
+pub half_room : (draw : ℕ → ℕ) (k from half w : ℕ) (items : List Item) → 0 < k → half ≡ 2 ^ (k - 1) → IsAt draw items k from w → from + half ≤ 64
+half_room draw k from half w items some eh at =
+    let j = k - 1 in
+    let P : ℕ → Type 0 = λ m. IsAt draw items m from w in
+    let more : k ≡ suc j = omega arith in
+    let two : 2 ^ suc j ≡ 2 ^ j + 2 ^ j = omega (arith, pow-suc 2 j) in
+    let room = (subst P more at).room in
+    omega (arith, two, eh, room)
+
 -- the item at the place picked
 pub picked_at : (b : Bucket) (x r place : ℕ) (items : List Item) → items ≡ b.items → place ≡ place_of b x r → (item_at items place).id ≡ pick_of b x r
 unfolding pick_of

@@ -7,7 +7,7 @@ ghost use Rattle.crush.specs.Tree.{draw_at, goes_left, height_of, tree_place};
 
 use crate::bucket::Item;
 use crate::limits::MAX_ITEMS;
-use rjenkins::hash4;
+use rjenkins::{hash4, hash4_each};
 
 /// Where a walk has come to: the first place of a node, and the weight of the node.
 #[derive(Clone, Copy)]
@@ -58,10 +58,10 @@ struct Tree<'a> {
 }
 
 impl Tree<'_> {
-    ghost use Rattle.std.specs.Prelude.{◌≡◌, ◌+◌, ◌*◌, ◌≤◌};
+    ghost use Rattle.std.specs.Prelude.{◌≡◌, ℕ, ◌+◌, ◌*◌, ◌<◌, ◌≤◌};
     ghost use Rattle.crush.specs.Limits.{max_items};
-    ghost use Rattle.crush.specs.Tree.{weight_between};
-    ghost use Rattle.crush.specs.Walks.{stepped};
+    ghost use Rattle.crush.specs.Tree.{draw_at, weight_between};
+    ghost use Rattle.crush.specs.Walks.{stepped, walk_at};
 
     /// The weight of the places from `from` on, `count` of them.
     fn weight_between(&self, from: usize, count: usize) -> u32
@@ -93,6 +93,37 @@ impl Tree<'_> {
             }
         }
     }
+
+    /// The walks for the replica numbers 0 to 3 one level on, each at a node of halves of `half` places.
+    fn step_each(&self, x: u32, id: u32, half: usize, walks: [Walk; 4]) -> [Walk; 4]
+        requires few { (r : ℕ) → r < 4 → (walk_at walks r).from + half ≤ max_items }
+        requires part { (r : ℕ) → r < 4 →
+            weight_between self.now.items.now (walk_at walks r).from half ≤ (walk_at walks r).weight }
+        ensures { (r : ℕ) → r < 4 → let walk = walk_at walks r in
+            walk_at result r ≡ stepped self.now.items.now (draw_at x id r (2 * (walk.from + half))) half walk }
+    {
+        let nodes = [
+            node_of(walks[0], half),
+            node_of(walks[1], half),
+            node_of(walks[2], half),
+            node_of(walks[3], half),
+        ];
+        let draws = hash4_each(x, nodes, [0, 1, 2, 3], id);
+        [
+            self.step(draws[0], half, walks[0]),
+            self.step(draws[1], half, walks[1]),
+            self.step(draws[2], half, walks[2]),
+            self.step(draws[3], half, walks[3]),
+        ]
+    }
+}
+
+/// The number of the node at which a walk has come to halves of `half` places.
+fn node_of(walk: Walk, half: usize) -> u32
+    requires { walk.from + half ≤ max_items }
+    ensures { result ≡ 2 * (walk.from + half) }
+{
+    (2 * (walk.from + half)) as u32
 }
 
 /// The place that a tree bucket picks.
@@ -111,8 +142,30 @@ pub(super) fn tree_pick(items: &[Item], x: u32, id: u32, r: u32) -> usize
     };
     for k in (0..height(items.len())).rev() {
         let half = 1 << k;
-        let node = (2 * (walk.from + half)) as u32;
-        walk = tree.step(hash4(x, node, r, id), half, walk);
+        let draw = hash4(x, node_of(walk, half), r, id);
+        walk = tree.step(draw, half, walk);
     }
     walk.from
+}
+
+/// The places that a tree bucket picks for the replica numbers 0 to 3, in walks side by side.
+pub(super) fn tree_picks(items: &[Item], x: u32, id: u32) -> [usize; 4]
+    requires some { 0 < weight_of items.now }
+    requires few { length items.now ≤ max_items }
+    requires weight { weight_of items.now < 2 ^ 32 }
+    ensures place { (r : ℕ) → r < 4 →
+        slice_index result r ≡ tree_place (draw_at x id r) items.now (height_of (length items.now)) 0 }
+    ensures within { (r : ℕ) → r < 4 → slice_index result r < length items.now }
+{
+    let sums = sums_of(items);
+    let tree = Tree { items, sums };
+    let root = Walk {
+        from: 0,
+        weight: sums[items.len()],
+    };
+    let mut walks = [root, root, root, root];
+    for k in (0..height(items.len())).rev() {
+        walks = tree.step_each(x, id, 1 << k, walks);
+    }
+    [walks[0].from, walks[1].from, walks[2].from, walks[3].from]
 }

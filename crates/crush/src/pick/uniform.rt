@@ -65,3 +65,21 @@ pub(super) fn uniform_pick(count: usize, x: u32, id: u32, r: u32) -> usize
     draw(front, x, id, last);
     usize::from(front[last as usize])
 }
+
+/// The places that a uniform bucket of `count` items picks for the replica numbers 0 to 3.
+pub(super) fn uniform_picks(count: usize, x: u32, id: u32) -> [usize; 4]
+    requires some { 0 < count }
+    requires few { count ≤ max_items }
+    ensures place { (r : ℕ) → r < 4 → slice_index result r ≡ uniform_place x id count r }
+    ensures within { (r : ℕ) → r < 4 → slice_index result r < count }
+{
+    let mut places = PLACES;
+    let front = &mut places[..count];
+    draw(front, x, id, count.min(4) as u32 - 1);
+    [
+        usize::from(front[0]),
+        usize::from(front[1 % count]),
+        usize::from(front[2 % count]),
+        usize::from(front[3 % count]),
+    ]
+}

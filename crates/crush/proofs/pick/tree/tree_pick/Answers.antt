@@ -17,7 +17,7 @@ loop-k-preserved c =
     let a = c.args in
     let k = c.loop-k.k in
     let half = one_shl (k - 1) 64 (omega (arith, c.loop-k.invariant.low)) in
-    rw c.step-walk.ensures (walks (draw_at a.x a.id a.r) k _ _ c.hash4.result a.items.now c.loop-k.walk (omega arith) half refl c.hash4.ensures (hash4-lt _ _ _ _) c.loop-k.invariant)
+    rw c.step-walk.ensures (walks (draw_at a.x a.id a.r) k _ _ c.hash4-draw.result a.items.now c.loop-k.walk (omega arith) half c.node_of.ensures c.hash4-draw.ensures (hash4-lt _ _ _ _) c.loop-k.invariant)
 
 pub returns-clause-place : goal.returns-clause-place
 returns-clause-place c =
