@@ -52,9 +52,9 @@ fn height(count: usize) -> u32
 #[derive(Clone, Copy)]
 struct Tree<'a> {
     items: &'a [Item],
-    sums: [u32; MAX_ITEMS + 1],
+    sums: &'a [u32; MAX_ITEMS + 1],
     ghost few: { length items.now ≤ max_items },
-    ghost added: { (k : ℕ) → k ≤ length items.now → slice_index sums k ≡ weight_of (take k items.now) },
+    ghost added: { (k : ℕ) → k ≤ length items.now → slice_index sums.now k ≡ weight_of (take k items.now) },
 }
 
 impl Tree<'_> {
@@ -135,7 +135,7 @@ pub(super) fn tree_pick(items: &[Item], x: u32, id: u32, r: u32) -> usize
     ensures within { result < length items.now }
 {
     let sums = sums_of(items);
-    let tree = Tree { items, sums };
+    let tree = Tree { items, sums: &sums };
     let mut walk = Walk {
         from: 0,
         weight: sums[items.len()],
@@ -158,7 +158,7 @@ pub(super) fn tree_picks(items: &[Item], x: u32, id: u32) -> [usize; 4]
     ensures within { (r : ℕ) → r < 4 → slice_index result r < length items.now }
 {
     let sums = sums_of(items);
-    let tree = Tree { items, sums };
+    let tree = Tree { items, sums: &sums };
     let root = Walk {
         from: 0,
         weight: sums[items.len()],
