@@ -5,15 +5,10 @@ use Rattle.crush.specs.declared.bucket.Bucket.{Bucket}
 use Rattle.crush.specs.Limits.{max_devices}
 use Rattle.crush.specs.Paths.{has_item}
 use Rattle.crush.specs.Slots.{slot}
-use Rattle.crush.specs.WellFormed.{is_known, IsForest}
+use Rattle.crush.specs.WellFormed.{is_known}
 
 -- at each item's number the place of the bucket that has it, and one past the last where none has it
 abbrev pub AreParents : List Bucket → List ℕ → Type 0
 AreParents buckets places =
     (id : ℤ) → IsTrue (is_known buckets max_devices id)
     → slice_get buckets (slice_index places (slot buckets id)) ≡ find (has_item id) buckets
-
--- a forest, and the places of its items' buckets
-pub record IsLinked (buckets : List Bucket) (places : List ℕ) : Type 0 where
-  pub forest : IsForest buckets
-  pub parents : AreParents buckets places

@@ -1,6 +1,7 @@
 //! Forests of buckets.
 
 ghost use Rattle.std.specs.Prelude.{◌≡◌, IfOk};
+ghost use Rattle.crush.specs.Parents.{AreParents};
 
 use crate::bucket::Bucket;
 use crate::limits::MAX_DEVICES;
@@ -18,18 +19,19 @@ use std::marker::Model;
 pub struct Forest {
     buckets: Vec<Bucket>,
     parents: [u16; SLOTS],
+    ghost linked: { AreParents buckets.items parents },
 }
 
 impl Model for Forest {
     ghost use Rattle.std.specs.Prelude.{List};
     ghost use Rattle.crush.specs.declared.bucket.Bucket.{Bucket};
-    ghost use Rattle.crush.specs.Parents.{IsLinked};
+    ghost use Rattle.crush.specs.WellFormed.{IsForest};
 
     ghost Value = { List Bucket };
 
     ghost view = { λ f. f.buckets.items };
 
-    ghost invariant = { λ f. IsLinked f.buckets.items f.parents };
+    ghost invariant = { λ f. IsForest f.buckets.items };
 }
 
 impl Forest {

@@ -27,14 +27,13 @@ parents_of-parents-requires c =
     rw c.deref-2.ensures.value (forest-passed c.sort_unstable_by_key.new.self.items c.args.max_osd sorted (limits-moved _ _ c.sort_unstable_by_key.ensures.permutation c.args.max_osd ∙ c.requires) ok)
 
 pub invariant_of-result : goal.invariant_of-result
-invariant_of-result c =
+invariant_of-result c = (rw c.deref-2.ensures.value at c.parents_of-parents.ensures, tt)
+
+pub invariant_of-result-2 : goal.invariant_of-result-2
+invariant_of-result-2 c =
     let ok = rw c.deref.ensures.value at (sym c.is_well_formed.ensures ∙ c.if-not-is_well_formed.false) in
     let sorted = sorted-falls _ (c.sort_unstable_by_key.ensures.sorted (λ b. record { 0 = b.id }) (always_returns_same _ _ _ (λ a r q called. search rules))) in
-    let limits = limits-moved _ _ c.sort_unstable_by_key.ensures.permutation c.args.max_osd ∙ c.requires in
-    record {
-      forest = forest-passed c.sort_unstable_by_key.new.self.items c.args.max_osd sorted limits ok;
-      parents = rw c.deref-2.ensures.value at c.parents_of-parents.ensures;
-    }
+    forest-passed c.sort_unstable_by_key.new.self.items c.args.max_osd sorted (limits-moved _ _ c.sort_unstable_by_key.ensures.permutation c.args.max_osd ∙ c.requires) ok
 
 pub returns-clause-descending : goal.returns-clause-descending
 returns-clause-descending c =

@@ -10,7 +10,7 @@ pub returns-then-not-is_known-clause-value : goal.returns-then-not-is_known-clau
 returns-then-not-is_known-clause-value c =
     let shown = to_z-of_z w32 c.args.item c.ranges.item in
     let unknown = rw (shown, c.deref-buckets.ensures.value) at (sym c.is_known.ensures ∙ c.if-not-is_known.true) in
-    rw (← c.self.view_is) (sym (unknown-nowhere _ c.self.invariant.forest c.args.item unknown))
+    rw (← c.self.view_is) (sym (unknown-nowhere _ c.self.invariant c.args.item unknown))
 
 pub returns-clause-value : goal.returns-clause-value
 returns-clause-value c =
@@ -19,4 +19,4 @@ returns-clause-value c =
     let known = rw (shown, c.deref-buckets.ensures.value) at (sym c.is_known.ensures ∙ c.if-not-is_known.false) in
     let place = rw (shown, c.deref-buckets.ensures.value) at c.slot_of.ensures.value in
     let read : option_copied c.get.result ≡ slice_get buckets (slice_index c.self.inside.parents c.slot_of.result) = grind (arith, nat_tests, gets, c.get.ensures.lookup, c.deref-buckets.ensures.value, c.from.ensures) in
-    rw (← c.self.view_is) (read ∙ ap (λ s. slice_get buckets (slice_index c.self.inside.parents s)) place ∙ c.self.invariant.parents c.args.item known)
+    rw (← c.self.view_is) (read ∙ ap (λ s. slice_get buckets (slice_index c.self.inside.parents s)) place ∙ c.self.inside.linked c.args.item known)
