@@ -10,6 +10,9 @@ use Rattle.std.proofs.lemmas.Option.{slice_get-get_or, slice_get_past}
 use Rattle.std.proofs.Math.Seq.{drop-length}
 use Rattle.crush.specs.declared.bucket.Bucket.{Bucket}
 use Rattle.crush.specs.declared.bucket.Item.{Item}
+use Rattle.std.proofs.Props.{props}
+use Rattle.std.proofs.Math.Logic.{∥∥₁_elim}
+use Rattle.crush.specs.Parents.{AreParents}
 use Rattle.crush.specs.Paths.{has_item}
 use Rattle.crush.specs.Slots.{slot}
 use Rattle.crush.specs.WellFormed.{is_known, IsForest}
@@ -84,3 +87,12 @@ placed_none buckets few id known =
     ap (slice_get buckets) (get_or-replicate 1536 (slot buckets id) 512 0 (slot-within buckets few id known))
     ∙ slice_get_past buckets 512 few
     ∙ sym (ap (find (has_item id)) (drop-length buckets))
+
+-- that they are the places has one proof at most
+facts : (buckets : List Bucket) (places : List ℕ) → IsProp (AreParents buckets places)
+unfolding AreParents
+facts buckets places = hlevel props
+
+-- the places, as a forest keeps them
+pub are_parents : (buckets : List Bucket) (places : List ℕ) → ∥ AreParents buckets places ∥₁ → AreParents buckets places
+are_parents buckets places kept = ∥∥₁_elim kept (facts buckets places) (λ linked. linked)

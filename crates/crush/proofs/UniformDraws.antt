@@ -133,3 +133,12 @@ pub drawn_front : (xs rest all : List ℕ) (p i : ℕ) → p ≤ length xs → i
 drawn_front xs rest all p i le lt e =
     let len : length (take p xs) ≡ p = length-take-le p xs le in
     sym (get_or-take p xs i 0 lt) ∙ sym (get_or_append_left (take p xs) rest 0 i (omega arith)) ∙ ap (λ ys. get_or ys i 0) e
+
+-- the first place drawn
+pub first_drawn : (x id n r : ℕ) → 0 < n → r % n ≡ 0 → hash3_of x id 0 % n ≡ uniform_place x id n r
+unfolding uniform_place places_drawn
+first_drawn x id zero r some e = absurd (omega arith)
+first_drawn x id (suc m) r some e =
+    let k = hash3_of x id 0 % suc m in
+    let is : get_or (range_with_len 0 (suc m)) k 0 ≡ k = get_or-range_with_len 0 (suc m) k 0 (mod_below (hash3_of x id 0) (suc m) some) ∙ omega arith in
+    sym (ap (λ i. get_or (places_drawn x id 0 (suc m) (range_with_len 0 (suc m))) i 0) e ∙ is)

@@ -8,7 +8,7 @@ use Rattle.crush.specs.Slots.{slot}
 use Rattle.crush.specs.WellFormed.{is_known}
 
 -- at each item's number the place of the bucket that has it, and one past the last where none has it
-abbrev pub AreParents : List Bucket → List ℕ → Type 0
+unfoldable pub AreParents : List Bucket → List ℕ → Type 0
 AreParents buckets places =
     (id : ℤ) → IsTrue (is_known buckets max_devices id)
     → slice_get buckets (slice_index places (slot buckets id)) ≡ find (has_item id) buckets

@@ -19,7 +19,7 @@ use std::marker::Model;
 pub struct Forest {
     buckets: Vec<Bucket>,
     parents: [u16; SLOTS],
-    ghost linked: { AreParents buckets.items parents },
+    ghost linked: { ∥ AreParents buckets.items parents ∥₁ },
 }
 
 impl Model for Forest {

@@ -31,6 +31,7 @@ fn enter(parents: &mut [u16], buckets: &[Bucket], items: &[Item], place: u16)
 }
 
 /// The places of the buckets that have the items of a forest, by the items' numbers.
+#[tactic(auto, unfolding(crate::specs::Parents::AreParents))]
 pub(crate) fn parents_of(buckets: &[Bucket]) -> [u16; SLOTS]
     requires { IsForest buckets.now }
     ensures { AreParents buckets.now result }

@@ -16,13 +16,10 @@ const PLACES: [u8; MAX_ITEMS] = [
     50, 51, 52, 53, 54, 55, 56, 57, 58, 59, 60, 61, 62, 63,
 ];
 
-/// The hashes of the first draws, up to that of draw `last`: side by side where there are two or more.
-fn first_hashes(x: u32, id: u32, last: u32) -> [u32; 4]
-    ensures { (p : ℕ) → p ≤ last → p < 4 → slice_index result p ≡ hash3_of x id p }
+/// The hashes of the first draws, side by side.
+fn first_hashes(x: u32, id: u32) -> [u32; 4]
+    ensures { (p : ℕ) → p < 4 → slice_index result p ≡ hash3_of x id p }
 {
-    if last == 0 {
-        return [hash3(x, id, 0); 4];
-    }
     hash3_each(x, id, [0, 1, 2, 3])
 }
 
@@ -45,23 +42,26 @@ fn draw(places: &mut [u8], x: u32, id: u32, last: u32)
         slice_index places.new i ≡ slice_index (places_drawn x id 0 (length places.old) places.old) i }
 {
     let count = places.len() as u32;
-    let firsts = first_hashes(x, id, last);
+    let firsts = first_hashes(x, id);
     for p in 0..last + 1 {
         let member = hash_of(firsts, x, id, p) % (count - p);
         places.swap(p as usize, (p + member) as usize);
     }
 }
 
-/// The place that a uniform bucket of `count` items picks.
+/// The place that a uniform bucket of `count` items picks. The first place drawn needs no others.
 pub(super) fn uniform_pick(count: usize, x: u32, id: u32, r: u32) -> usize
     requires some { 0 < count }
     requires few { count ≤ max_items }
     ensures place { result ≡ uniform_place x id count r }
     ensures within { result < count }
 {
+    let last = r % count as u32;
+    if last == 0 {
+        return (hash3(x, id, 0) % count as u32) as usize;
+    }
     let mut places = PLACES;
     let front = &mut places[..count];
-    let last = r % count as u32;
     draw(front, x, id, last);
     usize::from(front[last as usize])
 }

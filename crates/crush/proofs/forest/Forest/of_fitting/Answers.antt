@@ -27,7 +27,7 @@ parents_of-parents-requires c =
     rw c.deref-2.ensures.value (forest-passed c.sort_unstable_by_key.new.self.items c.args.max_osd sorted (limits-moved _ _ c.sort_unstable_by_key.ensures.permutation c.args.max_osd ∙ c.requires) ok)
 
 pub invariant_of-result : goal.invariant_of-result
-invariant_of-result c = (rw c.deref-2.ensures.value at c.parents_of-parents.ensures, tt)
+invariant_of-result c = (∣ rw c.deref-2.ensures.value at c.parents_of-parents.ensures ∣₁, tt)
 
 pub invariant_of-result-2 : goal.invariant_of-result-2
 invariant_of-result-2 c =
