@@ -9,7 +9,7 @@ ghost use Rattle.osdmapd.specs.Serving.{heading, Answered, Serves, has_output_fa
 use mapjson::read_map;
 use monitor::State;
 use refusal::Refusal;
-use session::{Buffer, Sink, WriteFailed, write_whole};
+use session::{Buffer, Open, Sink, WriteFailed, write_whole};
 use std::alloc::Global;
 
 /// The line above the answers of the first session.
@@ -60,7 +60,7 @@ fn answered(alloc: Global, journal: u32, map: &[u8], script: &[u8]) -> Result<Bu
         return Err(Fault::Memory);
     };
     let mut answers = Buffer::new(alloc);
-    match session::run(alloc, &mut state, script, &mut answers) {
+    match session::run(alloc, &mut state, script, &mut answers, &Open) {
         Ok(()) => Ok(answers),
         Err(_) => Err(Fault::Memory),
     }
@@ -78,9 +78,10 @@ fn put<W: Sink>(out: &mut W, answers: &[u8]) -> Result<(), WriteFailed>
     write_whole(out, answers)
 }
 
-/// Runs a script over the map that a text states, and then puts its heading and its answers to a sink. Where the map is
-/// refused or memory is short, nothing is put. `Output` comes only where the map is not refused and the sink has failed,
-/// which then has a beginning of the two; at every other end it has not failed.
+/// Runs a script over the map that a text states, and then puts its heading and its answers to a sink; `journal` is how
+/// many changes may be committed. Where the map is refused (10 to 17) or memory is short (30), nothing is put. `Output`
+/// comes only where the map is not refused and the sink has failed, which then has a beginning of the two; at every other
+/// end it has not failed.
 pub fn serve<W: Sink>(
     alloc: Global,
     journal: u32,
