@@ -3,6 +3,7 @@ ghost use Rattle.std.specs.Prelude.{◌≡◌, ◌≢◌, ◌≤◌, ◌++◌, �
 ghost use Rattle.std.specs.Prelude.{OnOk, OnErr, IfSome, slice_get};
 ghost use Rattle.refusal.specs.declared.refused.Refusal.TheVariants.{Memory as OutOfMemory};
 ghost use Rattle.osdmapd.specs.declared.serving.Fault.TheVariants.{Output as NoOutput};
+ghost use Rattle.monitor.specs.States.{max_journal};
 ghost use Rattle.session.specs.Sinks.{HasPut};
 ghost use Rattle.osdmapd.specs.Serving.{heading, Answered, Serves, has_output_failed};
 
@@ -48,7 +49,7 @@ fn fault_of(refusal: Refusal) -> Fault
 /// The answers of a script from a map, in memory.
 fn answered(alloc: Global, journal: u32, map: &[u8], script: &[u8]) -> Result<Buffer, Fault>
     requires least { 1 ≤ journal }
-    requires most { journal ≤ 65536 }
+    requires most { journal ≤ max_journal }
     ensures { Answered journal map.now script.now result }
 {
     let map = match read_map(alloc, map) {
@@ -90,7 +91,7 @@ pub fn serve<W: Sink>(
     out: &mut W,
 ) -> Result<(), Fault>
     requires least { 1 ≤ journal }
-    requires most { journal ≤ 65536 }
+    requires most { journal ≤ max_journal }
     requires scripts { length scripts.now ≡ 1 }
     requires unfailed { W.has_failed out.old ≡ false }
     ensures served { IfSome (slice_get scripts.now 0) (λ script.
