@@ -20,7 +20,7 @@ use std::{fs, io};
 
 /// Ends a run: where something kept it from being done, standard error tells why.
 fn ended(rt: &impl Eprint, done: Result<(), Ending<'_>>) -> ExitCode
-    ensures { exit_status result ≡ run_status done }
+    ensures { exit_status result ≡ run_status done.entry }
 {
     match done {
         Ok(()) => ExitCode::from(0),
@@ -51,7 +51,9 @@ fn work<'a, R: Files + AllocGlobal + Print>(rt: &R, options: &'a Options) -> Res
         }
     }
     let mut out = Buffer::new(alloc);
-    serving::serve(alloc, options.journal, &map, &scripts, &mut out).map_err(Ending::of_fault)?;
+    if let Err(fault) = serving::serve(alloc, options.journal, &map, &scripts, &mut out) {
+        return Err(Ending::of_fault(fault));
+    }
     io::Write::write_all(&mut io::writer(rt), out.bytes()).map_err(|_| Ending::Output)
 }
 

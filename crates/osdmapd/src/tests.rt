@@ -175,7 +175,11 @@ fn cut_off(alloc: Global, calls: usize) -> Result<(Result<(), SessionError>, Slo
 fn a_session_ends_at_each_failed_write(rt: HostRuntime) -> Result<(), Fail> {
     let answers = b"ok 2 evals 0\nup 2 1.0 [0,1] 0\n";
     for calls in 0..12usize {
-        let out = if calls < 5 { 3 * calls } else { 13 + 3 * (calls - 5) };
+        let out = if calls < 5 {
+            3 * calls
+        } else {
+            13 + 3 * (calls - 5)
+        };
         let wanted = if calls < 11 {
             Err(SessionError::Write)
         } else {
