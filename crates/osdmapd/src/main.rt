@@ -23,7 +23,7 @@ fn ended(rt: &impl Eprint, done: Result<(), Ending<'_>>) -> ExitCode
     ensures { exit_status result ≡ run_status done.entry }
 {
     match done {
-        Ok(()) => ExitCode::from(0),
+        Ok(()) => ExitCode::SUCCESS,
         Err(ending) => {
             let _ = eprint!(rt; "{ending}");
             ExitCode::from(ending.status())
