@@ -13,11 +13,12 @@ use refusal::Memory;
 use std::alloc::Global;
 use std::cmp::Ordering;
 
-/// What comes first of two lists with rising keys made one, an entry of `new` in place of one of `old` with its key; and
-/// what is left of each.
+/// What comes first of two lists with rising keys made one, an entry of `new` in place of one of `old` with its key;
+/// and what is left of each.
 fn first_of_both<'a, K: Keyed>(old: &'a [K], new: &'a [K]) -> Option<(&'a K, &'a [K], &'a [K])>
     requires { IsRising K.key_of new.now }
-    ensures { MatchOption result (fold (put K.key_of) old.now new.now ≡ []) (λ t. ComesFirst K.key_of old.now new.now t.0.now t.1.now t.2.now) }
+    ensures { MatchOption result (fold (put K.key_of) old.now new.now ≡ [])
+        (λ t. ComesFirst K.key_of old.now new.now t.0.now t.1.now t.2.now) }
 {
     match (old.split_first(), new.split_first()) {
         (None, None) => None,
@@ -31,7 +32,8 @@ fn first_of_both<'a, K: Keyed>(old: &'a [K], new: &'a [K]) -> Option<(&'a K, &'a
     }
 }
 
-/// A list with rising keys once the entries of another are put into it, each in place of one with its key; or `Memory` (30).
+/// A list with rising keys once the entries of another are put into it, each in place of one with its key; or `Memory`
+/// (30).
 pub fn merged<K: Keyed + Copy>(alloc: Global, old: &[K], new: &[K]) -> Result<Vec<K>, Memory>
     requires { IsRising K.key_of new.now }
     ensures { IfOk result (λ r. r.items ≡ fold (put K.key_of) old.now new.now) }
@@ -50,7 +52,8 @@ pub fn merged<K: Keyed + Copy>(alloc: Global, old: &[K], new: &[K]) -> Result<Ve
 fn is_first<K: Keyed>(entries: &[K], at: usize) -> bool
     requires ascending { IsNonDecreasingBy K.key_of entries.now }
     requires inside { at < length entries.now }
-    ensures { (d : K) → result ≡ not (has_key K.key_of (take at entries.now) (K.key_of (slice_index_or entries.now at d))) }
+    ensures { (d : K)
+        → result ≡ not (has_key K.key_of (take at entries.now) (K.key_of (slice_index_or entries.now at d))) }
 {
     at == 0 || entries[at - 1].key() < entries[at].key()
 }
