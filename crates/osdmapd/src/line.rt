@@ -144,9 +144,9 @@ fn taken(alloc: Global, matches: &ArgMatches<'_>) -> Result<Options, LineError>
 }
 
 /// What a command line asks for, the program's name first: `[--journal N] MAP SCRIPT`, N from 1 to 65,536 and 1,024
-/// where it is not given. The options are those that the parser finds in the words, exactly where it has nothing against
-/// them and there is one script; `Help` where help was asked for, `Usage` for what else the parser has against the words,
-/// `TooMany` where there are more scripts, else `Memory`.
+/// where it is not given. The options are those that the parser finds in the words, exactly where it has nothing
+/// against them and there is one script; `Help` where help was asked for, `Usage` for what else the parser has against
+/// the words, `TooMany` where there are more scripts, else `Memory`.
 pub fn options(alloc: Global, words: &[String]) -> Result<Options, LineError>
     ensures least { IfOk result (λ o. 1 ≤ o.journal) }
     ensures most { IfOk result (λ o. o.journal ≤ max_journal) }

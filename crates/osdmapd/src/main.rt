@@ -1,10 +1,11 @@
 //! Answers a script of commands over the map of a cluster: `osdmapd [--journal N] MAP SCRIPT`.
 #![tactic(auto)]
 
-ghost use Rattle.std.specs.Prelude.{◌≡◌, ◌≤◌, vec_len};
+ghost use Rattle.std.specs.Prelude.{◌≡◌, ◌≤◌, IfErr, vec_len};
+ghost use Rattle.std.specs.declared.io.ErrorKind.{ErrorKind};
 ghost use Rattle.std.specs.Process.{exit_status};
 ghost use Rattle.monitor.specs.States.{max_journal};
-ghost use Rattle.osdmapd.specs.Endings.{run_status};
+ghost use Rattle.osdmapd.specs.Endings.{file_ending, run_status};
 
 mod choices;
 mod ending;
@@ -31,7 +32,10 @@ fn ended(rt: &impl Eprint, done: Result<(), Ending<'_>>) -> ExitCode
     }
 }
 
-fn read<'a, R: Files + AllocGlobal>(rt: &R, path: &'a str) -> Result<Vec<u8>, Ending<'a>> {
+/// The bytes of a file.
+fn read<'a, R: Files + AllocGlobal>(rt: &R, path: &'a str) -> Result<Vec<u8>, Ending<'a>>
+    ensures { IfErr result (λ e. (kind : ErrorKind) × (e ≡ file_ending kind path.entry)) }
+{
     fs::read(rt, path).map_err(|error| Ending::of_file(&error, path))
 }
 

@@ -81,8 +81,8 @@ fn put<W: Sink>(out: &mut W, answers: &[u8]) -> Result<(), WriteFailed>
 
 /// Runs a script over the map that a text states, and then puts its heading and its answers to a sink; `journal` is how
 /// many changes may be committed. Where the map is refused (10 to 17) or memory is short (30), nothing is put. `Output`
-/// comes only where the map is not refused and the sink has failed, which then has a beginning of the two; at every other
-/// end it has not failed.
+/// comes only where the map is not refused and the sink has failed, which then has a beginning of the two; at every
+/// other end it has not failed.
 pub fn serve<W: Sink>(
     alloc: Global,
     journal: u32,

@@ -3,7 +3,7 @@ use Rattle.std.proofs.Common.{◌≡◌, ℕ, ◌+◌, suc, false, List, [], ◌
 use Rattle.std.proofs.lemmas.List.{length-append}
 use Rattle.session.specs.declared.session.SessionError.{SessionError}
 use Rattle.session.specs.declared.session.SessionError.TheVariants.{Write, Memory, Held}
-use Rattle.session.specs.Transcripts.{Manner, Takes, IsTranscript, Rests, Breaks, Holds, Stopping, Stops}
+use Rattle.session.specs.Transcripts.{Manner, TakesLine, IsTranscript, Rests, Breaks, Holds, Stopping, Stops}
 use Rattle.std.specs.Result.{IsErrAnd}
 use Rattle.session.specs.Ends.{Ends, Halts}
 use Rattle.session.proofs.Replies.{takes_line}
@@ -16,17 +16,17 @@ Reaches m first lines count rest bytes now =
 -- a transcript, and a line more at its end
 pub IsTranscript-more : {S : Type 0} (m : Manner S) (number : ℕ) (first between last : S)
     (whole : List (List ℕ)) (line bytes answer : List ℕ)
-    → IsTranscript m number first whole bytes between → Takes m (number + length whole) between line answer last
+    → IsTranscript m number first whole bytes between → TakesLine m (number + length whole) between line answer last
     → IsTranscript m number first (whole ++ line ∷ []) (bytes ++ answer) last
 unfolding IsTranscript
 IsTranscript-more m number first between last [] line bytes answer t a =
     let same : number + 0 ≡ number = add-zero number in
-    let taken = subst (λ n. Takes m n between line answer last) same a in
-    let here : Takes m number first line answer last = subst (λ s. Takes m number s line answer last) t.1 taken in
+    let taken = subst (λ n. TakesLine m n between line answer last) same a in
+    let here : TakesLine m number first line answer last = subst (λ s. TakesLine m number s line answer last) t.1 taken in
     (answer, [], last, here, (refl, refl), rw (t.0, append-nil answer) refl)
 IsTranscript-more m number first between last (l ∷ whole) line bytes answer (before, rest, next, taken, more, e) a =
     let same : number + length (l ∷ whole) ≡ suc number + length whole = omega arith in
-    let further = subst (λ n. Takes m n between line answer last) same a in (
+    let further = subst (λ n. TakesLine m n between line answer last) same a in (
       before,
       rest ++ answer,
       next,
@@ -43,14 +43,14 @@ reaches_none m first lines = ([], refl, refl, (refl, refl))
 -- the next line is answered
 pub reaches_more : {S : Type 0} (m : Manner S) (first between last : S) (lines : List (List ℕ)) (count : ℕ)
     (others : List (List ℕ)) (line bytes answer : List ℕ)
-    → Reaches m first lines count (line ∷ others) bytes between → Takes m (count + 1) between line answer last
+    → Reaches m first lines count (line ∷ others) bytes between → TakesLine m (count + 1) between line answer last
     → Reaches m first lines (count + 1) others (bytes ++ answer) last
 reaches_more m first between last lines count others line bytes answer (whole, cut, many, t) a =
     let number : count + 1 ≡ 1 + length whole = omega arith in (
       whole ++ line ∷ [],
       rw (append_assoc whole (line ∷ []) others) cut,
       omega (arith, length-append whole (line ∷ [])),
-      IsTranscript-more m 1 first between last whole line bytes answer t (subst (λ n. Takes m n between line answer last) number a),
+      IsTranscript-more m 1 first between last whole line bytes answer t (subst (λ n. TakesLine m n between line answer last) number a),
     )
 
 -- the next line is empty
@@ -58,7 +58,7 @@ pub reaches_empty : {S : Type 0} (m : Manner S) (first now : S) (lines : List (L
     (others : List (List ℕ)) (line bytes : List ℕ)
     → Reaches m first lines count (line ∷ others) bytes now → line ≡ [] → Reaches m first lines (count + 1) others bytes now
 reaches_empty m first now lines count others line bytes reached none =
-    let taken : Takes m (count + 1) now line [] now = subst (λ l. Takes m (count + 1) now l [] now) (sym none) (refl, refl) in
+    let taken : TakesLine m (count + 1) now line [] now = subst (λ l. TakesLine m (count + 1) now l [] now) (sym none) (refl, refl) in
     subst (λ bs. Reaches m first lines (count + 1) others bs now) (append-nil bytes)
     (reaches_more m first now now lines count others line bytes [] reached taken)
 

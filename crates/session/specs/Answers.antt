@@ -42,9 +42,9 @@ Does old (Some (change text)) answer new =
     (r : Result (ℕ × ℕ) Refusal) × Changes old text r new × (answer ≡ line_of (λ ok. ok_text ok.0 ok.1) r)
 
 -- what a line answers, and the state that it leaves
-abbrev pub Answers : History → List ℕ → List ℕ → History → Type 0
-Answers old line answer new = Does old (command_in line) answer new
+abbrev pub IsAnswered : History → List ℕ → List ℕ → History → Type 0
+IsAnswered old line answer new = Does old (command_in line) answer new
 
 -- how a session goes that has its state alone, behind a gate: each line finds what the one before it left
 abbrev pub alone : (ℕ → Bool → Type 0) → Manner History
-alone lets = record { answers = Answers; link = λ left found. found ≡ left; lets = lets }
+alone lets = record { answers = IsAnswered; link = λ left found. found ≡ left; lets = lets }

@@ -12,16 +12,21 @@ has_sink_failed (Err Write) = true
 has_sink_failed (Err Memory) = false
 has_sink_failed (Err Held) = false
 
--- a line is answered, and the answer is out whole where nothing fails, and else a beginning of it; the gate holds no line
--- that is being answered
+-- a line is answered, and a beginning of the answer is out
+abbrev pub IsCutOff : {S : Type 0} → (List ℕ → S → Type 0) → S → List ℕ → List ℕ → Type 0
+IsCutOff answers left before after =
+    (answer : List ℕ) × (rest : List ℕ) × answers answer left × HasPut before answer rest after
+
+-- a line is answered, and the answer is out whole where nothing fails, and else a beginning of it; the gate holds no
+-- line that is being answered
 abbrev pub Ends : {S : Type 0} → (List ℕ → S → Type 0) → S → List ℕ → List ℕ → Result Unit SessionError → Type 0
 Ends answers left before after (Ok done) = (answer : List ℕ) × answers answer left × (after ≡ before ++ answer)
-Ends answers left before after (Err Write) = (answer : List ℕ) × (rest : List ℕ) × answers answer left × HasPut before answer rest after
-Ends answers left before after (Err Memory) = (answer : List ℕ) × (rest : List ℕ) × answers answer left × HasPut before answer rest after
+Ends answers left before after (Err Write) = IsCutOff answers left before after
+Ends answers left before after (Err Memory) = IsCutOff answers left before after
 Ends answers left before after (Err Held) = ⊥
 
--- the way in which a session stops, by its error: at a failed write the next answer is cut off; where memory is short it
--- is, or no other line has begun; where the gate holds a line, that line has not
+-- the way in which a session stops, by its error: at a failed write the next answer is cut off; where memory is short
+-- it is, or no other line has begun; where the gate holds a line, that line has not
 abbrev pub Halts : {S : Type 0} → Manner S → SessionError → Stopping S
 Halts m Write number between others before out last = Breaks m number between others before out last
 Halts m Memory number between others before out last =

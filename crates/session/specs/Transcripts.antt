@@ -13,16 +13,16 @@ pub record Manner (S : Type 0) : Type 1 where
 
 -- the line of a number is taken: an empty one answers nothing and finds nothing, and the gate is not asked for it; any
 -- other is let through and then answered
-abbrev pub Takes : {S : Type 0} → Manner S → ℕ → S → List ℕ → List ℕ → S → Type 0
-Takes m number before [] answer left = (answer ≡ []) × (left ≡ before)
-Takes {S = S} m number before (c ∷ cs) answer left =
+abbrev pub TakesLine : {S : Type 0} → Manner S → ℕ → S → List ℕ → List ℕ → S → Type 0
+TakesLine m number before [] answer left = (answer ≡ []) × (left ≡ before)
+TakesLine {S = S} m number before (c ∷ cs) answer left =
     m.lets number true × (found : S) × m.link before found × m.answers found (c ∷ cs) answer left
 
 -- the bytes are the answers of the lines in order, the first of which has this number
 unfoldable pub IsTranscript : {S : Type 0} → Manner S → ℕ → S → List (List ℕ) → List ℕ → S → Type 0
 IsTranscript m number first [] bytes last = (bytes ≡ []) × (last ≡ first)
 IsTranscript {S = S} m number first (line ∷ lines) bytes last =
-    (answer : List ℕ) × (rest : List ℕ) × (left : S) × Takes m number first line answer left
+    (answer : List ℕ) × (rest : List ℕ) × (left : S) × TakesLine m number first line answer left
     × IsTranscript m (suc number) left lines rest last × (bytes ≡ answer ++ rest)
 
 -- no other line has begun
@@ -33,7 +33,7 @@ Rests between before out last = (out ≡ before) × (last ≡ between)
 abbrev pub Breaks : {S : Type 0} → Manner S → ℕ → S → List (List ℕ) → List ℕ → List ℕ → S → Type 0
 Breaks m number between lines before out last =
     (line : List ℕ) × (others : List (List ℕ)) × (answer : List ℕ) × (part : List ℕ) × (missing : List ℕ)
-    × (lines ≡ line ∷ others) × Takes m number between line answer last
+    × (lines ≡ line ∷ others) × TakesLine m number between line answer last
     × (answer ≡ part ++ missing) × (out ≡ before ++ part)
 
 -- the next line, of this number, is not empty and is not let through, and no other has begun
@@ -42,7 +42,8 @@ Holds m number between lines before out last =
     (c : ℕ) × (cs : List ℕ) × (others : List (List ℕ)) × (lines ≡ (c ∷ cs) ∷ others) × m.lets number false
     × Rests between before out last
 
--- how a session stops at a line: of this number, with what is before it and the lines left, what is out and what is left
+-- how a session stops at a line: of this number, with what is before it and the lines left, what is out and what is
+-- left
 abbrev pub Stopping : Type 0 → Type 1
 Stopping S = ℕ → S → List (List ℕ) → List ℕ → List ℕ → S → Type 0
 

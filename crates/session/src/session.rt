@@ -7,7 +7,7 @@ ghost use Rattle.mapjson.specs.Written.{written};
 ghost use Rattle.session.specs.Texts.{line_of};
 ghost use Rattle.session.specs.Commands.{lines_in, shown};
 ghost use Rattle.session.specs.Replies.{reply_text, told};
-ghost use Rattle.session.specs.Answers.{Finds, Changes, Does, Answers, alone};
+ghost use Rattle.session.specs.Answers.{Finds, Changes, Does, IsAnswered, alone};
 ghost use Rattle.session.specs.Transcripts.{IsTranscript, Stops};
 ghost use Rattle.session.specs.Ends.{Ends, Halts, has_sink_failed};
 
@@ -129,7 +129,7 @@ fn answer_line<W: Sink>(
     sink: &mut W,
 ) -> Result<(), SessionError>
     requires { W.has_failed sink.old ≡ false }
-    ensures out { Ends (Answers state.old line.now) state.new (W.written sink.old) (W.written sink.new) result }
+    ensures out { Ends (IsAnswered state.old line.now) state.new (W.written sink.old) (W.written sink.new) result }
     ensures failed { W.has_failed sink.new ≡ has_sink_failed result }
 {
     let reply = obey(alloc, state, &mut room.work, read_command(line));
@@ -142,8 +142,8 @@ fn answer_line<W: Sink>(
 }
 
 /// Runs a script: does the command of each line in order, and writes its answer whole before the next command. A line
-/// that is no command answers `BadCommand` (33), a refused one its number and name, and the session goes on. Before each
-/// line that is not empty it asks the gate, by the line's number in the script, from 1.
+/// that is no command answers `BadCommand` (33), a refused one its number and name, and the session goes on. Before
+/// each line that is not empty it asks the gate, by the line's number in the script, from 1.
 ///
 /// It stops with `Write` only where the sink has failed, which is not written to again; with `Memory` only where the
 /// session or the text of an answer found no memory and the sink has not failed; and with `Held` only where the gate
@@ -161,7 +161,8 @@ pub fn run<W: Sink, G: Gate>(
         × IsTranscript (alone (G.lets gate.now)) 1 state.old (lines_in script.now) bytes state.new
         × (W.written sink.new ≡ W.written sink.old ++ bytes)) }
     ensures err { IfErr result (λ error. (out : List ℕ)
-        × Stops (alone (G.lets gate.now)) (Halts (alone (G.lets gate.now)) error) state.old (lines_in script.now) out state.new
+        × Stops (alone (G.lets gate.now)) (Halts (alone (G.lets gate.now)) error)
+        state.old (lines_in script.now) out state.new
         × (W.written sink.new ≡ W.written sink.old ++ out)) }
     ensures failed { W.has_failed sink.new ≡ has_sink_failed result }
 {
