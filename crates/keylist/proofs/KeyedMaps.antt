@@ -21,23 +21,28 @@ use Rattle.keylist.proofs.KeyedPuts.{put_past, put_over, put_before, All-put, Al
 
 -- ---- choices of two tests
 
+-- a choice behind the same choice
 cond_twice : {X : Type 0} (b : Bool) (x y z : X) → cond b x z ≡ cond b x (cond b y z)
 cond_twice true x y z = refl
 cond_twice false x y z = refl
 
+-- two tests that do not hold together may be asked in either order
 cond_swap : {X : Type 0} (a b : Bool) (x y z : X) → (a ≡ true → b ≡ false) → cond a x (cond b y z) ≡ cond b y (cond a x z)
 cond_swap true b x y z apart = rw (apart refl) refl
 cond_swap false b x y z apart = refl
 
+-- a choice of an answer, else of others
 cond_or : {X : Type 0} (o q : Option X) (b : Bool) (x : X) → option_or o (cond b (Some x) q) ≡ option_or (option_or o (cond b (Some x) None)) q
 cond_or None q true x = refl
 cond_or None q false x = refl
 cond_or (Some y) q b x = refl
 
+-- whether a choice finds something
 is_some-cond : {X : Type 0} (b : Bool) (x : X) (o : Option X) → is_some (cond b (Some x) o) ≡ (b || is_some o)
 is_some-cond true x o = refl
 is_some-cond false x o = refl
 
+-- whether one of two answers is there
 is_some-or : {X : Type 0} (o q : Option X) → is_some (option_or o q) ≡ (is_some o || is_some q)
 is_some-or None q = refl
 is_some-or (Some x) q = refl

@@ -14,7 +14,8 @@ use crate::key::Keyed;
 fn is_first<K: Keyed>(entries: &[K], at: usize) -> bool
     requires ascending { IsNonDecreasingBy K.key_of entries.now }
     requires inside { at < length entries.now }
-    ensures { (d : K) → result ≡ not (has_key K.key_of (take at entries.now) (K.key_of (slice_index_or entries.now at d))) }
+    ensures { (d : K)
+        → result ≡ not (has_key K.key_of (take at entries.now) (K.key_of (slice_index_or entries.now at d))) }
 {
     at == 0 || entries[at - 1].key() < entries[at].key()
 }
