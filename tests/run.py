@@ -26,7 +26,7 @@ from concurrent.futures import ThreadPoolExecutor
 import memory
 
 HERE = pathlib.Path(__file__).resolve().parent
-TABLES = ["worked", "placements", "changes", "limits", "texts", "program", "examples", "maxima"]
+TABLES = ["worked", "placements", "changes", "growth", "limits", "texts", "program", "examples", "maxima"]
 SECONDS = 60
 
 
