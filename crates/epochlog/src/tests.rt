@@ -14,7 +14,9 @@ fn incremental(alloc: Global, epoch: u64) -> Option<Box<Incremental>>
 {
     let change = Change::new(ChangeParts {
         old_pools: Entries::new(Vec::new(alloc)),
+        new_crush: None,
         new_pools: Entries::new(Vec::new(alloc)),
+        grow_pool: Entries::new(Vec::new(alloc)),
         down: Entries::new(Vec::new(alloc)),
         up: Entries::new(Vec::new(alloc)),
         weight: Entries::new(Vec::new(alloc)),
