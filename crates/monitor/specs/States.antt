@@ -1,5 +1,5 @@
 -- The state of a monitor, and what a commit answers.
-use Rattle.std.specs.Prelude.{◌≡◌, ℕ, ◌+◌, ◌≤◌, ◌==◌, not, List, [], ◌∷◌, ◌++◌, length, nat_lt, nat_le, ◌&&◌, Option, Some, None, Result, OnErr, if◌then◌else◌}
+use Rattle.std.specs.Prelude.{◌≡◌, ℕ, ◌+◌, ◌≤◌, ◌==◌, not, List, [], ◌∷◌, ◌++◌, length, nat_lt, nat_le, ◌&&◌, Bool, Option, Some, None, Result, OnErr, if◌then◌else◌}
 use Rattle.stated.specs.declared.change.ChangeParts.{ChangeParts}
 use Rattle.refusal.specs.declared.refused.Refusal.{Refusal}
 use Rattle.refusal.specs.declared.refused.Refusal.TheVariants.{BadLimit, StaleEpoch, JournalFull}
@@ -34,9 +34,13 @@ pub record IsKept (h : History) : Type 0 where
 abbrev pub opened : ClusterMap → ℕ → History
 opened m capacity = record { first = m; journal = []; capacity = capacity; map = m }
 
--- what refuses to open: a first epoch above 2,147,483,648, or a capacity that is not 1 to 65,536
+-- whether a first epoch is at most 2,147,483,648, and a capacity 1 to 65,536
+abbrev pub may_open : ClusterMap → ℕ → Bool
+may_open m capacity = nat_le m.epoch max_first_epoch && (nat_le 1 capacity && nat_le capacity max_journal)
+
+-- what refuses to open: one of these is another
 abbrev pub open_fault : ClusterMap → ℕ → Option Refusal
-open_fault m capacity = if nat_le m.epoch max_first_epoch && (nat_le 1 capacity && nat_le capacity max_journal) then None else Some BadLimit
+open_fault m capacity = if may_open m capacity then None else Some BadLimit
 
 -- ---- commits
 

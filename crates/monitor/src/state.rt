@@ -1,5 +1,8 @@
 //! The state of a monitor: the first map, the changes since, and the present map.
 
+ghost use Rattle.std.specs.Prelude.{◌≡◌};
+ghost use Rattle.monitor.specs.States.{may_open};
+
 use crush::Work;
 use osdmap::{Change, Incremental, OsdMap, Pg, UpSet};
 use refusal::Refusal;
@@ -11,6 +14,13 @@ use std::marker::Model;
 pub const MAX_JOURNAL: u32 = 65_536;
 /// The greatest epoch of a first map.
 pub const MAX_FIRST_EPOCH: u64 = limits::MAX_FIRST_EPOCH as u64;
+
+/// Whether a state may begin with a map, and journal so many changes.
+fn may_open(map: &OsdMap, capacity: u32) -> bool
+    ensures { result ≡ may_open map.now.map capacity }
+{
+    map.epoch() <= MAX_FIRST_EPOCH && 1 <= capacity && capacity <= MAX_JOURNAL
+}
 
 /// The state of a monitor.
 #[derive(Drop)]
@@ -44,7 +54,7 @@ impl State {
     pub fn new(alloc: Global, map: OsdMap, capacity: u32) -> Result<State, Refusal>
         ensures { Gives result (open_fault map.map capacity) (λ s. s ≡ opened map.map capacity) }
     {
-        if map.epoch() > MAX_FIRST_EPOCH || !(1..=MAX_JOURNAL).contains(&capacity) {
+        if !may_open(&map, capacity) {
             return Err(Refusal::BadLimit);
         }
         let first = map.copy(alloc)?;
