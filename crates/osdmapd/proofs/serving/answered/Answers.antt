@@ -16,9 +16,9 @@ returns-in-Ok-run c =
     let all : buffered c.run.new.sink ≡ bytes = put ∙ ap (λ before. before ++ bytes) c.new-answers.ensures.bytes in (
       c.in-Ok.ensures.0,
       (
-        c.in-Ok.map,
+        c.in-Ok.map.map,
         c.run.new.state,
         c.in-Ok.ensures.1,
-        subst (λ bs. IsTranscript (alone lets_all) 1 (opened c.in-Ok.map c.args.journal) lines bs c.run.new.state) (sym all) from_opened,
+        subst (λ bs. IsTranscript (alone lets_all) 1 (opened c.in-Ok.map.map c.args.journal) lines bs c.run.new.state) (sym all) from_opened,
       ),
     )
