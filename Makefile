@@ -12,7 +12,7 @@ help:
 	@echo 'make test   the gate: every proof from nothing, the edits that must not prove, the tests, then runs of the built program'
 	@echo 'make gate   the gate without the runs'
 	@echo 'make runs   the runs of the built program alone (seconds)'
-	@echo 'make bench  speeds of the built program, outside the gate'
+	@echo 'make bench  speeds of the built program, and its placements beside plain C (cc, and valgrind for instructions), outside the gate'
 
 # Runs with checks in place of proofs.
 try:
@@ -37,3 +37,4 @@ runs:
 
 bench: prove
 	@python3 bench/speeds.py $(PROGRAM)
+	@python3 bench/placements.py $(PROGRAM)

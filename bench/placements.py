@@ -5,8 +5,9 @@
 
 Each row is a map of one kind of bucket. Both sides place the same 1,000 groups, and must agree; the cost is that of 1,100 groups
 less that of 100, over 1,000. Of the program's cost that of as many lines of the same form that are refused (a pool that there is
-not) is taken off: what is left is the placement, with the look-up of the group. Where there is no valgrind, the microseconds of a
-placement are told in place of instructions. It is no part of the gate.
+not) is taken off: what is left is the placement, with the look-up of the group and the writing of its set, some 800 instructions
+that plain C does not have. Where there is no valgrind, the microseconds of a placement are told in place of instructions. It is no
+part of the gate.
 """
 
 import json

@@ -1,5 +1,5 @@
 -- one item of a list bucket's walk from the end
-use Rattle.std.proofs.Common.{◌≡◌, ℕ, zero, pos, suc, ◌+◌, ◌-◌, ◌*◌, ◌/◌, ◌%◌, nat_lt, ◌<◌, ◌≤◌, cond, Bool, true, false, List, length, take, inl, inr, refl, sym, ap, ◌∙◌, arith}
+use Rattle.std.proofs.Common.{◌≡◌, ℕ, zero, pos, suc, ◌+◌, ◌*◌, ◌/◌, ◌%◌, nat_lt, ◌≤◌, cond, Bool, true, false, List, length, take, inl, inr, refl, sym, ap, ◌∙◌, arith}
 use Rattle.std.proofs.lemmas.Bool.{cases_Bool}
 use Rattle.std.proofs.lemmas.List.Sums.{sum_by_more}
 use Rattle.crush.specs.declared.bucket.Item.{Item}

@@ -1,6 +1,6 @@
 -- Where the buckets of items stand.
-use Rattle.std.proofs.Common.{◌≡◌, ◌≢◌, ℕ, ◌+◌, ◌<◌, ◌≤◌, Bool, true, false, cond, ◌||◌, List, [], ◌∷◌, length, get_or, set, take, drop, find, slice_get, replicate, ℤ, pos, negsuc, Option, Some, None, refl, sym, ap, ◌∙◌, inl, inr, arith, get_or-set_same, get_or-set_other}
-use Rattle.std.specs.List.{list_all, list_any}
+use Rattle.std.proofs.Common.{◌≡◌, ◌≢◌, ℕ, ◌+◌, ◌<◌, ◌≤◌, Bool, true, false, cond, ◌||◌, List, ◌∷◌, length, get_or, set, take, drop, find, slice_get, replicate, ℤ, pos, negsuc, Option, Some, None, refl, sym, ap, ◌∙◌, inl, inr, arith, get_or-set_same, get_or-set_other}
+use Rattle.std.specs.List.{list_any}
 use Rattle.std.specs.Ordering.{int_eq}
 use Rattle.std.proofs.lemmas.Bool.{and_parts, cases_Bool, both_ways, ltb-true}
 use Rattle.std.proofs.lemmas.Bool.Decides.{Decides-int_eq}
@@ -16,7 +16,7 @@ use Rattle.crush.specs.Parents.{AreParents}
 use Rattle.crush.specs.Paths.{has_item}
 use Rattle.crush.specs.Slots.{slot}
 use Rattle.crush.specs.WellFormed.{is_known, IsForest}
-use Rattle.crush.proofs.IdSearches.{no_bucket, int_eq-yes}
+use Rattle.crush.proofs.IdSearches.{int_eq-yes}
 use Rattle.crush.proofs.ItemMarks.{slot-injective, items_known, found_within}
 use Rattle.keylist.proofs.Counts.{find-place}
 use Rattle.keylist.proofs.Each.{list_all-at}

@@ -1,6 +1,6 @@
 -- The item that a bucket picks for an input x and a replica number r (CRUSH paper, section 3.4; Ceph, mapper.c,
 -- crush_bucket_choose).
-use Rattle.std.specs.Prelude.{ℕ, ℤ, length}
+use Rattle.std.specs.Prelude.{◌≡◌, ℕ, ◌<◌, ℤ, pos, List, length, slice_index_or}
 use Rattle.crush.specs.declared.bucket.Bucket.{Bucket}
 use Rattle.crush.specs.declared.bucket.BucketKind.{BucketKind}
 use Rattle.crush.specs.declared.bucket.BucketKind.TheVariants.{Uniform, List as InList, Tree as InTree}
@@ -23,3 +23,7 @@ place_of b x r = place_by b.kind b x r
 -- the item that a bucket picks
 unfoldable pub pick_of : Bucket → ℕ → ℕ → ℤ
 pick_of b x r = (item_at b.items (place_of b x r)).id
+
+-- what a bucket picks for the replica numbers 0 to 3
+abbrev pub ArePicks : Bucket → ℕ → List ℤ → Type 0
+ArePicks b x picks = (r : ℕ) → r < 4 → slice_index_or picks r (pos 0) ≡ pick_of b x r

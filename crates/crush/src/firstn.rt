@@ -82,7 +82,7 @@ impl Chooser<'_> {
         requires room { r < 2 ^ 30 }
         ensures { result ≡ attempt_of (choosing self.now) chosen.now start.now.bucket.now r }
     {
-        match self.placement.descend_below(start, self.choose.level, r) {
+        match self.placement.descend_below_at(start, self.choose.level, r) {
             Some(picked) => self.attempt_with(chosen, r, picked.item),
             None => Attempt::Abandoned,
         }

@@ -7,6 +7,7 @@ ghost use Rattle.crush.specs.Indep.{holds_item, is_open};
 use crate::bucket::Bucket;
 use crate::choose::{Choice, Draw, Picked, Position};
 use crate::chooser::Chooser;
+use crate::placement::Start;
 
 /// Whether an item stands at some position.
 fn is_held(positions: &[Position], item: i32) -> bool
@@ -80,30 +81,30 @@ impl Chooser<'_> {
 
     /// What a position becomes in a round.
     #[tactic(auto, unfolding(crate::specs::Indep::position_of))]
-    fn position(&self, start: &Bucket, round: u8, positions: &[Position], rep: u32) -> Position
-        requires within { IsPickable start.now }
+    fn position(&self, start: &Start, round: u8, positions: &[Position], rep: u32) -> Position
+        requires input { start.now.x ≡ self.now.placement.x }
         requires some { 0 < self.now.numrep }
         requires fits { rep < 256 }
-        ensures { result ≡ position_of (choosing self.now) start.now round positions.now rep }
+        ensures { result ≡ position_of (choosing self.now) start.now.bucket.now round positions.now rep }
     {
         let draw = Draw {
             numrep: self.numrep,
             base: rep,
             round,
         };
-        match self.placement.descend(start, self.choose.level, draw) {
+        match self.placement.descend_below(start, self.choose.level, draw) {
             Some(picked) => self.position_with(positions, rep, picked),
             None => Position::Hole,
         }
     }
 
     /// Tries a position, if it is open.
-    fn take_turn(&self, start: &Bucket, round: u8, positions: &mut [Position], rep: usize)
-        requires within { IsPickable start.now }
+    fn take_turn(&self, start: &Start, round: u8, positions: &mut [Position], rep: usize)
+        requires input { start.now.x ≡ self.now.placement.x }
         requires some { 0 < self.now.numrep }
         requires few { length positions.old ≤ max_size }
         requires place { rep < length positions.old }
-        ensures { positions.new ≡ after_turn (choosing self.now) start.now round positions.old rep }
+        ensures { positions.new ≡ after_turn (choosing self.now) start.now.bucket.now round positions.old rep }
     {
         if positions[rep].is_open() {
             let position = self.position(start, round, positions, rep as u32);
@@ -113,11 +114,11 @@ impl Chooser<'_> {
 
     /// A round takes the positions in order.
     #[tactic(auto, unfolding(crate::specs::Indep::after_round))]
-    fn take_round(&self, start: &Bucket, positions: &mut [Position], round: u8)
-        requires within { IsPickable start.now }
+    fn take_round(&self, start: &Start, positions: &mut [Position], round: u8)
+        requires input { start.now.x ≡ self.now.placement.x }
         requires some { 0 < self.now.numrep }
         requires few { length positions.old ≤ max_size }
-        ensures { positions.new ≡ after_round (choosing self.now) start.now positions.old round }
+        ensures { positions.new ≡ after_round (choosing self.now) start.now.bucket.now positions.old round }
     {
         for rep in 0..positions.len() {
             self.take_turn(start, round, positions, rep);
@@ -132,12 +133,13 @@ impl Chooser<'_> {
         requires few { length positions.old ≤ max_size }
         ensures { positions.new ≡ indep (choosing self.now) start.now (length positions.old) }
     {
+        let below = Start::new(start, self.placement.x, self.numrep);
         positions.fill(Position::Open);
         for round in 0..self.tries.total {
             if !has_open(positions) {
                 break;
             }
-            self.take_round(start, positions, round);
+            self.take_round(&below, positions, round);
         }
     }
 }

@@ -21,9 +21,9 @@ fn total_weight(items: &[Item]) -> u32
 }
 
 impl Bucket {
-    ghost use Rattle.std.specs.Prelude.{◌≡◌, ℕ, ◌<◌, pos, length, slice_index, slice_index_or, IfSome};
+    ghost use Rattle.std.specs.Prelude.{◌≡◌, ℕ, ◌<◌, length, slice_index, IfSome};
     ghost use Rattle.crush.specs.Forest.{IsPickable};
-    ghost use Rattle.crush.specs.Pick.{place_of, pick_of};
+    ghost use Rattle.crush.specs.Pick.{place_of, pick_of, ArePicks};
 
     /// The item that the bucket picks for an input and a replica number. It takes no memory.
     pub fn pick(&self, x: u32, r: u32) -> i32
@@ -52,7 +52,7 @@ impl Bucket {
     /// The items that the bucket picks for the replica numbers 0 to 3, where together they are less work than apart.
     pub(crate) fn first_picks(&self, x: u32) -> Option<[i32; 4]>
         requires { IsPickable self.now }
-        ensures { IfSome result (λ picks. (r : ℕ) → r < 4 → slice_index_or picks r (pos 0) ≡ pick_of self.now x r) }
+        ensures { IfSome result (ArePicks self.now x) }
     {
         let places = self.first_places(x)?;
         let items: &[Item] = &self.items;

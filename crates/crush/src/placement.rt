@@ -1,10 +1,10 @@
 //! A placement: its input, which devices are out, and the descent.
 
-ghost use Rattle.std.specs.Prelude.{◌≡◌, ℕ, ◌<◌, pos, slice_index_or, IfSome};
+ghost use Rattle.std.specs.Prelude.{◌≡◌, IfSome};
 ghost use Rattle.std.specs.Option.{option_copied, option_map_or};
 ghost use Rattle.std.proofs.Props.{props};
 ghost use Rattle.crush.specs.Forest.{IsPickable};
-ghost use Rattle.crush.specs.Pick.{pick_of};
+ghost use Rattle.crush.specs.Pick.{ArePicks};
 
 use crate::bucket::Bucket;
 use crate::choose::{Draw, Picked};
@@ -29,7 +29,7 @@ pub(crate) struct Start<'a> {
     x: u32,
     firsts: Option<[i32; 4]>,
     ghost within: { IsPickable bucket.now },
-    ghost picked: { IfSome firsts (λ picks. (r : ℕ) → r < 4 → slice_index_or picks r (pos 0) ≡ pick_of bucket.now x r) } by { Prim.hlevel props },
+    ghost picked: { IfSome firsts (ArePicks bucket.now x) } by { Prim.hlevel props },
 }
 
 impl<'a> Start<'a> {
@@ -137,6 +137,19 @@ impl Placement<'_> {
         self.descend_from(start, first, wanted, draw)
     }
 
+    /// The same below a bucket whose first picks are made.
+    pub(crate) fn descend_below(&self, start: &Start, wanted: u8, draw: Draw) -> Option<Picked>
+        requires input { start.now.x ≡ self.now.x }
+        requires some { 0 < draw.numrep }
+        requires fits { draw.base < 2 ^ 31 }
+        ensures value { let r = number_in draw.numrep draw.base draw.round in
+            result ≡ item_below (world self.now) r wanted start.now.bucket.now }
+        ensures small { IfSome result (λ p. p.r ≤ draw.base + 65280) }
+    {
+        let first = start.pick(draw.at(start.bucket));
+        self.descend_from(start.bucket, first, wanted, draw)
+    }
+
     /// The same, all picks made with one replica number.
     pub(crate) fn descend_at(&self, start: &Bucket, wanted: u8, r: u32) -> Option<Picked>
         requires within { IsPickable start.now }
@@ -147,12 +160,12 @@ impl Placement<'_> {
     }
 
     /// The same below a bucket whose first picks are made.
-    pub(crate) fn descend_below(&self, start: &Start, wanted: u8, r: u32) -> Option<Picked>
+    pub(crate) fn descend_below_at(&self, start: &Start, wanted: u8, r: u32) -> Option<Picked>
         requires input { start.now.x ≡ self.now.x }
         requires fits { r < 2 ^ 31 }
         ensures { result ≡ item_below (world self.now) (λ _. r) wanted start.now.bucket.now }
     {
-        self.descend_from(start.bucket, start.pick(r), wanted, steady(r))
+        self.descend_below(start, wanted, steady(r))
     }
 }
 

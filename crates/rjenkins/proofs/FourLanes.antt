@@ -1,5 +1,5 @@
 -- four words side by side, lane by lane
-use Rattle.std.proofs.Common.{◌≡◌, ℕ, zero, suc, ◌<◌, ◌+◌, ◌-◌, ◌*◌, ◌/◌, ◌%◌, ◌^◌, List, [], ◌∷◌, length, slice_index, bit_xor, arith, refl}
+use Rattle.std.proofs.Common.{◌≡◌, ℕ, zero, suc, ◌<◌, ◌/◌, ◌%◌, ◌^◌, List, [], ◌∷◌, length, slice_index, bit_xor, arith, refl}
 use Rattle.std.specs.Simd.Lanes.{zip2}
 use Rattle.rjenkins.specs.Jenkins.{minus, shifted_left, seed, mixed, hash3_of, hash4_of}
 

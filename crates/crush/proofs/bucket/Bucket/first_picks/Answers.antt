@@ -1,8 +1,7 @@
-use Rattle.std.proofs.Common.{◌≡◌, ℕ, ◌<◌, SFits, w32, to_z, of_z, slice_index, ◌∙◌, rules, arith}
+use Rattle.std.proofs.Common.{ℕ, ◌<◌, SFits, w32, slice_index, ◌∙◌, rules, arith}
 use Rattle.std.proofs.lemmas.Int.{to_z-of_z}
 use Rattle.rjenkins.proofs.FourLanes.{below_four}
 use Rattle.crush.specs.Items.{item_at}
-use Rattle.crush.specs.Pick.{pick_of}
 use Rattle.crush.proofs.TreeWalks.{picked_at}
 use Rattle.crush.proofs.bucket.Bucket.first_picks.Goals as goal
 

@@ -10,7 +10,7 @@ pub loop-round-preserved : goal.loop-round-preserved
 loop-round-preserved c =
     let a = c.args in
     let f = after_round (choosing a.self.now) a.start.now in
-    c.take_round.ensures ∙ ap (λ ps. f ps c.loop-round.round) c.loop-round.invariant ∙ fold_range f (replicate (length a.positions.now) Open) c.loop-round.round
+    rw c.new-below.ensures.bucket at c.take_round.ensures ∙ ap (λ ps. f ps c.loop-round.round) c.loop-round.invariant ∙ fold_range f (replicate (length a.positions.now) Open) c.loop-round.round
 
 pub returns-then-not-has_open : goal.returns-then-not-has_open
 unfolding indep

@@ -7,5 +7,5 @@ use Rattle.crush.proofs.chooser.Chooser.take_round.Goals as goal
 pub loop-rep-preserved : goal.loop-rep-preserved
 loop-rep-preserved c =
     let a = c.args in
-    let f = after_turn (choosing a.self.now) a.start.now a.round in
+    let f = after_turn (choosing a.self.now) a.start.now.bucket.now a.round in
     c.take_turn.ensures ∙ ap (λ ps. f ps c.loop-rep.rep) c.loop-rep.invariant ∙ fold_range f a.positions.now c.loop-rep.rep

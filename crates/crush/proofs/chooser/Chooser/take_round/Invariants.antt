@@ -5,4 +5,4 @@ use Rattle.crush.specs.Indep.{after_turn}
 use Rattle.crush.proofs.chooser.Chooser.take_round.Given as goal
 
 abbrev pub invariant-loop-rep : goal.invariant-loop-rep
-invariant-loop-rep l = l.positions ≡ fold (after_turn (choosing l.self) l.start l.round) l.initial.positions (range_with_len 0 l.rep)
+invariant-loop-rep l = l.positions ≡ fold (after_turn (choosing l.self) l.start.bucket.now l.round) l.initial.positions (range_with_len 0 l.rep)

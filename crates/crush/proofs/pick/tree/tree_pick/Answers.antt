@@ -1,4 +1,4 @@
-use Rattle.std.proofs.Common.{◌≡◌, ◌-◌, refl, sym, ap, ◌∙◌, subst, ℕ, arith}
+use Rattle.std.proofs.Common.{◌≡◌, ◌-◌, refl, subst, ℕ, arith}
 use Rattle.std.proofs.lemmas.Nat.{one_shl}
 use Rattle.crush.specs.Tree.{draw_at}
 use Rattle.crush.proofs.TreeWalks.{IsAt, at_leaf, walks, left_le}

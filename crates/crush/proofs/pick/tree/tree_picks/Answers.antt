@@ -1,4 +1,4 @@
-use Rattle.std.proofs.Common.{◌≡◌, ℕ, ◌-◌, ◌<◌, zero, refl, sym, ap, subst, arith}
+use Rattle.std.proofs.Common.{◌≡◌, ℕ, ◌-◌, ◌<◌, refl, subst, arith}
 use Rattle.std.proofs.lemmas.Nat.{one_shl}
 use Rattle.rjenkins.proofs.FourLanes.{below_four}
 use Rattle.crush.specs.Tree.{draw_at}

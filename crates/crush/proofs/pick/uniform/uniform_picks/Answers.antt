@@ -3,7 +3,6 @@ use Rattle.std.proofs.lemmas.List.FromFn.{length-range_with_len}
 use Rattle.std.proofs.lemmas.Nat.{mod_below}
 use Rattle.std.proofs.Math.Nat.{mod-le}
 use Rattle.rjenkins.proofs.FourLanes.{below_four}
-use Rattle.crush.specs.Uniform.{uniform_place}
 use Rattle.crush.proofs.UniformDraws.{take-range, drawn-numbered, uniform_place_below}
 use Rattle.crush.proofs.pick.uniform.uniform_picks.Goals as goal
 
