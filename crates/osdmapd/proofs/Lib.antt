@@ -1,2 +1,3 @@
 mod CommandLines
+mod PlainLines
 mod Put

@@ -1,5 +1,5 @@
 -- What the words of a command line ask for, by the parser's own definitions of what it finds in words.
-use Rattle.std.specs.Prelude.{◌≡◌, ◌≢◌, ◌⊎◌, ◌<◌, ℕ, pos, true, false, List, [], ◌∷◌, length, map, codes, Option, Some, None, Result, Ok, Err, string_bytes}
+use Rattle.std.specs.Prelude.{◌≡◌, ◌≢◌, ◌⊎◌, ◌<◌, ◌==◌, not, Bool, MatchResult, ℕ, pos, true, false, List, [], ◌∷◌, length, map, codes, Option, Some, None, Result, Ok, Err, string_bytes}
 use Rattle.std.specs.Str.Parse.{IsNumeral, digits_value, without_leading_plus}
 use Rattle.clap.specs.declared.builder.arg.Arg.{Arg}
 use Rattle.clap.specs.declared.builder.action.ArgAction.TheVariants.{Set, Append}
@@ -105,3 +105,20 @@ ReadsLine words (Err (Help text)) = (kind : ErrorKind) × IsAmong kind (faults_o
 ReadsLine words (Err (Usage text)) = (kind : ErrorKind) × IsAmong kind (faults_of words) × (IsRequest kind → ⊥)
 ReadsLine words (Err TooMany) = (faults_of words ≡ []) × Chooses (found_in words) (Err TooMany)
 ReadsLine words (Err Memory) = Unit {0}
+
+-- ---- the usual line
+
+-- a word that the parser takes for no option: it does not begin with a hyphen
+abbrev pub is_plain : Text → Bool
+is_plain [] = true
+is_plain (c ∷ cs) = not (c == 45)
+
+-- what `osdmapd MAP SCRIPT` asks for, where neither word is taken for an option: this map, this script and a journal of
+-- 1,024 changes; only want of memory keeps it from being read
+abbrev pub ReadsPlain : List Text → Result Options LineError → Type 0
+ReadsPlain (name ∷ map_word ∷ script ∷ []) r =
+    is_plain map_word ≡ true → is_plain script ≡ true
+    → MatchResult r
+    (λ o. (o.journal ≡ 1024) × (string_bytes o.map ≡ map_word) × (map string_bytes o.scripts.items ≡ script ∷ []))
+    (λ e. e ≡ Memory)
+ReadsPlain words r = Unit {0}
