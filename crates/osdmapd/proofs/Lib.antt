@@ -1,3 +1,4 @@
 mod CommandLines
-mod PlainLines
+mod PlainWords
 mod Put
+mod UsualLines

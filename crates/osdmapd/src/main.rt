@@ -5,7 +5,7 @@ ghost use Rattle.std.specs.Prelude.{◌≡◌, ◌≤◌, IfErr, vec_len};
 ghost use Rattle.std.specs.declared.io.ErrorKind.{ErrorKind};
 ghost use Rattle.std.specs.Process.{exit_status};
 ghost use Rattle.monitor.specs.States.{max_journal};
-ghost use Rattle.osdmapd.specs.Endings.{file_ending, run_status};
+ghost use Rattle.osdmapd.specs.Endings.{file_ending, run_status, TellsLine};
 
 mod choices;
 mod ending;
@@ -62,7 +62,9 @@ fn work<'a, R: Files + AllocGlobal + Print>(rt: &R, options: &'a Options) -> Res
 }
 
 /// Shows the help that a command line asks for, or says why it asks for no run.
-fn told<'a>(rt: &impl Print, error: &'a LineError) -> Result<(), Ending<'a>> {
+fn told<'a>(rt: &impl Print, error: &'a LineError) -> Result<(), Ending<'a>>
+    ensures { TellsLine error.now result }
+{
     let help = Ending::of_line(error)?;
     print!(rt; "{help}").map_err(|_| Ending::Output)
 }
