@@ -10,7 +10,7 @@ ghost use Rattle.keylist.specs.Order.{IsRising};
 use crate::key::Keyed;
 use crate::order::are_distinct;
 
-/// Whether an entry has a key, in ascending order.
+/// Whether an entry has a key, in ascending order; by halving, without memory.
 pub fn has<K: Keyed>(entries: &[K], key: u64) -> bool
     requires { IsNonDecreasingBy K.key_of entries.now }
     ensures { result ≡ has_key K.key_of entries.now key }
@@ -20,7 +20,7 @@ pub fn has<K: Keyed>(entries: &[K], key: u64) -> bool
         .is_ok()
 }
 
-/// The entry with a key, each key above those before it.
+/// The entry with a key, each key above those before it; by halving, without memory.
 pub fn entry_of<K: Keyed>(entries: &[K], key: u64) -> Option<&K>
     requires { IsRising K.key_of entries.now }
     ensures { option_copied result ≡ entry_at K.key_of entries.now key }
@@ -31,7 +31,7 @@ pub fn entry_of<K: Keyed>(entries: &[K], key: u64) -> Option<&K>
     }
 }
 
-/// The last entry with a key, in ascending order.
+/// The last entry with a key, in ascending order; by halving, without memory.
 pub fn last_of<K: Keyed>(entries: &[K], key: u64) -> Option<&K>
     requires { IsNonDecreasingBy K.key_of entries.now }
     ensures { option_copied result ≡ entry_at K.key_of (reverse entries.now) key }

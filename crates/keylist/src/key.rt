@@ -1,6 +1,6 @@
 //! What has a key among its like.
 
-/// What has a key among its like.
+/// What has a key among its like: a number of 64 bits, by which lists are sorted and looked up.
 pub trait Keyed: Drop {
     ghost use Rattle.std.specs.Prelude.{◌≡◌, ℕ};
 

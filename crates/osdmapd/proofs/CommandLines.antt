@@ -1,6 +1,6 @@
 -- What the parser of the command line finds, in the words of the options.
-use Rattle.std.proofs.Common.{◌≡◌, ◌⊎◌, ◌∙◌, ℕ, Bool, true, List, [], Option, Some, None, Result, Ok, Err, IfSome, sym, refl, ap, subst, inl, inr}
-use Rattle.std.specs.Str.Parse.{IsNumeral, ParsesUnsigned, digits_value, without_leading_plus}
+use Rattle.std.proofs.Common.{◌≡◌, ◌⊎◌, ◌∙◌, ℕ, Bool, true, List, [], Option, Some, None, ◌<◌, ◌^◌, Result, Ok, Err, MatchOption, sym, refl, ap, subst, inl, inr}
+use Rattle.std.specs.Str.Parse.{ParsesUnsigned}
 use Rattle.clap.specs.declared.parser.matches.Found.{Found}
 use Rattle.clap.specs.declared.error.kind.ErrorKind.{ErrorKind}
 use Rattle.clap.specs.declared.error.kind.ErrorKind.TheVariants.{DisplayHelp, DisplayVersion, OutOfMemory}
@@ -8,25 +8,32 @@ use Rattle.clap.specs.Faults.{fault_of, is_simple_and_free}
 use Rattle.clap.specs.Kinds.{IsAmong}
 use Rattle.clap.specs.Matches.{ReadsOne, one_text}
 use Rattle.clap.specs.Simple.{App, is_simple, matches_of}
-use Rattle.clap.specs.Walk.{Row, Text, one_of, rows_of}
+use Rattle.clap.specs.Walk.{Row, Text, rows_of}
 use Rattle.clap.proofs.WalkLemmas.{one_text-rows}
 use Rattle.osdmapd.specs.declared.choices.Options.{Options}
 use Rattle.osdmapd.specs.declared.choices.LineError.{LineError}
 use Rattle.osdmapd.specs.declared.choices.LineError.TheVariants.{Help, Usage, TooMany, Memory}
-use Rattle.osdmapd.specs.CommandLine.{app, found_in, faults_of, IsRequest, TellsOf, Chooses, ReadsLine}
+use Rattle.osdmapd.specs.CommandLine.{app, found_in, faults_of, IsNumberOf, IsRequest, TellsOf, Chooses, ReadsLine}
 
--- a number that is read of an id is that of the text found for it
+-- the number that is read of an id is that of the text found for it; where none is read, none of 32 bits stands there
 pub number_read : {E : Type 0} (G : List ℕ → Result ℕ E → Type 0) (f : Found) (id : Text) (r : Option ℕ)
     → ((u : List ℕ) (x : Result ℕ E) → G u x → ParsesUnsigned 32 10 u x)
     → (one_text f id ≡ None → r ≡ None) → ((t : List ℕ) → one_text f id ≡ Some t → ReadsOne G t r)
-    → IfSome r (λ n. (text : Text) × (one_of id (rows_of f) ≡ Some text) × IsNumeral 10 (without_leading_plus text)
-    × (n ≡ digits_value 10 (without_leading_plus text)))
-number_read G f id None parses none some = tt
+    → MatchOption r ((n : ℕ) → n < 2 ^ 32 → IsNumberOf id (rows_of f) n → ⊥) (IsNumberOf id (rows_of f))
+number_read G f id None parses none some = λ n fits is. go n fits is (one_text f id) refl
+  where
+    go : (n : ℕ) → n < 2 ^ 32 → IsNumberOf id (rows_of f) n → (o : Option Text) → one_text f id ≡ o → ⊥
+    go n fits (text, here, numeral, is) None e =
+        let bad : None ≡ Some text = sym e ∙ one_text-rows f id ∙ here in
+        cc
+    go n fits (text, here, numeral, is) (Some t) e =
+        let same : Some t ≡ Some text = sym e ∙ one_text-rows f id ∙ here in
+        let text_is : t ≡ text = cc in
+        let read = some t e in
+        parses t (Err read.0) read.1 (rw text_is numeral, rw text_is (rw is at fits))
 number_read G f id (Some n) parses none some = go (one_text f id) refl
   where
-    go : (o : Option Text) → one_text f id ≡ o
-        → (text : Text) × (one_of id (rows_of f) ≡ Some text) × IsNumeral 10 (without_leading_plus text)
-        × (n ≡ digits_value 10 (without_leading_plus text))
+    go : (o : Option Text) → one_text f id ≡ o → IsNumberOf id (rows_of f) n
     go None e =
         let bad : Some n ≡ None = none e in
         cc

@@ -1,2 +1,4 @@
 mod CommandLines
+mod PlainWords
 mod Put
+mod UsualLines

@@ -1,5 +1,6 @@
 -- What the words of a command line ask for, by the parser's own definitions of what it finds in words.
-use Rattle.std.specs.Prelude.{◌≡◌, ◌≢◌, ◌⊎◌, ◌<◌, ℕ, pos, true, false, List, [], ◌∷◌, length, map, codes, Option, Some, None, Result, Ok, Err, string_bytes}
+use Rattle.std.specs.Prelude.{◌≡◌, ◌≢◌, ◌⊎◌, ◌<◌, ◌≤◌, ◌==◌, ◌^◌, not, Bool, MatchResult, ℕ, pos, true, false, List, [], ◌∷◌, length, map, codes, Option, Some, None, Result, Ok, Err, string_bytes}
+use Rattle.std.specs.Fmt.{decimal}
 use Rattle.std.specs.Str.Parse.{IsNumeral, digits_value, without_leading_plus}
 use Rattle.clap.specs.declared.builder.arg.Arg.{Arg}
 use Rattle.clap.specs.declared.builder.action.ArgAction.TheVariants.{Set, Append}
@@ -58,11 +59,19 @@ faults_of words = fault_of app words
 
 -- ---- the options
 
--- the journal that was found: the number of a text of decimal digits, a plus before them aside
-abbrev pub IsJournalIn : List Row → ℕ → Type 0
-IsJournalIn rows n =
-    (text : Text) × (one_of (codes "journal") rows ≡ Some text) × IsNumeral 10 (without_leading_plus text)
+-- the number of the text that was found for an id: decimal digits, a plus before them aside
+abbrev pub IsNumberOf : Text → List Row → ℕ → Type 0
+IsNumberOf id rows n =
+    (text : Text) × (one_of id rows ≡ Some text) × IsNumeral 10 (without_leading_plus text)
     × (n ≡ digits_value 10 (without_leading_plus text))
+
+-- the journal that was found
+abbrev pub IsJournalIn : List Row → ℕ → Type 0
+IsJournalIn rows n = IsNumberOf (codes "journal") rows n
+
+-- no journal of 32 bits was found
+abbrev pub HasNoJournal : List Row → Type 0
+HasNoJournal rows = (n : ℕ) → n < 2 ^ 32 → IsJournalIn rows n → ⊥
 
 -- the map's path that was found
 abbrev pub map_path_in : List Row → Option Text
@@ -105,3 +114,27 @@ ReadsLine words (Err (Help text)) = (kind : ErrorKind) × IsAmong kind (faults_o
 ReadsLine words (Err (Usage text)) = (kind : ErrorKind) × IsAmong kind (faults_of words) × (IsRequest kind → ⊥)
 ReadsLine words (Err TooMany) = (faults_of words ≡ []) × Chooses (found_in words) (Err TooMany)
 ReadsLine words (Err Memory) = Unit {0}
+
+-- ---- the usual line
+
+-- a word that the parser takes for no option: it does not begin with a hyphen
+abbrev pub is_plain : Text → Bool
+is_plain [] = true
+is_plain (c ∷ cs) = not (c == 45)
+
+-- these options are read; only want of memory keeps them from it
+abbrev pub GivesOptions : Result Options LineError → ℕ → Text → Text → Type 0
+GivesOptions r journal map_word script =
+    MatchResult r
+    (λ o. (o.journal ≡ journal) × (string_bytes o.map ≡ map_word) × (map string_bytes o.scripts.items ≡ script ∷ []))
+    (λ e. e ≡ Memory)
+
+-- what `osdmapd MAP SCRIPT` and `osdmapd --journal N MAP SCRIPT` ask for, where neither MAP nor SCRIPT is taken for an
+-- option: this map, this script, and a journal of 1,024 or N
+abbrev pub ReadsUsual : List Text → Result Options LineError → Type 0
+ReadsUsual (name ∷ map_word ∷ script ∷ []) r =
+    is_plain map_word ≡ true → is_plain script ≡ true → GivesOptions r 1024 map_word script
+ReadsUsual (name ∷ option ∷ number ∷ map_word ∷ script ∷ []) r =
+    (n : ℕ) → option ≡ codes "--journal" → number ≡ decimal n → 1 ≤ n → n ≤ max_journal
+    → is_plain map_word ≡ true → is_plain script ≡ true → GivesOptions r n map_word script
+ReadsUsual words r = Unit {0}

@@ -1,5 +1,5 @@
 -- How a run of the program ends: its status, and what it tells on standard error.
-use Rattle.std.specs.Prelude.{◌≡◌, ℕ, List, ◌++◌, codes, Result, Ok, Err, MatchResult, string_bytes}
+use Rattle.std.specs.Prelude.{◌≡◌, ℕ, List, ◌++◌, codes, Result, Ok, Err, IfErr, IsErrAnd, MatchResult, string_bytes}
 use Rattle.std.specs.Borrow.{Bor}
 use Rattle.std.specs.declared.io.ErrorKind.{ErrorKind}
 use Rattle.std.specs.declared.io.ErrorKind.TheVariants.{OutOfMemory}
@@ -62,3 +62,10 @@ EndsLine (line.Help text) r = MatchResult r (λ help. help.now ≡ string_bytes 
 EndsLine (line.Usage text) r = MatchResult r (λ help. ⊥) (λ e. (status_of e ≡ 1) × (text_of e ≡ string_bytes text))
 EndsLine line.TooMany r = MatchResult r (λ help. ⊥) (λ e. e ≡ TooManyScripts)
 EndsLine line.Memory r = MatchResult r (λ help. ⊥) (λ e. e ≡ Memory)
+
+-- how a run ends that the command line does not ask for: help is shown, or the output failed; all else is told
+abbrev pub TellsLine : LineError → Result Unit Ending → Type 0
+TellsLine (line.Help text) r = IfErr r (λ e. e ≡ Output)
+TellsLine (line.Usage text) r = IsErrAnd r (λ e. (status_of e ≡ 1) × (text_of e ≡ string_bytes text))
+TellsLine line.TooMany r = IsErrAnd r (λ e. e ≡ TooManyScripts)
+TellsLine line.Memory r = IsErrAnd r (λ e. e ≡ Memory)

@@ -25,7 +25,7 @@ pub enum Ending<'a> {
 }
 
 impl<'a> Ending<'a> {
-    ghost use Rattle.std.specs.Prelude.{◌≡◌};
+    ghost use Rattle.std.specs.Prelude.{◌≡◌, ◌≤◌};
     ghost use Rattle.std.specs.IoError.{error_kind};
     ghost use Rattle.osdmapd.specs.Endings.{status_of, words_ending, file_ending, fault_ending, EndsLine};
 
@@ -41,7 +41,8 @@ impl<'a> Ending<'a> {
 
     /// Of a run that cannot read the file of a path: for want of memory, else whatever the system says.
     pub fn of_file(error: &io::Error, path: &'a str) -> Ending<'a>
-        ensures { result ≡ file_ending (error_kind error.now) path.entry }
+        ensures ending { result ≡ file_ending (error_kind error.now) path.entry }
+        ensures status { 3 ≤ status_of result }
     {
         match error.kind() {
             io::ErrorKind::OutOfMemory => Ending::Memory,
@@ -51,7 +52,8 @@ impl<'a> Ending<'a> {
 
     /// Of a run that is served into memory, so that its output fails only for want of it.
     pub fn of_fault(fault: Fault) -> Ending<'a>
-        ensures { result ≡ fault_ending fault }
+        ensures ending { result ≡ fault_ending fault }
+        ensures status { 2 ≤ status_of result }
     {
         match fault {
             Fault::Map(refusal) => Ending::Map(refusal),

@@ -1,13 +1,13 @@
 //! The command line.
 
-ghost use Rattle.std.specs.Prelude.{◌≡◌, ◌≤◌, IfOk, IfSome, length, map, option_map, string_bytes, vec_len};
+ghost use Rattle.std.specs.Prelude.{◌≡◌, ◌≤◌, IfOk, MatchOption, length, map, option_map, string_bytes, vec_len};
 ghost use Rattle.clap.specs.Matches.{found_of};
 ghost use Rattle.clap.specs.Simple.{app_of};
 ghost use Rattle.clap.specs.Values.{kind_of};
 ghost use Rattle.clap.specs.Walk.{rows_of};
 ghost use Rattle.monitor.specs.States.{max_journal};
 ghost use Rattle.osdmapd.specs.CommandLine.{journal_rule, map_rule, script_rule, IsReadBy, app};
-ghost use Rattle.osdmapd.specs.CommandLine.{IsJournalIn, map_path_in, script_paths_in, Chooses, TellsOf, ReadsLine};
+ghost use Rattle.osdmapd.specs.CommandLine.{HasNoJournal, IsJournalIn, map_path_in, script_paths_in, Chooses, TellsOf, ReadsLine, ReadsUsual};
 
 use crate::choices::{LineError, Options};
 use clap::error::ErrorKind;
@@ -100,7 +100,8 @@ fn copied(alloc: Global, words: &[&str]) -> Result<Vec<String>, AllocError>
 
 /// The number given for the journal.
 fn journal_in(matches: &ArgMatches<'_>) -> Option<u32>
-    ensures { IfSome result (IsJournalIn (rows_of (found_of matches.now))) }
+    ensures { MatchOption result (HasNoJournal (rows_of (found_of matches.now)))
+        (IsJournalIn (rows_of (found_of matches.now))) }
 {
     matches.get_one("journal")
 }
@@ -146,12 +147,14 @@ fn taken(alloc: Global, matches: &ArgMatches<'_>) -> Result<Options, LineError>
 /// What a command line asks for, the program's name first: `[--journal N] MAP SCRIPT`, N from 1 to 65,536 and 1,024
 /// where it is not given. The options are those that the parser finds in the words, exactly where it has nothing
 /// against them and there is one script; `Help` where help was asked for, `Usage` for what else the parser has against
-/// the words, `TooMany` where there are more scripts, else `Memory`.
+/// the words, `TooMany` where there are more scripts, else `Memory`. So where MAP and SCRIPT begin with no hyphen, they
+/// are the map and the script, and the journal is N or 1,024.
 pub fn options(alloc: Global, words: &[String]) -> Result<Options, LineError>
     ensures least { IfOk result (λ o. 1 ≤ o.journal) }
     ensures most { IfOk result (λ o. o.journal ≤ max_journal) }
     ensures scripts { IfOk result (λ o. vec_len o.scripts ≡ 1) }
     ensures read { ReadsLine (map string_bytes words.now) result }
+    ensures usual { ReadsUsual (map string_bytes words.now) result }
 {
     match command(alloc)?.try_get_matches_from(words) {
         Ok(matches) => taken(alloc, &matches),

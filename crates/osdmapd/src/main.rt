@@ -5,7 +5,7 @@ ghost use Rattle.std.specs.Prelude.{◌≡◌, ◌≤◌, IfErr, vec_len};
 ghost use Rattle.std.specs.declared.io.ErrorKind.{ErrorKind};
 ghost use Rattle.std.specs.Process.{exit_status};
 ghost use Rattle.monitor.specs.States.{max_journal};
-ghost use Rattle.osdmapd.specs.Endings.{file_ending, run_status};
+ghost use Rattle.osdmapd.specs.Endings.{file_ending, run_status, status_of, TellsLine};
 
 mod choices;
 mod ending;
@@ -34,7 +34,8 @@ fn ended(rt: &impl Eprint, done: Result<(), Ending<'_>>) -> ExitCode
 
 /// The bytes of a file.
 fn read<'a, R: Files + AllocGlobal>(rt: &R, path: &'a str) -> Result<Vec<u8>, Ending<'a>>
-    ensures { IfErr result (λ e. (kind : ErrorKind) × (e ≡ file_ending kind path.entry)) }
+    ensures ending { IfErr result (λ e. (kind : ErrorKind) × (e ≡ file_ending kind path.entry)) }
+    ensures status { IfErr result (λ e. 3 ≤ status_of e) }
 {
     fs::read(rt, path).map_err(|error| Ending::of_file(&error, path))
 }
@@ -44,6 +45,7 @@ fn work<'a, R: Files + AllocGlobal + Print>(rt: &R, options: &'a Options) -> Res
     requires least { 1 ≤ options.now.journal }
     requires most { options.now.journal ≤ max_journal }
     requires scripts { vec_len options.now.scripts ≡ 1 }
+    ensures { IfErr result (λ e. 2 ≤ status_of e) }
 {
     let alloc = rt.alloc();
     let map = read(rt, options.map.as_str())?;
@@ -62,7 +64,9 @@ fn work<'a, R: Files + AllocGlobal + Print>(rt: &R, options: &'a Options) -> Res
 }
 
 /// Shows the help that a command line asks for, or says why it asks for no run.
-fn told<'a>(rt: &impl Print, error: &'a LineError) -> Result<(), Ending<'a>> {
+fn told<'a>(rt: &impl Print, error: &'a LineError) -> Result<(), Ending<'a>>
+    ensures { TellsLine error.now result }
+{
     let help = Ending::of_line(error)?;
     print!(rt; "{help}").map_err(|_| Ending::Output)
 }

@@ -11,14 +11,14 @@ use std::fmt;
 pub struct Memory;
 
 impl Memory {
-    /// The number.
+    /// The number: 30.
     pub fn number(&self) -> u8
         ensures { result ≡ 30 }
     {
         30
     }
 
-    /// The name.
+    /// The name: `Memory`.
     pub fn name(&self) -> &'static str
         ensures { result.now ≡ codes "Memory" }
     {

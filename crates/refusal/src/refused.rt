@@ -65,7 +65,7 @@ pub enum Refusal {
 impl Refusal {
     ghost use Rattle.refusal.specs.Refusals.{number_of, name_of};
 
-    /// The number.
+    /// The number: 10 to 17 in a text or a map, 20 to 34 in a change, a question or a line.
     pub fn number(&self) -> u8
         ensures { result ≡ number_of self.now }
     {
@@ -96,7 +96,7 @@ impl Refusal {
         }
     }
 
-    /// The name.
+    /// The name, as answers and standard error tell it. 17 and 26 have one name.
     pub fn name(&self) -> &'static str
         ensures { result.now ≡ name_of self.now }
     {
