@@ -8,7 +8,7 @@ use Rattle.stated.specs.declared.exception.Pair.{Pair}
 use Rattle.stated.specs.Exceptions.{said_of, sides}
 use Rattle.osdmap.specs.Mapped.{is_weightless, with_pair, with_items, mapped}
 use Rattle.osdmap.specs.Placement.{group_of, raw_set, mapped_set}
-use Rattle.osdmap_laws.specs.PlacementLaws.{Agree, MappedReadsNamed, AlikeMapAlike}
+use Rattle.placement_laws.specs.Mapping.{Agree, MappedReadsNamed, AlikeMapAlike}
 
 -- what holds of all of two lists holds of all of each
 all_before : {X : Type 0} (P : X → Type 0) (xs ys : List X) → All P (xs ++ ys) → All P xs
