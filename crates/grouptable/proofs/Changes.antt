@@ -1,7 +1,9 @@
 -- Changes put in one after another, and a draft that follows them.
 use Rattle.std.proofs.Common.{◌≡◌, ℕ, zero, suc, ◌+◌, ◌<◌, ◌≤◌, Option, None, unwrap_or, List, [], ◌∷◌, length, get_or, take, replicate, refl, ap, sym, ◌∙◌, subst, All, arith}
 use Rattle.std.proofs.lemmas.List.{length-set, get_or-set_other, get_or-take, get_or-replicate, get_or_default, length-take-le, take_all}
-use Rattle.std.proofs.lemmas.List.Sums.{fold_more}
+use Rattle.std.specs.List.{range_with_len}
+use Rattle.std.proofs.lemmas.List.FromFn.{length-range_with_len}
+use Rattle.std.proofs.lemmas.List.Sums.{fold_more, length-filter, count_by-le-length}
 use Rattle.grouptable.specs.Sets.{Places, stands, set_of, groups_of, put, changed, left, joined, drawn}
 use Rattle.grouptable.specs.Tables.{IsAscending}
 use Rattle.grouptable.proofs.Moves.{groups_moved}
@@ -42,3 +44,7 @@ fits_all sets lists fresh cs i osd e f h = rw (e, take_all i cs h) at f
 -- where a group changes there is one
 pub some_sets : (sets : List Places) (cs : List (ℕ × Places)) (k : ℕ) → All (λ c. c.0 < length sets) cs → k < length cs → 0 < length sets
 some_sets sets cs k within h = omega (arith, within k (0, []) h)
+
+-- an OSD stands in no more sets than there are
+pub few_groups : (osd : ℕ) (sets : List Places) (list : List ℕ) → list ≡ groups_of osd sets → length list ≤ length sets
+few_groups osd sets list e = rw e (omega (arith, length-filter (λ g. stands osd (set_of sets g)) (range_with_len 0 (length sets)), count_by-le-length (λ g. stands osd (set_of sets g)) (range_with_len 0 (length sets)), length-range_with_len 0 (length sets)))

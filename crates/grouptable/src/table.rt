@@ -78,11 +78,21 @@ impl GroupTable {
     }
 
     /// The groups in whose set the OSD stands, ascending.
-    pub fn groups(&self, osd: u16) -> &[u32]
+    pub fn groups(&self, osd: u32) -> &[u32]
+        requires { osd < 1024 }
+        ensures groups { result.now ≡ groups_of osd self.now }
+        ensures few { length result.now ≤ 4096 }
+    {
+        let _ = &self.sets;
+        self.list(osd)
+    }
+
+    /// The list of an OSD.
+    fn list(&self, osd: u32) -> &[u32]
         requires { osd < 1024 }
         ensures { result.now ≡ groups_of osd self.now }
     {
-        match self.lists.get(usize::from(osd)) {
+        match self.lists.get(osd as usize) {
             Some(list) => list.as_slice(),
             None => &[],
         }

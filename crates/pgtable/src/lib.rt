@@ -1,0 +1,9 @@
+//! The table of a map: for each group its set, for each OSD the groups in whose up set it stands.
+#![tactic(auto)]
+
+mod mapped;
+pub mod pool_table;
+mod shown;
+pub mod table;
+
+pub use table::PgTable;
