@@ -29,7 +29,7 @@ use Rattle.pgtable.proofs.Found.{found_at}
 
 -- ---- lists
 
-find_map : {X Y : Type 0} (p : Y → Bool) (f : X → Y) (xs : List X) → find p (map f xs) ≡ option_map f (find (λ x. p (f x)) xs)
+pub find_map : {X Y : Type 0} (p : Y → Bool) (f : X → Y) (xs : List X) → find p (map f xs) ≡ option_map f (find (λ x. p (f x)) xs)
 find_map p f [] = refl
 find_map p f (x ∷ xs) = elim (cases_Bool (p (f x))) [
   | inl here ↦ rw here refl

@@ -2,8 +2,11 @@
 #![tactic(auto)]
 
 mod mapped;
+pub mod patch;
 pub mod pool_table;
 mod shown;
 pub mod table;
+mod update;
 
+pub use patch::Patch;
 pub use table::PgTable;

@@ -19,7 +19,7 @@ pub struct PoolTable {
 }
 
 impl PoolTable {
-    ghost use Rattle.std.specs.Prelude.{◌≡◌, ◌++◌, ◌<◌, ◌≤◌, length, Some, IfOk, OnOk};
+    ghost use Rattle.std.specs.Prelude.{◌≡◌, ◌++◌, ◌<◌, ◌≤◌, [], length, Some, IfOk, OnOk};
     ghost use Rattle.osdmap.specs.Maps.{pool_at};
     ghost use Rattle.pgtable.specs.Tables.{pool_table, held_in, RunsMore};
 
@@ -38,6 +38,16 @@ impl PoolTable {
         let sets = all_mapped(alloc, map, &pool, work)?;
         let groups = GroupTable::of(alloc, sets)?;
         Ok(PoolTable { pool, groups })
+    }
+
+    /// The table of a pool without its groups. It takes no memory.
+    pub(crate) fn empty(alloc: Global, pool: Pool) -> PoolTable
+        ensures { result ≡ record { pool = pool; groups = [] } }
+    {
+        PoolTable {
+            pool,
+            groups: GroupTable::nothing(alloc),
+        }
     }
 
     /// In how many groups' sets an OSD stands.

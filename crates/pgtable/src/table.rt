@@ -80,6 +80,14 @@ impl PgTable {
         Ok(pools)
     }
 
+    /// The tables of the pools.
+    pub(crate) fn pools(&self) -> &[PoolTable]
+        ensures pools { result.now ≡ self.now.pools }
+        ensures few { length self.now.pools ≤ 32 }
+    {
+        &self.pools
+    }
+
     /// The pool of an id.
     fn pool(&self, id: u32) -> Option<&PoolTable>
         ensures { option_copied result ≡ pool_in self.now id }
