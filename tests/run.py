@@ -10,7 +10,8 @@ a text, or a change as an object. Where a row stands for many runs, or for many 
 `each_text`, `each_kind` (at each of `paths`), `each_without`, `beginnings_of_map`; `lines` (each with its answer),
 `each_line` (one answer to all), `sets` (groups and what they are placed on), `beginnings_of_change`. A row with
 `arguments` says all itself: files, standard output, standard error, status. Entries repeated in a list are written as
-`filled` below reads them, and texts as `text_of` does. The greatest runs are made by this file (`maxima`).
+`filled` below reads them, and texts as `text_of` does. The greatest runs are made by this file (`maxima`); the examples
+have their answers beside them. At the end each growth of the examples' runs is refused in turn (memory.py).
 """
 
 import argparse
@@ -22,8 +23,10 @@ import sys
 import tempfile
 from concurrent.futures import ThreadPoolExecutor
 
+import memory
+
 HERE = pathlib.Path(__file__).resolve().parent
-TABLES = ["worked", "placements", "changes", "limits", "texts", "program", "maxima"]
+TABLES = ["worked", "placements", "changes", "limits", "texts", "program", "examples", "maxima"]
 SECONDS = 60
 
 
@@ -347,10 +350,18 @@ def maxima():
               "session 1\nok 2 evals 0\nerr 33 BadCommand\nepoch 2\n")
 
 
+def examples():
+    """Each example, answered as its answers beside it say."""
+    for script in sorted((HERE.parent / "examples").rglob("script.txt")):
+        folder = script.parent
+        files = {"map": (folder / "map.json").read_bytes(), "script": script.read_bytes()}
+        yield Run(f"example: {folder.name}", files, (folder / "answers.txt").read_text())
+
+
 def table_of(name):
     """The runs of a table."""
-    if name == "maxima":
-        return maxima()
+    if name in ("examples", "maxima"):
+        return examples() if name == "examples" else maxima()
     rows = json.loads((HERE / f"{name}.json").read_text())["runs"]
     return (run for row in rows for run in runs_of(row))
 
@@ -376,6 +387,14 @@ def main():
                 print("\n    ".join([f"FAILED: {run.name}"] + found))
             print(f"{name}: {len(runs) - len(failed)} of {len(runs)} runs passed")
             total, wrong = total + len(runs), wrong + len(failed)
+        swept = [] if options.only else memory.sweeps(command, pool)
+    if swept is None:
+        print("memory: NOT RUN, since there is no gcc to build tests/refuse_nth.c")
+    for name, count, failed in swept or []:
+        for found in failed[:options.show]:
+            print(f"FAILED: want of memory in the example {name}\n    {found}")
+        print(f"memory, {name}: {count - len(failed)} of {count} runs passed, a growth refused in each")
+        total, wrong = total + count, wrong + len(failed)
     if options.total:
         print(f"{total - wrong} passed, {wrong} failed")
     return 1 if wrong else 0

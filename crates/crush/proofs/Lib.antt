@@ -20,3 +20,4 @@ pub mod LastSteps
 pub mod Sorted
 pub mod EvenWeights
 pub mod IdleRounds
+pub mod ParentPlaces

@@ -1,18 +1,21 @@
 -- the heights of tree buckets, and one level of the walk
-use Rattle.std.proofs.Common.{◌≡◌, ℕ, suc, ◌+◌, ◌-◌, ◌*◌, ◌/◌, ◌^◌, ◌<◌, ◌≤◌, cond, Bool, true, false, List, length, get_or, take, drop, eqb, min, subst, refl, sym, ap, ◌∙◌, inl, inr, arith}
+use Rattle.std.proofs.Common.{◌≡◌, ◌≢◌, ℕ, suc, ◌+◌, ◌-◌, ◌*◌, ◌/◌, ◌^◌, ◌<◌, ◌≤◌, cond, Bool, true, false, List, length, get_or, set, get_or-set_other, take, drop, eqb, min, subst, refl, sym, ap, ◌∙◌, inl, inr, arith}
 use Rattle.std.specs.List.{range_with_len, list_all}
 use lib.Count.{count_leading_zeros}
 use Rattle.std.proofs.Math.Seq.{take-add}
 use Rattle.std.proofs.lemmas.List.{drop-drop, drop_all, take_min, length-drop, take_all}
 use Rattle.std.proofs.lemmas.List.Sums.{AllPass-from_list_all, sum_by-append, sum_by-take-drop, sum_by-take-le}
 use borrow.Author.Tests.{ltb-true}
-use Rattle.std.proofs.lemmas.Bool.{ltb-false, eqb-true, cases_lt}
+use Rattle.std.proofs.lemmas.Bool.{ltb-false, eqb-true, cases_lt, cases_Bool}
+use Rattle.std.proofs.lemmas.Grind.{get_or-set_at}
 use Rattle.std.proofs.lemmas.Nat.{div_below}
 use Rattle.std.proofs.Math.Nat.{mul_comm, mul-lt-mul_of_pos_right, pow-suc}
 use Rattle.crush.specs.declared.bucket.Item.{Item}
 use Rattle.crush.specs.declared.bucket.Bucket.{Bucket}
 use Rattle.crush.specs.Forest.{weight_of}
+use Rattle.crush.specs.declared.pick.tree.Walk.{Walk}
 use Rattle.crush.specs.Tree.{weight_between, goes_left, height_of, tree_place}
+use Rattle.crush.specs.Walks.{stepped}
 use Rattle.crush.specs.Items.{item_at}
 use Rattle.crush.specs.Pick.{place_of, pick_of}
 use Rattle.std.proofs.lemmas.List.FromFn.{length-range_with_len, get_or-range_with_len}
@@ -160,6 +163,43 @@ left_le draw k from half w left items some eh el at =
     let P : ℕ → Type 0 = λ m. IsAt draw items m from w in
     let more : k ≡ suc j = omega arith in
     omega (arith, halves_of draw j from w left items (subst P more at) (el ∙ ap (weight_between items from) eh))
+
+-- the weight of a part, by the weights of what comes before its ends
+pub part_sums : (items : List Item) (from count start end below upto : ℕ) → start ≡ min from (length items) → end ≡ min (from + count) (length items) → below ≡ weight_of (take start items) → upto ≡ weight_of (take end items) → upto ≡ below + weight_between items from count
+part_sums items from count start end below upto es ee eb eu =
+    let whole : end ≡ start + (end - start) = omega arith in
+    eu ∙ ap (λ m. weight_of (take m items)) whole
+    ∙ ap weight_of (take-add start (end - start) items)
+    ∙ sum_by-append (λ (i : Item). i.weight) (take start items) (take (end - start) (drop start items))
+    ∙ ap (λ m. m + weight_of (take (end - start) (drop start items))) (sym eb)
+    ∙ ap (λ m. below + m) (part_weight items from count start end es ee)
+
+-- one item more among the weights of the first
+pub sums_more : (items : List Item) (sums : List ℕ) (place sum : ℕ) → place + 1 < length sums → sum ≡ weight_of (take (place + 1) items) → ((k : ℕ) → k ≤ place → get_or sums k 0 ≡ weight_of (take k items)) → (k : ℕ) → k ≤ place + 1 → get_or (set sums (place + 1) sum) k 0 ≡ weight_of (take k items)
+sums_more items sums place sum room e so_far k le = elim (cases_lt k (place + 1)) [
+  | inl lt ↦ (let ne : k ≢ place + 1 = omega arith in get_or-set_other sums (place + 1) k sum 0 ne ∙ so_far k (omega arith))
+  | inr ge ↦ (let same : k ≡ place + 1 = omega arith in get_or-set_at sums (place + 1) k sum 0 same room ∙ e ∙ ap (λ m. weight_of (take m items)) (sym same))
+]
+
+-- a walk that has come to a node comes to one of its halves
+pub walks : (draw : ℕ → ℕ) (k half node hash : ℕ) (items : List Item) (w : Walk) → 0 < k → half ≡ 2 ^ (k - 1) → node ≡ 2 * (w.from + half) → hash ≡ draw node → draw node < 2 ^ 32 → IsAt draw items k w.from w.weight → IsAt draw items (k - 1) (stepped items hash half w).from (stepped items hash half w).weight
+unfolding stepped
+walks draw k half node hash items w some eh en drawn low at =
+    let left = weight_between items w.from half in
+    elim (cases_Bool (goes_left hash w.weight left)) [
+      | inl goes ↦ (let e = ap (λ h. goes_left h w.weight left) (sym drawn) ∙ goes in rw goes (walks_left draw k w.from half node w.weight left items some eh en refl at e))
+      | inr stays ↦ (let e = ap (λ h. goes_left h w.weight left) (sym drawn) ∙ stays in rw stays (walks_right draw k w.from half node w.weight left items some eh en refl at low e))
+    ]
+
+-- the halves of a node are within the tree
+pub half_room : (draw : ℕ → ℕ) (k from half w : ℕ) (items : List Item) → 0 < k → half ≡ 2 ^ (k - 1) → IsAt draw items k from w → from + half ≤ 64
+half_room draw k from half w items some eh at =
+    let j = k - 1 in
+    let P : ℕ → Type 0 = λ m. IsAt draw items m from w in
+    let more : k ≡ suc j = omega arith in
+    let two : 2 ^ suc j ≡ 2 ^ j + 2 ^ j = omega (arith, pow-suc 2 j) in
+    let room = (subst P more at).room in
+    omega (arith, two, eh, room)
 
 -- the item at the place picked
 pub picked_at : (b : Bucket) (x r place : ℕ) (items : List Item) → items ≡ b.items → place ≡ place_of b x r → (item_at items place).id ≡ pick_of b x r

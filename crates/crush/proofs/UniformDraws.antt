@@ -1,7 +1,7 @@
 -- one draw of a uniform bucket, as a swap of the list of places
 use Rattle.std.proofs.Common.{◌≡◌, ◌≢◌, ℕ, zero, suc, ◌+◌, ◌-◌, ◌<◌, ◌≤◌, ◌%◌, List, [], ◌∷◌, ◌++◌, length, get_or, set, take, drop, inl, inr, refl, sym, ap, ◌∙◌, arith}
 use Rattle.std.specs.List.{swap, range_with_len}
-use Rattle.std.proofs.lemmas.List.{take_more, drop_more, take-set-le, get_or-set_same, get_or-set_other, get_or-drop, drop-drop, drop-set, drop-set-add, append_assoc, length-set, length-drop}
+use Rattle.std.proofs.lemmas.List.{get_or-take, get_or_append_left, length-take-le, take_more, drop_more, take-set-le, get_or-set_same, get_or-set_other, get_or-drop, drop-drop, drop-set, drop-set-add, append_assoc, length-set, length-drop}
 use Rattle.std.proofs.lemmas.Nat.{mod_below}
 use Rattle.std.proofs.lemmas.Bool.{cases_eq}
 use Rattle.std.proofs.lemmas.List.FromFn.{length-range_with_len, get_or-range_with_len}
@@ -127,3 +127,18 @@ drawn-numbered x id r m n xs e len =
     let k : m ≡ n = sym (length-range_with_len 0 m) ∙ sym (ap length e) ∙ len in
     ap (λ j. get_or (places_drawn x id 0 j xs) (r % n) 0) len
     ∙ ap (λ ys. get_or (places_drawn x id 0 n ys) (r % n) 0) (e ∙ ap (range_with_len 0) k)
+
+-- what was drawn stands in front
+pub drawn_front : (xs rest all : List ℕ) (p i : ℕ) → p ≤ length xs → i < p → take p xs ++ rest ≡ all → get_or xs i 0 ≡ get_or all i 0
+drawn_front xs rest all p i le lt e =
+    let len : length (take p xs) ≡ p = length-take-le p xs le in
+    sym (get_or-take p xs i 0 lt) ∙ sym (get_or_append_left (take p xs) rest 0 i (omega arith)) ∙ ap (λ ys. get_or ys i 0) e
+
+-- the first place drawn
+pub first_drawn : (x id n r : ℕ) → 0 < n → r % n ≡ 0 → hash3_of x id 0 % n ≡ uniform_place x id n r
+unfolding uniform_place places_drawn
+first_drawn x id zero r some e = absurd (omega arith)
+first_drawn x id (suc m) r some e =
+    let k = hash3_of x id 0 % suc m in
+    let is : get_or (range_with_len 0 (suc m)) k 0 ≡ k = get_or-range_with_len 0 (suc m) k 0 (mod_below (hash3_of x id 0) (suc m) some) ∙ omega arith in
+    sym (ap (λ i. get_or (places_drawn x id 0 (suc m) (range_with_len 0 (suc m))) i 0) e ∙ is)

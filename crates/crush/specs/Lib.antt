@@ -8,6 +8,7 @@ pub mod Items
 pub mod Uniform
 pub mod Listed
 pub mod Tree
+pub mod Walks
 pub mod Pick
 pub mod World
 pub mod Placed
@@ -18,3 +19,4 @@ pub mod Indep
 pub mod Run
 pub mod Slots
 pub mod WellFormed
+pub mod Parents

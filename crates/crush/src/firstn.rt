@@ -7,6 +7,7 @@ ghost use Rattle.std.specs.Ordering.{int_eq};
 use crate::bucket::Bucket;
 use crate::choose::{Attempt, Choice};
 use crate::chooser::Chooser;
+use crate::placement::Start;
 use std::alloc::AllocError;
 
 /// Whether an item is among the choices.
@@ -76,21 +77,21 @@ impl Chooser<'_> {
 
     /// What a try with replica number `r` comes to.
     #[tactic(auto, unfolding(crate::specs::Firstn::attempt_of))]
-    fn attempt(&self, chosen: &[Choice], start: &Bucket, r: u32) -> Attempt
-        requires within { IsPickable start.now }
+    fn attempt(&self, chosen: &[Choice], start: &Start, r: u32) -> Attempt
+        requires input { start.now.x ≡ self.now.placement.x }
         requires room { r < 2 ^ 30 }
-        ensures { result ≡ attempt_of (choosing self.now) chosen.now start.now r }
+        ensures { result ≡ attempt_of (choosing self.now) chosen.now start.now.bucket.now r }
     {
-        match self.placement.descend_at(start, self.choose.level, r) {
+        match self.placement.descend_below(start, self.choose.level, r) {
             Some(picked) => self.attempt_with(chosen, r, picked.item),
             None => Attempt::Abandoned,
         }
     }
 
     /// What the first try that does not fail comes to.
-    fn replica(&self, chosen: &[Choice], start: &Bucket, rep: u8) -> Attempt
-        requires { IsPickable start.now }
-        ensures { result ≡ replica_of (choosing self.now) chosen.now start.now self.now.tries.total rep }
+    fn replica(&self, chosen: &[Choice], start: &Start, rep: u8) -> Attempt
+        requires { start.now.x ≡ self.now.placement.x }
+        ensures { result ≡ replica_of (choosing self.now) chosen.now start.now.bucket.now self.now.tries.total rep }
     {
         for failures in 0..self.tries.total {
             match self.attempt(chosen, start, u32::from(rep) + u32::from(failures)) {
@@ -112,12 +113,13 @@ impl Chooser<'_> {
         requires { IsPickable start.now }
         ensures { OnOk result (chosen.new.items ≡ firstn (choosing self.now) start.now limit) }
     {
+        let below = Start::new(start, self.placement.x, self.numrep);
         chosen.clear();
         for rep in 0..self.numrep {
             if chosen.len() >= limit {
                 break;
             }
-            if let Attempt::Chosen(choice) = self.replica(chosen, start, rep) {
+            if let Attempt::Chosen(choice) = self.replica(chosen, &below, rep) {
                 chosen.push(choice)?;
             }
         }

@@ -1,10 +1,13 @@
 //! Forests of buckets.
 
 ghost use Rattle.std.specs.Prelude.{◌≡◌, IfOk};
-ghost use Rattle.crush.specs.Paths.{has_item};
+ghost use Rattle.crush.specs.Parents.{AreParents};
 
 use crate::bucket::Bucket;
-use crate::search::{bucket_of, level_of};
+use crate::limits::MAX_DEVICES;
+use crate::met::{SLOTS, slot_of};
+use crate::parents::parents_of;
+use crate::search::{bucket_of, is_known, level_of};
 use crate::well_formed::{is_well_formed, is_within_limits};
 use refusal::{Memory, Refusal};
 use std::alloc::Global;
@@ -15,6 +18,8 @@ use std::marker::Model;
 #[derive(Debug, Drop)]
 pub struct Forest {
     buckets: Vec<Bucket>,
+    parents: [u16; SLOTS],
+    ghost linked: { ∥ AreParents buckets.items parents ∥₁ },
 }
 
 impl Model for Forest {
@@ -72,7 +77,8 @@ impl Forest {
         if !is_well_formed(&buckets, max_osd) {
             return Err(Refusal::BadForest);
         }
-        Ok(Forest { buckets })
+        let parents = parents_of(&buckets);
+        Ok(Forest { buckets, parents })
     }
 
     /// The buckets, by id from -1 downwards.
@@ -147,7 +153,12 @@ impl Forest {
         ensures value { option_copied result ≡ find (has_item item) self.now }
         ensures forest { IsForest self.now }
     {
-        self.buckets.iter().find(|bucket| has_item(item, bucket))
+        let buckets: &[Bucket] = &self.buckets;
+        if !is_known(buckets, MAX_DEVICES, item) {
+            return None;
+        }
+        let place = self.parents[slot_of(buckets, item)];
+        buckets.get(usize::from(place))
     }
 
     /// The same forest once more, or `Memory` (30).
@@ -156,15 +167,9 @@ impl Forest {
     {
         Ok(Forest {
             buckets: copies_of(alloc, &self.buckets)?,
+            parents: self.parents,
         })
     }
-}
-
-/// Whether a bucket has an item.
-fn has_item(item: i32, bucket: &Bucket) -> bool
-    ensures { result ≡ has_item item bucket.now }
-{
-    bucket.items.iter().any(|i| i.id == item)
 }
 
 /// The same bucket once more.

@@ -10,6 +10,7 @@ mod grammar;
 mod indep;
 pub mod limits;
 mod met;
+mod parents;
 mod pick;
 mod placement;
 pub mod rule;

@@ -14,10 +14,10 @@ use crate::limits::{MAX_BUCKETS, MAX_DEVICES};
 use crate::search::place_of;
 
 /// How many items a forest can have, each once.
-const SLOTS: usize = MAX_DEVICES as usize + MAX_BUCKETS;
+pub(crate) const SLOTS: usize = MAX_DEVICES as usize + MAX_BUCKETS;
 
 /// The number of a known item, among devices and buckets.
-fn slot_of(buckets: &[Bucket], item: i32) -> usize
+pub(crate) fn slot_of(buckets: &[Bucket], item: i32) -> usize
     requires descending { IsDescending buckets.now }
     requires few { length buckets.now ≤ max_buckets }
     requires known { IsTrue (is_known buckets.now max_devices item) }

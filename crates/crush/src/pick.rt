@@ -5,8 +5,8 @@ ghost use Rattle.crush.specs.Forest.{weight_of};
 
 use crate::bucket::{Bucket, BucketKind, Item};
 use list::list_pick;
-use tree::tree_pick;
-use uniform::uniform_pick;
+use tree::{tree_pick, tree_picks};
+use uniform::{uniform_pick, uniform_picks};
 
 mod list;
 mod tree;
@@ -21,7 +21,7 @@ fn total_weight(items: &[Item]) -> u32
 }
 
 impl Bucket {
-    ghost use Rattle.std.specs.Prelude.{◌≡◌, ◌<◌, length};
+    ghost use Rattle.std.specs.Prelude.{◌≡◌, ℕ, ◌<◌, pos, length, slice_index, slice_index_or, IfSome};
     ghost use Rattle.crush.specs.Forest.{IsPickable};
     ghost use Rattle.crush.specs.Pick.{place_of, pick_of};
 
@@ -46,6 +46,37 @@ impl Bucket {
             BucketKind::Uniform => uniform_pick(items.len(), x, id, r),
             BucketKind::List => list_pick(items, x, id, r),
             BucketKind::Tree => tree_pick(items, x, id, r),
+        }
+    }
+
+    /// The items that the bucket picks for the replica numbers 0 to 3, where together they are less work than apart.
+    pub(crate) fn first_picks(&self, x: u32) -> Option<[i32; 4]>
+        requires { IsPickable self.now }
+        ensures { IfSome result (λ picks. (r : ℕ) → r < 4 → slice_index_or picks r (pos 0) ≡ pick_of self.now x r) }
+    {
+        let places = self.first_places(x)?;
+        let items: &[Item] = &self.items;
+        Some([
+            items[places[0]].id,
+            items[places[1]].id,
+            items[places[2]].id,
+            items[places[3]].id,
+        ])
+    }
+
+    /// The places of those items.
+    #[tactic(auto, unfolding(crate::specs::Pick::place_by))]
+    fn first_places(&self, x: u32) -> Option<[usize; 4]>
+        requires { IsPickable self.now }
+        ensures place { IfSome result (λ places. (r : ℕ) → r < 4 → slice_index places r ≡ place_of self.now x r) }
+        ensures within { IfSome result (λ places. (r : ℕ) → r < 4 → slice_index places r < length self.now.items) }
+    {
+        let id = self.id.cast_unsigned();
+        let items: &[Item] = &self.items;
+        match self.kind {
+            BucketKind::Uniform => Some(uniform_picks(items.len(), x, id)),
+            BucketKind::List => None,
+            BucketKind::Tree => Some(tree_picks(items, x, id)),
         }
     }
 }

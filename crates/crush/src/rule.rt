@@ -77,6 +77,13 @@ impl Rule {
         &self.steps
     }
 
+    /// Whether the forest has each bucket that the rule takes.
+    pub fn is_over(&self, forest: &Forest) -> bool
+        ensures { result ≡ rule_ok self.now.kind self.now.steps forest.now }
+    {
+        takes_known(&self.steps, forest)
+    }
+
     /// Whether the rule reaches the device of a number in a forest: it is under a bucket that the rule takes.
     pub fn reaches(&self, forest: &Forest, osd: u32) -> bool
         ensures { result ≡ reaches forest.now self.now.steps (pos osd) }

@@ -18,6 +18,7 @@ use Rattle.keylist.proofs.Tests.{and_first, and_second, not_true}
 
 -- ---- by places
 
+-- numbers at two places differ where none stands twice
 pub distinct_apart : (ks : List ℕ) → is_distinct ks ≡ true → (i j d : ℕ) → i < j → j < length ks → eqb (get_or ks i d) (get_or ks j d) ≡ false
 unfolding is_distinct
 distinct_apart [] h i j d below inside = absurd (omega arith)
@@ -28,6 +29,7 @@ distinct_apart (k ∷ ks) h zero (suc j) d below inside =
     grind (arith, nat_tests)
 distinct_apart (k ∷ ks) h (suc i) (suc j) d below inside = distinct_apart ks (and_second (not (list_any (λ y. eqb y k) ks)) (is_distinct ks) h) i j d (omega arith) (omega arith)
 
+-- none stands twice where the numbers at any two places differ
 pub apart_distinct : (ks : List ℕ) → ((i j d : ℕ) → i < j → j < length ks → eqb (get_or ks i d) (get_or ks j d) ≡ false) → is_distinct ks ≡ true
 unfolding is_distinct
 apart_distinct [] apart = refl
@@ -38,14 +40,17 @@ apart_distinct (k ∷ ks) apart =
 
 -- ---- in another order
 
+-- two numbers are compared either way round
 eqb_flips : (a b : ℕ) → eqb a b ≡ eqb b a
 eqb_flips a b = grind (arith, nat_tests)
 
+-- none stands twice in another order
 still_distinct : (xs ys : List ℕ) → IsPermutation xs ys → is_distinct xs ≡ true → is_distinct ys ≡ true
 still_distinct xs ys moved h =
     let there = IsDistinct-IsPermutation eqb eqb_flips xs ys moved (IsDistinct-from_apart eqb xs (distinct_apart xs h)) in
     apart_distinct ys (λ i j d below inside. apart_from_distinct eqb ys i j d there below inside)
 
+-- whether a key stands twice does not hang on the order
 pub distinct-moved : {X : Type 0} (number : X → ℕ) (xs ys : List X) → IsPermutation xs ys → is_distinct (map number ys) ≡ is_distinct (map number xs)
 distinct-moved number xs ys moved =
     let there = IsPermutation-map number xs ys moved in

@@ -9,9 +9,11 @@ use Rattle.keylist.specs.Keys.{is_distinct, has_key}
 regroup : (a b d e s : Bool) → (not (a || b) && ((d && e) && not s)) ≡ (((not a && d) && e) && not (b || s))
 regroup a b d e s = grind arith
 
+-- the tests where the first list is empty
 end : (d : Bool) → d ≡ ((true && d) && not false)
 end d = grind arith
 
+-- none stands twice in two lists where it does in neither and they share none
 pub distinct-append : (ks js : List ℕ) → is_distinct (ks ++ js) ≡ ((is_distinct ks && is_distinct js) && not (list_any (λ k. list_any (λ j. j == k) js) ks))
 unfolding is_distinct
 distinct-append [] js = end (is_distinct js)
@@ -24,6 +26,7 @@ pub key_among : {X : Type 0} (key : X → ℕ) (xs : List X) (k : ℕ) → list_
 key_among key [] k = refl
 key_among key (x ∷ xs) k = ap (λ b. (key x == k) || b) (key_among key xs k)
 
+-- the same of each entry of another list
 keys_among : {X Y : Type 0} (key : X → ℕ) (name : Y → ℕ) (xs : List X) (ys : List Y)
     → list_any (λ k. list_any (λ j. j == k) (map name ys)) (map key xs) ≡ list_any (λ x. has_key name ys (key x)) xs
 keys_among key name [] ys = refl

@@ -18,23 +18,29 @@ use Rattle.keylist.proofs.KeyedOrder.{rising_ascends}
 
 -- ---- answers of a comparison
 
+-- a comparison that answers equal
 is_equal : (a k : ℕ) → nat_cmp a k ≡ Equal → a ≡ k
 is_equal a k e = ranked a k Equal (sym e)
 
+-- one that answers less
 is_less : (a k : ℕ) → nat_cmp a k ≡ Less → a < k
 is_less a k e = ranked a k Less (sym e)
 
+-- one that answers greater
 is_greater : (a k : ℕ) → nat_cmp a k ≡ Greater → k < a
 is_greater a k e = ranked a k Greater (sym e)
 
 -- ---- numbers that are not the same
 
+-- a number below another is not that one
 below-apart : (a k : ℕ) → a < k → (a == k) ≡ false
 below-apart a k below = ne_eqb a k (λ e. omega arith)
 
+-- nor is one above it
 above-apart : (a k : ℕ) → k < a → (a == k) ≡ false
 above-apart a k above = ne_eqb a k (λ e. omega arith)
 
+-- comparisons with one number rise with what is compared
 index_rises : (a b k : ℕ) → a ≤ b → ordering_index (nat_cmp a k) ≤ ordering_index (nat_cmp b k)
 index_rises a b k below = grind (arith, nat_tests)
 

@@ -17,27 +17,32 @@ use Rattle.keylist.specs.Order.{IsRising}
 use Rattle.keylist.specs.Puts.{put}
 use Rattle.keylist.proofs.Distinct.{find-moved, rising_distinct}
 use Rattle.keylist.proofs.KeyedOrder.{rising_tail, rising_head, rising_from}
-use Rattle.keylist.proofs.KeyedPuts.{put_past, put_over, put_before}
+use Rattle.keylist.proofs.KeyedPuts.{put_past, put_over, put_before, All-put, All-puts}
 
 -- ---- choices of two tests
 
+-- a choice behind the same choice
 cond_twice : {X : Type 0} (b : Bool) (x y z : X) → cond b x z ≡ cond b x (cond b y z)
 cond_twice true x y z = refl
 cond_twice false x y z = refl
 
+-- two tests that do not hold together may be asked in either order
 cond_swap : {X : Type 0} (a b : Bool) (x y z : X) → (a ≡ true → b ≡ false) → cond a x (cond b y z) ≡ cond b y (cond a x z)
 cond_swap true b x y z apart = rw (apart refl) refl
 cond_swap false b x y z apart = refl
 
+-- a choice of an answer, else of others
 cond_or : {X : Type 0} (o q : Option X) (b : Bool) (x : X) → option_or o (cond b (Some x) q) ≡ option_or (option_or o (cond b (Some x) None)) q
 cond_or None q true x = refl
 cond_or None q false x = refl
 cond_or (Some y) q b x = refl
 
+-- whether a choice finds something
 is_some-cond : {X : Type 0} (b : Bool) (x : X) (o : Option X) → is_some (cond b (Some x) o) ≡ (b || is_some o)
 is_some-cond true x o = refl
 is_some-cond false x o = refl
 
+-- whether one of two answers is there
 is_some-or : {X : Type 0} (o q : Option X) → is_some (option_or o q) ≡ (is_some o || is_some q)
 is_some-or None q = refl
 is_some-or (Some x) q = refl
@@ -114,27 +119,14 @@ module _ {X : Type 0} (key : X → ℕ) where
 
   -- ---- what holds of each
 
-  pub All-put : (P : X → Type 0) (xs : List X) (e : X) → All P xs → P e → All P (put key xs e)
-  unfolding put
-  All-put P [] e all here = All-cons P e [] here all
-  All-put P (x ∷ xs) e all here = elim (cases_order (key x) (key e)) [
-    | inl same ↦ rw (put_over key x xs e same) (All-cons P e xs here (All-tail P x xs all))
-    | inr (inl below) ↦ rw (put_past key x xs e below) (All-cons P x (put key xs e) (All-head P x xs all) (All-put P xs e (All-tail P x xs all) here))
-    | inr (inr above) ↦ rw (put_before key x xs e above) (All-cons P e (x ∷ xs) here all)
-  ]
-
   pub list_all-put : (p : X → Bool) (xs : List X) (e : X) → list_all p xs ≡ true → p e ≡ true → list_all p (put key xs e) ≡ true
-  list_all-put p xs e all here = list_all-from_AllPass p (put key xs e) (All-put (λ x. p x ≡ true) xs e (AllPass-from_list_all p xs all) here)
+  list_all-put p xs e all here = list_all-from_AllPass p (put key xs e) (All-put key (λ x. p x ≡ true) xs e (AllPass-from_list_all p xs all) here)
 
   pub list_all-puts : (p : X → Bool) (xs new : List X) → list_all p xs ≡ true → list_all p new ≡ true → list_all p (fold (put key) xs new) ≡ true
   list_all-puts p xs [] all more = all
   list_all-puts p xs (e ∷ es) all more =
       let parts = and_parts (p e) (list_all p es) more in
       list_all-puts p (put key xs e) es (list_all-put p xs e all parts.0) parts.1
-
-  pub All-puts : (P : X → Type 0) (xs new : List X) → All P xs → All P new → All P (fold (put key) xs new)
-  All-puts P xs [] all more = all
-  All-puts P xs (e ∷ es) all more = All-puts P (put key xs e) es (All-put P xs e all (All-head P e es more)) (All-tail P e es more)
 
   -- ---- the order
 
@@ -146,7 +138,7 @@ module _ {X : Type 0} (key : X → ℕ) where
       let rest = rising_tail key x xs rises in
       elim (cases_order (key x) (key e)) [
         | inl same ↦ rw (put_over key x xs e same) (rising_from key e xs (rw same at above) rest)
-        | inr (inl below) ↦ rw (put_past key x xs e below) (rising_from key x (put key xs e) (All-put (λ y. key x < key y) xs e above below) (rising-put xs e rest))
+        | inr (inl below) ↦ rw (put_past key x xs e below) (rising_from key x (put key xs e) (All-put key (λ y. key x < key y) xs e above below) (rising-put xs e rest))
         | inr (inr under) ↦
             rw (put_before key x xs e under)
             (rising_from key e (x ∷ xs) (All-cons (λ y. key e < key y) x xs under (All-weaker (λ y. key x < key y) (λ y. key e < key y) (λ y over. omega arith) xs above)) rises)
@@ -171,6 +163,19 @@ module _ {X : Type 0} (key : X → ℕ) where
         (All-weaker (λ y. key x < key y) (λ y. (key y == key e) ≡ false) (λ y over. ne_eqb (key y) (key e) (λ same. omega arith)) xs (rising_head key x xs rises))) in
         rw (put_before key x xs e under, none) (omega arith)
   ]
+
+  put_longer : (xs : List X) (e : X) → length xs ≤ length (put key xs e)
+  unfolding put
+  put_longer [] e = omega arith
+  put_longer (x ∷ xs) e = elim (cases_order (key x) (key e)) [
+    | inl same ↦ rw (put_over key x xs e same) (omega arith)
+    | inr (inl below) ↦ rw (put_past key x xs e below) (omega (arith, put_longer xs e))
+    | inr (inr under) ↦ rw (put_before key x xs e under) (omega arith)
+  ]
+
+  pub length-puts_least : (xs new : List X) → length xs ≤ length (fold (put key) xs new)
+  length-puts_least xs [] = omega arith
+  length-puts_least xs (e ∷ es) = omega (arith, put_longer xs e, length-puts_least (put key xs e) es)
 
   pub length-puts_most : (xs new : List X) → IsRising key xs → length (fold (put key) xs new) ≤ length xs + length new
   length-puts_most xs [] rises = omega arith

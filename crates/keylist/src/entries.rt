@@ -7,8 +7,8 @@ use std::alloc::Global;
 use std::marker::Model;
 use std::ops::DerefSlice;
 
-/// A vector that contracts see as the list of its elements: how much room it has is no part of the value. It is read as a
-/// slice.
+/// A vector that contracts see as the list of its elements: how much room it has is no part of the value. It is read
+/// as a slice.
 #[derive(Debug, Drop)]
 pub struct Entries<T> {
     list: Vec<T>,

@@ -3,12 +3,14 @@
 
 mod entries;
 mod find;
+mod in_place;
 mod key;
 mod merge;
 mod order;
 
 pub use entries::Entries;
 pub use find::{are_apart, entry_of, has, last_of};
+pub use in_place::{put_all, take_away};
 pub use key::Keyed;
-pub use merge::{merged, put_count};
+pub use merge::put_count;
 pub use order::{are_distinct, in_order, ordered, sorted};

@@ -35,7 +35,8 @@ pub fn ordered<K: Keyed>(entries: Entries<K>) -> Result<Entries<K>, Memory>
 
 /// The entries by key upwards; `refusal` where a key stands twice, or `Memory` (30).
 pub fn in_order<K: Keyed>(entries: Vec<K>, refusal: Refusal) -> Result<Vec<K>, Refusal>
-    ensures { Makes result (refused_unless (is_distinct (map K.key_of entries.items)) refusal) (λ r. Rises K.key_of entries.items r.items) }
+    ensures { Makes result (refused_unless (is_distinct (map K.key_of entries.items)) refusal)
+        (λ r. Rises K.key_of entries.items r.items) }
 {
     let entries = sorted(entries)?;
     if !are_distinct(&entries) {

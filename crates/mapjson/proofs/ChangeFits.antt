@@ -1,6 +1,9 @@
 -- What a change within its limits comes to.
 use Rattle.std.proofs.Common.{◌≡◌, ℤ, pos, Bool, true, IsTrue, All, List, slice_index_or, arith}
 use Rattle.std.specs.List.{list_all}
+use Rattle.std.specs.Option.{option_map_or}
+use Rattle.stated.specs.CrushMaps.{crush_fits}
+use Rattle.stated.specs.Growth.{growth_fits}
 use Rattle.stated.specs.Parts.{is_between, is_osd_id, pool_fits, pair_fits, exceptions_fit}
 use Rattle.stated.proofs.Within.{word_between}
 use Rattle.mapjson.specs.declared.change.RawChange.{RawChange}
@@ -10,7 +13,9 @@ use Rattle.mapjson.proofs.Lists.{all_from_test}
 -- what is asked of the parts that become values
 pub record ChangeFits (c : RawChange) : Type 0 where
   pub old_pools : list_all is_pool_id c.old_pools ≡ true
+  pub new_crush : option_map_or crush_fits c.new_crush true ≡ true
   pub new_pools : list_all pool_fits c.new_pools ≡ true
+  pub grow_pool : list_all growth_fits c.grow_pool ≡ true
   pub down : list_all is_osd_id c.down ≡ true
   pub up : list_all is_osd_id c.up ≡ true
   pub weight : list_all reweight_fits c.weight ≡ true
@@ -21,7 +26,9 @@ pub change_fits_each : (c : RawChange) → change_fits c ≡ true → ChangeFits
 unfolding change_fits
 change_fits_each c h = record {
   old_pools = grind arith;
+  new_crush = grind arith;
   new_pools = grind arith;
+  grow_pool = grind arith;
   down = grind arith;
   up = grind arith;
   weight = grind arith;

@@ -1,6 +1,13 @@
 -- The change that a JSON text (RFC 8259) states, and the limits of its numbers. The form is this program's own.
-use Rattle.std.specs.Prelude.{◌≡◌, ℕ, ℤ, pos, nat_abs, int_le, ◌&&◌, Bool, not, List, [], ◌∷◌, map, codes, Option, Some, None, option_map, Result, Ok, Err, IfOk, if◌then◌else◌}
+use Rattle.std.specs.Prelude.{◌≡◌, ℕ, ℤ, pos, nat_abs, ◌&&◌, Bool, true, not, List, [], ◌∷◌, map, codes, Option, Some, None, option_map, option_and_then, Result, Ok, Err, IfOk, if◌then◌else◌}
 use Rattle.std.specs.List.{list_all}
+use Rattle.std.specs.Option.{option_map_or, option_or, IsSomeAnd}
+use Rattle.crush.specs.Limits.{max_devices}
+use Rattle.refusal.specs.Outcomes.{refused_unless}
+use Rattle.stated.specs.declared.parts.GrowPart.{GrowPart}
+use Rattle.stated.specs.declared.parts.CrushParts.{CrushParts}
+use Rattle.stated.specs.CrushMaps.{CrushFacts, crush_fits, crush_fault, IsCrushOf}
+use Rattle.stated.specs.Growth.{growth_fits, grows_evenly, growth_of as within_growth}
 use Rattle.serde_json.specs.Data.{Data}
 use Rattle.stated.specs.declared.change.ChangeParts.{ChangeParts}
 use Rattle.stated.specs.declared.change.Reweight.{Reweight}
@@ -12,7 +19,7 @@ use Rattle.stated.specs.Ordered.{IsOrdered}
 use Rattle.stated.specs.Parts.{has_enough_groups, is_between, has_between, is_osd_id, pool_fits, pg_fits, pair_fits, exceptions_fit, pool_of, pg_of, pair_of, exception_of}
 use Rattle.mapjson.specs.declared.change.RawChange.{RawChange}
 use Rattle.mapjson.specs.declared.change.RawReweight.{RawReweight}
-use Rattle.mapjson.specs.Json.{◌>>=◌, number_of, both_of, has_only, field, optional_list, stated_by, and_then, fault_in}
+use Rattle.mapjson.specs.Json.{◌>>=◌, number_of, list_of, both_of, three_of, has_only, field, optional, optional_list, stated_by}
 use Rattle.mapjson.specs.MapTexts as texts
 
 -- ---- what is stated
@@ -21,17 +28,30 @@ use Rattle.mapjson.specs.MapTexts as texts
 unfoldable pub reweight_of : Data → Option RawReweight
 reweight_of d = option_map (λ one. record { osd = one.0; weight = one.1 }) (both_of number_of number_of d)
 
+-- a pool and its new numbers of groups: [pool, pg_num, pgp_num]
+unfoldable pub growth_of : Data → Option GrowPart
+growth_of d = option_map (λ three. record { pool = three.0; pg_num = three.1; pgp_num = three.2 }) (three_of number_of number_of number_of d)
+
+-- a forest and rules, both required; steps that set tries are always allowed
+unfoldable pub crush_of : Data → Option CrushParts
+crush_of d = if has_only (codes "buckets" ∷ codes "rules" ∷ []) d then (do
+  buckets ← field (list_of texts.bucket_of) (codes "buckets") d
+  rules ← field (list_of texts.rule_of) (codes "rules") d
+  Some (record { buckets = buckets; rules = rules })) else None
+
 abbrev pub change_keys : List (List ℕ)
 change_keys =
-    codes "base" ∷ codes "down" ∷ codes "new_items" ∷ codes "new_pools" ∷ codes "new_upmap" ∷ codes "old_items"
+    codes "base" ∷ codes "down" ∷ codes "grow_pool" ∷ codes "new_crush" ∷ codes "new_items" ∷ codes "new_pools" ∷ codes "new_upmap" ∷ codes "old_items"
     ∷ codes "old_pools" ∷ codes "old_upmap" ∷ codes "up" ∷ codes "weight" ∷ []
 
--- the parts of a change: the base, which is required, and lists, which may be missing
+-- the parts of a change: the base, which is required, lists, which may be missing, and a CRUSH map, which may be
 unfoldable pub stated_change : Data → Option RawChange
 stated_change d = if has_only change_keys d then (do
   base ← field number_of (codes "base") d
   old_pools ← optional_list number_of (codes "old_pools") d
+  new_crush ← optional crush_of (codes "new_crush") d
   new_pools ← optional_list texts.pool_of (codes "new_pools") d
+  grow_pool ← optional_list growth_of (codes "grow_pool") d
   down ← optional_list number_of (codes "down") d
   up ← optional_list number_of (codes "up") d
   weight ← optional_list reweight_of (codes "weight") d
@@ -42,7 +62,9 @@ stated_change d = if has_only change_keys d then (do
   Some (record {
     base = base;
     old_pools = old_pools;
+    new_crush = new_crush;
     new_pools = new_pools;
+    grow_pool = grow_pool;
     down = down;
     up = up;
     weight = weight;
@@ -70,7 +92,8 @@ entries_fit fits xs = has_between 0 max_entries xs && list_all fits xs
 unfoldable pub change_fits : RawChange → Bool
 change_fits c =
     is_between (pos 0) (pos 18446744073709551615) c.base
-    && entries_fit is_pool_id c.old_pools && entries_fit pool_fits c.new_pools
+    && entries_fit is_pool_id c.old_pools && option_map_or crush_fits c.new_crush true
+    && entries_fit pool_fits c.new_pools && entries_fit growth_fits c.grow_pool
     && entries_fit is_osd_id c.down && entries_fit is_osd_id c.up && entries_fit reweight_fits c.weight
     && entries_fit pg_fits c.old_upmap && entries_fit pg_fits c.old_items
     && exceptions_fit is_osd_id c.new_upmap && exceptions_fit pair_fits c.new_items
@@ -81,11 +104,13 @@ change_fits c =
 abbrev pub reweight_within : RawReweight → Reweight
 reweight_within w = record { osd = nat_abs w.osd; weight = nat_abs w.weight }
 
--- the parts of a change that is within the limits
-abbrev pub parts_within : RawChange → ChangeParts
-parts_within c = record {
+-- the parts of a change that is within the limits, beside its CRUSH map
+abbrev pub parts_within : RawChange → Option CrushFacts → ChangeParts
+parts_within c crush = record {
   old_pools = map nat_abs c.old_pools;
+  new_crush = crush;
   new_pools = map pool_of c.new_pools;
+  grow_pool = map within_growth c.grow_pool;
   down = map nat_abs c.down;
   up = map nat_abs c.up;
   weight = map reweight_within c.weight;
@@ -95,23 +120,47 @@ parts_within c = record {
   new_items = map (exception_of pair_of) c.new_items;
 }
 
--- the base and the parts of a change; or that a number or a length is outside its limits, else that a new pool has more
--- groups for placement than groups
-abbrev pub within_limits : RawChange → Result (ℕ × ChangeParts) Refusal
-within_limits c =
-    if not (change_fits c) then Err BadLimit
-    else if not (list_all has_enough_groups c.new_pools) then Err BadPool
-    else Ok (nat_abs c.base, parts_within c)
+-- what is wrong with the CRUSH map of a change, where it has one: it is judged over 1,024 devices
+abbrev pub new_crush_fault : Option CrushParts → Option Refusal
+new_crush_fault crush = option_and_then (λ p. crush_fault p.buckets p.rules max_devices) crush
 
--- the base and the parts that a text states, or why it is refused as a change
-abbrev pub change_of : List ℕ → Result (ℕ × ChangeParts) Refusal
-change_of bytes = and_then within_limits (stated_by stated_change bytes)
+-- the CRUSH map is the one that the parts state, or neither is there
+abbrev pub IsCrushStated : Option CrushParts → Option CrushFacts → Type 0
+IsCrushStated None k = k ≡ None
+IsCrushStated (Some p) k = IsSomeAnd k (IsCrushOf p.buckets p.rules)
+
+-- no pool that comes or grows has more groups for placement than groups
+abbrev pub are_even : RawChange → Bool
+are_even c = list_all has_enough_groups c.new_pools && list_all grows_evenly c.grow_pool
+
+-- a number or a length is outside its limits, else the CRUSH map is none, else a pool has more groups for placement than
+-- groups
+abbrev pub change_fault : RawChange → Option Refusal
+change_fault c =
+    if not (change_fits c) then Some BadLimit
+    else option_or (new_crush_fault c.new_crush) (refused_unless (are_even c) BadPool)
+
+-- the base and the parts are those of a change
+pub record IsChangeOf (c : RawChange) (base : ℕ) (parts : ChangeParts) : Type 0 where
+  pub base_is : base ≡ nat_abs c.base
+  pub crush : IsCrushStated c.new_crush parts.new_crush
+  pub parts_are : parts ≡ parts_within c parts.new_crush
+
+-- a text that states no change, or one with a fault
+abbrev pub fault_of_stated : Result RawChange Refusal → Option Refusal
+fault_of_stated (Ok c) = change_fault c
+fault_of_stated (Err refusal) = Some refusal
 
 -- why a text is refused as a change
 abbrev pub change_text_fault : List ℕ → Option Refusal
-change_text_fault bytes = fault_in (change_of bytes)
+change_text_fault bytes = fault_of_stated (stated_by stated_change bytes)
 
--- the base is the one that a text states, and the change has the parts that it states, in order
+-- the base is the one that a change states, and the parts are those that it states, in order
+pub record IsChangeStated (c : RawChange) (base : ℕ) (parts : ChangeParts) : Type 0 where
+  pub base_is : base ≡ nat_abs c.base
+  pub crush : IsCrushStated c.new_crush parts.new_crush
+  pub ordered : IsOrdered (parts_within c parts.new_crush) parts
+
+-- so are those that a text states
 abbrev pub StatesChange : List ℕ → ℕ × ChangeParts → Type 0
-StatesChange bytes answer =
-    IfOk (change_of bytes) (λ stated. (answer.0 ≡ stated.0) × IsOrdered stated.1 answer.1)
+StatesChange bytes answer = IfOk (stated_by stated_change bytes) (λ c. IsChangeStated c answer.0 answer.1)

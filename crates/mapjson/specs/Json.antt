@@ -52,6 +52,14 @@ both_of first second d = if has_count 2 d then (do
   y ← place second 1 d
   Some (x, y)) else None
 
+-- a list of three values, by what states each
+abbrev pub three_of : {X Y Z : Type 0} → (Data → Option X) → (Data → Option Y) → (Data → Option Z) → Data → Option (X × Y × Z)
+three_of first second third d = if has_count 3 d then (do
+  x ← place first 0 d
+  y ← place second 1 d
+  z ← place third 2 d
+  Some (x, y, z)) else None
+
 -- ---- objects
 
 -- the keys of an object
@@ -75,6 +83,10 @@ field stated key d = option_and_then stated (get key d)
 abbrev pub optional_list : {X : Type 0} → (Data → Option X) → List ℕ → Data → Option (List X)
 optional_list stated key d = option_map_or (list_of stated) (get key d) (Some [])
 
+-- what the value at a key states, where the key is there
+abbrev pub optional : {X : Type 0} → (Data → Option X) → List ℕ → Data → Option (Option X)
+optional stated key d = option_map_or (λ v. option_map (λ x. Some x) (stated v)) (get key d) (Some None)
+
 -- ---- texts
 
 -- the value of a text in UTF-8, nested no deeper than 127
@@ -87,16 +99,6 @@ stated_by stated bytes =
     option_map_or (λ d. option_map_or (λ x. Ok x) (stated d) (Err BadField)) (json_of bytes) (Err BadJson)
 
 -- ---- outcomes
-
--- what follows from a value that is there
-abbrev pub and_then : {X Y : Type 0} → (X → Result Y Refusal) → Result X Refusal → Result Y Refusal
-and_then next (Ok x) = next x
-and_then next (Err refusal) = Err refusal
-
--- the refusal, where it is one
-abbrev pub fault_in : {X : Type 0} → Result X Refusal → Option Refusal
-fault_in (Ok x) = None
-fault_in (Err refusal) = Some refusal
 
 -- a reader answers exactly what a value states, or that a growth was refused
 abbrev pub Reads : {X : Type 0} → Result X Fault → Option X → Type 0

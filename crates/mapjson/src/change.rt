@@ -2,21 +2,21 @@
 
 ghost use Rattle.std.specs.Prelude.{◌≡◌};
 ghost use Rattle.serde_json.specs.View.{view};
-ghost use Rattle.mapjson.specs.Json.{Answers};
-ghost use Rattle.mapjson.specs.ChangeTexts.{change_of, reweight_of, stated_change};
+ghost use Rattle.refusal.specs.Outcomes.{Makes};
+ghost use Rattle.mapjson.specs.ChangeTexts.{reweight_of, growth_of, crush_of, stated_change, change_fault, IsChangeOf};
 
 mod limits;
 mod within;
 
 use crate::fault::Fault;
-use crate::values::{FromJson, field, has_only, optional_list, stated_by};
+use crate::values::{FromJson, field, has_only, optional, optional_list};
 use keylist::Entries;
 use limits::change_fits;
 use refusal::Refusal;
 use serde_json::Value;
-use stated::{ChangeParts, ExceptionPart, PairPart, PgParts, PoolPart};
+use stated::{ChangeParts, CrushParts, ExceptionPart, GrowPart, PairPart, PgParts, PoolPart};
 use std::alloc::Global;
-use within::{base_within, parts_within};
+use within::{base_within, crush_within, parts_within, pools_within};
 
 /// A change as a text states it, its numbers untested: each is any whole number.
 #[derive(Debug, Drop)]
@@ -25,8 +25,12 @@ pub(crate) struct RawChange {
     pub base: i128,
     /// The ids of the pools that are taken away: 1 to 65,535.
     pub old_pools: Entries<i128>,
+    /// The forest and the rules that come in place of those of the map.
+    pub new_crush: Option<CrushParts>,
     /// The pools that come.
     pub new_pools: Entries<PoolPart>,
+    /// The pools that grow, and what to.
+    pub grow_pool: Entries<GrowPart>,
     /// The OSDs that go down: 0 to 1,023.
     pub down: Entries<i128>,
     /// The OSDs that come up: 0 to 1,023.
@@ -62,10 +66,43 @@ impl FromJson for RawReweight {
     }
 }
 
+impl FromJson for GrowPart {
+    ghost stated = { growth_of };
+
+    #[tactic(auto, unfolding(crate::specs::ChangeTexts::growth_of))]
+    fn from_json(alloc: Global, value: &Value) -> Result<GrowPart, Fault> {
+        let (pool, pg_num, pgp_num) = FromJson::from_json(alloc, value)?;
+        Ok(GrowPart {
+            pool,
+            pg_num,
+            pgp_num,
+        })
+    }
+}
+
+/// The keys that a CRUSH map has.
+const CRUSH_KEYS: [&str; 2] = ["buckets", "rules"];
+
+impl FromJson for CrushParts {
+    ghost stated = { crush_of };
+
+    #[tactic(auto, unfolding(crate::specs::ChangeTexts::crush_of))]
+    fn from_json(alloc: Global, value: &Value) -> Result<CrushParts, Fault> {
+        if !has_only(value, &CRUSH_KEYS) {
+            return Err(Fault::Field);
+        }
+        let buckets = field(alloc, value, "buckets")?;
+        let rules = field(alloc, value, "rules")?;
+        Ok(CrushParts { buckets, rules })
+    }
+}
+
 /// The keys that a change may have.
-const CHANGE_KEYS: [&str; 10] = [
+const CHANGE_KEYS: [&str; 12] = [
     "base",
     "down",
+    "grow_pool",
+    "new_crush",
     "new_items",
     "new_pools",
     "new_upmap",
@@ -86,7 +123,9 @@ impl FromJson for RawChange {
         }
         let base = field(alloc, value, "base")?;
         let old_pools = optional_list(alloc, value, "old_pools")?;
+        let new_crush = optional(alloc, value, "new_crush")?;
         let new_pools = optional_list(alloc, value, "new_pools")?;
+        let grow_pool = optional_list(alloc, value, "grow_pool")?;
         let down = optional_list(alloc, value, "down")?;
         let up = optional_list(alloc, value, "up")?;
         let weight = optional_list(alloc, value, "weight")?;
@@ -97,7 +136,9 @@ impl FromJson for RawChange {
         Ok(RawChange {
             base,
             old_pools,
+            new_crush,
             new_pools,
+            grow_pool,
             down,
             up,
             weight,
@@ -109,16 +150,20 @@ impl FromJson for RawChange {
     }
 }
 
-/// The base and the parts of the change that a text states: `BadJson` (10) where it is no JSON, `BadField` (11) where
-/// it states no change, `BadLimit` (12) where a number or a length is outside its limits, `BadPool` (15) where a new
-/// pool has more groups for placement than groups; `Memory` (30).
-pub(crate) fn change_of(alloc: Global, bytes: &[u8]) -> Result<(u64, ChangeParts), Refusal>
-    ensures { Answers result (change_of bytes.now) }
+/// The base and the parts of a change that a text states: `BadLimit` (12) where a number or a length is outside its
+/// limits; else `BadForest` (13) or `BadRule` (14) where its forest is not well formed over 1,024 devices, or a rule is none
+/// over it; else `BadPool` (15) where a pool would have more groups for placement than groups; `Memory` (30).
+pub(crate) fn change_within(
+    alloc: Global,
+    change: &RawChange,
+) -> Result<(u64, ChangeParts), Refusal>
+    ensures { Makes result (change_fault change.now) (λ r. IsChangeOf change.now r.0 r.1) }
 {
-    let stated: RawChange = stated_by(alloc, bytes)?;
-    if !change_fits(&stated) {
+    if !change_fits(change) {
         return Err(Refusal::BadLimit);
     }
-    let parts = parts_within(alloc, &stated)?;
-    Ok((base_within(&stated), parts))
+    let new_crush = crush_within(alloc, &change.new_crush)?;
+    let (new_pools, grow_pool) = pools_within(alloc, change)?;
+    let parts = parts_within(alloc, change, new_crush, new_pools, grow_pool)?;
+    Ok((base_within(change), parts))
 }

@@ -16,7 +16,7 @@ mod map;
 mod values;
 mod written;
 
-use crate::change::change_of;
+use crate::change::{RawChange, change_within};
 use crate::values::stated_by;
 use crate::written::ToJson;
 use osdmap::{Change, MapParts, OsdMap};
@@ -27,7 +27,7 @@ use std::alloc::Global;
 /// `BadField` (11) where it does not state a map; else what [`OsdMap::new`] answers for the parts that it states.
 /// `Memory` (30).
 pub fn read_map(alloc: Global, bytes: &[u8]) -> Result<OsdMap, Refusal>
-    ensures { Makes result (map_text_fault bytes.now) (StatesMap bytes.now) }
+    ensures { Makes result (map_text_fault bytes.now) (λ m. StatesMap bytes.now m.map) }
 {
     let parts: MapParts = stated_by(alloc, bytes)?;
     OsdMap::new(alloc, parts)
@@ -37,12 +37,15 @@ pub fn read_map(alloc: Global, bytes: &[u8]) -> Result<OsdMap, Refusal>
 /// than 127; `BadField` (11) where it does not state a change; `BadLimit` (12) where a number or a length is outside
 /// its limits: a base of 0 to 2^64 - 1, ids of pools of 1 to 65,535, OSDs of 0 to 1,023, reweights of 0 to
 /// 4,294,967,295, groups' numbers of at most 32 bits, at most 10 OSDs or pairs of a group, lists of at most 131,072
-/// entries, and of a new pool what [`osdmap::Pool`] has; `BadPool` (15) where a new pool's `pgp_num` is above its
-/// `pg_num`. Each is tested over the whole text before the next. `Memory` (30).
+/// entries, of a new pool what [`osdmap::Pool`] has, of a growth what [`osdmap::Grow`] has, and of a new CRUSH map what a
+/// map's buckets and rules have; `BadForest` (13) where the new buckets are no well-formed forest over 1,024 devices;
+/// `BadRule` (14) where a new rule is outside the grammar, takes a bucket that is not among them, or has the id of another;
+/// `BadPool` (15) where the `pgp_num` of a new or growing pool is above its `pg_num`. Each is tested over the whole text before the next. `Memory` (30).
 pub fn read_change(alloc: Global, bytes: &[u8]) -> Result<(u64, Change), Refusal>
     ensures { Makes result (change_text_fault bytes.now) (StatesChange bytes.now) }
 {
-    let (base, parts) = change_of(alloc, bytes)?;
+    let stated: RawChange = stated_by(alloc, bytes)?;
+    let (base, parts) = change_within(alloc, &stated)?;
     let change = Change::new(parts)?;
     Ok((base, change))
 }
@@ -51,9 +54,9 @@ pub fn read_change(alloc: Global, bytes: &[u8]) -> Result<(u64, Change), Refusal
 /// pools and OSDs by id upwards, exceptions by group upwards, items, steps, explicit sets and pairs in their order. An
 /// OSD that does not exist and has reweight 0 is left out. Or 30 (Memory).
 pub fn write_map(alloc: Global, map: &OsdMap) -> Result<Vec<u8>, Memory>
-    ensures text { IfOk result (λ bytes. bytes.items ≡ written map.now) }
+    ensures text { IfOk result (λ bytes. bytes.items ≡ written map.now.map) }
     ensures utf8 { IfOk result (λ bytes. IsUtf8 bytes.items) }
-    ensures reads_back { IfOk result (λ bytes. stated_by stated_map bytes.items ≡ Ok (parts_of map.now)) }
+    ensures reads_back { IfOk result (λ bytes. stated_by stated_map bytes.items ≡ Ok (parts_of map.now.map)) }
 {
     let value = map.to_json(alloc)?;
     Ok(value.to_vec(alloc)?)

@@ -7,7 +7,7 @@ ghost use Rattle.std.specs.Str.{bytes_eq};
 ghost use Rattle.serde_json.specs.Data.{Data};
 ghost use Rattle.serde_json.specs.Find.{as_array, as_bool, as_str};
 ghost use Rattle.serde_json.specs.View.{view, items_view, members_view};
-ghost use Rattle.mapjson.specs.Json.{Reads, Answers, json_of, stated_by, number_of, entries_of, list_of, has_count, place, both_of, has_only, keys_of, field, optional_list, has_only_keys};
+ghost use Rattle.mapjson.specs.Json.{Reads, Answers, json_of, stated_by, number_of, entries_of, list_of, has_count, place, both_of, three_of, has_only, keys_of, field, optional_list, optional, has_only_keys};
 
 use crate::fault::Fault;
 use keylist::Entries;
@@ -100,6 +100,21 @@ impl<A: FromJson, B: FromJson> FromJson for (A, B) {
     }
 }
 
+/// A list of three values.
+impl<A: FromJson, B: FromJson, C: FromJson> FromJson for (A, B, C) {
+    ghost stated = { three_of A.stated B.stated C.stated };
+
+    fn from_json(alloc: Global, value: &Value) -> Result<(A, B, C), Fault> {
+        if !has_count(value, 3) {
+            return Err(Fault::Field);
+        }
+        let first = place(alloc, value, 0)?;
+        let second = place(alloc, value, 1)?;
+        let third = place(alloc, value, 2)?;
+        Ok((first, second, third))
+    }
+}
+
 /// The text that a value is.
 pub(crate) fn text(value: &Value) -> Result<&str, Fault>
     ensures { MatchResult result (λ t. as_str (view value.now) ≡ Some t.now)
@@ -155,6 +170,20 @@ pub(crate) fn optional_list<T: FromJson>(
     match value.get(key) {
         Some(found) => Entries::from_json(alloc, found),
         None => Ok(Entries::new(Vec::new(alloc))),
+    }
+}
+
+/// What the value at a key states, where the key is there.
+pub(crate) fn optional<T: FromJson>(
+    alloc: Global,
+    value: &Value,
+    key: &str,
+) -> Result<Option<T>, Fault>
+    ensures { Reads result (optional T.stated key.now (view value.now)) }
+{
+    match value.get(key) {
+        Some(found) => Ok(Some(T::from_json(alloc, found)?)),
+        None => Ok(None),
     }
 }
 

@@ -174,7 +174,7 @@ impl ToJson for Pool {
 /// What is written of an OSD, where anything is.
 #[tactic(auto, unfolding(crate::specs::Written::osd_data))]
 fn osd(alloc: Global, map: &OsdMap, id: u32) -> Result<Option<Value>, AllocError>
-    ensures { IfOk result (λ o. option_map view o ≡ option_map osd_data (part_listed map.now id)) }
+    ensures { IfOk result (λ o. option_map view o ≡ option_map osd_data (part_listed map.now.map id)) }
 {
     let Some(state) = map.osd(id) else {
         return Ok(None);
@@ -193,7 +193,7 @@ fn osd(alloc: Global, map: &OsdMap, id: u32) -> Result<Option<Value>, AllocError
 
 /// The list of what is written of the OSDs.
 fn osds(alloc: Global, map: &OsdMap) -> Result<Value, AllocError>
-    ensures { IfOk result (λ v. view v ≡ list_data osd_data (osd_parts map.now)) }
+    ensures { IfOk result (λ v. view v ≡ list_data osd_data (osd_parts map.now.map)) }
 {
     let mut found = Vec::new(alloc);
     for id in 0..map.max_osd() {
@@ -280,11 +280,11 @@ fn version(rules: &[NumberedRule]) -> u32
 impl ToJson for OsdMap {
     ghost Part = { MapParts };
 
-    ghost part = { parts_of };
+    ghost part = { λ m. parts_of m.map };
 
     ghost written = { map_data };
 
-    ghost named = { λ m. AreNamed (parts_of m).pg_upmap × AreNamed (parts_of m).pg_upmap_items };
+    ghost named = { λ m. AreNamed (parts_of m.map).pg_upmap × AreNamed (parts_of m.map).pg_upmap_items };
 
     #[tactic(auto, unfolding(crate::specs::Written::map_data, osdmap::specs::PartsOf::parts_of))]
     fn to_json(&self, alloc: Global) -> Result<Value, AllocError> {

@@ -8,7 +8,7 @@ use osdmap_laws::maps::states_itself;
 
 /// The text of a map of an epoch of 1 to 2,147,483,648 is read back as that map.
 pub fn written_map_is_read_back(map: &OsdMap)
-    ensures { IsReadBack map.now }
+    ensures { IsReadBack map.now.map }
 {
     states_itself(map);
 }

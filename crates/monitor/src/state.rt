@@ -26,9 +26,9 @@ impl Model for State {
 
     ghost Value = { History };
 
-    ghost view = { λ s. record { first = s.first; journal = s.journal.items; capacity = s.capacity; map = s.map } };
+    ghost view = { λ s. record { first = s.first.map; journal = s.journal.items; capacity = s.capacity; map = s.map.map } };
 
-    ghost invariant = { λ s. IsKept (record { first = s.first; journal = s.journal.items; capacity = s.capacity; map = s.map }) };
+    ghost invariant = { λ s. IsKept (record { first = s.first.map; journal = s.journal.items; capacity = s.capacity; map = s.map.map }) };
 }
 
 impl State {
@@ -42,7 +42,7 @@ impl State {
     /// The state at its beginning: no change yet. `BadLimit` (12) where the map's epoch is above 2,147,483,648, or the
     /// journal's capacity is not 1 to 65,536; else `Memory` (30).
     pub fn new(alloc: Global, map: OsdMap, capacity: u32) -> Result<State, Refusal>
-        ensures { Gives result (open_fault map capacity) (λ s. s ≡ opened map capacity) }
+        ensures { Gives result (open_fault map.map capacity) (λ s. s ≡ opened map.map capacity) }
     {
         if map.epoch() > MAX_FIRST_EPOCH || !(1..=MAX_JOURNAL).contains(&capacity) {
             return Err(Refusal::BadLimit);
@@ -59,16 +59,16 @@ impl State {
     /// The present map: the first map with the changes of the journal applied in the order of their epochs, which follow
     /// on that of the first map without gaps.
     pub fn map(&self) -> &OsdMap
-        ensures map { result.now ≡ self.now.map }
+        ensures map { result.now.map ≡ self.now.map }
         ensures kept { IsKept self.now }
         ensures epoch { self.now.map.epoch ≡ epoch_after self.now.first self.now.journal }
     {
         &self.map
     }
 
-    /// Applies a change to the present map, whose epoch `base` must be, and journals it: the new epoch, and the number of
+    /// Applies a change to the present map where it stands, whose epoch `base` must be, and journals it: the new epoch, and the number of
     /// groups whose placement it can alter. `StaleEpoch` (20) with the present epoch where `base` is another; else what
-    /// `OsdMap::check` refuses (21, 22, 23, 24, 15, 25, 26, 27); else `JournalFull` (28); else `Memory` (30). After a refusal
+    /// `OsdMap::check` refuses (21, 22, 23, 24, 13, 15, 25, 26, 27); else `JournalFull` (28); else `Memory` (30). After a refusal
     /// all is as before.
     pub fn commit(
         &mut self,
@@ -80,11 +80,11 @@ impl State {
     {
         self.accepts(base, &change)?;
         self.journal.reserve(1)?;
-        let map = self.map.after(alloc, &change)?;
-        let evals = map.evals(&change);
+        self.map.reserve_for(alloc, &change)?;
         let step = Incremental::new(base + 1, change);
+        self.map.apply(&step);
+        let evals = self.map.evals(step.change());
         self.journal.push_reserved(step);
-        self.map = map;
         Ok((base + 1, evals))
     }
 

@@ -9,8 +9,8 @@ use Rattle.stated.specs.Pools.{PoolFacts}
 use Rattle.keylist.specs.Keys.{has_key, entry_at}
 use Rattle.keylist.specs.Order.{IsRising}
 use Rattle.keylist.specs.Puts.{put}
-use Rattle.osdmap.specs.Maps.{ClusterMap, has_rule}
-use Rattle.osdmap.specs.Changes.{pools_kept, pools_after, brings_new, brings_rightly}
+use Rattle.osdmap.specs.Maps.{ClusterMap}
+use Rattle.osdmap.specs.Changes.{pools_kept, pools_there, brings_new}
 use Rattle.keylist.proofs.Tests.{and_first, and_second, not_true}
 use Rattle.keylist.proofs.KeyedOrder.{rising-filter}
 use Rattle.keylist.proofs.KeyedMaps.{entry-puts, entry-without, has-put, length-put, rising-put}
@@ -23,12 +23,12 @@ pub kept-stays : (m : ClusterMap) (c : ChangeParts) (id : ℕ) → has_key (λ k
 unfolding pools_kept
 kept-stays m c id stays = entry-without (λ (q : PoolFacts). q.id) (λ (k : ℕ). k) c.old_pools m.pools id ∙ rw stays refl
 
-pub after-new : (m : ClusterMap) (c : ChangeParts) (id : ℕ) (p : PoolFacts) → entry_at (λ p. p.id) (reverse c.new_pools) id ≡ Some p → entry_at (λ p. p.id) (pools_after m c) id ≡ Some p
-unfolding pools_after
+pub after-new : (m : ClusterMap) (c : ChangeParts) (id : ℕ) (p : PoolFacts) → entry_at (λ p. p.id) (reverse c.new_pools) id ≡ Some p → entry_at (λ p. p.id) (pools_there m c) id ≡ Some p
+unfolding pools_there
 after-new m c id p new = entry-puts (λ (q : PoolFacts). q.id) (pools_kept m c) c.new_pools id ∙ rw new refl
 
-pub after-old : (m : ClusterMap) (c : ChangeParts) (id : ℕ) → entry_at (λ p. p.id) (reverse c.new_pools) id ≡ None → entry_at (λ p. p.id) (pools_after m c) id ≡ entry_at (λ p. p.id) (pools_kept m c) id
-unfolding pools_after
+pub after-old : (m : ClusterMap) (c : ChangeParts) (id : ℕ) → entry_at (λ p. p.id) (reverse c.new_pools) id ≡ None → entry_at (λ p. p.id) (pools_there m c) id ≡ entry_at (λ p. p.id) (pools_kept m c) id
+unfolding pools_there
 after-old m c id new = entry-puts (λ (q : PoolFacts). q.id) (pools_kept m c) c.new_pools id ∙ rw new refl
 
 -- ---- how many pools there are
@@ -51,8 +51,8 @@ module _ {X : Type 0} (key : X → ℕ) where
       turn a b c = grind arith
 
 pub length-after : (m : ClusterMap) (c : ChangeParts) → IsRising (λ p. p.id) m.pools → brings_new m c ≡ true
-    → length (pools_after m c) ≡ length (pools_kept m c) + length (fold (put (λ p. p.id)) [] c.new_pools)
-unfolding pools_after brings_new pools_kept
+    → length (pools_there m c) ≡ length (pools_kept m c) + length (fold (put (λ p. p.id)) [] c.new_pools)
+unfolding pools_there brings_new pools_kept
 length-after m c rises new =
     puts-apart (λ (q : PoolFacts). q.id) _ _ [] c.new_pools (rising-filter (λ (q : PoolFacts). q.id) _ m.pools rises) (λ i j d below inside. absurd (omega arith)) (λ k. or_false _) (omega arith) new
   where
@@ -72,7 +72,6 @@ kept-few m c =
     omega (arith, length-filter_both stays (λ q. not (stays q)) (λ q. refl) m.pools)
 
 -- there are at most 32 pools where no more come than have room
-pub rightly-counted : (m : ClusterMap) (c : ChangeParts) (k n : ℕ) → IsRising (λ p. p.id) m.pools → brings_new m c ≡ true → list_all (has_rule m.rules) c.new_pools ≡ true
-    → k ≡ length (pools_kept m c) → n ≡ length (fold (put (λ p. p.id)) [] c.new_pools) → k ≤ 32 → leb n (32 - k) ≡ brings_rightly m c
-unfolding brings_rightly
-rightly-counted m c k n rises new ruled kept come few = rw (ruled, length-after m c rises new, ← kept, ← come) (grind (arith, nat_tests))
+pub rightly-counted : (m : ClusterMap) (c : ChangeParts) (k n : ℕ) → IsRising (λ p. p.id) m.pools → brings_new m c ≡ true
+    → k ≡ length (pools_kept m c) → n ≡ length (fold (put (λ p. p.id)) [] c.new_pools) → k ≤ 32 → leb n (32 - k) ≡ leb (length (pools_there m c)) 32
+rightly-counted m c k n rises new kept come few = rw (length-after m c rises new, ← kept, ← come) (grind (arith, nat_tests))

@@ -1,11 +1,12 @@
 -- What holds in a map holds after a change that nothing refuses.
-use Rattle.std.proofs.Common.{◌≡◌, ◌∙◌, sym, subst, refl, rules, arith, ℕ, zero, suc, ◌≤◌, Bool, true, false, not, ◌&&◌, eqb, List, [], ◌∷◌, length, set, Option, Some, None}
+use Rattle.std.proofs.Common.{◌≡◌, ◌∙◌, sym, subst, refl, rules, arith, ℕ, zero, suc, ◌≤◌, Bool, true, false, not, ◌&&◌, eqb, List, [], ◌∷◌, map, length, set, Option, Some, None, IfSome, unwrap_or}
 use mathlib.Core.Bool.{false≢true}
 use Rattle.std.specs.Prelude.{nat_lt, nat_le, slice_get}
 use Rattle.std.specs.List.{list_all, filter, fold, All}
 use Rattle.std.specs.Option.{option_map_or}
 use Rattle.std.proofs.lemmas.Bool.{false_from_ne_true, eqb-true}
 use Rattle.std.proofs.lemmas.Bool.Decides.{nat_tests}
+use Rattle.std.proofs.lemmas.List.{length-map}
 use Rattle.std.proofs.lemmas.List.Elements.{All-set, All-filter}
 use Rattle.std.proofs.lemmas.List.Sums.{AllPass-from_list_all, list_all-from_AllPass}
 use Rattle.crush.specs.WellFormed.{forest_ok}
@@ -17,6 +18,8 @@ use Rattle.stated.specs.declared.pg.Pg.{Pg}
 use Rattle.stated.specs.declared.exception.Exception.{Exception}
 use Rattle.stated.specs.declared.change.ChangeParts.{ChangeParts}
 use Rattle.stated.specs.declared.change.Reweight.{Reweight}
+use Rattle.stated.specs.CrushMaps.{CrushFacts, IsCrushMap}
+use Rattle.stated.specs.Growth.{IsGrowth, grown}
 use Rattle.stated.specs.Pools.{PoolFacts, IsWithinLimits}
 use Rattle.keylist.specs.Keys.{has_key, entry_at}
 use Rattle.keylist.specs.Order.{IsRising}
@@ -24,10 +27,14 @@ use Rattle.keylist.specs.Puts.{put}
 use Rattle.stated.specs.Exceptions.{key_of, has_group, target, sides, all_named, is_set, are_pairs, is_sound, is_exception, stays, is_among, exceptions_after}
 use Rattle.osdmap.specs.Maps.{ClusterMap, osd_exists, has_rule, is_presence, HoldsTogether}
 use Rattle.stated.specs.Incrementals.{Step}
-use Rattle.osdmap.specs.Changes.{names_osds, weighs_rightly, pools_kept, pools_after, all_groups, names_groups, brings_new, brings_rightly, excepts_soundly, change_fault, apply, with_up, with_weight}
+use Rattle.stated.specs.Ordered.{IsChange}
+use Rattle.osdmap.specs.Changes.{names_osds, weighs_rightly, pools_kept, pools_there, pools_after, buckets_after, rules_after, all_groups, names_groups, brings_new, has_devices_below, brings_forest, grows_from, brings_rightly, excepts_soundly, change_fault, apply, with_up, with_weight}
 use Rattle.keylist.proofs.Tests.{and_first, and_second, not_true}
 use Rattle.keylist.proofs.KeyedOrder.{rising-filter}
-use Rattle.keylist.proofs.KeyedMaps.{has-entry, entry-put, entry-without, list_all-puts, list_all-filter, All-puts, rising-puts}
+use Rattle.keylist.proofs.KeyedMaps.{has-entry, entry-put, entry-without, list_all-puts, list_all-filter, rising-puts}
+use Rattle.keylist.proofs.KeyedPuts.{All-puts}
+use Rattle.osdmap.proofs.Grown.{list_all-grown, rising-grown, within-grown, exception_grows}
+use Rattle.osdmap.proofs.Devices.{over_devices}
 use Rattle.osdmap.proofs.Accepted.{Accepted, accepted}
 use Rattle.osdmap.proofs.AfterLemmas.{length-apply, length-with_weight}
 use Rattle.keylist.proofs.Each.{list_all-agree}
@@ -104,8 +111,8 @@ module _ {X : Type 0} (key : X → ℕ) where
 
 -- a pool that stays is there as before, where no pool comes whose id stays
 pub pool-stays : (m : ClusterMap) (c : ChangeParts) (id : ℕ) (p : PoolFacts) → brings_new m c ≡ true → entry_at (λ q. q.id) m.pools id ≡ Some p
-    → has_key (λ k. k) c.old_pools id ≡ false → entry_at (λ q. q.id) (pools_after m c) id ≡ Some p
-unfolding pools_after pools_kept brings_new
+    → has_key (λ k. k) c.old_pools id ≡ false → entry_at (λ q. q.id) (pools_there m c) id ≡ Some p
+unfolding pools_there pools_kept brings_new
 pool-stays m c id p new there stays =
     let kept : entry_at (λ q. q.id) (filter (λ q. not (has_key (λ k. k) c.old_pools q.id)) m.pools) id ≡ Some p =
     entry-without (λ (q : PoolFacts). q.id) (λ (k : ℕ). k) c.old_pools m.pools id ∙ rw (stays, there) refl in
@@ -117,18 +124,19 @@ pool-stays m c id p new there stays =
 all_named-agree : {E : Type 0} (names : E → List ℕ) (p q : ℕ → Bool) → ((n : ℕ) → q n ≡ p n) → (e : Exception E) → all_named names q e ≡ all_named names p e
 all_named-agree names p q same e = list_all-agree _ _ (λ entry. list_all-agree _ _ same (names entry)) e.entries
 
-module _ {E : Type 0} (names : E → List ℕ) (sound : List E → Bool) (m : ClusterMap) (step : Step) (new : brings_new m step.change ≡ true) where
+module _ {E : Type 0} (names : E → List ℕ) (sound : List E → Bool) (m : ClusterMap) (step : Step) (new : brings_new m step.change ≡ true)
+    (grow : list_all (grows_from (pools_there m step.change)) step.change.grow_pool ≡ true) where
   -- an exception that stays is sound as before
   exception-stays : (gone : List Pg) (e : Exception E) → is_exception names sound m.pools (osd_exists m) e ≡ true → stays step.change.old_pools gone e ≡ true
-      → is_exception names sound (pools_after m step.change) (osd_exists (apply m step)) e ≡ true
+      → is_exception names sound (pools_there m step.change) (osd_exists (apply m step)) e ≡ true
   exception-stays gone e holds stay =
       let open_pool = not_true _ (and_first (not (has_key (λ id. id) step.change.old_pools e.pg.pool)) (not (is_among gone e.pg)) stay) in
       let there = and_first (has_group m.pools e.pg) (all_named names (osd_exists m) e) (and_first (has_group m.pools e.pg && all_named names (osd_exists m) e) (is_sound sound m.pools e) holds) in
-      let same : entry_at (λ q. q.id) (pools_after m step.change) e.pg.pool ≡ entry_at (λ q. q.id) m.pools e.pg.pool = by_pool (entry_at (λ q. q.id) m.pools e.pg.pool) refl there open_pool in
+      let same : entry_at (λ q. q.id) (pools_there m step.change) e.pg.pool ≡ entry_at (λ q. q.id) m.pools e.pg.pool = by_pool (entry_at (λ q. q.id) m.pools e.pg.pool) refl there open_pool in
       rw (same, all_named-agree names (osd_exists m) (osd_exists (apply m step)) (exists-after m step) e) holds
     where
       by_pool : (o : Option PoolFacts) → entry_at (λ q. q.id) m.pools e.pg.pool ≡ o → option_map_or (λ p. nat_lt e.pg.number p.pg_num) (entry_at (λ q. q.id) m.pools e.pg.pool) false ≡ true
-          → has_key (λ id. id) step.change.old_pools e.pg.pool ≡ false → entry_at (λ q. q.id) (pools_after m step.change) e.pg.pool ≡ entry_at (λ q. q.id) m.pools e.pg.pool
+          → has_key (λ id. id) step.change.old_pools e.pg.pool ≡ false → entry_at (λ q. q.id) (pools_there m step.change) e.pg.pool ≡ entry_at (λ q. q.id) m.pools e.pg.pool
       by_pool None is there open_pool = absurd (false≢true (rw is at there))
       by_pool (Some p) is there open_pool = pool-stays m step.change e.pg.pool p new is open_pool ∙ sym is
 
@@ -152,30 +160,60 @@ module _ {E : Type 0} (names : E → List ℕ) (sound : List E → Bool) (m : Cl
       → list_all (all_named names (osd_exists m)) coming ≡ true → list_all (λ e. has_group (pools_after m step.change) e.pg) coming ≡ true
       → list_all (is_sound sound (pools_after m step.change)) coming ≡ true
       → list_all (is_exception names sound (pools_after m step.change) (osd_exists (apply m step))) (exceptions_after step.change.old_pools gone coming es) ≡ true
-  unfolding exceptions_after
+  unfolding exceptions_after pools_after
   exceptions-sound gone coming es all named there soundly =
-      list_all-puts key_of _ _ coming (list_all-filter _ _ _ (exception-stays gone) es all) (exceptions-come coming named there soundly)
+      list_all-puts key_of _ _ coming (list_all-filter _ _ _ (λ e holds stay. in_grown e (exception-stays gone e holds stay)) es all) (exceptions-come coming named there soundly)
+    where
+      in_grown : (e : Exception E) → is_exception names sound (pools_there m step.change) (osd_exists (apply m step)) e ≡ true → is_exception names sound (pools_after m step.change) (osd_exists (apply m step)) e ≡ true
+      in_grown e h = exception_grows step.change.grow_pool (pools_there m step.change) grow names sound (osd_exists (apply m step)) e h
 
 -- ---- all of it
 
-few-after : (m : ClusterMap) (c : ChangeParts) → brings_rightly m c ≡ true → length (pools_after m c) ≤ 32
+-- what the tests of the pools found
+record Rightly (m : ClusterMap) (c : ChangeParts) : Type 0 where
+  pub kept : list_all (has_rule (rules_after m c)) (pools_kept m c) ≡ true
+  pub new : list_all (has_rule (rules_after m c)) c.new_pools ≡ true
+  pub few : nat_le (length (pools_there m c)) 32 ≡ true
+  pub grow : list_all (grows_from (pools_there m c)) c.grow_pool ≡ true
+
+rightly-each : (m : ClusterMap) (c : ChangeParts) → brings_rightly m c ≡ true → Rightly m c
 unfolding brings_rightly
-few-after m c h = let few = and_second (list_all (has_rule m.rules) c.new_pools) (nat_le (length (pools_after m c)) 32) h in grind (arith, nat_tests)
+rightly-each m c h = record { kept = grind (arith, h); new = grind (arith, h); few = grind (arith, h); grow = grind (arith, h) }
 
-ruled-after : (m : ClusterMap) (c : ChangeParts) → brings_rightly m c ≡ true → list_all (has_rule m.rules) m.pools ≡ true → list_all (has_rule m.rules) (pools_after m c) ≡ true
-unfolding brings_rightly pools_after pools_kept
-ruled-after m c h ruled =
-    list_all-puts (λ (q : PoolFacts). q.id) (has_rule m.rules) _ c.new_pools
-    (list_all-filter (has_rule m.rules) (has_rule m.rules) _ (λ p has kept. has) m.pools ruled)
-    (and_first (list_all (has_rule m.rules) c.new_pools) (nat_le (length (pools_after m c)) 32) h)
+few-after : (m : ClusterMap) (c : ChangeParts) → Rightly m c → length (pools_after m c) ≤ 32
+unfolding pools_after
+few-after m c rightly = rw length-map (grind (arith, nat_tests, rightly.few))
 
-within-after : (m : ClusterMap) (c : ChangeParts) → All IsWithinLimits c.new_pools → All IsWithinLimits m.pools → All IsWithinLimits (pools_after m c)
-unfolding pools_after pools_kept
-within-after m c new within = All-puts (λ (q : PoolFacts). q.id) IsWithinLimits _ c.new_pools (All-filter _ IsWithinLimits m.pools within) new
+ruled-after : (m : ClusterMap) (c : ChangeParts) → Rightly m c → list_all (has_rule (rules_after m c)) (pools_after m c) ≡ true
+unfolding pools_after pools_there
+ruled-after m c rightly =
+    list_all-grown c.grow_pool (rules_after m c) (pools_there m c) ∙ list_all-puts (λ (q : PoolFacts). q.id) (has_rule (rules_after m c)) _ c.new_pools rightly.kept rightly.new
+
+within-after : (m : ClusterMap) (c : ChangeParts) → All IsWithinLimits c.new_pools → All IsGrowth c.grow_pool → All IsWithinLimits m.pools → All IsWithinLimits (pools_after m c)
+unfolding pools_after pools_there pools_kept
+within-after m c new growths within =
+    within-grown c.grow_pool _ growths (All-puts (λ (q : PoolFacts). q.id) IsWithinLimits _ c.new_pools (All-filter _ IsWithinLimits m.pools within) new)
 
 pools-rise : (m : ClusterMap) (c : ChangeParts) → IsRising (λ p. p.id) m.pools → IsRising (λ p. p.id) (pools_after m c)
-unfolding pools_after pools_kept
-pools-rise m c rises = rising-puts (λ (q : PoolFacts). q.id) _ c.new_pools (rising-filter (λ (q : PoolFacts). q.id) _ m.pools rises)
+unfolding pools_after pools_there pools_kept
+pools-rise m c rises = rising-grown c.grow_pool _ (rising-puts (λ (q : PoolFacts). q.id) _ c.new_pools (rising-filter (λ (q : PoolFacts). q.id) _ m.pools rises))
+
+-- what holds of the forest and the rules after a change
+record CrushKept (m : ClusterMap) (c : ChangeParts) : Type 0 where
+  pub crush : IsCrushMap (record { buckets = buckets_after m c; rules = rules_after m c })
+  pub over_osds : forest_ok (buckets_after m c) (length m.presences) ≡ true
+
+crush-after : (m : ClusterMap) (c : ChangeParts) → IfSome c.new_crush IsCrushMap → brings_forest m c ≡ true → HoldsTogether m → CrushKept m c
+unfolding brings_forest
+crush-after m c lawful below holds = by_crush c.new_crush lawful below
+  where
+    by_crush : (o : Option CrushFacts) → IfSome o IsCrushMap → option_map_or (λ k. has_devices_below (length m.presences) k.buckets) o true ≡ true
+        → CrushKept m (record c { new_crush = o })
+    by_crush None lawful' below' = record {
+      crush = record { forest = holds.forest; some_rules = holds.some_rules; few_rules = holds.few_rules; rules_rise = holds.rules_rise; rules_over = holds.rules_over };
+      over_osds = holds.over_osds;
+    }
+    by_crush (Some k) lawful' below' = record { crush = lawful'; over_osds = over_devices k.buckets (length m.presences) lawful'.forest below' }
 
 exceptions-rise : {E : Type 0} (old_pools : List ℕ) (gone : List Pg) (coming es : List (Exception E)) → IsRising key_of es → IsRising key_of (exceptions_after old_pools gone coming es)
 unfolding exceptions_after
@@ -185,38 +223,40 @@ explicit-after : (m : ClusterMap) (step : Step) → Accepted m step.change → H
     → list_all (is_exception target is_set (pools_after m step.change) (osd_exists (apply m step))) (exceptions_after step.change.old_pools step.change.old_upmap step.change.new_upmap m.explicit) ≡ true
 unfolding names_osds names_groups all_groups excepts_soundly
 explicit-after m step ok holds =
-    exceptions-sound target is_set m step ok.new step.change.old_upmap step.change.new_upmap m.explicit holds.explicit_sound (grind (arith, ok.osds)) (grind (arith, ok.groups)) (grind (arith, ok.sound))
+    exceptions-sound target is_set m step ok.new (rightly-each m step.change ok.rightly).grow step.change.old_upmap step.change.new_upmap m.explicit holds.explicit_sound (grind (arith, ok.osds)) (grind (arith, ok.groups)) (grind (arith, ok.sound))
 
 items-after : (m : ClusterMap) (step : Step) → Accepted m step.change → HoldsTogether m
     → list_all (is_exception sides are_pairs (pools_after m step.change) (osd_exists (apply m step))) (exceptions_after step.change.old_pools step.change.old_items step.change.new_items m.items) ≡ true
 unfolding names_osds names_groups all_groups excepts_soundly
 items-after m step ok holds =
-    exceptions-sound sides are_pairs m step ok.new step.change.old_items step.change.new_items m.items holds.items_sound (grind (arith, ok.osds)) (grind (arith, ok.groups)) (grind (arith, ok.sound))
+    exceptions-sound sides are_pairs m step ok.new (rightly-each m step.change ok.rightly).grow step.change.old_items step.change.new_items m.items holds.items_sound (grind (arith, ok.osds)) (grind (arith, ok.groups)) (grind (arith, ok.sound))
 
 weights-after : (m : ClusterMap) (step : Step) → length (apply m step).weights ≡ length m.weights
 unfolding apply
 weights-after m step = length-with_weight m.weights step.change.weight
 
-pub HoldsTogether-after : (m : ClusterMap) (step : Step) → change_fault m step.change ≡ None → All IsWithinLimits step.change.new_pools → HoldsTogether m → HoldsTogether (apply m step)
+pub HoldsTogether-after : (m : ClusterMap) (step : Step) → change_fault m step.change ≡ None → IsChange step.change → HoldsTogether m → HoldsTogether (apply m step)
 unfolding apply
-HoldsTogether-after m step lawful within holds =
+HoldsTogether-after m step lawful is holds =
     let ok = accepted m step.change lawful in
+    let rightly = rightly-each m step.change ok.rightly in
+    let kept = crush-after m step.change is.crush_map ok.forest holds in
     record {
       some = subst (λ n. 1 ≤ n) (sym (length-apply m step)) holds.some;
       few = subst (λ n. n ≤ 1024) (sym (length-apply m step)) holds.few;
       present = present-after m step ok.osds holds.present;
       weighed = weights-after m step ∙ holds.weighed ∙ sym (length-apply m step);
       weigh_little = little-after m step.change ok.weights holds.weigh_little;
-      forest = holds.forest;
-      over_osds = subst (λ n. forest_ok m.buckets n ≡ true) (sym (length-apply m step)) holds.over_osds;
-      some_rules = holds.some_rules;
-      few_rules = holds.few_rules;
-      rules_rise = holds.rules_rise;
-      rules_over = holds.rules_over;
-      few_pools = few-after m step.change ok.rightly;
+      forest = kept.crush.forest;
+      over_osds = subst (λ n. forest_ok (buckets_after m step.change) n ≡ true) (sym (length-apply m step)) kept.over_osds;
+      some_rules = kept.crush.some_rules;
+      few_rules = kept.crush.few_rules;
+      rules_rise = kept.crush.rules_rise;
+      rules_over = kept.crush.rules_over;
+      few_pools = few-after m step.change rightly;
       pools_rise = pools-rise m step.change holds.pools_rise;
-      pools_within = within-after m step.change within holds.pools_within;
-      ruled = ruled-after m step.change ok.rightly holds.ruled;
+      pools_within = within-after m step.change is.pools_within is.growths_within holds.pools_within;
+      ruled = ruled-after m step.change rightly;
       explicit_rise = exceptions-rise step.change.old_pools step.change.old_upmap step.change.new_upmap m.explicit holds.explicit_rise;
       explicit_sound = explicit-after m step ok holds;
       items_rise = exceptions-rise step.change.old_pools step.change.old_items step.change.new_items m.items holds.items_rise;
@@ -225,12 +265,26 @@ HoldsTogether-after m step lawful within holds =
 
 -- ---- the map after a change, put together
 
-pub assembled : (m : ClusterMap) (step : Step) (epoch : ℕ) (buckets : List Bucket) (rules : List NumberedRule) (pools : List PoolFacts) (presences : List Presence) (weights : List ℕ)
-    (explicit : List (Exception ℕ)) (items : List (Exception Pair))
-    → epoch ≡ step.epoch → buckets ≡ m.buckets → rules ≡ m.rules → pools ≡ pools_after m step.change
-    → presences ≡ fold (with_up true) (fold (with_up false) m.presences step.change.down) step.change.up → weights ≡ fold with_weight m.weights step.change.weight
-    → explicit ≡ exceptions_after step.change.old_pools step.change.old_upmap step.change.new_upmap m.explicit
-    → items ≡ exceptions_after step.change.old_pools step.change.old_items step.change.new_items m.items
-    → ◌≡◌ {A = ClusterMap} (record { epoch = epoch; buckets = buckets; rules = rules; pools = pools; presences = presences; weights = weights; explicit = explicit; items = items }) (apply m step)
-unfolding apply
-assembled m step epoch buckets rules pools presences weights explicit items h1 h2 h3 h4 h5 h6 h7 h8 = rw (h1, h2, h3, h4, h5, h6, h7, h8) refl
+-- the forest and the rules where some lie ready
+pub buckets-ready : (ready : Option CrushFacts) (k : CrushFacts) → (unwrap_or ready k).buckets ≡ option_map_or (λ j. j.buckets) ready k.buckets
+buckets-ready None k = refl
+buckets-ready (Some j) k = refl
+
+pub rules-ready : (ready : Option CrushFacts) (k : CrushFacts) → (unwrap_or ready k).rules ≡ option_map_or (λ j. j.rules) ready k.rules
+rules-ready None k = refl
+rules-ready (Some j) k = refl
+
+-- each part of a map is that after a change
+pub record Changed (m : ClusterMap) (step : Step) (made : ClusterMap) : Type 0 where
+  pub epoch : made.epoch ≡ step.epoch
+  pub buckets : made.buckets ≡ buckets_after m step.change
+  pub rules : made.rules ≡ rules_after m step.change
+  pub pools : made.pools ≡ map (grown step.change.grow_pool) (fold (put (λ p. p.id)) (filter (λ p. not (has_key (λ id. id) step.change.old_pools p.id)) m.pools) step.change.new_pools)
+  pub presences : made.presences ≡ fold (with_up true) (fold (with_up false) m.presences step.change.down) step.change.up
+  pub weights : made.weights ≡ fold with_weight m.weights step.change.weight
+  pub explicit : made.explicit ≡ exceptions_after step.change.old_pools step.change.old_upmap step.change.new_upmap m.explicit
+  pub items : made.items ≡ exceptions_after step.change.old_pools step.change.old_items step.change.new_items m.items
+
+pub assembled : (m : ClusterMap) (step : Step) (made : ClusterMap) → Changed m step made → made ≡ apply m step
+unfolding apply pools_after pools_there pools_kept
+assembled m step made is = rw (is.epoch, is.buckets, is.rules, is.pools, is.presences, is.weights, is.explicit, is.items) refl

@@ -5,7 +5,10 @@ pub mod CheckLemmas
 pub mod Coming
 pub mod AfterLemmas
 mod EvalsLemmas
-mod StayingLemmas
+mod Grown
+mod Devices
+mod Leaving
+mod Growing
 pub mod Kept
 pub mod PlacementLemmas
 mod Replaced

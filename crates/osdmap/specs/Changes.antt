@@ -1,12 +1,15 @@
 -- Changes: what refuses one, the map after one, and what makes a journal of them lawful.
-use Rattle.std.specs.Prelude.{◌≡◌, ℕ, ◌+◌, Bool, true, false, not, ◌&&◌, List, [], ◌∷◌, ◌++◌, length, map, Option, Some, None, slice_get, slice_set, nat_le, if◌then◌else◌}
+use Rattle.std.specs.Prelude.{◌≡◌, ℕ, ◌+◌, Bool, true, false, not, ◌&&◌, ℤ, pos, int_lt, List, [], ◌∷◌, ◌++◌, length, map, Option, Some, None, slice_get, slice_set, nat_le, if◌then◌else◌}
 use Rattle.std.specs.List.{list_all, filter, fold}
 use Rattle.std.specs.Option.{option_map_or}
+use Rattle.crush.specs.declared.bucket.Bucket.{Bucket}
 use Rattle.stated.specs.declared.change.ChangeParts.{ChangeParts}
 use Rattle.stated.specs.declared.change.Reweight.{Reweight}
 use Rattle.stated.specs.declared.osd.Presence.{Presence}
 use Rattle.refusal.specs.declared.refused.Refusal.{Refusal}
-use Rattle.refusal.specs.declared.refused.Refusal.TheVariants.{UnknownOsd, BadWeight, UnknownPool, PoolExists, BadPool, UnknownGroup, BadNewException, DuplicatePart}
+use Rattle.stated.specs.declared.rules.NumberedRule.{NumberedRule}
+use Rattle.stated.specs.Growth.{Growth, grown}
+use Rattle.refusal.specs.declared.refused.Refusal.TheVariants.{UnknownOsd, BadWeight, UnknownPool, PoolExists, BadForest, BadPool, UnknownGroup, BadNewException, DuplicatePart}
 use Rattle.stated.specs.declared.pg.Pg.{Pg}
 use Rattle.stated.specs.Incrementals.{Step}
 use Rattle.stated.specs.Limits.{max_pools}
@@ -15,7 +18,7 @@ use Rattle.stated.specs.Pools.{PoolFacts}
 use Rattle.keylist.specs.Keys.{is_distinct, has_key}
 use Rattle.keylist.specs.Puts.{put}
 use Rattle.stated.specs.Exceptions.{place_of, key_of, has_pool, has_pool_of, has_group, target, sides, all_named, is_set, are_pairs, is_sound, exceptions_after}
-use Rattle.osdmap.specs.Maps.{ClusterMap, osd_exists, has_rule}
+use Rattle.osdmap.specs.Maps.{ClusterMap, pool_at, osd_exists, has_rule}
 
 -- ---- refusals
 
@@ -33,27 +36,54 @@ weighs_rightly c = list_all (λ w. nat_le w.weight full_weight) c.weight
 unfoldable pub pools_kept : ClusterMap → ChangeParts → List PoolFacts
 pools_kept m c = filter (λ p. not (has_key (λ id. id) c.old_pools p.id)) m.pools
 
--- the pools after old_pools and new_pools, of a pool that comes twice the last one
+-- the pools that are there once the old ones went and the new ones came, of a pool that comes twice the last one
+unfoldable pub pools_there : ClusterMap → ChangeParts → List PoolFacts
+pools_there m c = fold (put (λ p. p.id)) (pools_kept m c) c.new_pools
+
+-- the pools after a change: of these, some have grown
 unfoldable pub pools_after : ClusterMap → ChangeParts → List PoolFacts
-pools_after m c = fold (put (λ p. p.id)) (pools_kept m c) c.new_pools
+pools_after m c = map (grown c.grow_pool) (pools_there m c)
+
+-- the forest and the rules after a change
+abbrev pub buckets_after : ClusterMap → ChangeParts → List Bucket
+buckets_after m c = option_map_or (λ k. k.buckets) c.new_crush m.buckets
+
+abbrev pub rules_after : ClusterMap → ChangeParts → List NumberedRule
+rules_after m c = option_map_or (λ k. k.rules) c.new_crush m.rules
 
 -- each group that is named passes a test
 unfoldable pub all_groups : (Pg → Bool) → ChangeParts → Bool
 all_groups p c =
     list_all p c.old_upmap && list_all p c.old_items && list_all (λ e. p e.pg) c.new_upmap && list_all (λ e. p e.pg) c.new_items
 
--- each pool that is taken away is there, and the pool of each group that is named is there after that and new_pools
+-- each pool that is taken away is there; each that grows, and the pool of each group that is named, is there once the old
+-- ones went and the new ones came
 unfoldable pub names_pools : ClusterMap → ChangeParts → Bool
 names_pools m c =
-    list_all (has_pool m.pools) c.old_pools && all_groups (has_pool_of (pools_after m c)) c
+    list_all (has_pool m.pools) c.old_pools && list_all (λ g. has_pool (pools_there m c) g.pool) c.grow_pool
+    && all_groups (has_pool_of (pools_there m c)) c
 
 -- no pool comes whose id is there
 unfoldable pub brings_new : ClusterMap → ChangeParts → Bool
 brings_new m c = list_all (λ p. not (has_pool (pools_kept m c) p.id)) c.new_pools
 
--- each pool that comes has a rule of its kind, and there are at most 32 pools then
+-- each device of a forest is below a number
+unfoldable pub has_devices_below : ℕ → List Bucket → Bool
+has_devices_below n buckets = list_all (λ b. list_all (λ i. int_lt i.id (pos n)) b.items) buckets
+
+-- the forest that comes has no device but those of the map
+unfoldable pub brings_forest : ClusterMap → ChangeParts → Bool
+brings_forest m c = option_map_or (λ k. has_devices_below (length m.presences) k.buckets) c.new_crush true
+
+-- a pool that is there gets no fewer groups, nor fewer for placement
+unfoldable pub grows_from : List PoolFacts → Growth → Bool
+grows_from pools g = option_map_or (λ p. nat_le p.pg_num g.pg_num && nat_le p.pgp_num g.pgp_num) (pool_at pools g.pool) false
+
+-- each pool that stays or comes has a rule of its kind then, there are at most 32 pools, and none gets fewer groups
 unfoldable pub brings_rightly : ClusterMap → ChangeParts → Bool
-brings_rightly m c = list_all (has_rule m.rules) c.new_pools && nat_le (length (pools_after m c)) max_pools
+brings_rightly m c =
+    list_all (has_rule (rules_after m c)) (pools_kept m c) && list_all (has_rule (rules_after m c)) c.new_pools
+    && nat_le (length (pools_there m c)) max_pools && list_all (grows_from (pools_there m c)) c.grow_pool
 
 -- each group that is named is there then
 unfoldable pub names_groups : ClusterMap → ChangeParts → Bool
@@ -67,6 +97,7 @@ excepts_soundly m c = list_all (is_sound is_set (pools_after m c)) c.new_upmap &
 unfoldable pub names_once : ChangeParts → Bool
 names_once c =
     is_distinct (map (λ id. id) c.old_pools ++ map (λ p. p.id) c.new_pools)
+    && is_distinct (map (λ p. p.id) c.new_pools ++ map (λ g. g.pool) c.grow_pool)
     && is_distinct (map (λ osd. osd) c.down ++ map (λ osd. osd) c.up)
     && is_distinct (map (λ w. w.osd) c.weight)
     && is_distinct (map place_of c.old_upmap ++ map key_of c.new_upmap)
@@ -79,6 +110,7 @@ change_fault m c =
     else if not (weighs_rightly c) then Some BadWeight
     else if not (names_pools m c) then Some UnknownPool
     else if not (brings_new m c) then Some PoolExists
+    else if not (brings_forest m c) then Some BadForest
     else if not (brings_rightly m c) then Some BadPool
     else if not (names_groups m c) then Some UnknownGroup
     else if not (excepts_soundly m c) then Some BadNewException
@@ -96,11 +128,13 @@ with_up up presences osd =
 abbrev pub with_weight : List ℕ → Reweight → List ℕ
 with_weight weights w = slice_set weights w.osd w.weight
 
--- the parts in order: pools go, with their exceptions, and come; OSDs go down, come up, get their reweights; exceptions go,
--- and come; and the new epoch
+-- the parts in order: pools go, with their exceptions; the forest and the rules are replaced; pools come, and grow; OSDs go
+-- down, come up, get their reweights; exceptions go, and come; and the new epoch
 unfoldable pub apply : ClusterMap → Step → ClusterMap
 apply m step = record m {
   epoch = step.epoch;
+  buckets = buckets_after m step.change;
+  rules = rules_after m step.change;
   pools = pools_after m step.change;
   presences = fold (with_up true) (fold (with_up false) m.presences step.change.down) step.change.up;
   weights = fold with_weight m.weights step.change.weight;

@@ -1,5 +1,5 @@
 -- How many groups' placement a change can alter.
-use Rattle.std.specs.Prelude.{ℕ, Bool, false, ◌||◌, pos, List, Option}
+use Rattle.std.specs.Prelude.{ℕ, Bool, false, ◌||◌, pos, List, Option, is_some}
 use Rattle.std.specs.List.{list_any, sum_by, count_by, range_with_len}
 use Rattle.std.specs.Option.{option_map_or}
 use Rattle.crush.specs.Paths as paths
@@ -15,9 +15,11 @@ use Rattle.osdmap.specs.Placement.{group_of, steps_of}
 unfoldable pub reaches : ClusterMap → ChangeParts → PoolFacts → Bool
 reaches m c p = list_any (λ w. paths.reaches m.buckets (steps_of m p) (pos w.osd)) c.weight
 
--- whether all groups of a pool are placed anew: it comes with the change, or its rule reaches such an OSD
+-- whether all groups of a pool are placed anew: the forest and the rules are replaced, the pool comes or grows with the
+-- change, or its rule reaches such an OSD
 unfoldable pub is_touched : ClusterMap → ChangeParts → PoolFacts → Bool
-is_touched m c p = has_key (λ q. q.id) c.new_pools p.id || reaches m c p
+is_touched m c p =
+    is_some c.new_crush || has_key (λ q. q.id) c.new_pools p.id || has_key (λ g. g.pool) c.grow_pool p.id || reaches m c p
 
 -- whether exceptions of a group go or come
 unfoldable pub is_named : ChangeParts → Pg → Bool

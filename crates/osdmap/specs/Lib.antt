@@ -5,7 +5,7 @@ pub mod Mapped
 pub mod Placement
 pub mod Sets
 pub mod Stated
-pub mod Staying
+pub mod Stored
 pub mod Primary
 pub mod Evals
 pub mod Built

@@ -25,7 +25,7 @@ impl OsdMap {
     /// The map that parts within the limits state beside their exceptions.
     fn without_exceptions(alloc: Global, parts: &MapParts) -> Result<OsdMap, Refusal>
         requires { parts_fit parts.now ≡ true }
-        ensures { Makes result (map_fault (without_exceptions parts.now)) (IsStated (without_exceptions parts.now)) }
+        ensures { Makes result (map_fault (without_exceptions parts.now)) (λ m. IsStated (without_exceptions parts.now) m.map) }
     {
         let max_osd = word(parts.max_osd);
         let crush = CrushMap::stated(alloc, &parts.buckets, &parts.rules, max_osd)?;
@@ -39,13 +39,14 @@ impl OsdMap {
             weights: Entries::new(weights_of(alloc, &rows)?),
             explicit: Vec::new(alloc),
             items: Vec::new(alloc),
+            ready: None,
         })
     }
 
     /// The map that parts state: `BadLimit` (12), `BadForest` (13), `BadRule` (14), `BadPool` (15), `BadOsd` (16) or
     /// `BadException` (17) where something is wrong, the first of these, each tested over the whole map; `Memory` (30).
     pub fn new(alloc: Global, parts: MapParts) -> Result<OsdMap, Refusal>
-        ensures { Makes result (map_fault parts) (IsStated parts) }
+        ensures { Makes result (map_fault parts) (λ m. IsStated parts m.map) }
     {
         if !parts_fit(&parts) {
             return Err(Refusal::BadLimit);

@@ -9,7 +9,7 @@ impl OsdMap {
 
     /// The same map once more, or `Memory` (30).
     pub fn copy(&self, alloc: Global) -> Result<OsdMap, Memory>
-        ensures { IfOk result (λ m. m ≡ self.now) }
+        ensures { IfOk result (λ m. m.map ≡ self.now.map) }
     {
         Ok(OsdMap {
             epoch: self.epoch,
@@ -19,6 +19,7 @@ impl OsdMap {
             weights: self.weights.copy(alloc)?,
             explicit: Vec::from_slice(alloc, &self.explicit)?,
             items: Vec::from_slice(alloc, &self.items)?,
+            ready: None,
         })
     }
 }

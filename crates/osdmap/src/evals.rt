@@ -62,12 +62,12 @@ impl OsdMap {
     ghost use Rattle.osdmap.specs.Placement.{group_of};
     ghost use Rattle.osdmap.specs.Evals.{reaches, is_touched, concerns, is_evaluated, evals_of};
 
-    /// How many groups of the map may be placed otherwise than before a change that led to it: the groups of the pools that
-    /// came with it or whose rule reaches an OSD that got another reweight, those whose exceptions went or came, and those
+    /// How many groups of the map may be placed otherwise than before a change that led to it: all where it replaced the
+    /// forest and the rules, else the groups of the pools that came or grew with it or whose rule reaches an OSD that got another reweight, those whose exceptions went or came, and those
     /// whose exceptions name such an OSD.
     #[tactic(auto, unfolding(crate::specs::Evals::evals_of))]
     pub fn evals(&self, change: &Change) -> usize
-        ensures { result ≡ evals_of self.now change.now }
+        ensures { result ≡ evals_of self.now.map change.now }
     {
         let mut evals = 0;
         for pool in &self.pools {
@@ -78,7 +78,7 @@ impl OsdMap {
 
     /// How many of a pool's groups may be placed otherwise.
     fn evals_in(&self, pool: &Pool, change: &Change) -> usize
-        ensures value { result ≡ count_by (is_evaluated self.now change.now pool.now) (range_with_len 0 pool.now.pg_num) }
+        ensures value { result ≡ count_by (is_evaluated self.now.map change.now pool.now) (range_with_len 0 pool.now.pg_num) }
         ensures few { result ≤ 4096 }
     {
         let groups = pool.pg_num();
@@ -91,27 +91,32 @@ impl OsdMap {
 
     /// How many of a pool's groups have exceptions that a change concerns.
     fn concerned_in(&self, pool: &Pool, change: &Change) -> usize
-        ensures { result ≡ count_by (λ n. concerns self.now change.now (group_of pool.now n)) (range_with_len 0 pool.now.pg_num) }
+        ensures { result ≡ count_by (λ n. concerns self.now.map change.now (group_of pool.now n)) (range_with_len 0 pool.now.pg_num) }
     {
         (0..pool.pg_num())
             .filter(|number| self.concerns(pool, *number, change))
             .count()
     }
 
-    /// Whether all groups of a pool may be placed otherwise: it came with the change, or its rule reaches an OSD that got
-    /// another reweight.
+    /// Whether all groups of a pool may be placed otherwise: the forest and the rules were replaced, it came or grew with the
+    /// change, or its rule reaches an OSD that got another reweight.
     #[tactic(auto, unfolding(crate::specs::Evals::is_touched))]
     fn is_touched(&self, pool: &Pool, change: &Change) -> bool
-        ensures { result ≡ is_touched self.now change.now pool.now }
+        ensures { result ≡ is_touched self.now.map change.now pool.now }
     {
-        has(&change.parts().new_pools, u64::from(pool.id())) || self.reaches(pool, change)
+        let parts = change.parts();
+        let id = u64::from(pool.id());
+        parts.new_crush.is_some()
+            || has(&parts.new_pools, id)
+            || has(&parts.grow_pool, id)
+            || self.reaches(pool, change)
     }
 
     /// Whether a change concerns the exceptions of a group of a pool: they go or come, or name an OSD that gets another
     /// reweight.
     #[tactic(auto, unfolding(crate::specs::Evals::concerns))]
     fn concerns(&self, pool: &Pool, number: u32, change: &Change) -> bool
-        ensures { result ≡ concerns self.now change.now (group_of pool.now number) }
+        ensures { result ≡ concerns self.now.map change.now (group_of pool.now number) }
     {
         let pg = Pg {
             pool: pool.id(),
@@ -125,7 +130,7 @@ impl OsdMap {
     /// Whether the pool's rule reaches an OSD that gets another reweight.
     #[tactic(auto, unfolding(crate::specs::Evals::reaches))]
     fn reaches(&self, pool: &Pool, change: &Change) -> bool
-        ensures { result ≡ reaches self.now change.now pool.now }
+        ensures { result ≡ reaches self.now.map change.now pool.now }
     {
         match self.rule(pool.rule()) {
             Some(rule) => change

@@ -2,11 +2,12 @@
 //! the groups of its pools.
 #![tactic(auto)]
 
-mod after;
+mod apply;
 mod build;
 mod check;
 mod copy;
 mod evals;
+mod in_place;
 pub mod map;
 mod placement;
 pub mod up_set;
@@ -14,7 +15,7 @@ pub mod up_set;
 pub use map::OsdMap;
 pub use placement::stable_mod;
 pub use stated::{
-    Change, ChangeParts, CrushMap, Exception, Explicit, Incremental, Items, MapParts, NumberedRule,
-    OsdState, Pair, Pg, Pool, Presence, Reweight,
+    Change, ChangeParts, CrushMap, Exception, Explicit, Grow, Incremental, Items, MapParts,
+    NumberedRule, OsdState, Pair, Pg, Pool, Presence, Reweight,
 };
 pub use up_set::UpSet;

@@ -16,14 +16,21 @@ pub struct OsdMap {
     pub(crate) weights: Entries<u32>,
     pub(crate) explicit: Vec<Explicit>,
     pub(crate) items: Vec<Items>,
+    /// The forest and the rules that lie ready for a change.
+    pub(crate) ready: Option<CrushMap>,
 }
 
 impl Model for OsdMap {
-    ghost use Rattle.osdmap.specs.Maps.{ClusterMap, HoldsTogether};
+    ghost use Rattle.std.specs.Prelude.{vec_capacity};
+    ghost use Rattle.osdmap.specs.Maps.{HoldsTogether};
+    ghost use Rattle.osdmap.specs.Stored.{StoredMap};
 
-    ghost Value = { ClusterMap };
+    ghost Value = { StoredMap };
 
-    ghost view = { λ m. record { epoch = m.epoch; buckets = m.crush.buckets; rules = m.crush.rules; pools = m.pools.items; presences = m.presences; weights = m.weights; explicit = m.explicit.items; items = m.items.items } };
+    ghost view = { λ m. record {
+      map = record { epoch = m.epoch; buckets = m.crush.buckets; rules = m.crush.rules; pools = m.pools.items; presences = m.presences; weights = m.weights; explicit = m.explicit.items; items = m.items.items };
+      room = record { pools = vec_capacity m.pools; explicit = vec_capacity m.explicit; items = vec_capacity m.items; crush = m.ready };
+    } };
 
     ghost invariant = { λ m. HoldsTogether (record { epoch = m.epoch; buckets = m.crush.buckets; rules = m.crush.rules; pools = m.pools.items; presences = m.presences; weights = m.weights; explicit = m.explicit.items; items = m.items.items }) };
 }
@@ -31,69 +38,71 @@ impl Model for OsdMap {
 impl OsdMap {
     ghost use Rattle.std.specs.Prelude.{◌≡◌, ◌≤◌, length, IfSome};
     ghost use Rattle.std.specs.Option.{option_copied};
+    ghost use Rattle.crush.specs.Limits.{max_devices};
     ghost use Rattle.stated.specs.Exceptions.{said_of};
     ghost use Rattle.stated.specs.CrushMaps.{rule_at};
     ghost use Rattle.osdmap.specs.Maps.{pool_at, osd_at, osd_exists, HoldsTogether};
 
     /// What holds in every map: for proofs alone.
     pub fn holds_together(&self)
-        ensures { HoldsTogether self.now }
+        ensures { HoldsTogether self.now.map }
     {
         let _ = &self.epoch;
     }
 
     /// The epoch.
     pub fn epoch(&self) -> u64
-        ensures { result ≡ self.now.epoch }
+        ensures { result ≡ self.now.map.epoch }
     {
         self.epoch
     }
 
-    /// OSDs have ids below this.
+    /// OSDs have ids below this: 1 to 1,024.
     pub fn max_osd(&self) -> u32
-        ensures { result ≡ length self.now.presences }
+        ensures value { result ≡ length self.now.map.presences }
+        ensures few { result ≤ max_devices }
     {
         self.presences.len() as u32
     }
 
     /// The forest.
     pub fn forest(&self) -> &Forest
-        ensures { result.now ≡ self.now.buckets }
+        ensures { result.now ≡ self.now.map.buckets }
     {
         self.crush.forest()
     }
 
     /// The rules, by id upwards.
     pub fn rules(&self) -> &[NumberedRule]
-        ensures { result.now ≡ self.now.rules }
+        ensures { result.now ≡ self.now.map.rules }
     {
         self.crush.rules()
     }
 
     /// The rule of an id.
     pub fn rule(&self, id: u32) -> Option<&Rule>
-        ensures { option_copied result ≡ rule_at self.now.rules id }
+        ensures { option_copied result ≡ rule_at self.now.map.rules id }
     {
         self.crush.rule(id)
     }
 
     /// The pools, by id upwards.
     pub fn pools(&self) -> &[Pool]
-        ensures { result.now ≡ self.now.pools }
+        ensures { result.now ≡ self.now.map.pools }
     {
         &self.pools
     }
 
     /// The pool of an id.
     pub fn pool(&self, id: u32) -> Option<Pool>
-        ensures { result ≡ pool_at self.now.pools id }
+        ensures { result ≡ pool_at self.now.map.pools id }
     {
         self.pools.iter().copied().find(|pool| pool.id() == id)
     }
 
     /// What the map has of an OSD below `max_osd`.
     pub fn osd(&self, id: u32) -> Option<OsdState>
-        ensures { result ≡ osd_at self.now id }
+        ensures { result ≡ osd_at self.now.map id }
     {
         let presence = self.presences.get(id as usize)?;
         let weight = *self.weights.get(id as usize)?;
@@ -106,7 +115,7 @@ impl OsdMap {
 
     /// Whether an OSD exists.
     pub fn exists(&self, osd: u32) -> bool
-        ensures { result ≡ osd_exists self.now osd }
+        ensures { result ≡ osd_exists self.now.map osd }
     {
         self.presences
             .get(osd as usize)
@@ -115,21 +124,21 @@ impl OsdMap {
 
     /// The explicit sets, by group upwards.
     pub fn explicits(&self) -> &[Explicit]
-        ensures { result.now ≡ self.now.explicit }
+        ensures { result.now ≡ self.now.map.explicit }
     {
         &self.explicit
     }
 
     /// The pairs of groups, by group upwards.
     pub fn all_items(&self) -> &[Items]
-        ensures { result.now ≡ self.now.items }
+        ensures { result.now ≡ self.now.map.items }
     {
         &self.items
     }
 
     /// The explicit set of a group: at most 10 OSDs.
     pub fn explicit(&self, pg: Pg) -> Option<&[u32]>
-        ensures value { option_copied result ≡ said_of self.now.explicit pg }
+        ensures value { option_copied result ≡ said_of self.now.map.explicit pg }
         ensures few { IfSome result (λ osds. length osds.now ≤ 10) }
     {
         let explicit = entry_of(&self.explicit, pg.place())?;
@@ -138,7 +147,7 @@ impl OsdMap {
 
     /// The pairs of a group, in order: at most 10.
     pub fn items(&self, pg: Pg) -> Option<&[Pair]>
-        ensures value { option_copied result ≡ said_of self.now.items pg }
+        ensures value { option_copied result ≡ said_of self.now.map.items pg }
         ensures few { IfSome result (λ pairs. length pairs.now ≤ 10) }
     {
         let items = entry_of(&self.items, pg.place())?;

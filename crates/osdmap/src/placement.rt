@@ -63,7 +63,7 @@ impl OsdMap {
 
     /// The OSD of a device, where it exists.
     fn existing(&self, device: i32) -> Option<u32>
-        ensures { result ≡ existing self.now device }
+        ensures { result ≡ existing self.now.map device }
     {
         let osd = u32::try_from(device).ok()?;
         if self.exists(osd) { Some(osd) } else { None }
@@ -71,7 +71,7 @@ impl OsdMap {
 
     /// An OSD, where it is up.
     fn upward(&self, osd: u32) -> Option<u32>
-        ensures { result ≡ upward self.now osd }
+        ensures { result ≡ upward self.now.map osd }
     {
         let presence = self.presences.get(osd as usize)?;
         if presence.up { Some(osd) } else { None }
@@ -79,7 +79,7 @@ impl OsdMap {
 
     /// The pool of a group that is there: else `UnknownPool` (23), `UnknownGroup` (25).
     fn pool_of(&self, pg: Pg) -> Result<Pool, Refusal>
-        ensures { MatchResult result (λ pool. (group_fault self.now pg ≡ None) × (pool_at self.now.pools pg.pool ≡ Some pool) × (has_rule self.now.rules pool ≡ true)) (λ e. group_fault self.now pg ≡ Some e) }
+        ensures { MatchResult result (λ pool. (group_fault self.now.map pg ≡ None) × (pool_at self.now.map.pools pg.pool ≡ Some pool) × (has_rule self.now.map.rules pool ≡ true)) (λ e. group_fault self.now.map pg ≡ Some e) }
     {
         let _ = &self.pools;
         let pool = self.pool(pg.pool).ok_or(Refusal::UnknownPool)?;
@@ -93,7 +93,7 @@ impl OsdMap {
     /// The set of those of some devices that exist, in the way of the pool's kind.
     fn existing_set(&self, pool: &Pool, devices: &[Option<i32>]) -> UpSet
         requires { length devices.now ≤ 10 }
-        ensures { result ≡ kept pool.now.kind (map (option_and_then (existing self.now)) devices.now) }
+        ensures { result ≡ kept pool.now.kind (map (option_and_then (existing self.now.map)) devices.now) }
     {
         let mut set = UpSet::new();
         for device in devices {
@@ -104,7 +104,7 @@ impl OsdMap {
 
     /// The set of those OSDs of a set that are up, in the way of the pool's kind.
     fn upward_set(&self, pool: &Pool, osds: &UpSet) -> UpSet
-        ensures { result ≡ kept pool.now.kind (map (option_and_then (upward self.now)) osds.now) }
+        ensures { result ≡ kept pool.now.kind (map (option_and_then (upward self.now.map)) osds.now) }
     {
         let mut set = UpSet::new();
         for osd in osds.places() {
@@ -116,8 +116,8 @@ impl OsdMap {
     /// The raw set of a group of a pool of the map.
     #[tactic(auto, unfolding(crate::specs::Placement::raw_set, crate::specs::Placement::placed))]
     fn raw_in(&self, pool: &Pool, number: u32, work: &mut Work) -> Result<UpSet, Memory>
-        requires { has_rule self.now.rules pool.now ≡ true }
-        ensures set { IfOk result (λ set. set ≡ raw_set self.now pool.now number) }
+        requires { has_rule self.now.map.rules pool.now ≡ true }
+        ensures set { IfOk result (λ set. set ≡ raw_set self.now.map pool.now number) }
         ensures run { RunsOnce work.old work.new result }
     {
         let input = placement_input(pool, number);
@@ -128,14 +128,14 @@ impl OsdMap {
 
     /// Whether an OSD is out for good.
     fn is_weightless(&self, osd: u32) -> bool
-        ensures { result ≡ is_weightless self.now.weights osd }
+        ensures { result ≡ is_weightless self.now.map.weights osd }
     {
         self.weights.get(osd as usize).copied().unwrap_or(0) == 0
     }
 
     /// Whether one of some OSDs is out for good.
     fn has_weightless(&self, osds: &[u32]) -> bool
-        ensures { result ≡ list_any (is_weightless self.now.weights) osds.now }
+        ensures { result ≡ list_any (is_weightless self.now.map.weights) osds.now }
     {
         osds.iter().any(|osd| self.is_weightless(*osd))
     }
@@ -143,7 +143,7 @@ impl OsdMap {
     /// A pair acts on a set.
     #[tactic(auto, unfolding(crate::specs::Mapped::with_pair))]
     fn act(&self, set: &mut UpSet, pair: Pair)
-        ensures { set.new ≡ with_pair self.now.weights set.old pair }
+        ensures { set.new ≡ with_pair self.now.map.weights set.old pair }
     {
         if !set.has(pair.to) && !self.is_weightless(pair.to) {
             set.replace(pair);
@@ -152,7 +152,7 @@ impl OsdMap {
 
     /// Some pairs act on a set in order.
     fn act_all(&self, set: &mut UpSet, pairs: &[Pair])
-        ensures { set.new ≡ fold (with_pair self.now.weights) set.old pairs.now }
+        ensures { set.new ≡ fold (with_pair self.now.map.weights) set.old pairs.now }
     {
         for pair in pairs {
             self.act(set, *pair);
@@ -162,7 +162,7 @@ impl OsdMap {
     /// What exceptions make of the raw set of a group.
     #[tactic(auto, unfolding(crate::specs::Mapped::mapped))]
     fn excepted(&self, pg: Pg, raw: UpSet) -> UpSet
-        ensures { result ≡ mapped self.now.weights (said_of self.now.explicit pg) (said_of self.now.items pg) raw }
+        ensures { result ≡ mapped self.now.map.weights (said_of self.now.map.explicit pg) (said_of self.now.map.items pg) raw }
     {
         let mut set = match self.explicit(pg) {
             None => raw,
@@ -178,8 +178,8 @@ impl OsdMap {
     /// The mapped set of a group of a pool of the map. The rule runs once, also where its set is not wanted.
     #[tactic(auto, unfolding(crate::specs::Placement::mapped_set))]
     fn mapped_in(&self, pool: &Pool, number: u32, work: &mut Work) -> Result<UpSet, Memory>
-        requires { has_rule self.now.rules pool.now ≡ true }
-        ensures set { IfOk result (λ set. set ≡ mapped_set self.now pool.now number) }
+        requires { has_rule self.now.map.rules pool.now ≡ true }
+        ensures set { IfOk result (λ set. set ≡ mapped_set self.now.map pool.now number) }
         ensures run { RunsOnce work.old work.new result }
     {
         let raw = self.raw_in(pool, number, work)?;
@@ -193,7 +193,7 @@ impl OsdMap {
     /// The raw set of a group: the OSDs that its pool's rule places and that exist (Ceph, `_pg_to_raw_osds`). It takes
     /// one run of the rule, which `work` counts. `UnknownPool` (23), `UnknownGroup` (25), else `Memory` (30).
     pub fn raw_of(&self, pg: Pg, work: &mut Work) -> Result<UpSet, Refusal>
-        ensures set { Gives result (group_fault self.now pg) (λ set. Places raw_set self.now pg set) }
+        ensures set { Gives result (group_fault self.now.map pg) (λ set. Places raw_set self.now.map pg set) }
         ensures run { RunsOnce work.old work.new result }
     {
         let pool = self.pool_of(pg)?;
@@ -204,7 +204,7 @@ impl OsdMap {
     /// explicit set has reweight 0, neither that set nor its pairs act. It takes one run of the rule, which `work` counts.
     /// `UnknownPool` (23), `UnknownGroup` (25), else `Memory` (30).
     pub fn mapped_of(&self, pg: Pg, work: &mut Work) -> Result<UpSet, Refusal>
-        ensures set { Gives result (group_fault self.now pg) (λ set. Places mapped_set self.now pg set) }
+        ensures set { Gives result (group_fault self.now.map pg) (λ set. Places mapped_set self.now.map pg set) }
         ensures run { RunsOnce work.old work.new result }
     {
         let pool = self.pool_of(pg)?;
@@ -215,7 +215,7 @@ impl OsdMap {
     /// the rule, which `work` counts. `UnknownPool` (23), `UnknownGroup` (25), else `Memory` (30).
     #[tactic(auto, unfolding(crate::specs::Placement::up_set))]
     pub fn up_of(&self, pg: Pg, work: &mut Work) -> Result<UpSet, Refusal>
-        ensures set { Gives result (group_fault self.now pg) (λ set. Places up_set self.now pg set) }
+        ensures set { Gives result (group_fault self.now.map pg) (λ set. Places up_set self.now.map pg set) }
         ensures run { RunsOnce work.old work.new result }
     {
         let pool = self.pool_of(pg)?;

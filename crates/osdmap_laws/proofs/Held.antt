@@ -23,7 +23,8 @@ use Rattle.stated.proofs.CrushFits.{rules_same, is_crush_map}
 use Rattle.osdmap.specs.Built.{without_exceptions}
 use Rattle.stated.specs.Incrementals.{Step}
 use Rattle.osdmap.specs.Changes.{apply, after, IsLawful}
-use Rattle.osdmap_laws.specs.Laws.{BringsPools, JournalsKeepMaps}
+use Rattle.stated.specs.Ordered.{IsChange}
+use Rattle.osdmap_laws.specs.Laws.{AreChanges, JournalsKeepMaps}
 use Rattle.keylist.proofs.Tests.{and_first, and_second}
 use Rattle.osdmap.proofs.Accepted.{passes}
 use Rattle.osdmap.proofs.Built.{IsBuilt, parts_fit_each, some_osds, few_osds, pools_same, osds_same, presences_same, weights_same, no_fault, is_stated, holds}
@@ -142,12 +143,12 @@ module _ (p : MapParts) (m : ClusterMap) (faultless : map_fault p ≡ None) (sta
 
 -- ---- journals
 
-holds_after : (m : ClusterMap) (journal : List Step) → HoldsTogether m → BringsPools journal → IsLawful m journal → HoldsTogether (after m journal)
+holds_after : (m : ClusterMap) (journal : List Step) → HoldsTogether m → AreChanges journal → IsLawful m journal → HoldsTogether (after m journal)
 unfolding IsLawful
 holds_after m [] holds brings lawful = holds
 holds_after m (step ∷ steps) holds brings lawful =
-    let here = All-head (λ (s : Step). All IsWithinLimits s.change.new_pools) step steps brings in
-    let rest = All-tail (λ (s : Step). All IsWithinLimits s.change.new_pools) step steps brings in
+    let here = All-head (λ (s : Step). IsChange s.change) step steps brings in
+    let rest = All-tail (λ (s : Step). IsChange s.change) step steps brings in
     holds_after (apply m step) steps (HoldsTogether-after m step lawful.1 here holds) rest lawful.2
 
 pub journals_keep_maps : JournalsKeepMaps

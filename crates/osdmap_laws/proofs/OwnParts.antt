@@ -36,6 +36,7 @@ use Rattle.keylist.proofs.Tests.{and_first, and_second}
 use Rattle.osdmap.proofs.Named.{below_max}
 use Rattle.keylist.proofs.Distinct.{rising_distinct}
 use Rattle.osdmap.proofs.Excepted.{exists_same, exceptions_same}
+use Rattle.stated.specs.Ordered.{IsChange}
 use Rattle.osdmap.proofs.Kept.{HoldsTogether-after}
 use Rattle.osdmap_laws.proofs.FewExceptions.{few_exceptions}
 use Rattle.osdmap_laws.proofs.OwnFits.{natural_fits, count_fits, buckets_fine, rules_fine, pools_fine}
@@ -271,9 +272,9 @@ module _ (m : ClusterMap) (holds : HoldsTogether m) where
   pub states_itself : IsTextEpoch m.epoch → StatesItself m
   states_itself within = record { faultless = own_faultless within.0 within.1; stated = own_stated }
 
-pub states_itself_after : (m : ClusterMap) (step : Step) → HoldsTogether m → All IsWithinLimits step.change.new_pools → change_fault m step.change ≡ None → IsTextEpoch step.epoch → StatesItself (apply m step)
+pub states_itself_after : (m : ClusterMap) (step : Step) → HoldsTogether m → IsChange step.change → change_fault m step.change ≡ None → IsTextEpoch step.epoch → StatesItself (apply m step)
 unfolding apply
-states_itself_after m step holds within lawful epoch = states_itself (apply m step) (HoldsTogether-after m step lawful within holds) (epoch_is epoch)
+states_itself_after m step holds is lawful epoch = states_itself (apply m step) (HoldsTogether-after m step lawful is holds) (epoch_is epoch)
   where
     epoch_is : IsTextEpoch step.epoch → IsTextEpoch (apply m step).epoch
     epoch_is e = e

@@ -2,7 +2,7 @@
 use Rattle.std.specs.Prelude.{◌≡◌, ◌≤◌, ℕ, true, false, List, None}
 use Rattle.std.specs.List.{fold, All}
 use Rattle.stated.specs.declared.parts.MapParts.{MapParts}
-use Rattle.stated.specs.Pools.{IsWithinLimits}
+use Rattle.stated.specs.Ordered.{IsChange}
 use Rattle.keylist.specs.Keys.{has_key}
 use Rattle.osdmap.specs.Maps.{ClusterMap, osd_exists, osd_is_up}
 use Rattle.stated.specs.declared.change.ChangeParts.{ChangeParts}
@@ -42,13 +42,13 @@ pub record IsAccepted (p : MapParts) (m : ClusterMap) : Type 0 where
 abbrev pub StatesItself : ClusterMap → Type 0
 StatesItself m = IsAccepted (parts_of m) m
 
--- the pools that come with the steps of a journal are within their limits, as each pool is
-abbrev pub BringsPools : List Step → Type 0
-BringsPools journal = All (λ step. All IsWithinLimits step.change.new_pools) journal
+-- the parts of each step of a journal are those of a change: in order, with pools and growths within their limits
+abbrev pub AreChanges : List Step → Type 0
+AreChanges journal = All (λ step. IsChange step.change) journal
 
 -- a lawful journal of a map that was accepted leads to one that would be, where its epoch is one of a text
 abbrev pub JournalsKeepMaps : Type 0
-JournalsKeepMaps = (p : MapParts) (m : ClusterMap) (journal : List Step) → IsAccepted p m → BringsPools journal → IsLawful m journal
+JournalsKeepMaps = (p : MapParts) (m : ClusterMap) (journal : List Step) → IsAccepted p m → AreChanges journal → IsLawful m journal
     → IsTextEpoch (after m journal).epoch → StatesItself (after m journal)
 
 -- a change that is not refused leads to a map that states itself, whatever epoch of a text it is given

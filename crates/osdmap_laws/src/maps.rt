@@ -13,7 +13,7 @@ pub fn journals_keep_maps()
 /// A map of an epoch of 1 to 2,147,483,648 is the one that its own parts state, and nothing is wrong with these: what is
 /// asked of the parts of a map holds in every map.
 pub fn states_itself(map: &OsdMap)
-    ensures { IsTextEpoch map.now.epoch → StatesItself map.now }
+    ensures { IsTextEpoch map.now.map.epoch → StatesItself map.now.map }
 {
     map.holds_together();
 }
@@ -21,7 +21,7 @@ pub fn states_itself(map: &OsdMap)
 /// A change that the map does not refuse leads to a map in which nothing is wrong either, whatever epoch of 1 to
 /// 2,147,483,648 it is given: what a change may do is no more than what a map may be.
 pub fn change_leads_to_a_map(map: &OsdMap, change: &Change)
-    ensures { LeadsToAMap map.now change.now }
+    ensures { LeadsToAMap map.now.map change.now }
 {
     map.holds_together();
     let _ = change.parts();

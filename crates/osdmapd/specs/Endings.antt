@@ -1,8 +1,17 @@
 -- How a run of the program ends: its status, and what it tells on standard error.
-use Rattle.std.specs.Prelude.{ℕ, List, ◌++◌, codes}
+use Rattle.std.specs.Prelude.{◌≡◌, ℕ, List, ◌++◌, codes, Result, Ok, Err, MatchResult, string_bytes}
+use Rattle.std.specs.Borrow.{Bor}
+use Rattle.std.specs.declared.io.ErrorKind.{ErrorKind}
+use Rattle.std.specs.declared.io.ErrorKind.TheVariants.{OutOfMemory}
 use Rattle.refusal.specs.Refusals.{name_of}
+use Rattle.osdmapd.specs.declared.choices.LineError.{LineError}
+use Rattle.osdmapd.specs.declared.choices.LineError.TheVariants as line
+use Rattle.osdmapd.specs.declared.serving.Fault.{Fault}
+use Rattle.osdmapd.specs.declared.serving.Fault.TheVariants as fault
 use Rattle.osdmapd.specs.declared.ending.Ending.{Ending}
 use Rattle.osdmapd.specs.declared.ending.Ending.TheVariants.{Usage, NoText, TooManyScripts, Map, File, Output, Memory}
+
+-- ---- what is seen of an ending
 
 -- the exit status: 1 for the command line, 2 for the map, 3 for files and the output, 4 for memory
 abbrev pub status_of : Ending → ℕ
@@ -23,3 +32,33 @@ text_of (Map refusal) = codes "map: " ++ name_of refusal ++ codes "\n"
 text_of (File path) = codes "file: " ++ path.now ++ codes "\n"
 text_of Output = codes "output\n"
 text_of Memory = codes "memory\n"
+
+-- the exit status of a run: 0 where all is done
+abbrev pub run_status : Result Unit Ending → ℕ
+run_status (Ok done) = 0
+run_status (Err ending) = status_of ending
+
+-- ---- the ending of each fault
+
+-- the words cannot be had: for want of memory, else since one is not UTF-8
+abbrev pub words_ending : ErrorKind → Ending
+words_ending OutOfMemory = Memory
+words_ending kind = NoText
+
+-- a file cannot be read: for want of memory, else whatever the system says
+abbrev pub file_ending : ErrorKind → Bor (List ℕ) → Ending
+file_ending OutOfMemory path = Memory
+file_ending kind path = File path
+
+-- a run that is served into memory, so that its output fails only for want of it
+abbrev pub fault_ending : Fault → Ending
+fault_ending (fault.Map refusal) = Map refusal
+fault_ending fault.Output = Memory
+fault_ending fault.Memory = Memory
+
+-- a command line that asks for no run: help is a text to show, and all else is an ending
+abbrev pub EndsLine : LineError → Result (Bor (List ℕ)) Ending → Type 0
+EndsLine (line.Help text) r = MatchResult r (λ help. help.now ≡ string_bytes text) (λ e. ⊥)
+EndsLine (line.Usage text) r = MatchResult r (λ help. ⊥) (λ e. (status_of e ≡ 1) × (text_of e ≡ string_bytes text))
+EndsLine line.TooMany r = MatchResult r (λ help. ⊥) (λ e. e ≡ TooManyScripts)
+EndsLine line.Memory r = MatchResult r (λ help. ⊥) (λ e. e ≡ Memory)

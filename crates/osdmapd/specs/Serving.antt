@@ -4,7 +4,7 @@ use Rattle.osdmap.specs.Maps.{ClusterMap}
 use Rattle.mapjson.specs.MapTexts.{map_text_fault, StatesMap}
 use Rattle.monitor.specs.States.{History, opened}
 use Rattle.session.specs.Commands.{lines_in}
-use Rattle.session.specs.Answers.{Answers, Unchanged}
+use Rattle.session.specs.Answers.{alone}
 use Rattle.session.specs.Transcripts.{IsTranscript}
 use Rattle.session.specs.Sinks.{HasPut}
 use Rattle.session.specs.declared.sink.Buffer.{Buffer}
@@ -16,11 +16,15 @@ use Rattle.osdmapd.specs.declared.serving.Fault.TheVariants.{Map, Output, Memory
 abbrev pub heading : List ℕ
 heading = codes "session 1\n"
 
+-- the gate of the program lets each line through
+abbrev pub lets_all : ℕ → Bool → Type 0
+lets_all number passes = passes ≡ true
+
 -- the answers of the script from the map that a text states
 abbrev pub IsPlayed : ℕ → List ℕ → List ℕ → List ℕ → Type 0
 IsPlayed journal map script answers =
     (m : ClusterMap) × (last : History) × StatesMap map m
-    × IsTranscript Answers Unchanged (opened m journal) (lines_in script) answers last
+    × IsTranscript (alone lets_all) 1 (opened m journal) (lines_in script) answers last
 
 -- the answers where the map is not refused, or why there are none
 abbrev pub Answered : ℕ → List ℕ → List ℕ → Result Buffer Fault → Type 0

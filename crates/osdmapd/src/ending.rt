@@ -1,9 +1,11 @@
 //! How a run of the program ends.
 
+use crate::choices::LineError;
+use crate::serving::Fault;
 use refusal::Refusal;
-use std::fmt;
+use std::{fmt, io};
 
-/// Why a run ends before all is done.
+/// Why a run ends before all is done. Its text is what the run tells on standard error.
 #[derive(Debug, Drop)]
 pub enum Ending<'a> {
     /// The words are no command line: the parser's text.
@@ -24,9 +26,52 @@ pub enum Ending<'a> {
 
 impl<'a> Ending<'a> {
     ghost use Rattle.std.specs.Prelude.{◌≡◌};
-    ghost use Rattle.osdmapd.specs.Endings.{status_of};
+    ghost use Rattle.std.specs.IoError.{error_kind};
+    ghost use Rattle.osdmapd.specs.Endings.{status_of, words_ending, file_ending, fault_ending, EndsLine};
 
-    /// The exit status of the program.
+    /// Of a run whose words cannot be had: for want of memory, else since one is not UTF-8.
+    pub fn of_words(error: &io::Error) -> Ending<'a>
+        ensures { result ≡ words_ending (error_kind error.now) }
+    {
+        match error.kind() {
+            io::ErrorKind::OutOfMemory => Ending::Memory,
+            _ => Ending::NoText,
+        }
+    }
+
+    /// Of a run that cannot read the file of a path: for want of memory, else whatever the system says.
+    pub fn of_file(error: &io::Error, path: &'a str) -> Ending<'a>
+        ensures { result ≡ file_ending (error_kind error.now) path.entry }
+    {
+        match error.kind() {
+            io::ErrorKind::OutOfMemory => Ending::Memory,
+            _ => Ending::File(path),
+        }
+    }
+
+    /// Of a run that is served into memory, so that its output fails only for want of it.
+    pub fn of_fault(fault: Fault) -> Ending<'a>
+        ensures { result ≡ fault_ending fault }
+    {
+        match fault {
+            Fault::Map(refusal) => Ending::Map(refusal),
+            Fault::Output | Fault::Memory => Ending::Memory,
+        }
+    }
+
+    /// Of a run whose command line asks for none. At `Ok` it is the text of help, to be shown.
+    pub fn of_line(error: &'a LineError) -> Result<&'a str, Ending<'a>>
+        ensures { EndsLine error.now result }
+    {
+        match error {
+            LineError::Help(text) => Ok(text.as_str()),
+            LineError::Usage(text) => Err(Ending::Usage(text.as_str())),
+            LineError::TooMany => Err(Ending::TooManyScripts),
+            LineError::Memory => Err(Ending::Memory),
+        }
+    }
+
+    /// The exit status of the program: 1 to 4.
     pub fn status(&self) -> u8
         ensures { result ≡ status_of self.now }
     {

@@ -1,6 +1,13 @@
 //! The command line.
 
-ghost use Rattle.std.specs.Prelude.{◌≡◌, ◌≤◌, IfOk, vec_len};
+ghost use Rattle.std.specs.Prelude.{◌≡◌, ◌≤◌, IfOk, IfSome, length, map, option_map, string_bytes, vec_len};
+ghost use Rattle.clap.specs.Matches.{found_of};
+ghost use Rattle.clap.specs.Simple.{app_of};
+ghost use Rattle.clap.specs.Values.{kind_of};
+ghost use Rattle.clap.specs.Walk.{rows_of};
+ghost use Rattle.monitor.specs.States.{max_journal};
+ghost use Rattle.osdmapd.specs.CommandLine.{journal_rule, map_rule, script_rule, IsReadBy, app};
+ghost use Rattle.osdmapd.specs.CommandLine.{IsJournalIn, map_path_in, script_paths_in, Chooses, TellsOf, ReadsLine};
 
 use crate::choices::{LineError, Options};
 use clap::error::ErrorKind;
@@ -14,33 +21,58 @@ const MAX_SCRIPTS: usize = 1;
 /// What the program says of itself where help is asked for.
 const ABOUT: &str =
     "Keeps the OSDMap of a Ceph-like cluster: reads a map, answers the lines of a script over it, one line each, \
-and ends. Statuses: 0 done, 1 command line, 2 map refused, 3 file or output, 4 memory. The formats of maps, changes, scripts and \
-answers are in docs/FORMATS.md.";
+and ends. Statuses: 0 done, 1 command line, 2 map refused, 3 file or output, 4 memory. The formats of maps, \
+changes, scripts and answers are in docs/FORMATS.md.";
 
-/// The command line that the program takes.
-fn command<'a>(alloc: Global) -> Result<Command<'a>, AllocError> {
-    let journal = Arg::new(alloc, "journal")
+/// `--journal N`.
+fn journal_option<'a>(alloc: Global) -> Arg<'a>
+    ensures { IsReadBy journal_rule result }
+{
+    Arg::new(alloc, "journal")
         .long("journal")
         .value_name("N")
         .help("How many changes the journal holds: 1 to 65536")
         .action(ArgAction::Set)
         .value_parser(value_parser!(u32).range(1..=i64::from(MAX_JOURNAL)))
-        .default_value("1024");
-    let map = Arg::new(alloc, "MAP")
+        .default_value("1024")
+}
+
+/// MAP.
+fn map_word<'a>(alloc: Global) -> Arg<'a>
+    ensures { IsReadBy map_rule result }
+{
+    Arg::new(alloc, "MAP")
         .help("The file of the first map, as JSON")
         .required(true)
-        .action(ArgAction::Set);
-    let scripts = Arg::new(alloc, "SCRIPT")
+        .action(ArgAction::Set)
+}
+
+/// SCRIPT, of which the parser takes any number, so that more than one is told by a text of ours.
+fn script_words<'a>(alloc: Global) -> Arg<'a>
+    ensures { IsReadBy script_rule result }
+{
+    Arg::new(alloc, "SCRIPT")
         .help("The file of the script: lines such as up 1.0, epoch, dump, change {..}")
         .required(true)
         .num_args(1..)
-        .action(ArgAction::Append);
-    let command = Command::new(alloc, "osdmapd").about(ABOUT);
-    command.arg(journal)?.arg(map)?.arg(scripts)
+        .action(ArgAction::Append)
+}
+
+/// The command line that the program takes.
+fn command<'a>(alloc: Global) -> Result<Command<'a>, AllocError>
+    ensures { IfOk result (λ c. app_of c ≡ app) }
+{
+    Command::new(alloc, "osdmapd")
+        .about(ABOUT)
+        .arg(journal_option(alloc))?
+        .arg(map_word(alloc))?
+        .arg(script_words(alloc))
 }
 
 /// Why the parser refused the words.
-fn refused(alloc: Global, error: &Error) -> LineError {
+fn refused(alloc: Global, error: &Error) -> LineError
+    ensures { TellsOf (kind_of error.now) result }
+{
     let kind = error.kind();
     if kind == ErrorKind::OutOfMemory {
         return LineError::Memory;
@@ -54,41 +86,72 @@ fn refused(alloc: Global, error: &Error) -> LineError {
     }
 }
 
+/// Copies of words.
+fn copied(alloc: Global, words: &[&str]) -> Result<Vec<String>, AllocError>
+    ensures texts { IfOk result (λ copies. map string_bytes copies.items ≡ map (λ word. word.now) words.now) }
+    ensures count { IfOk result (λ copies. vec_len copies ≡ length words.now) }
+{
+    let mut copies = Vec::new(alloc);
+    for word in words {
+        copies.push(String::from_str(alloc, word)?)?;
+    }
+    Ok(copies)
+}
+
+/// The number given for the journal.
+fn journal_in(matches: &ArgMatches<'_>) -> Option<u32>
+    ensures { IfSome result (IsJournalIn (rows_of (found_of matches.now))) }
+{
+    matches.get_one("journal")
+}
+
+/// The word for the map.
+fn map_in<'a>(matches: &ArgMatches<'a>) -> Option<&'a str>
+    ensures { option_map (λ word. word.now) result ≡ map_path_in (rows_of (found_of matches.now)) }
+{
+    matches.get_str("MAP")
+}
+
+/// The words for scripts.
+fn scripts_in<'m>(matches: &'m ArgMatches<'_>) -> Option<&'m [&'m str]>
+    ensures { option_map (λ words. map (λ word. word.now) words.now) result
+        ≡ script_paths_in (rows_of (found_of matches.now)) }
+{
+    matches.get_strs("SCRIPT")
+}
+
 /// The options of words that the parser took. A value that it had to find and did not is told as out of memory.
 fn taken(alloc: Global, matches: &ArgMatches<'_>) -> Result<Options, LineError>
     ensures least { IfOk result (λ o. 1 ≤ o.journal) }
-    ensures most { IfOk result (λ o. o.journal ≤ 65536) }
+    ensures most { IfOk result (λ o. o.journal ≤ max_journal) }
     ensures scripts { IfOk result (λ o. vec_len o.scripts ≡ 1) }
+    ensures taken { Chooses (rows_of (found_of matches.now)) result }
 {
-    let journal = matches.get_one::<u32>("journal").ok_or(LineError::Memory)?;
-    let map = matches.get_str("MAP").ok_or(LineError::Memory)?;
-    let words = matches.get_strs("SCRIPT").ok_or(LineError::Memory)?;
-    let mut scripts = Vec::new(alloc);
-    for word in words {
-        scripts
-            .push(String::from_str(alloc, word)?)
-            .map_err(AllocError::from)?;
+    let journal = journal_in(matches).ok_or(LineError::Memory)?;
+    let map = map_in(matches).ok_or(LineError::Memory)?;
+    let scripts = scripts_in(matches).ok_or(LineError::Memory)?;
+    if journal < 1 || journal > MAX_JOURNAL || scripts.is_empty() {
+        return Err(LineError::Memory);
     }
     if scripts.len() > MAX_SCRIPTS {
         return Err(LineError::TooMany);
     }
-    if journal < 1 || journal > MAX_JOURNAL || scripts.is_empty() {
-        return Err(LineError::Memory);
-    }
-    let map = String::from_str(alloc, map)?;
     Ok(Options {
         journal,
-        map,
-        scripts,
+        map: String::from_str(alloc, map)?,
+        scripts: copied(alloc, scripts)?,
     })
 }
 
 /// What a command line asks for, the program's name first: `[--journal N] MAP SCRIPT`, N from 1 to 65,536 and 1,024
-/// where it is not given.
+/// where it is not given. The options are those that the parser finds in the words, exactly where it has nothing
+/// against them and there is one script; `Help` where help was asked for, `Usage` for what else the parser has against
+/// the words, `TooMany` where there are more scripts, else `Memory`.
 pub fn options(alloc: Global, words: &[String]) -> Result<Options, LineError>
     ensures least { IfOk result (λ o. 1 ≤ o.journal) }
-    ensures most { IfOk result (λ o. o.journal ≤ 65536) }
+    ensures most { IfOk result (λ o. o.journal ≤ max_journal) }
     ensures scripts { IfOk result (λ o. vec_len o.scripts ≡ 1) }
+    ensures read { ReadsLine (map string_bytes words.now) result }
 {
     match command(alloc)?.try_get_matches_from(words) {
         Ok(matches) => taken(alloc, &matches),

@@ -3,13 +3,14 @@ ghost use Rattle.std.specs.Prelude.{◌≡◌, ◌≢◌, ◌≤◌, ◌++◌, �
 ghost use Rattle.std.specs.Prelude.{OnOk, OnErr, IfSome, slice_get};
 ghost use Rattle.refusal.specs.declared.refused.Refusal.TheVariants.{Memory as OutOfMemory};
 ghost use Rattle.osdmapd.specs.declared.serving.Fault.TheVariants.{Output as NoOutput};
+ghost use Rattle.monitor.specs.States.{max_journal};
 ghost use Rattle.session.specs.Sinks.{HasPut};
 ghost use Rattle.osdmapd.specs.Serving.{heading, Answered, Serves, has_output_failed};
 
 use mapjson::read_map;
 use monitor::State;
 use refusal::Refusal;
-use session::{Buffer, Sink, WriteFailed, write_whole};
+use session::{Buffer, Open, Sink, WriteFailed, write_whole};
 use std::alloc::Global;
 
 /// The line above the answers of the first session.
@@ -48,7 +49,7 @@ fn fault_of(refusal: Refusal) -> Fault
 /// The answers of a script from a map, in memory.
 fn answered(alloc: Global, journal: u32, map: &[u8], script: &[u8]) -> Result<Buffer, Fault>
     requires least { 1 ≤ journal }
-    requires most { journal ≤ 65536 }
+    requires most { journal ≤ max_journal }
     ensures { Answered journal map.now script.now result }
 {
     let map = match read_map(alloc, map) {
@@ -60,7 +61,7 @@ fn answered(alloc: Global, journal: u32, map: &[u8], script: &[u8]) -> Result<Bu
         return Err(Fault::Memory);
     };
     let mut answers = Buffer::new(alloc);
-    match session::run(alloc, &mut state, script, &mut answers) {
+    match session::run(alloc, &mut state, script, &mut answers, &Open) {
         Ok(()) => Ok(answers),
         Err(_) => Err(Fault::Memory),
     }
@@ -78,9 +79,10 @@ fn put<W: Sink>(out: &mut W, answers: &[u8]) -> Result<(), WriteFailed>
     write_whole(out, answers)
 }
 
-/// Runs a script over the map that a text states, and then puts its heading and its answers to a sink. Where the map is
-/// refused or memory is short, nothing is put. `Output` comes only where the map is not refused and the sink has failed,
-/// which then has a beginning of the two; at every other end it has not failed.
+/// Runs a script over the map that a text states, and then puts its heading and its answers to a sink; `journal` is how
+/// many changes may be committed. Where the map is refused (10 to 17) or memory is short (30), nothing is put. `Output`
+/// comes only where the map is not refused and the sink has failed, which then has a beginning of the two; at every
+/// other end it has not failed.
 pub fn serve<W: Sink>(
     alloc: Global,
     journal: u32,
@@ -89,7 +91,7 @@ pub fn serve<W: Sink>(
     out: &mut W,
 ) -> Result<(), Fault>
     requires least { 1 ≤ journal }
-    requires most { journal ≤ 65536 }
+    requires most { journal ≤ max_journal }
     requires scripts { length scripts.now ≡ 1 }
     requires unfailed { W.has_failed out.old ≡ false }
     ensures served { IfSome (slice_get scripts.now 0) (λ script.

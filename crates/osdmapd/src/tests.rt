@@ -1,10 +1,11 @@
-//! Worked runs over texts, and command lines. The tables of `tests/` run the built program over many more.
+//! Worked runs over texts, and a sink that fails. The tables of `tests/` run the built program over many more, and over
+//! command lines.
 
-use crate::choices::LineError;
-use crate::line::options;
 use crate::serving::{Fault, serve};
+use mapjson::read_map;
+use monitor::State;
 use refusal::Refusal;
-use session::Buffer;
+use session::{Buffer, Open, SessionError, Sink, WriteFailed};
 use std::alloc::{AllocError, Global};
 use std::process::Abort;
 use std::test::Fail;
@@ -128,40 +129,69 @@ fn runs_as_worked(rt: HostRuntime) -> Result<(), Fail> {
     Ok(())
 }
 
-fn words(alloc: Global, line: &[&str]) -> Result<Vec<String>, AllocError> {
-    let mut words = Vec::new(alloc);
-    for word in line {
-        words.push(String::from_str(alloc, word)?)?;
-    }
-    Ok(words)
+/// A sink that takes at most 3 bytes a call, and fails once it has no calls left.
+#[derive(Debug, Drop)]
+struct Slow {
+    bytes: Vec<u8>,
+    calls: usize,
+    failed: bool,
 }
 
-#[test]
-fn a_journal_outside_its_limits_is_refused(rt: HostRuntime) -> Result<(), Fail> {
-    let alloc = rt.alloc();
-    for journal in ["0", "65537"] {
-        let line = words(alloc, &["osdmapd", "--journal", journal, "map", "script"])?;
-        assert!(rt;
-            matches!(options(alloc, &line), Err(LineError::Usage(_))),
-            "{journal}"
-        );
-    }
-    Ok(())
-}
+impl Sink for Slow {
+    ghost written = { λ slow. slow.bytes.items };
 
-#[test]
-fn one_script_is_taken_and_more_are_not(rt: HostRuntime) -> Result<(), Fail> {
-    let alloc = rt.alloc();
-    let line = words(alloc, &["osdmapd", "map", "script"])?;
-    match options(alloc, &line) {
-        Ok(options) => {
-            assert_eq!(rt; options.journal, 1024);
-            assert_eq!(rt; options.map.as_str(), "map");
-            assert_eq!(rt; options.scripts[0].as_str(), "script");
+    ghost has_failed = { λ slow. slow.failed };
+
+    fn write(&mut self, bytes: &[u8]) -> Result<usize, WriteFailed> {
+        let taken = bytes.len().min(3);
+        if self.calls == 0 || self.bytes.extend_from_slice(&bytes[..taken]).is_err() {
+            self.failed = true;
+            return Err(WriteFailed);
         }
-        Err(_) => assert!(rt; false),
+        self.calls -= 1;
+        Ok(taken)
     }
-    let line = words(alloc, &["osdmapd", "map", "one", "two"])?;
-    assert!(rt; matches!(options(alloc, &line), Err(LineError::TooMany)));
+
+    fn failed(&self) -> bool {
+        self.failed
+    }
+}
+
+/// A change and a question over four devices, to a sink that takes some calls: how the session ends, and what is out.
+fn cut_off(alloc: Global, calls: usize) -> Result<(Result<(), SessionError>, Slow), Refusal> {
+    let mut state = State::new(alloc, read_map(alloc, FOUR_DEVICES.as_bytes())?, 1024)?;
+    let mut slow = Slow {
+        bytes: Vec::new(alloc),
+        calls,
+        failed: false,
+    };
+    let script = b"change {\"base\":1,\"down\":[2]}\nup 1.0\n";
+    let ended = session::run(alloc, &mut state, script, &mut slow, &Open);
+    Ok((ended, slow))
+}
+
+/// The first answer, of 13 bytes, takes 5 calls, and the second, of 17, takes 6.
+#[test]
+fn a_session_ends_at_each_failed_write(rt: HostRuntime) -> Result<(), Fail> {
+    let answers = b"ok 2 evals 0\nup 2 1.0 [0,1] 0\n";
+    for calls in 0..12usize {
+        let out = if calls < 5 {
+            3 * calls
+        } else {
+            13 + 3 * (calls - 5)
+        };
+        let wanted = if calls < 11 {
+            Err(SessionError::Write)
+        } else {
+            Ok(())
+        };
+        match cut_off(rt.alloc(), calls) {
+            Ok((ended, slow)) => {
+                assert_eq!(rt; ended, wanted, "{calls}");
+                assert_eq!(rt; slow.bytes.as_slice(), &answers[..out.min(30)], "{calls}");
+            }
+            Err(_) => assert!(rt; false, "{calls}"),
+        }
+    }
     Ok(())
 }

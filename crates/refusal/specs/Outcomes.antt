@@ -1,5 +1,5 @@
--- What a call that may be refused answers. A fault is what is wrong with what was given, as the refusal that it brings; a
--- definition of the layer says which one it is, or that there is none.
+-- What a call that may be refused answers. A fault is what is wrong with what was given, as the refusal that it brings;
+-- a definition of the layer says which one it is, or that there is none.
 use Rattle.std.specs.Prelude.{◌≡◌, ◌⊎◌, Bool, not, Option, Some, None, Result, MatchResult, if◌then◌else◌}
 use Rattle.refusal.specs.declared.refused.Refusal.{Refusal}
 use Rattle.refusal.specs.declared.refused.Refusal.TheVariants.{Memory as OutOfMemory}
@@ -14,8 +14,10 @@ Judges r fault P = MatchResult r (λ x. (fault ≡ None) × P x) (λ e. fault �
 
 -- of a call that looks for faults first: the same, but that a growth may be refused where there is no fault
 abbrev pub Gives : {X : Type 0} → Result X Refusal → Option Refusal → (X → Type 0) → Type 0
-Gives r fault P = MatchResult r (λ x. (fault ≡ None) × P x) (λ e. ((fault ≡ None) × (e ≡ OutOfMemory)) ⊎ (fault ≡ Some e))
+Gives r fault P =
+    MatchResult r (λ x. (fault ≡ None) × P x) (λ e. ((fault ≡ None) × (e ≡ OutOfMemory)) ⊎ (fault ≡ Some e))
 
--- of a call that makes a value as it looks for faults: the same, but that a growth may be refused in place of any answer
+-- of a call that makes a value as it looks for faults: the same, but that a growth may be refused in place of any
+-- answer
 abbrev pub Makes : {X : Type 0} → Result X Refusal → Option Refusal → (X → Type 0) → Type 0
 Makes r fault P = MatchResult r (λ x. (fault ≡ None) × P x) (λ e. (e ≡ OutOfMemory) ⊎ (fault ≡ Some e))

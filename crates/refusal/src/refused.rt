@@ -21,13 +21,13 @@ pub enum Refusal {
     BadForest,
     /// 14: a rule's id twice, steps outside the grammar, or a take of an unknown bucket.
     BadRule,
-    /// 15: a pool's id twice, no such rule, a rule of the other kind, or more groups for placement than groups; in a change
-    /// also more than 32 pools after it.
+    /// 15: a pool's id twice, no such rule, a rule of the other kind, or more groups for placement than groups; in a
+    /// change also more than 32 pools after it.
     BadPool,
     /// 16: an OSD's id twice, an id not below `max_osd`, or an OSD that is up but does not exist.
     BadOsd,
-    /// 17: in a map a group twice among the explicit sets or among the pairs, no such group, an OSD that does not exist, or
-    /// what 26 names.
+    /// 17: in a map a group twice among the explicit sets or among the pairs, no such group, an OSD that does not exist,
+    /// or what 26 names.
     BadException,
     /// 20: the change is for another epoch than the current one, which it carries.
     StaleEpoch(u64),

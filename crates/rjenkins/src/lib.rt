@@ -6,6 +6,10 @@
 ghost use Rattle.std.specs.Prelude.{◌≡◌, ◌<◌};
 ghost use Rattle.rjenkins.specs.Jenkins.{turned, mixed, hash2_of, hash3_of, hash4_of};
 
+mod lanes;
+
+pub use lanes::{hash3_each, hash4_each};
+
 /// What every hash begins from (`crush_hash_seed`).
 const SEED: u32 = 1_315_423_911;
 
@@ -118,5 +122,18 @@ mod tests {
             166563560
         );
         assert_eq!(rt; hash4(0xffffffff, 0, 0x80000000, 1), 1191810674);
+    }
+
+    #[test]
+    fn hashes_four_as_published(rt: HostRuntime) {
+        let words = [2, 0, 0xffffffff, 0x80000000];
+        assert_eq!(rt;
+            hash3_each(1, 2, words),
+            [2275394229, 3898035282, 679460915, 2191141394]
+        );
+        assert_eq!(rt;
+            hash4_each(1, words, [3, 3, 3, 5], 4),
+            [1768759062, 2266573609, 414988737, 3448379938]
+        );
     }
 }

@@ -12,15 +12,18 @@ width text = position_or_len is_newline text
 abbrev pub Begins : List ℕ → Type 0
 Begins text = lines_in text ≡ take (width text) text ∷ lines_in (drop (1 + width text) text)
 
+-- a script of one byte
 begins_one : (c : ℕ) (b : Bool) → is_newline c ≡ b → Begins (c ∷ [])
 unfolding lines_in
 begins_one c true e = rw e refl
 begins_one c false e = rw e refl
 
+-- a byte more stands before the first line
 longer : (c : ℕ) (cs : List ℕ) (w : ℕ) → lines_in cs ≡ take w cs ∷ lines_in (drop (1 + w) cs)
     → onto_first c (lines_in cs) ≡ take (1 + w) (c ∷ cs) ∷ lines_in (drop (1 + (1 + w)) (c ∷ cs))
 longer c cs w e = rw (e, one-add w, one-add (suc w)) refl
 
+-- a script with a byte more before it
 begins_more : (c d : ℕ) (cs : List ℕ) (b : Bool) → is_newline c ≡ b → Begins (d ∷ cs) → Begins (c ∷ d ∷ cs)
 unfolding lines_in
 begins_more c d cs true e begins = rw e refl
@@ -39,6 +42,7 @@ lines_in-cut (c ∷ cs) end some e =
     let found : width (c ∷ cs) ≡ end = grind arith in
     rw (begins c cs, found, add_comm 1 end) refl
 
+-- and where there is none: the one line is all
 pub lines_in-last : (text : List ℕ) → 0 < length text → position is_newline text ≡ None → lines_in text ≡ text ∷ lines_in []
 lines_in-last [] some e = absurd (omega arith)
 lines_in-last (c ∷ cs) some e =

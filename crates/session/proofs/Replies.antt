@@ -1,12 +1,9 @@
--- What a line answers, from what its command does.
-use Rattle.std.proofs.Common.{◌≡◌, ◌<◌, ℕ, List, [], ◌∷◌, length, Option, arith, subst, refl}
-use Rattle.monitor.specs.States.{History}
-use Rattle.session.specs.Commands.{Command, command_in}
-use Rattle.session.specs.Answers.{Does, Answers, Unchanged}
-use Rattle.session.specs.Transcripts.{Takes}
+-- What a line that is not empty takes, from what its command answers.
+use Rattle.std.proofs.Common.{◌≡◌, ◌<◌, ℕ, true, List, [], ◌∷◌, length, arith}
+use Rattle.session.specs.Transcripts.{Manner, TakesLine}
 
--- a line that is not empty answers as its command
-pub takes_line : (old new : History) (line answer : List ℕ) (command : Option Command)
-    → 0 < length line → command ≡ command_in line → Does old command answer new → Takes Answers Unchanged old line answer new
-takes_line old new [] answer command some is done = absurd (omega arith)
-takes_line old new (c ∷ cs) answer command some is done = (old, refl, subst (λ o. Does old o answer new) is done)
+-- a line that is not empty is let through, and is then answered as its command
+pub takes_line : {S : Type 0} (m : Manner S) (number : ℕ) (before found left : S) (line answer : List ℕ) → 0 < length line
+    → m.lets number true → m.link before found → m.answers found line answer left → TakesLine m number before line answer left
+takes_line m number before found left [] answer some lets link answered = absurd (omega arith)
+takes_line m number before found left (c ∷ cs) answer some lets link answered = (lets, found, link, answered)

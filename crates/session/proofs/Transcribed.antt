@@ -1,81 +1,136 @@
 -- A transcript grows by a line at its end.
-use Rattle.std.proofs.Common.{◌≡◌, ℕ, List, [], ◌∷◌, ◌++◌, refl, sym, subst, append_assoc, append-nil, inl, inr, Result, Ok, Err}
-use Rattle.std.specs.Result.{OnErr}
-use Rattle.session.specs.Transcripts.{Answering, Link, Takes, IsTranscript, Stops}
+use Rattle.std.proofs.Common.{◌≡◌, ℕ, ◌+◌, suc, false, List, [], ◌∷◌, ◌++◌, length, ◌<◌, true, refl, sym, subst, append_assoc, append-nil, add-zero, inl, inr, arith, Result, Ok, Err, IfErr}
+use Rattle.std.proofs.lemmas.List.{length-append}
+use Rattle.session.specs.declared.session.SessionError.{SessionError}
+use Rattle.session.specs.declared.session.SessionError.TheVariants.{Write, Memory, Held}
+use Rattle.session.specs.Transcripts.{Manner, TakesLine, IsTranscript, Rests, Breaks, Holds, Stopping, Stops}
+use Rattle.std.specs.Result.{IsErrAnd}
+use Rattle.session.specs.Ends.{Ends, Halts}
+use Rattle.session.proofs.Replies.{takes_line}
 
--- the lines before the rest are answered by these bytes
-abbrev pub Reaches : {S : Type 0} → Answering S → Link S → S → List (List ℕ) → List (List ℕ) → List ℕ → S → Type 0
-Reaches answers link first lines rest bytes now =
-    (whole : List (List ℕ)) × (lines ≡ whole ++ rest) × IsTranscript answers link first whole bytes now
+-- as many lines as this, which stand before the rest, are answered by these bytes
+abbrev pub Reaches : {S : Type 0} → Manner S → S → List (List ℕ) → ℕ → List (List ℕ) → List ℕ → S → Type 0
+Reaches m first lines count rest bytes now =
+    (whole : List (List ℕ)) × (lines ≡ whole ++ rest) × (length whole ≡ count) × IsTranscript m 1 first whole bytes now
 
 -- a transcript, and a line more at its end
-pub IsTranscript-more : {S : Type 0} (answers : Answering S) (link : Link S) (first between last : S)
+pub IsTranscript-more : {S : Type 0} (m : Manner S) (number : ℕ) (first between last : S)
     (whole : List (List ℕ)) (line bytes answer : List ℕ)
-    → IsTranscript answers link first whole bytes between → Takes answers link between line answer last
-    → IsTranscript answers link first (whole ++ line ∷ []) (bytes ++ answer) last
+    → IsTranscript m number first whole bytes between → TakesLine m (number + length whole) between line answer last
+    → IsTranscript m number first (whole ++ line ∷ []) (bytes ++ answer) last
 unfolding IsTranscript
-IsTranscript-more answers link first between last [] line bytes answer t a =
-    let here : Takes answers link first line answer last = subst (λ s. Takes answers link s line answer last) t.1 a in
+IsTranscript-more m number first between last [] line bytes answer t a =
+    let same : number + 0 ≡ number = add-zero number in
+    let taken = subst (λ n. TakesLine m n between line answer last) same a in
+    let here : TakesLine m number first line answer last = subst (λ s. TakesLine m number s line answer last) t.1 taken in
     (answer, [], last, here, (refl, refl), rw (t.0, append-nil answer) refl)
-IsTranscript-more answers link first between last (l ∷ whole) line bytes answer (before, rest, next, taken, more, e) a = (
-  before,
-  rest ++ answer,
-  next,
-  taken,
-  IsTranscript-more answers link next between last whole line rest answer more a,
-  rw (e, append_assoc before rest answer) refl,
-)
+IsTranscript-more m number first between last (l ∷ whole) line bytes answer (before, rest, next, taken, more, e) a =
+    let same : number + length (l ∷ whole) ≡ suc number + length whole = omega arith in
+    let further = subst (λ n. TakesLine m n between line answer last) same a in (
+      before,
+      rest ++ answer,
+      next,
+      taken,
+      IsTranscript-more m (suc number) next between last whole line rest answer more further,
+      rw (e, append_assoc before rest answer) refl,
+    )
 
 -- no line is answered yet
-pub reaches_none : {S : Type 0} (answers : Answering S) (link : Link S) (first : S) (lines : List (List ℕ))
-    → Reaches answers link first lines lines [] first
+pub reaches_none : {S : Type 0} (m : Manner S) (first : S) (lines : List (List ℕ)) → Reaches m first lines 0 lines [] first
 unfolding IsTranscript
-reaches_none answers link first lines = ([], refl, (refl, refl))
+reaches_none m first lines = ([], refl, refl, (refl, refl))
 
 -- the next line is answered
-pub reaches_more : {S : Type 0} (answers : Answering S) (link : Link S) (first between last : S)
-    (lines others : List (List ℕ)) (line bytes answer : List ℕ)
-    → Reaches answers link first lines (line ∷ others) bytes between → Takes answers link between line answer last
-    → Reaches answers link first lines others (bytes ++ answer) last
-reaches_more answers link first between last lines others line bytes answer (whole, cut, t) a = (
-  whole ++ line ∷ [],
-  rw (append_assoc whole (line ∷ []) others) cut,
-  IsTranscript-more answers link first between last whole line bytes answer t a,
-)
+pub reaches_more : {S : Type 0} (m : Manner S) (first between last : S) (lines : List (List ℕ)) (count : ℕ)
+    (others : List (List ℕ)) (line bytes answer : List ℕ)
+    → Reaches m first lines count (line ∷ others) bytes between → TakesLine m (count + 1) between line answer last
+    → Reaches m first lines (count + 1) others (bytes ++ answer) last
+reaches_more m first between last lines count others line bytes answer (whole, cut, many, t) a =
+    let number : count + 1 ≡ 1 + length whole = omega arith in (
+      whole ++ line ∷ [],
+      rw (append_assoc whole (line ∷ []) others) cut,
+      omega (arith, length-append whole (line ∷ [])),
+      IsTranscript-more m 1 first between last whole line bytes answer t (subst (λ n. TakesLine m n between line answer last) number a),
+    )
 
 -- the next line is empty
-pub reaches_empty : {S : Type 0} (answers : Answering S) (link : Link S) (first now : S)
-    (lines others : List (List ℕ)) (line bytes : List ℕ)
-    → Reaches answers link first lines (line ∷ others) bytes now → line ≡ [] → Reaches answers link first lines others bytes now
-reaches_empty answers link first now lines others line bytes reached none =
-    let taken : Takes answers link now line [] now = subst (λ l. Takes answers link now l [] now) (sym none) (refl, refl) in
-    subst (λ bs. Reaches answers link first lines others bs now) (append-nil bytes)
-    (reaches_more answers link first now now lines others line bytes [] reached taken)
+pub reaches_empty : {S : Type 0} (m : Manner S) (first now : S) (lines : List (List ℕ)) (count : ℕ)
+    (others : List (List ℕ)) (line bytes : List ℕ)
+    → Reaches m first lines count (line ∷ others) bytes now → line ≡ [] → Reaches m first lines (count + 1) others bytes now
+reaches_empty m first now lines count others line bytes reached none =
+    let taken : TakesLine m (count + 1) now line [] now = subst (λ l. TakesLine m (count + 1) now l [] now) (sym none) (refl, refl) in
+    subst (λ bs. Reaches m first lines (count + 1) others bs now) (append-nil bytes)
+    (reaches_more m first now now lines count others line bytes [] reached taken)
 
 -- every line is answered
-pub reaches_all : {S : Type 0} (answers : Answering S) (link : Link S) (first last : S)
-    (lines : List (List ℕ)) (bytes : List ℕ)
-    → Reaches answers link first lines [] bytes last → IsTranscript answers link first lines bytes last
-reaches_all answers link first last lines bytes (whole, cut, t) = rw (cut, append-nil whole) t
+pub reaches_all : {S : Type 0} (m : Manner S) (first last : S) (lines : List (List ℕ)) (count : ℕ) (bytes : List ℕ)
+    → Reaches m first lines count [] bytes last → IsTranscript m 1 first lines bytes last
+reaches_all m first last lines count bytes (whole, cut, many, t) = rw (cut, append-nil whole) t
 
--- the session stops before the next line
-pub stops_before : {S : Type 0} (answers : Answering S) (link : Link S) (first last : S)
-    (lines others : List (List ℕ)) (bytes : List ℕ)
-    → Reaches answers link first lines others bytes last → Stops answers link first lines bytes last
-stops_before answers link first last lines others bytes (whole, cut, t) = (whole, others, bytes, last, cut, t, inl (refl, refl))
+-- the session stops before the next line, or at it
+pub stops : {S : Type 0} (m : Manner S) (way : Stopping S) (first between last : S) (lines : List (List ℕ)) (count : ℕ)
+    (others : List (List ℕ)) (before out : List ℕ)
+    → Reaches m first lines count others before between → way (count + 1) between others before out last
+    → Stops m way first lines out last
+stops m way first between last lines count others before out (whole, cut, many, t) stopped =
+    (whole, others, before, between, cut, t, rw many stopped)
 
--- the session stops at the next line
-pub stops_at : {S : Type 0} (answers : Answering S) (link : Link S) (first between last : S)
-    (lines others : List (List ℕ)) (line bytes answer part missing : List ℕ)
-    → Reaches answers link first lines (line ∷ others) bytes between → Takes answers link between line answer last
-    → answer ≡ part ++ missing → Stops answers link first lines (bytes ++ part) last
-stops_at answers link first between last lines others line bytes answer part missing (whole, cut, t) a e =
-    (whole, line ∷ others, bytes, between, cut, t, inr (line, others, answer, part, missing, refl, a, e, refl))
+-- ---- the ends of a session
 
--- a session that stops answers an error, at whatever it says
-pub stopped : {S T E : Type 0} (answers : Answering S) (link : Link S) (r : Result T E) (first last : S)
-    (lines : List (List ℕ)) (before after out : List ℕ)
-    → Stops answers link first lines out last → after ≡ before ++ out
-    → OnErr r ((bytes : List ℕ) × Stops answers link first lines bytes last × (after ≡ before ++ bytes))
-stopped answers link (Ok x) first last lines before after out stops put = tt
-stopped answers link (Err e) first last lines before after out stops put = (out, stops, put)
+-- the error that is handed on is the one that the session stopped by
+pub handed_on : {S : Type 0} (m : Manner S) (first last : S) (lines : List (List ℕ)) (before after : List ℕ)
+    (r : Result Unit SessionError) (e : SessionError) → IsErrAnd r (λ f. f ≡ e)
+    → (out : List ℕ) × Stops m (Halts m e) first lines out last × (after ≡ before ++ out)
+    → IfErr r (λ f. (out : List ℕ) × Stops m (Halts m f) first lines out last × (after ≡ before ++ out))
+handed_on m first last lines before after (Ok done) e is stopped = tt
+handed_on m first last lines before after (Err f) e is stopped = rw is stopped
+
+-- the session, and what is out of it, where no more lines begin
+pub stops_before : {S : Type 0} (m : Manner S) (first last : S) (lines : List (List ℕ)) (count : ℕ)
+    (others : List (List ℕ)) (before put bytes : List ℕ) → Reaches m first lines count others bytes last → put ≡ before ++ bytes
+    → (out : List ℕ) × Stops m (Halts m Memory) first lines out last × (put ≡ before ++ out)
+stops_before m first last lines count others before put bytes reached is =
+    (bytes, stops m (Halts m Memory) first last last lines count others bytes bytes reached (inl (refl, refl)), is)
+
+-- the same where the gate holds the next line
+pub stops_held : {S : Type 0} (m : Manner S) (first last : S) (lines : List (List ℕ)) (count : ℕ) (line : List ℕ)
+    (others : List (List ℕ)) (before put bytes : List ℕ) → Reaches m first lines count (line ∷ others) bytes last
+    → put ≡ before ++ bytes → 0 < length line → m.lets (count + 1) false
+    → (out : List ℕ) × Stops m (Halts m Held) first lines out last × (put ≡ before ++ out)
+stops_held m first last lines count [] others before put bytes reached is some held = absurd (omega arith)
+stops_held m first last lines count (c ∷ cs) others before put bytes reached is some held = (
+  bytes,
+  stops m (Halts m Held) first last last lines count ((c ∷ cs) ∷ others) bytes bytes reached (c, cs, others, refl, held, (refl, refl)),
+  is,
+)
+
+-- the same where the answer to the next line is cut off
+pub stops_at : {S : Type 0} (m : Manner S) (first between last : S) (lines : List (List ℕ)) (count : ℕ) (line : List ℕ)
+    (others : List (List ℕ)) (before put after bytes : List ℕ) (e : SessionError)
+    → Reaches m first lines count (line ∷ others) bytes between → put ≡ before ++ bytes → 0 < length line
+    → m.lets (count + 1) true → m.link between between → Ends (m.answers between line) last put after (Err e)
+    → (out : List ℕ) × Stops m (Halts m e) first lines out last × (after ≡ before ++ out)
+stops_at m first between last lines count line others before put after bytes e reached is some lets link ends = by_error e ends
+  where
+    cut_off : (answer rest part : List ℕ) → m.answers between line answer last → answer ≡ part ++ rest
+        → Breaks m (count + 1) between (line ∷ others) bytes (bytes ++ part) last
+    cut_off answer rest part answered cut =
+        (line, others, answer, part, rest, refl, takes_line m (count + 1) between between last line answer some lets link answered, cut, refl)
+
+    all_out : (part : List ℕ) → after ≡ put ++ part → after ≡ before ++ (bytes ++ part)
+    all_out part more = rw (more, is, append_assoc before bytes part) refl
+
+    by_error : (f : SessionError) → Ends (m.answers between line) last put after (Err f)
+        → (out : List ℕ) × Stops m (Halts m f) first lines out last × (after ≡ before ++ out)
+    by_error Write (answer, rest, answered, (part, cut, more)) = (
+      bytes ++ part,
+      stops m (Halts m Write) first between last lines count (line ∷ others) bytes (bytes ++ part) reached (cut_off answer rest part answered cut),
+      all_out part more,
+    )
+    by_error Memory (answer, rest, answered, (part, cut, more)) = (
+      bytes ++ part,
+      stops m (Halts m Memory) first between last lines count (line ∷ others) bytes (bytes ++ part) reached
+          (inr (cut_off answer rest part answered cut)),
+      all_out part more,
+    )
+    by_error Held ends = absurd ends

@@ -1,6 +1,6 @@
 -- What a line answers at a state, and the state that it leaves: a question is answered by the map alone, and a change
 -- is a step of the state.
-use Rattle.std.specs.Prelude.{◌≡◌, ℕ, List, Option, Some, None, Result, Ok, Err, MatchResult}
+use Rattle.std.specs.Prelude.{◌≡◌, ℕ, Bool, List, Option, Some, None, Result, Ok, Err, MatchResult}
 use Rattle.stated.specs.declared.change.ChangeParts.{ChangeParts}
 use Rattle.refusal.specs.declared.refused.Refusal.{Refusal}
 use Rattle.refusal.specs.declared.refused.Refusal.TheVariants.{BadCommand}
@@ -13,6 +13,7 @@ use Rattle.monitor.specs.States.{History, Commits}
 use Rattle.session.specs.declared.command.Question.{Question}
 use Rattle.session.specs.declared.command.Question.TheVariants.{Up, Epoch, Dump}
 use Rattle.session.specs.Commands.{Command, ask, change, command_in}
+use Rattle.session.specs.Transcripts.{Manner}
 use Rattle.session.specs.Texts.{up_text, epoch_text, dump_text, ok_text, refusal_text, line_of}
 
 -- the line that a question finds in a map, or why it is refused: for want of memory only where nothing else refuses it,
@@ -25,7 +26,7 @@ Finds m (Up pg) r =
     (λ text. (places : List (Option ℕ)) × Places up_set m pg places × (text ≡ up_text m.epoch pg places))
 
 -- what a change answers, the new epoch and the evaluations: its text is read, where a growth may be refused in place of
--- any answer, and then what it states is committed, where it may only be refused with nothing else against it; a text
+-- any answer; then what it states is committed, where want of memory is told only where nothing else refuses it; a text
 -- that is refused changes nothing
 abbrev pub Changes : History → List ℕ → Result (ℕ × ℕ) Refusal → History → Type 0
 Changes old text r new =
@@ -41,9 +42,9 @@ Does old (Some (change text)) answer new =
     (r : Result (ℕ × ℕ) Refusal) × Changes old text r new × (answer ≡ line_of (λ ok. ok_text ok.0 ok.1) r)
 
 -- what a line answers, and the state that it leaves
-abbrev pub Answers : History → List ℕ → List ℕ → History → Type 0
-Answers old line answer new = Does old (command_in line) answer new
+abbrev pub IsAnswered : History → List ℕ → List ℕ → History → Type 0
+IsAnswered old line answer new = Does old (command_in line) answer new
 
--- the link of a session that has its state alone: each line finds what the one before it left
-abbrev pub Unchanged : History → History → Type 0
-Unchanged left found = found ≡ left
+-- how a session goes that has its state alone, behind a gate: each line finds what the one before it left
+abbrev pub alone : (ℕ → Bool → Type 0) → Manner History
+alone lets = record { answers = IsAnswered; link = λ left found. found ≡ left; lets = lets }

@@ -1,17 +1,34 @@
--- How much of a line's answer is out, and what an end says of the sink.
-use Rattle.std.specs.Prelude.{◌≡◌, ℕ, true, false, Bool, List, ◌++◌, Result, Ok, Err, MatchResult}
+-- How much of a line's answer is out, how a session ends, and what an end says of the sink.
+use Rattle.std.specs.Prelude.{◌≡◌, ◌⊎◌, ℕ, true, false, Bool, List, ◌++◌, Result, Ok, Err, MatchResult}
 use Rattle.session.specs.declared.session.SessionError.{SessionError}
-use Rattle.session.specs.declared.session.SessionError.TheVariants.{Write, Memory}
+use Rattle.session.specs.declared.session.SessionError.TheVariants.{Write, Memory, Held}
 use Rattle.session.specs.Sinks.{HasPut}
+use Rattle.session.specs.Transcripts.{Manner, Stopping, Rests, Breaks, Holds}
 
 -- whether the sink has failed: at `Write`, and else not
 abbrev pub has_sink_failed : Result Unit SessionError → Bool
 has_sink_failed (Ok done) = false
 has_sink_failed (Err Write) = true
 has_sink_failed (Err Memory) = false
+has_sink_failed (Err Held) = false
 
--- a line is taken with an answer, which is out whole where nothing fails, and else a beginning of it
+-- a line is answered, and a beginning of the answer is out
+abbrev pub IsCutOff : {S : Type 0} → (List ℕ → S → Type 0) → S → List ℕ → List ℕ → Type 0
+IsCutOff answers left before after =
+    (answer : List ℕ) × (rest : List ℕ) × answers answer left × HasPut before answer rest after
+
+-- a line is answered, and the answer is out whole where nothing fails, and else a beginning of it; the gate holds no
+-- line that is being answered
 abbrev pub Ends : {S : Type 0} → (List ℕ → S → Type 0) → S → List ℕ → List ℕ → Result Unit SessionError → Type 0
-Ends takes left before after r =
-    (answer : List ℕ) × takes answer left
-    × MatchResult r (λ _. after ≡ before ++ answer) (λ _. (rest : List ℕ) × HasPut before answer rest after)
+Ends answers left before after (Ok done) = (answer : List ℕ) × answers answer left × (after ≡ before ++ answer)
+Ends answers left before after (Err Write) = IsCutOff answers left before after
+Ends answers left before after (Err Memory) = IsCutOff answers left before after
+Ends answers left before after (Err Held) = ⊥
+
+-- the way in which a session stops, by its error: at a failed write the next answer is cut off; where memory is short
+-- it is, or no other line has begun; where the gate holds a line, that line has not
+abbrev pub Halts : {S : Type 0} → Manner S → SessionError → Stopping S
+Halts m Write number between others before out last = Breaks m number between others before out last
+Halts m Memory number between others before out last =
+    Rests between before out last ⊎ Breaks m number between others before out last
+Halts m Held number between others before out last = Holds m number between others before out last

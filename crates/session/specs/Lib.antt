@@ -3,6 +3,6 @@ pub mod Buffers
 pub mod Commands
 pub mod Texts
 pub mod Replies
-pub mod Answers
 pub mod Transcripts
+pub mod Answers
 pub mod Ends

@@ -42,7 +42,7 @@ up_text epoch pg places =
     ++ primary_text (primary_of places) ++ newline
 
 -- `epoch EPOCH`
-unfoldable pub epoch_text : ℕ → List ℕ
+abbrev pub epoch_text : ℕ → List ℕ
 epoch_text epoch = codes "epoch " ++ decimal epoch ++ newline
 
 -- `dump TEXT`

@@ -2,9 +2,11 @@
 #![tactic(auto)]
 
 mod command;
+mod gate;
 mod reply;
 mod session;
 mod sink;
 
+pub use gate::{Gate, Open};
 pub use session::{SessionError, run};
 pub use sink::{Buffer, Sink, WriteFailed, write_whole};

@@ -70,7 +70,7 @@ fn push_refusal(text: &mut String, refusal: Refusal) -> Result<(), AllocError>
 
 impl Reply {
     /// Puts the reply's line behind a text. The one error is out of memory.
-    #[tactic(auto, unfolding(crate::specs::Texts::epoch_text, crate::specs::Texts::dump_text, crate::specs::Texts::ok_text))]
+    #[tactic(auto, unfolding(crate::specs::Texts::dump_text, crate::specs::Texts::ok_text))]
     fn push_to(&self, text: &mut String) -> Result<(), AllocError>
         ensures { OnOk result (string_bytes text.new ≡ string_bytes text.old ++ reply_text self.now) }
     {

@@ -1,5 +1,5 @@
 //! A session: each line of a script in turn, and its answer to a sink.
-ghost use Rattle.std.specs.Prelude.{◌≡◌, ◌<◌, ◌++◌, ℕ, List, length, false, OnOk, OnErr, IfOk};
+ghost use Rattle.std.specs.Prelude.{◌≡◌, ◌++◌, ℕ, List, false, OnOk, IfOk, IfErr};
 ghost use Rattle.std.specs.Option.{option_map};
 ghost use Rattle.std.specs.String.{string_bytes};
 ghost use Rattle.session.specs.declared.session.SessionError.TheVariants.{Write as CannotWrite, Memory as OutOfMemory};
@@ -7,11 +7,12 @@ ghost use Rattle.mapjson.specs.Written.{written};
 ghost use Rattle.session.specs.Texts.{line_of};
 ghost use Rattle.session.specs.Commands.{lines_in, shown};
 ghost use Rattle.session.specs.Replies.{reply_text, told};
-ghost use Rattle.session.specs.Answers.{Finds, Changes, Does, Answers, Unchanged};
-ghost use Rattle.session.specs.Transcripts.{Takes, IsTranscript, Stops};
-ghost use Rattle.session.specs.Ends.{Ends, has_sink_failed};
+ghost use Rattle.session.specs.Answers.{Finds, Changes, Does, IsAnswered, alone};
+ghost use Rattle.session.specs.Transcripts.{IsTranscript, Stops};
+ghost use Rattle.session.specs.Ends.{Ends, Halts, has_sink_failed};
 
 use crate::command::{Command, Question, first_line, read_command};
+use crate::gate::Gate;
 use crate::reply::{Reply, push_line};
 use crate::sink::{Sink, WriteFailed, write_whole};
 use crush::{Forest, Work};
@@ -28,6 +29,8 @@ pub enum SessionError {
     Write,
     /// The session, or the text of an answer, found no memory.
     Memory,
+    /// The gate did not let a line through.
+    Held,
 }
 
 impl From<Memory> for SessionError {
@@ -65,7 +68,7 @@ impl Room {
 
 /// The written form of a map.
 fn dump(alloc: Global, map: &OsdMap) -> Result<String, Memory>
-    ensures { IfOk result (λ text. string_bytes text ≡ written map.now) }
+    ensures { IfOk result (λ text. string_bytes text ≡ written map.now.map) }
 {
     match String::from_utf8(write_map(alloc, map)?) {
         Ok(text) => Ok(text),
@@ -117,7 +120,7 @@ fn obey(
     }
 }
 
-/// Does the command of a line that is not empty, and puts its answer to a sink.
+/// Does the command of a line, and puts its answer to a sink.
 fn answer_line<W: Sink>(
     alloc: Global,
     state: &mut State,
@@ -125,10 +128,8 @@ fn answer_line<W: Sink>(
     line: &[u8],
     sink: &mut W,
 ) -> Result<(), SessionError>
-    requires some { 0 < length line.now }
-    requires open { W.has_failed sink.old ≡ false }
-    ensures out { Ends (Takes Answers Unchanged state.old line.now) state.new
-        (W.written sink.old) (W.written sink.new) result }
+    requires { W.has_failed sink.old ≡ false }
+    ensures out { Ends (IsAnswered state.old line.now) state.new (W.written sink.old) (W.written sink.new) result }
     ensures failed { W.has_failed sink.new ≡ has_sink_failed result }
 {
     let reply = obey(alloc, state, &mut room.work, read_command(line));
@@ -141,31 +142,40 @@ fn answer_line<W: Sink>(
 }
 
 /// Runs a script: does the command of each line in order, and writes its answer whole before the next command. A line
-/// that is no command answers `BadCommand` (33), a refused one its number and name, and the session goes on.
+/// that is no command answers `BadCommand` (33), a refused one its number and name, and the session goes on. Before
+/// each line that is not empty it asks the gate, by the line's number in the script, from 1.
 ///
-/// It stops with `Write` only where the sink has failed, which is not written to again, and with `Memory` only where
-/// the session or the text of an answer found no memory and the sink has not failed; what is out is then a beginning of
-/// the answers up to the last command done.
-pub fn run<W: Sink>(
+/// It stops with `Write` only where the sink has failed, which is not written to again; with `Memory` only where the
+/// session or the text of an answer found no memory and the sink has not failed; and with `Held` only where the gate
+/// answered `false`, with nothing done for that line. What is out is then a beginning of the answers up to the last
+/// command done.
+pub fn run<W: Sink, G: Gate>(
     alloc: Global,
     state: &mut State,
     script: &[u8],
     sink: &mut W,
+    gate: &G,
 ) -> Result<(), SessionError>
     requires { W.has_failed sink.old ≡ false }
     ensures ok { OnOk result ((bytes : List ℕ)
-        × IsTranscript Answers Unchanged state.old (lines_in script.now) bytes state.new
+        × IsTranscript (alone (G.lets gate.now)) 1 state.old (lines_in script.now) bytes state.new
         × (W.written sink.new ≡ W.written sink.old ++ bytes)) }
-    ensures err { OnErr result ((out : List ℕ)
-        × Stops Answers Unchanged state.old (lines_in script.now) out state.new
+    ensures err { IfErr result (λ error. (out : List ℕ)
+        × Stops (alone (G.lets gate.now)) (Halts (alone (G.lets gate.now)) error)
+        state.old (lines_in script.now) out state.new
         × (W.written sink.new ≡ W.written sink.old ++ out)) }
     ensures failed { W.has_failed sink.new ≡ has_sink_failed result }
 {
     let mut room = Room::new(alloc, state.map().forest())?;
     let mut rest = script;
+    let mut number = 0;
     while !rest.is_empty() {
         let (line, others) = first_line(rest);
+        number += 1;
         if !line.is_empty() {
+            if !gate.pass(number) {
+                return Err(SessionError::Held);
+            }
             answer_line(alloc, state, &mut room, line, sink)?;
         }
         rest = others;

@@ -2,6 +2,7 @@ pub mod Within
 pub mod Narrowed
 pub mod Judged
 pub mod CrushFits
+pub mod CrushWith
 mod PgTexts
 pub mod GroupTexts
 mod Shorts

@@ -7,6 +7,8 @@ use Rattle.std.specs.List.{list_all}
 use Rattle.stated.specs.declared.parts.PoolPart.{PoolPart}
 use Rattle.stated.specs.declared.parts.PairPart.{PairPart}
 use Rattle.stated.specs.declared.parts.ExceptionPart.{ExceptionPart}
+use Rattle.stated.specs.declared.parts.GrowPart.{GrowPart}
+use Rattle.stated.specs.Growth.{IsGrowth, growth_fits, growth_of}
 use Rattle.stated.specs.Pools.{IsWithinLimits}
 use Rattle.stated.specs.Parts.{is_between, has_between, is_osd_id, pair_fits, exception_fits, exceptions_fit, pool_fits, pool_of}
 
@@ -63,6 +65,31 @@ pool_within p each few =
       rule_most = rule.most;
       size_some = omega (arith, size.least);
       size_most = size.most;
+    }
+
+-- each number of a growth that is within its limits
+pub record GrowthFits (g : GrowPart) : Type 0 where
+  pub pool : is_between (pos 1) (pos 65535) g.pool ≡ true
+  pub pg_num : is_between (pos 1) (pos 4096) g.pg_num ≡ true
+  pub pgp_num : is_between (pos 1) (pos 4096) g.pgp_num ≡ true
+
+pub growth_fits_each : (g : GrowPart) → growth_fits g ≡ true → GrowthFits g
+unfolding growth_fits
+growth_fits_each g h = record { pool = grind arith; pg_num = grind arith; pgp_num = grind arith }
+
+-- a growth whose numbers fit, with no more groups for placement than groups
+pub growth_within : (g : GrowPart) → GrowthFits g → g.pgp_num ≤ℤ g.pg_num → IsGrowth (growth_of g)
+growth_within g each few =
+    let pool = natural_between 1 65535 g.pool each.pool in
+    let pg = natural_between 1 4096 g.pg_num each.pg_num in
+    let pgp = natural_between 1 4096 g.pgp_num each.pgp_num in
+    let few' : pos (nat_abs g.pgp_num) ≤ℤ pos (nat_abs g.pg_num) = rw (← pgp.is, ← pg.is) few in
+    record {
+      pool_some = omega (arith, pool.least);
+      pool_most = pool.most;
+      groups_some = omega (arith, pgp.least);
+      groups_few = omega (arith, ints, few');
+      groups_most = pg.most;
     }
 
 -- an OSD's id is a word

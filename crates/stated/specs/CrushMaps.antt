@@ -5,18 +5,21 @@ use Rattle.std.specs.List.Sorted.{IsPermutation}
 use Rattle.std.specs.Option.{option_map}
 use Rattle.crush.specs.declared.bucket.Bucket.{Bucket}
 use Rattle.crush.specs.Forest.{bucket_at}
+use Rattle.crush.specs.Limits.{max_buckets}
 use Rattle.crush.specs.Rules.{Recipe}
 use Rattle.crush.specs.WellFormed.{forest_ok, IsForest, IsDescending}
 use Rattle.crush.specs.Grammar.{rule_limits_ok, rule_ok}
 use Rattle.refusal.specs.declared.refused.Refusal.{Refusal}
-use Rattle.refusal.specs.declared.refused.Refusal.TheVariants.{BadForest, BadRule}
+use Rattle.refusal.specs.declared.refused.Refusal.TheVariants.{BadLimit, BadForest, BadRule}
+use Rattle.refusal.specs.Outcomes.{refused_unless}
 use Rattle.keylist.specs.Keys.{is_distinct}
 use Rattle.keylist.specs.Order.{IsRising, Rises}
 use Rattle.stated.specs.declared.parts.BucketPart.{BucketPart}
 use Rattle.stated.specs.declared.parts.RulePart.{RulePart}
+use Rattle.stated.specs.declared.parts.CrushParts.{CrushParts}
 use Rattle.stated.specs.declared.rules.NumberedRule.{NumberedRule}
 use Rattle.stated.specs.Limits.{max_rules, max_rule_id}
-use Rattle.stated.specs.Parts.{bucket_of, step_of, recipe_of}
+use Rattle.stated.specs.Parts.{has_between, bucket_fits, rule_fits, bucket_of, step_of, recipe_of}
 
 -- what callers see of a CRUSH map: its buckets by id downwards, and its rules by id upwards
 pub record CrushFacts : Type 0 where
@@ -38,6 +41,25 @@ pub record IsCrushMap (c : CrushFacts) : Type 0 where
   pub few_rules : length c.rules ≤ max_rules
   pub rules_rise : IsRising (λ r. r.id) c.rules
   pub rules_over : list_all (is_rule_over c.buckets) c.rules ≡ true
+
+-- ---- the one of a forest and rules
+
+-- 1 to 32 rules, each of an id of at most 255
+unfoldable pub rule_ids_fit : List NumberedRule → Bool
+rule_ids_fit rules = has_between 1 max_rules rules && list_all (λ r. nat_le r.id max_rule_id) rules
+
+-- no id twice, and each rule takes buckets of the forest
+unfoldable pub rules_over : List Bucket → List NumberedRule → Bool
+rules_over buckets rules = is_distinct (map (λ r. r.id) rules) && list_all (λ r. rule_ok r.rule.kind r.rule.steps buckets) rules
+
+-- what is wrong with rules for a forest: how many there are or an id, else an id twice or a bucket that is not there
+abbrev pub rules_fault : List Bucket → List NumberedRule → Option Refusal
+rules_fault buckets rules = if not (rule_ids_fit rules) then Some BadLimit else refused_unless (rules_over buckets rules) BadRule
+
+-- the CRUSH map has this forest, and these rules by id upwards
+pub record IsCrushWith (buckets : List Bucket) (rules : List NumberedRule) (c : CrushFacts) : Type 0 where
+  pub forest : c.buckets ≡ buckets
+  pub ruled : Rises (λ r. r.id) rules c.rules
 
 -- ---- the one that parts state
 
@@ -65,6 +87,12 @@ crush_fault buckets rules max_osd =
     if not (forest_ok (map bucket_of buckets) max_osd) then Some BadForest
     else if not (rules_fit (map bucket_of buckets) rules) then Some BadRule
     else None
+
+-- every number and every length of a CRUSH map as a text states it
+unfoldable pub crush_fits : CrushParts → Bool
+crush_fits p =
+    has_between 1 max_buckets p.buckets && has_between 1 max_rules p.rules
+    && list_all bucket_fits p.buckets && list_all rule_fits p.rules
 
 -- the CRUSH map has what the parts state
 pub record IsCrushOf (bs : List BucketPart) (rs : List RulePart) (c : CrushFacts) : Type 0 where

@@ -1,5 +1,6 @@
 pub mod CrushMaps
 pub mod Exceptions
+pub mod Growth
 pub mod Incrementals
 pub mod Limits
 pub mod Ordered

@@ -1,15 +1,20 @@
--- What holds in every change: its parts are in ascending order of their keys, and its pools within their limits.
+-- What holds in every change: its parts are in ascending order of their keys, its pools and growths within their limits,
+-- and its CRUSH map one.
+use Rattle.std.specs.Prelude.{◌≡◌, IfSome}
 use Rattle.std.specs.List.{All}
 use Rattle.std.specs.List.Sorted.{IsNonDecreasing, IsNonDecreasingBy}
 use Rattle.stated.specs.declared.change.ChangeParts.{ChangeParts}
 use Rattle.stated.specs.Exceptions.{place_of, key_of}
 use Rattle.keylist.specs.Order.{SortsBy}
+use Rattle.stated.specs.CrushMaps.{IsCrushMap}
+use Rattle.stated.specs.Growth.{IsGrowth}
 use Rattle.stated.specs.Pools.{IsWithinLimits}
 
 -- the parts are in ascending order: pools and OSDs by id, groups by place
 pub record IsInOrder (c : ChangeParts) : Type 0 where
   pub old_pools : IsNonDecreasing c.old_pools
   pub new_pools : IsNonDecreasingBy (λ p. p.id) c.new_pools
+  pub grow_pool : IsNonDecreasingBy (λ g. g.pool) c.grow_pool
   pub down : IsNonDecreasing c.down
   pub up : IsNonDecreasing c.up
   pub weight : IsNonDecreasingBy (λ w. w.osd) c.weight
@@ -22,11 +27,15 @@ pub record IsInOrder (c : ChangeParts) : Type 0 where
 pub record IsChange (c : ChangeParts) : Type 0 where
   pub in_order : IsInOrder c
   pub pools_within : All IsWithinLimits c.new_pools
+  pub growths_within : All IsGrowth c.grow_pool
+  pub crush_map : IfSome c.new_crush IsCrushMap
 
 -- each part is put in order, entries of one key in theirs
 pub record IsOrdered (given ordered : ChangeParts) : Type 0 where
   pub old_pools : SortsBy (λ id. id) given.old_pools ordered.old_pools
+  pub new_crush : ordered.new_crush ≡ given.new_crush
   pub new_pools : SortsBy (λ p. p.id) given.new_pools ordered.new_pools
+  pub grow_pool : SortsBy (λ g. g.pool) given.grow_pool ordered.grow_pool
   pub down : SortsBy (λ osd. osd) given.down ordered.down
   pub up : SortsBy (λ osd. osd) given.up ordered.up
   pub weight : SortsBy (λ w. w.osd) given.weight ordered.weight

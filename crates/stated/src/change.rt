@@ -1,11 +1,15 @@
 //! Changes, and the incrementals that they are with an epoch (Ceph, OSDMap.h: `OSDMap::Incremental`).
 
-ghost use Rattle.std.specs.Prelude.{IfOk};
+ghost use Rattle.std.specs.Prelude.{IfOk, IfSome};
 ghost use Rattle.std.specs.List.{All};
 ghost use Rattle.keylist.specs.Order.{SortsBy};
+ghost use Rattle.stated.specs.CrushMaps.{IsCrushMap};
+ghost use Rattle.stated.specs.Growth.{IsGrowth};
 ghost use Rattle.stated.specs.Pools.{IsWithinLimits};
 
+use crate::crush_map::CrushMap;
 use crate::exception::{Explicit, Items};
+use crate::grow::Grow;
 use crate::pg::Pg;
 use crate::pool::Pool;
 use keylist::{Entries, Keyed, ordered};
@@ -17,8 +21,12 @@ use std::marker::Model;
 pub struct ChangeParts {
     /// The ids of the pools that are taken away, with their exceptions.
     pub old_pools: Entries<u32>,
+    /// The forest and the rules that come in place of those of the map.
+    pub new_crush: Option<CrushMap>,
     /// The pools that come.
     pub new_pools: Entries<Pool>,
+    /// The pools that grow, and what to.
+    pub grow_pool: Entries<Grow>,
     /// The OSDs that go down.
     pub down: Entries<u32>,
     /// The OSDs that come up.
@@ -80,6 +88,24 @@ fn both_ordered<K: Keyed, L: Keyed>(
     Ok((ordered(some)?, ordered(others)?))
 }
 
+/// Each growth is within its limits: for a proof alone.
+fn are_growths(growths: &[Grow])
+    ensures { All IsGrowth growths.now }
+{
+    for growth in growths {
+        growth.is_growth();
+    }
+}
+
+/// What holds in a CRUSH map, where there is one: for a proof alone.
+fn is_crush_map(crush: &Option<CrushMap>)
+    ensures { IfSome crush.now IsCrushMap }
+{
+    if let Some(crush) = crush {
+        let _ = crush.rules();
+    }
+}
+
 /// Each pool is within its limits: for a proof alone.
 fn are_within_limits(pools: &[Pool])
     ensures { All IsWithinLimits pools.now }
@@ -90,8 +116,10 @@ fn are_within_limits(pools: &[Pool])
 }
 
 impl Change {
-    ghost use Rattle.std.specs.Prelude.{◌≡◌, IfOk};
+    ghost use Rattle.std.specs.Prelude.{◌≡◌, IfOk, IfSome};
     ghost use Rattle.std.specs.List.{All};
+    ghost use Rattle.stated.specs.CrushMaps.{IsCrushMap};
+    ghost use Rattle.stated.specs.Growth.{IsGrowth};
     ghost use Rattle.stated.specs.Pools.{IsWithinLimits};
     ghost use Rattle.stated.specs.Ordered.{IsOrdered, IsInOrder};
 
@@ -100,15 +128,20 @@ impl Change {
         ensures { IfOk result (IsOrdered parts) }
     {
         let (old_pools, new_pools) = both_ordered(parts.old_pools, parts.new_pools)?;
+        let grow_pool = ordered(parts.grow_pool)?;
         let (down, up) = both_ordered(parts.down, parts.up)?;
         let weight = ordered(parts.weight)?;
         let (old_upmap, new_upmap) = both_ordered(parts.old_upmap, parts.new_upmap)?;
         let (old_items, new_items) = both_ordered(parts.old_items, parts.new_items)?;
         are_within_limits(&new_pools);
+        are_growths(&grow_pool);
+        is_crush_map(&parts.new_crush);
         Ok(Change {
             parts: ChangeParts {
                 old_pools,
+                new_crush: parts.new_crush,
                 new_pools,
+                grow_pool,
                 down,
                 up,
                 weight,
@@ -125,6 +158,8 @@ impl Change {
         ensures value { result.now ≡ self.now }
         ensures in_order { IsInOrder self.now }
         ensures pools_within { All IsWithinLimits self.now.new_pools }
+        ensures growths_within { All IsGrowth self.now.grow_pool }
+        ensures crush_map { IfSome self.now.new_crush IsCrushMap }
     {
         &self.parts
     }

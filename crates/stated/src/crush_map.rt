@@ -1,17 +1,20 @@
 //! CRUSH maps: a forest, and the rules over it by id.
 
-ghost use Rattle.std.specs.Prelude.{◌≡◌, ◌≤◌, true, map, IfOk};
-ghost use Rattle.std.specs.List.{list_all};
+ghost use Rattle.std.specs.Prelude.{◌≡◌, ◌≤◌, true, map, nat_le, IfOk};
+ghost use Rattle.std.specs.List.{All, list_all};
+ghost use Rattle.crush.specs.Grammar.{rule_ok, IsLawful};
+ghost use Rattle.stated.specs.Limits.{max_rule_id};
 ghost use Rattle.crush.specs.Limits.{max_buckets, max_devices};
 ghost use Rattle.crush.specs.WellFormed.{forest_ok};
 ghost use Rattle.refusal.specs.declared.refused.Refusal.TheVariants.{BadForest, BadRule};
 ghost use Rattle.refusal.specs.Outcomes.{refused_unless, Makes};
 ghost use Rattle.keylist.specs.Order.{Rises};
 ghost use Rattle.stated.specs.Parts.{has_between, bucket_fits, rule_fits, bucket_of};
-ghost use Rattle.stated.specs.CrushMaps.{IsForestOf, rule_of, is_lawful, rules_fit};
+ghost use Rattle.stated.specs.CrushMaps.{IsForestOf, rule_of, is_lawful, rules_fit, rule_ids_fit, rules_over};
 
 use crate::buckets::buckets_of;
-use crate::numbers::word;
+use crate::limits::{MAX_RULE_ID, MAX_RULES};
+use crate::numbers::{has_between, word};
 use crate::parts::{BucketPart, RulePart};
 use crate::rules::NumberedRule;
 use crate::steps::steps_of;
@@ -98,6 +101,50 @@ fn rules_of(
     in_order(rules, Refusal::BadRule)
 }
 
+/// Whether there are 1 to 32 rules, each of an id of at most 255.
+#[tactic(auto, unfolding(crate::specs::CrushMaps::rule_ids_fit))]
+fn rule_ids_fit(rules: &[NumberedRule]) -> bool
+    ensures { result ≡ rule_ids_fit rules.now }
+{
+    has_between(1, MAX_RULES, rules) && are_rule_ids(rules)
+}
+
+/// Whether each id is at most 255.
+fn are_rule_ids(rules: &[NumberedRule]) -> bool
+    ensures { result ≡ list_all (λ r. nat_le r.id max_rule_id) rules.now }
+{
+    rules.iter().all(|rule| rule.id <= MAX_RULE_ID as u32)
+}
+
+/// Whether each rule takes buckets of the forest.
+fn are_over(rules: &[NumberedRule], forest: &Forest) -> bool
+    ensures { result ≡ list_all (λ r. rule_ok r.rule.kind r.rule.steps forest.now) rules.now }
+{
+    rules.iter().all(|rule| rule.rule.is_over(forest))
+}
+
+/// Rules over a forest by id upwards: `BadRule` (14) where one of them takes a bucket that the forest has not, or has the
+/// id of another; `Memory` (30).
+#[tactic(auto, unfolding(crate::specs::CrushMaps::rules_over))]
+fn rules_over(rules: Vec<NumberedRule>, forest: &Forest) -> Result<Vec<NumberedRule>, Refusal>
+    ensures { Makes result (refused_unless (rules_over forest.now rules.items) BadRule)
+        (λ sorted. Rises (λ r. r.id) rules.items sorted.items) }
+{
+    if !are_over(&rules, forest) {
+        return Err(Refusal::BadRule);
+    }
+    in_order(rules, Refusal::BadRule)
+}
+
+/// Each rule is within its limits: for a proof alone.
+fn are_lawful(rules: &[NumberedRule])
+    ensures { All (λ r. IsLawful r.rule.kind r.rule.steps) rules.now }
+{
+    for rule in rules {
+        let _ = rule.rule.steps();
+    }
+}
+
 /// Each of some rules once more.
 fn copied(alloc: Global, rules: &[NumberedRule]) -> Result<Vec<NumberedRule>, Memory>
     ensures { IfOk result (λ copies. copies.items ≡ rules.now) }
@@ -121,7 +168,7 @@ impl CrushMap {
     ghost use Rattle.refusal.specs.Outcomes.{Makes};
     ghost use Rattle.stated.specs.Limits.{max_rules};
     ghost use Rattle.stated.specs.Parts.{has_between, bucket_fits, rule_fits};
-    ghost use Rattle.stated.specs.CrushMaps.{rule_at, crush_fault, IsCrushMap, IsCrushOf};
+    ghost use Rattle.stated.specs.CrushMaps.{rule_at, rules_fault, crush_fault, IsCrushMap, IsCrushWith, IsCrushOf};
 
     /// The CRUSH map over the devices below `max_osd` that parts within the limits state: `BadForest` (13) where its buckets
     /// are no well-formed forest, else `BadRule` (14) where a rule is outside the grammar, takes a bucket that the forest has
@@ -142,6 +189,20 @@ impl CrushMap {
     {
         let forest = forest_of(alloc, buckets, max_osd)?;
         let rules = rules_of(alloc, rules, &forest)?;
+        Ok(CrushMap { forest, rules })
+    }
+
+    /// The CRUSH map of a forest and of rules over it: `BadLimit` (12) where there are none or more than 32, or an id is
+    /// above 255; else `BadRule` (14) where an id stands twice, or a rule takes a bucket that the forest has not;
+    /// `Memory` (30).
+    pub fn new(forest: Forest, rules: Vec<NumberedRule>) -> Result<CrushMap, Refusal>
+        ensures { Makes result (rules_fault forest rules.items) (IsCrushWith forest rules.items) }
+    {
+        if !rule_ids_fit(&rules) {
+            return Err(Refusal::BadLimit);
+        }
+        are_lawful(&rules);
+        let rules = rules_over(rules, &forest)?;
         Ok(CrushMap { forest, rules })
     }
 

@@ -2,6 +2,7 @@
 
 ghost use Rattle.std.specs.Prelude.{◌≡◌};
 ghost use Rattle.std.specs.List.{list_all};
+ghost use Rattle.stated.specs.CrushMaps.{crush_fits};
 ghost use Rattle.stated.specs.Parts.{item_fits, bucket_fits, step_fits, rule_fits, pool_fits, osd_fits, head_fits, lists_fit, parts_fit};
 
 use crate::entry_part::exceptions_fit;
@@ -10,7 +11,9 @@ use crate::limits::{
     MAX_POOLS, MAX_RULE_ID, MAX_RULES, MAX_TRIES, MAX_VERSION,
 };
 use crate::numbers::{has_between, is_between, is_bucket_id};
-use crate::parts::{BucketPart, ItemPart, MapParts, OsdPart, PoolPart, RulePart, StepPart};
+use crate::parts::{
+    BucketPart, CrushParts, ItemPart, MapParts, OsdPart, PoolPart, RulePart, StepPart,
+};
 use crate::pool::all_pools_fit;
 use crush::limits::{MAX_BUCKETS, MAX_ITEMS, MAX_STEPS};
 
@@ -107,6 +110,17 @@ fn lists_fit(parts: &MapParts) -> bool
     has_between(1, MAX_BUCKETS, &parts.buckets)
         && has_between(1, MAX_RULES, &parts.rules)
         && has_between(0, MAX_POOLS, &parts.pools)
+}
+
+/// Whether every number and every length of a CRUSH map is within its limits.
+#[tactic(auto, unfolding(crate::specs::CrushMaps::crush_fits))]
+pub fn crush_fits(parts: &CrushParts) -> bool
+    ensures { result ≡ crush_fits parts.now }
+{
+    has_between(1, MAX_BUCKETS, &parts.buckets)
+        && has_between(1, MAX_RULES, &parts.rules)
+        && all_buckets_fit(&parts.buckets)
+        && all_rules_fit(&parts.rules)
 }
 
 /// Whether every number and every length of a map is within its limits.

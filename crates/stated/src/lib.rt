@@ -8,6 +8,7 @@ pub mod crush_map;
 pub mod entry_part;
 pub mod exception;
 pub mod fits;
+pub mod grow;
 pub mod limits;
 pub mod numbers;
 pub mod osd;
@@ -23,10 +24,11 @@ pub use change::{Change, ChangeParts, Incremental, Reweight};
 pub use crush_map::CrushMap;
 pub use entry_part::{EntryPart, exceptions_fit, exceptions_of, pg_fits};
 pub use exception::{Entry, Exception, Explicit, Items, NamesGroup, Pair};
+pub use grow::Grow;
 pub use osd::{OsdState, Presence};
 pub use parts::{
-    BucketPart, ChoosePart, ExceptionPart, ItemPart, MapParts, OsdPart, PairPart, PoolPart,
-    RulePart, StepPart,
+    BucketPart, ChoosePart, CrushParts, ExceptionPart, GrowPart, ItemPart, MapParts, OsdPart,
+    PairPart, PoolPart, RulePart, StepPart,
 };
 pub use pg::Pg;
 pub use pg_text::PgParts;

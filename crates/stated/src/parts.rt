@@ -105,6 +105,26 @@ pub struct PoolPart {
     pub size: i128,
 }
 
+/// What a pool grows to, as a text states it.
+#[derive(Clone, Copy, Debug, PartialEq, Eq)]
+pub struct GrowPart {
+    /// The id of the pool: 1 to 65,535.
+    pub pool: i128,
+    /// The number of groups: 1 to 4,096.
+    pub pg_num: i128,
+    /// The number of groups for placement: 1 to 4,096, at most `pg_num`.
+    pub pgp_num: i128,
+}
+
+/// A CRUSH map as a text states it.
+#[derive(Debug, Drop)]
+pub struct CrushParts {
+    /// The buckets of the forest: 1 to 512.
+    pub buckets: Entries<BucketPart>,
+    /// The rules: 1 to 32.
+    pub rules: Entries<RulePart>,
+}
+
 /// An OSD as a text states it.
 #[derive(Clone, Copy, Debug, PartialEq, Eq)]
 pub struct OsdPart {

@@ -59,6 +59,7 @@ impl Pool {
     ghost use Rattle.std.specs.Prelude.{◌≡◌, ◌<◌, ◌≤◌, true};
     ghost use Rattle.refusal.specs.Outcomes.{Judges, refused_unless};
     ghost use Rattle.refusal.specs.declared.refused.Refusal.TheVariants.{BadPool};
+    ghost use Rattle.stated.specs.Limits.{max_groups};
     ghost use Rattle.stated.specs.Pools.{IsWithinLimits};
     ghost use Rattle.stated.specs.Parts.{pool_fits, has_enough_groups, pool_fault, pool_of};
 
@@ -98,6 +99,23 @@ impl Pool {
         ensures { IsWithinLimits self.now }
     {
         let _ = &self.id;
+    }
+
+    /// The same pool with other numbers of groups: `pg_num` is at most 4,096, and `pgp_num` 1 to `pg_num`.
+    pub(crate) fn with_groups(&self, pg_num: u32, pgp_num: u32) -> Pool
+        requires some { 0 < pgp_num }
+        requires few { pgp_num ≤ pg_num }
+        requires most { pg_num ≤ max_groups }
+        ensures { result ≡ record self.now { pg_num = pg_num; pgp_num = pgp_num } }
+    {
+        Pool {
+            id: self.id,
+            kind: self.kind,
+            pg_num,
+            pgp_num,
+            rule: self.rule,
+            size: self.size,
+        }
     }
 
     /// The id.

@@ -1,15 +1,20 @@
 //! The limits of a change as a text states it.
-ghost use Rattle.std.specs.Prelude.{◌≡◌};
+ghost use Rattle.std.specs.Prelude.{◌≡◌, true};
 ghost use Rattle.std.specs.List.{list_all};
+ghost use Rattle.std.specs.Option.{option_map_or};
+ghost use Rattle.stated.specs.CrushMaps.{crush_fits};
+ghost use Rattle.stated.specs.Growth.{growth_fits};
 ghost use Rattle.stated.specs.Limits.{max_entries};
 ghost use Rattle.stated.specs.Parts.{has_between, is_osd_id, pg_fits, pool_fits};
 ghost use Rattle.mapjson.specs.ChangeTexts.{is_pool_id, reweight_fits, entries_fit, change_fits};
 
 use super::{RawChange, RawReweight};
+use stated::fits::crush_fits;
+use stated::grow::all_growths_fit;
 use stated::limits::{MAX_ENTRIES, MAX_POOL_ID};
 use stated::numbers::{has_between, is_between, is_osd_id};
 use stated::pool::all_pools_fit;
-use stated::{PgParts, PoolPart, exceptions_fit, pg_fits};
+use stated::{CrushParts, GrowPart, PgParts, PoolPart, exceptions_fit, pg_fits};
 
 /// The greatest epoch.
 const MAX_EPOCH: i128 = u64::MAX as i128;
@@ -97,6 +102,23 @@ fn groups_fit(groups: &[PgParts]) -> bool
     is_short(groups) && all_groups_fit(groups)
 }
 
+/// Whether a list of growths is within the limits.
+fn growths_fit(growths: &[GrowPart]) -> bool
+    ensures { result ≡ entries_fit growth_fits growths.now }
+{
+    is_short(growths) && all_growths_fit(growths)
+}
+
+/// Whether a CRUSH map is within the limits, where there is one.
+fn new_crush_fits(crush: &Option<CrushParts>) -> bool
+    ensures { result ≡ option_map_or crush_fits crush.now true }
+{
+    match crush {
+        Some(parts) => crush_fits(parts),
+        None => true,
+    }
+}
+
 /// Whether every number and every length of a change is within its limits.
 #[tactic(auto, unfolding(crate::specs::ChangeTexts::change_fits))]
 pub(super) fn change_fits(change: &RawChange) -> bool
@@ -104,7 +126,9 @@ pub(super) fn change_fits(change: &RawChange) -> bool
 {
     is_between(0, MAX_EPOCH, change.base)
         && pool_ids_fit(&change.old_pools)
+        && new_crush_fits(&change.new_crush)
         && pools_fit(&change.new_pools)
+        && growths_fit(&change.grow_pool)
         && osds_fit(&change.down)
         && osds_fit(&change.up)
         && reweights_fit(&change.weight)

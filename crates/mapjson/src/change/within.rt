@@ -1,17 +1,25 @@
 //! The change that stated parts within their limits stand for.
 ghost use Rattle.std.specs.Prelude.{◌≡◌, true, IsTrue, All, IfOk, map, pos, nat_abs};
 ghost use Rattle.std.specs.List.{list_all};
+ghost use Rattle.std.specs.Option.{option_map_or};
+ghost use Rattle.crush.specs.Limits.{max_devices};
+ghost use Rattle.stated.specs.CrushMaps.{crush_fits, crush_fault, IsCrushOf};
+ghost use Rattle.stated.specs.Growth.{growth_fits, grows_evenly, growth_of};
 ghost use Rattle.refusal.specs.declared.refused.Refusal.TheVariants.{BadPool};
 ghost use Rattle.refusal.specs.Outcomes.{refused_unless};
 ghost use Rattle.stated.specs.Parts.{has_enough_groups, is_between, is_osd_id, pool_fits, pool_of, pg_of};
 ghost use Rattle.refusal.specs.Outcomes.{Makes};
-ghost use Rattle.mapjson.specs.ChangeTexts.{reweight_fits, change_fits, reweight_within, parts_within};
+ghost use Rattle.mapjson.specs.ChangeTexts.{reweight_fits, change_fits, reweight_within, parts_within, new_crush_fault, IsCrushStated, are_even};
 
 use super::{RawChange, RawReweight};
+use crush::limits::MAX_DEVICES;
 use keylist::Entries;
-use refusal::Refusal;
+use refusal::{Memory, Refusal};
 use stated::numbers::word;
-use stated::{ChangeParts, Pg, PgParts, Pool, PoolPart, Reweight, exceptions_of};
+use stated::{
+    ChangeParts, CrushMap, CrushParts, Grow, GrowPart, Pg, PgParts, Pool, PoolPart, Reweight,
+    exceptions_of,
+};
 use std::alloc::{AllocError, Global};
 
 /// Numbers that are words, as words.
@@ -62,15 +70,75 @@ fn pools(alloc: Global, stated: &[PoolPart]) -> Result<Vec<Pool>, Refusal>
     Ok(pools)
 }
 
-/// The parts of a change that is within the limits: `BadPool` (15) where a new pool has more groups for placement than
+/// Growths whose numbers are within their limits: `BadPool` (15) where one of them has more groups for placement than
 /// groups.
-pub(super) fn parts_within(alloc: Global, change: &RawChange) -> Result<ChangeParts, Refusal>
+fn growths(alloc: Global, stated: &[GrowPart]) -> Result<Vec<Grow>, Refusal>
+    requires { list_all growth_fits stated.now ≡ true }
+    ensures { Makes result (refused_unless (list_all grows_evenly stated.now) BadPool) (λ found. found.items ≡ map growth_of stated.now) }
+{
+    let mut found = Vec::with_capacity(alloc, stated.len())?;
+    for part in stated {
+        found.push(Grow::of_fitting(*part)?)?;
+    }
+    Ok(found)
+}
+
+/// The CRUSH map of a change that is within the limits, where it has one: `BadForest` (13), `BadRule` (14).
+pub(super) fn crush_within(
+    alloc: Global,
+    crush: &Option<CrushParts>,
+) -> Result<Option<CrushMap>, Refusal>
+    requires { option_map_or crush_fits crush.now true ≡ true }
+    ensures { Makes result (new_crush_fault crush.now) (IsCrushStated crush.now) }
+{
+    match crush {
+        Some(parts) => Ok(Some(crush_stated(alloc, parts)?)),
+        None => Ok(None),
+    }
+}
+
+/// The CRUSH map over 1,024 devices that parts within the limits state: `BadForest` (13), `BadRule` (14).
+#[tactic(auto, unfolding(stated::specs::CrushMaps::crush_fits))]
+fn crush_stated(alloc: Global, parts: &CrushParts) -> Result<CrushMap, Refusal>
+    requires { crush_fits parts.now ≡ true }
+    ensures { Makes result (crush_fault parts.now.buckets parts.now.rules max_devices) (IsCrushOf parts.now.buckets parts.now.rules) }
+{
+    CrushMap::stated(alloc, &parts.buckets, &parts.rules, MAX_DEVICES)
+}
+
+/// The pools that come with a change that is within the limits, and those that grow: `BadPool` (15) where one of them
+/// has more groups for placement than groups.
+pub(super) fn pools_within(
+    alloc: Global,
+    change: &RawChange,
+) -> Result<(Vec<Pool>, Vec<Grow>), Refusal>
     requires { change_fits change.now ≡ true }
-    ensures { Makes result (refused_unless (list_all has_enough_groups change.now.new_pools) BadPool) (λ parts. parts ≡ parts_within change.now) }
+    ensures { Makes result (refused_unless (are_even change.now) BadPool)
+        (λ r. (r.0.items ≡ map pool_of change.now.new_pools) × (r.1.items ≡ map growth_of change.now.grow_pool)) }
+{
+    let pools = pools(alloc, &change.new_pools)?;
+    let growths = growths(alloc, &change.grow_pool)?;
+    Ok((pools, growths))
+}
+
+/// The parts of a change that is within the limits; or `Memory` (30).
+pub(super) fn parts_within(
+    alloc: Global,
+    change: &RawChange,
+    new_crush: Option<CrushMap>,
+    new_pools: Vec<Pool>,
+    grow_pool: Vec<Grow>,
+) -> Result<ChangeParts, Memory>
+    requires fits { change_fits change.now ≡ true }
+    requires pools { new_pools.items ≡ map pool_of change.now.new_pools }
+    requires growths { grow_pool.items ≡ map growth_of change.now.grow_pool }
+    ensures { IfOk result (λ parts. parts ≡ parts_within change.now new_crush) }
 {
     Ok(ChangeParts {
         old_pools: Entries::new(words(alloc, &change.old_pools)?),
-        new_pools: Entries::new(pools(alloc, &change.new_pools)?),
+        new_crush,
+        new_pools: Entries::new(new_pools),
+        grow_pool: Entries::new(grow_pool),
         down: Entries::new(words(alloc, &change.down)?),
         up: Entries::new(words(alloc, &change.up)?),
         weight: Entries::new(reweights(alloc, &change.weight)?),

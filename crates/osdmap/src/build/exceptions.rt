@@ -20,7 +20,7 @@ impl OsdMap {
 
     /// Whether an exception is of a group that is there, names OSDs that exist, and is sound.
     fn is_exception<E: Entry>(&self, exception: &Exception<E>) -> bool
-        ensures { result ≡ is_exception E.names E.sound self.now.pools (osd_exists self.now) exception.now }
+        ensures { result ≡ is_exception E.names E.sound self.now.map.pools (osd_exists self.now.map) exception.now }
     {
         match self.pool(exception.pg.pool) {
             Some(pool) => {
@@ -34,11 +34,11 @@ impl OsdMap {
 
     /// Whether each of some exceptions is one of the map.
     fn are_exceptions<E: Entry>(&self, exceptions: &[Exception<E>]) -> bool
-        ensures { result ≡ list_all (is_exception E.names E.sound self.now.pools (osd_exists self.now)) exceptions.now }
+        ensures { result ≡ list_all (is_exception E.names E.sound self.now.map.pools (osd_exists self.now.map)) exceptions.now }
     {
         exceptions.iter().all(
             |exception| -> bool
-                ensures { result ≡ is_exception E.names E.sound self.entry.now.pools (osd_exists self.entry.now) exception.now }
+                ensures { result ≡ is_exception E.names E.sound self.entry.now.map.pools (osd_exists self.entry.now.map) exception.now }
             { self.is_exception(exception) },
         )
     }
@@ -51,7 +51,7 @@ impl OsdMap {
         parts: &[ExceptionPart<P>],
     ) -> Result<Vec<Exception<E>>, Refusal>
         requires { exceptions_fit P.within parts.now ≡ true }
-        ensures { Makes result (refused_unless (exceptions_ok E.names E.sound self.now.pools (osd_exists self.now) (map (exception_of P.entry_of) parts.now)) BadException) (λ es. Rises key_of (map (exception_of P.entry_of) parts.now) es.items) }
+        ensures { Makes result (refused_unless (exceptions_ok E.names E.sound self.now.map.pools (osd_exists self.now.map) (map (exception_of P.entry_of) parts.now)) BadException) (λ es. Rises key_of (map (exception_of P.entry_of) parts.now) es.items) }
     {
         let exceptions = exceptions_of(alloc, parts)?;
         if !self.are_exceptions(&exceptions) {

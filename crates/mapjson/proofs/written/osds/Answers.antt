@@ -11,7 +11,7 @@ use Rattle.mapjson.proofs.written.osds.Goals as goal
 pub loop-id-preserved : goal.loop-id-preserved
 loop-id-preserved c =
     let found = c.loop-id.found.items in
-    let next = written_more view osd_data (part_listed c.args.map.now) c.loop-id.id found c.in_ok-value.field-0 c.loop-id.invariant c.in_ok-value.ensures in
+    let next = written_more view osd_data (part_listed c.args.map.now.map) c.loop-id.id found c.in_ok-value.field-0 c.loop-id.invariant c.in_ok-value.ensures in
     let with = λ (o : Option Value). map view (found ++ cons_option o []) in
     elim c.match-branch-2.branch [
       | in-Some+in_ok-push w ↦ ap (λ v. map view v.items) w.found-is ∙ ap (map view) w.in_ok-push.ensures.items ∙ ap with (sym w.in-Some.is) ∙ next

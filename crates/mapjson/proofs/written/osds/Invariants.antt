@@ -6,4 +6,4 @@ use Rattle.mapjson.specs.Written.{osd_data}
 use Rattle.mapjson.proofs.written.osds.Given as goal
 
 abbrev pub invariant-loop-id : goal.invariant-loop-id
-invariant-loop-id l = map view l.found.items ≡ map osd_data (filter_map (part_listed l.map) (range_with_len 0 l.id))
+invariant-loop-id l = map view l.found.items ≡ map osd_data (filter_map (part_listed l.map.map) (range_with_len 0 l.id))

@@ -17,7 +17,7 @@ loop-rep-preserved c =
       | in-Chosen+in_ok-push v ↦ ap (λ v. v.items) v.chosen-is ∙ v.in_ok-push.ensures.items ∙ sym (ap (with_attempt old) v.in-Chosen.is)
       | in_default v ↦ ap (λ v. v.items) v.chosen-is ∙ sym (with_other old c.replica.result v.in_default.not-Chosen)
     ] in
-    replica_taken k a.start.now a.limit old c.deref.result.now c.match-replica.chosen.items c.replica.result c.loop-rep.rep room c.deref.ensures.value c.replica.ensures new
+    replica_taken k a.start.now a.limit old c.deref.result.now c.match-replica.chosen.items c.replica.result c.loop-rep.rep room c.deref.ensures.value (rw c.new-below.ensures.bucket at c.replica.ensures) new
     ∙ ap (λ ys. f ys c.loop-rep.rep) c.loop-rep.invariant
     ∙ fold_range f [] c.loop-rep.rep
 

@@ -6,4 +6,4 @@ use Rattle.crush.proofs.chooser.Chooser.replica.Given as goal
 abbrev pub invariant-loop-failures : goal.invariant-loop-failures
 invariant-loop-failures l =
     let k = choosing l.self in
-    replica_of k l.chosen l.start (k.tries.total - l.failures) (l.rep + l.failures) ≡ replica_of k l.chosen l.start k.tries.total l.rep
+    replica_of k l.chosen l.start.bucket.now (k.tries.total - l.failures) (l.rep + l.failures) ≡ replica_of k l.chosen l.start.bucket.now k.tries.total l.rep

@@ -19,8 +19,18 @@ returns-then-not-is_well_formed-clause-value c =
     let bad = rw c.deref.ensures.value at (sym c.is_well_formed.ensures ∙ c.if-not-is_well_formed.true) in
     fault-forest _ _ c.sort_unstable_by_key.ensures.permutation c.args.max_osd bad
 
+-- the buckets that passed
+pub parents_of-parents-requires : goal.parents_of-parents-requires
+parents_of-parents-requires c =
+    let ok = rw c.deref.ensures.value at (sym c.is_well_formed.ensures ∙ c.if-not-is_well_formed.false) in
+    let sorted = sorted-falls _ (c.sort_unstable_by_key.ensures.sorted (λ b. record { 0 = b.id }) (always_returns_same _ _ _ (λ a r q called. search rules))) in
+    rw c.deref-2.ensures.value (forest-passed c.sort_unstable_by_key.new.self.items c.args.max_osd sorted (limits-moved _ _ c.sort_unstable_by_key.ensures.permutation c.args.max_osd ∙ c.requires) ok)
+
 pub invariant_of-result : goal.invariant_of-result
-invariant_of-result c =
+invariant_of-result c = (∣ rw c.deref-2.ensures.value at c.parents_of-parents.ensures ∣₁, tt)
+
+pub invariant_of-result-2 : goal.invariant_of-result-2
+invariant_of-result-2 c =
     let ok = rw c.deref.ensures.value at (sym c.is_well_formed.ensures ∙ c.if-not-is_well_formed.false) in
     let sorted = sorted-falls _ (c.sort_unstable_by_key.ensures.sorted (λ b. record { 0 = b.id }) (always_returns_same _ _ _ (λ a r q called. search rules))) in
     forest-passed c.sort_unstable_by_key.new.self.items c.args.max_osd sorted (limits-moved _ _ c.sort_unstable_by_key.ensures.permutation c.args.max_osd ∙ c.requires) ok

@@ -3,4 +3,4 @@ use Rattle.crush.proofs.TreeWalks.{IsAt}
 use Rattle.crush.proofs.pick.tree.tree_pick.Given as goal
 
 abbrev pub invariant-loop-k : goal.invariant-loop-k
-invariant-loop-k l = IsAt (draw_at l.x l.id l.r) l.items l.k l.from l.weight
+invariant-loop-k l = IsAt (draw_at l.x l.id l.r) l.items l.k l.walk.from l.walk.weight

@@ -7,6 +7,6 @@ use Rattle.osdmap.proofs.map.OsdMap.evals.Given as goal
 -- the groups so far are those of the pools so far
 abbrev pub invariant-loop-pool : goal.invariant-loop-pool
 invariant-loop-pool l = record {
-  sum : l.evals ≡ sum_by (λ (p : PoolFacts). count_by (is_evaluated l.self l.change p) (range_with_len 0 p.pg_num)) (take l.pool-index l.self.pools);
+  sum : l.evals ≡ sum_by (λ (p : PoolFacts). count_by (is_evaluated l.self.map l.change p) (range_with_len 0 p.pg_num)) (take l.pool-index l.self.map.pools);
   few : l.evals ≤ 4096 * l.pool-index;
 }

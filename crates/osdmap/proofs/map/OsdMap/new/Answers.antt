@@ -1,4 +1,5 @@
 use Rattle.std.proofs.Common.{◌∙◌, sym, inr, arith}
+use Rattle.osdmap.specs.Stored.{StoredMap}
 use Rattle.osdmap.specs.Stated.{map_fault, IsStated}
 use Rattle.stated.proofs.Judged.{stops}
 use Rattle.osdmap.proofs.Built.{parts_fit_each, fault_limit}
@@ -12,7 +13,7 @@ pub returns-in_err-bare : goal.returns-in_err-bare
 returns-in_err-bare c =
     let limits = sym c.parts_fit.ensures ∙ c.if-not-parts_fit.false in
     let e = c.in_err-bare.field-0.0 in
-    stops c.from_residual.result (IsStated c.args.parts) (map_fault c.args.parts) _ e (fault_bare c.args.parts limits e) c.in_err-bare.ensures c.from_residual.ensures.1
+    stops c.from_residual.result (λ (m : StoredMap). IsStated c.args.parts m.map) (map_fault c.args.parts) _ e (fault_bare c.args.parts limits e) c.in_err-bare.ensures c.from_residual.ensures.1
 
 pub exceptions_in-requires : goal.exceptions_in-requires
 exceptions_in-requires c =
@@ -30,7 +31,7 @@ returns-in_err-explicit c =
     let bare = c.in_ok-bare.ensures in
     let e = c.in_err-explicit.field-0.0 in
     let found = rw c.deref.ensures at c.in_err-explicit.ensures in
-    stops c.from_residual-in_err-explicit.result (IsStated c.args.parts) (map_fault c.args.parts) _ e (fault_explicit c.args.parts limits c.in_ok-bare.bare bare.0 bare.1 e) found c.from_residual-in_err-explicit.ensures.1
+    stops c.from_residual-in_err-explicit.result (λ (m : StoredMap). IsStated c.args.parts m.map) (map_fault c.args.parts) _ e (fault_explicit c.args.parts limits c.in_ok-bare.bare.map bare.0 bare.1 e) found c.from_residual-in_err-explicit.ensures.1
 
 pub returns-in_err-items : goal.returns-in_err-items
 returns-in_err-items c =
@@ -38,7 +39,7 @@ returns-in_err-items c =
     let bare = c.in_ok-bare.ensures in
     let e = c.in_err-items.field-0.0 in
     let found = rw c.deref-2.ensures at c.in_err-items.ensures in
-    stops c.from_residual-in_err-items.result (IsStated c.args.parts) (map_fault c.args.parts) _ e (fault_items c.args.parts limits c.in_ok-bare.bare bare.0 bare.1 e) found c.from_residual-in_err-items.ensures.1
+    stops c.from_residual-in_err-items.result (λ (m : StoredMap). IsStated c.args.parts m.map) (map_fault c.args.parts) _ e (fault_items c.args.parts limits c.in_ok-bare.bare.map bare.0 bare.1 e) found c.from_residual-in_err-items.ensures.1
 
 pub invariant_of-result : goal.invariant_of-result
 invariant_of-result c =

@@ -1,9 +1,18 @@
-use Rattle.std.proofs.Common.{rules, sym, ◌∙◌}
-use Rattle.osdmap.proofs.CheckLemmas.{after-new, after-old}
+use Rattle.std.proofs.Common.{rules, ◌∙◌, sym, ap}
+use Rattle.std.specs.Option.{option_map}
+use Rattle.stated.specs.Growth.{grown}
+use Rattle.osdmap.specs.Changes.{pools_there, pools_after}
+use Rattle.osdmap.proofs.Grown.{entry-grown}
 use Rattle.osdmap.proofs.map.OsdMap.pool_after.Goals as goal
 
 pub returns-in-Some : goal.returns-in-Some
-returns-in-Some c = sym (after-new c.args.self.now c.args.change.now c.args.id _ (search rules))
+unfolding pools_after
+returns-in-Some c =
+    let there = rw c.in-Some.is at c.pool_there.ensures in
+    rw (entry-grown c.args.change.now.grow_pool (pools_there c.args.self.now.map c.args.change.now) c.args.id, ← there) (search rules)
 
 pub returns-in-None : goal.returns-in-None
-returns-in-None c = c.kept_pool.ensures ∙ sym (after-old c.args.self.now c.args.change.now c.args.id (search rules))
+unfolding pools_after
+returns-in-None c =
+    let there = rw c.in-None.is at c.pool_there.ensures in
+    rw (entry-grown c.args.change.now.grow_pool (pools_there c.args.self.now.map c.args.change.now) c.args.id, ← there) (search rules)

@@ -4,6 +4,7 @@ use mir.Syntax.{w128}
 use mir.Val.{SFits}
 use Rattle.stated.proofs.Judged.{stops}
 use Rattle.stated.proofs.Within.{word_between}
+use Rattle.osdmap.specs.Stored.{StoredMap}
 use Rattle.osdmap.specs.Stated.{map_fault, IsStated}
 use Rattle.osdmap.specs.Built.{without_exceptions, rows_of, row_presence, row_weight}
 use Rattle.osdmap.proofs.Built.{IsBuilt, parts_fit_each, some_osds, few_osds, fault_crush, fault_pool, fault_osd, no_fault, is_stated, holds}
@@ -73,7 +74,7 @@ returns-in_err-crush c =
     let max_osd : c.word-max_osd.result ≡ nat_abs c.args.parts.now.max_osd = rw to_z-of_z at c.word-max_osd.ensures in
     let e = c.in_err-crush.field-0.0 in
     let found = rw (c.deref.ensures, c.deref-2.ensures, max_osd) at c.in_err-crush.ensures in
-    stops c.from_residual.result (IsStated (without_exceptions c.args.parts.now)) (map_fault (without_exceptions c.args.parts.now)) _ e (fault_crush (without_exceptions c.args.parts.now) e limits) found c.from_residual.ensures.1
+    stops c.from_residual.result (λ (m : StoredMap). IsStated (without_exceptions c.args.parts.now) m.map) (map_fault (without_exceptions c.args.parts.now)) _ e (fault_crush (without_exceptions c.args.parts.now) e limits) found c.from_residual.ensures.1
 
 pub returns-in_err-pools : goal.returns-in_err-pools
 returns-in_err-pools c =
@@ -85,7 +86,7 @@ returns-in_err-pools c =
     let rising = rw (← c.rules.ensures.value) at stated.rules in
     let e = c.in_err-pools.field-0.0 in
     let found = rw c.deref-3.ensures at c.in_err-pools.ensures in
-    stops c.from_residual-in_err-pools.result (IsStated (without_exceptions c.args.parts.now)) (map_fault (without_exceptions c.args.parts.now)) _ e (fault_pool (without_exceptions c.args.parts.now) c.rules.result.now e limits grown rising) found c.from_residual-in_err-pools.ensures.1
+    stops c.from_residual-in_err-pools.result (λ (m : StoredMap). IsStated (without_exceptions c.args.parts.now) m.map) (map_fault (without_exceptions c.args.parts.now)) _ e (fault_pool (without_exceptions c.args.parts.now) c.rules.result.now e limits grown rising) found c.from_residual-in_err-pools.ensures.1
 
 pub returns-in_err-rows : goal.returns-in_err-rows
 returns-in_err-rows c =
@@ -98,7 +99,7 @@ returns-in_err-rows c =
     let served = rw c.deref-3.ensures at c.in_ok-pools.ensures.0 in
     let e = c.in_err-rows.field-0.0 in
     let found = rw (c.deref-4.ensures, max_osd) at c.in_err-rows.ensures in
-    stops c.from_residual-in_err-rows.result (IsStated (without_exceptions c.args.parts.now)) (map_fault (without_exceptions c.args.parts.now)) _ e (fault_osd (without_exceptions c.args.parts.now) c.rules.result.now e limits grown rising served) found c.from_residual-in_err-rows.ensures.1
+    stops c.from_residual-in_err-rows.result (λ (m : StoredMap). IsStated (without_exceptions c.args.parts.now) m.map) (map_fault (without_exceptions c.args.parts.now)) _ e (fault_osd (without_exceptions c.args.parts.now) c.rules.result.now e limits grown rising served) found c.from_residual-in_err-rows.ensures.1
 
 pub invariant_of-result-2 : goal.invariant_of-result-2
 invariant_of-result-2 c =

@@ -1,0 +1,82 @@
+//! Lists with keys changed where they stand, in the room that they have.
+
+ghost use Rattle.std.specs.Prelude.{◌≡◌, ◌+◌, ◌≤◌, ◌<◌, [], not, take, length, vec_len, vec_capacity, MatchOption};
+ghost use Rattle.std.specs.List.{fold, filter};
+ghost use Rattle.std.specs.List.Sorted.{IsNonDecreasingBy};
+ghost use Rattle.keylist.specs.Keys.{has_key};
+ghost use Rattle.keylist.specs.Order.{IsRising};
+ghost use Rattle.keylist.specs.Puts.{put, ComesLast};
+
+use crate::find::has;
+use crate::key::Keyed;
+use crate::merge::put_count;
+use std::cmp::Ordering;
+
+/// Takes away the entries whose keys others have, these in ascending order. It takes no memory.
+pub fn take_away<K: Keyed, G: Keyed>(list: &mut Vec<K>, gone: &[G])
+    requires { IsNonDecreasingBy G.key_of gone.now }
+    ensures items { list.new.items ≡ filter (λ e. not (has_key G.key_of gone.now (K.key_of e))) list.old.items }
+    ensures fewer { vec_len list.new ≤ vec_len list.old }
+    ensures room { vec_capacity list.new ≡ vec_capacity list.old }
+{
+    list.retain(
+        |entry: &K| -> bool
+            requires { IsNonDecreasingBy G.key_of gone.now }
+            ensures { result ≡ not (has_key G.key_of gone.entry.now (K.key_of entry.now)) }
+        { !has(gone, entry.key()) },
+    );
+}
+
+/// What comes last of two lists with rising keys made one, an entry of `new` in place of one of `old` with its key; how
+/// many of `old` are left then, and what is left of `new`.
+fn last_of_both<'a, K: Keyed + Copy>(old: &[K], new: &'a [K]) -> Option<(K, usize, &'a [K])>
+    requires old { IsRising K.key_of old.now }
+    requires new { IsRising K.key_of new.now }
+    ensures { MatchOption result (new.now ≡ []) (λ t. ComesLast K.key_of old.now new.now t.0 t.1 t.2.now) }
+{
+    let (y, news) = new.split_last()?;
+    let Some((x, olds)) = old.split_last() else {
+        return Some((*y, 0, news));
+    };
+    Some(match x.key().cmp(&y.key()) {
+        Ordering::Less => (*y, old.len(), news),
+        Ordering::Equal => (*y, olds.len(), news),
+        Ordering::Greater => (*x, olds.len(), new),
+    })
+}
+
+/// A list is made as long as it will be, by copies of an entry.
+fn lengthen<K: Keyed + Copy>(list: &mut Vec<K>, len: usize, entry: K)
+    requires longer { vec_len list.old ≤ len }
+    requires room { len ≤ vec_capacity list.old }
+    ensures front { take (vec_len list.old) list.new.items ≡ list.old.items }
+    ensures len { vec_len list.new ≡ len }
+    ensures room { vec_capacity list.new ≡ vec_capacity list.old }
+{
+    for _ in list.len()..len {
+        list.push_reserved(entry);
+    }
+}
+
+/// Puts the entries of a list with rising keys into another, each in place of one with its key. It takes no memory, as
+/// there is room, and moves no entry that stands before all that come.
+pub fn put_all<K: Keyed + Copy>(list: &mut Vec<K>, new: &[K])
+    requires old { IsRising K.key_of list.old.items }
+    requires new { IsRising K.key_of new.now }
+    requires room { vec_len list.old + length new.now ≤ vec_capacity list.old }
+    ensures items { list.new.items ≡ fold (put K.key_of) list.old.items new.now }
+    ensures room { vec_capacity list.new ≡ vec_capacity list.old }
+{
+    let Some(first) = new.first() else {
+        return;
+    };
+    let mut olds = list.len();
+    let mut at = put_count(list, new);
+    lengthen(list, at, *first);
+    let mut news = new;
+    while let Some(last) = last_of_both(&list[..olds], news) {
+        at -= 1;
+        list[at] = last.0;
+        (olds, news) = (last.1, last.2);
+    }
+}

@@ -1,0 +1,23 @@
+use Rattle.std.proofs.Common.{◌≡◌, ◌∙◌, ap, not, arith, ℕ}
+use Rattle.std.specs.List.{fold, filter}
+use Rattle.keylist.specs.Keys.{has_key}
+use Rattle.keylist.specs.Puts.{put}
+use Rattle.keylist.proofs.KeyedOrder.{rising-filter}
+use Rattle.stated.specs.Exceptions.{place_of, key_of, stays, exceptions_after}
+use Rattle.osdmap.proofs.Leaving.{filter_twice}
+use Rattle.osdmap.proofs.in_place.change_exceptions.Goals as goal
+
+pub put_all-requires-clause-old : goal.put_all-requires-clause-old
+put_all-requires-clause-old g c =
+    rw (c.leave_groups.ensures.items, c.leave_pools.ensures.items) (rising-filter key_of _ _ (rising-filter key_of _ _ c.requires.rising))
+
+pub put_all-requires-clause-room : goal.put_all-requires-clause-room
+put_all-requires-clause-room g c =
+    omega (arith, c.leave_groups.ensures.fewer, c.leave_pools.ensures.fewer, c.leave_groups.ensures.room, c.leave_pools.ensures.room, c.requires.room)
+
+pub returns : goal.returns
+unfolding exceptions_after
+returns g c =
+    let left = c.leave_groups.ensures.items ∙ ap (filter (λ e. not (has_key place_of c.args.gone.now (key_of e)))) c.leave_pools.ensures.items
+    ∙ filter_twice (λ e. not (has_key (λ (id : ℕ). id) c.args.old_pools.now e.pg.pool)) (λ e. not (has_key place_of c.args.gone.now (key_of e))) c.args.exceptions.now.items in
+    c.put_all.ensures.items ∙ ap (λ es. fold (put key_of) es c.args.new.now) left

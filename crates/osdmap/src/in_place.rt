@@ -1,0 +1,123 @@
+//! Changes made where the lists of a map stand, in the room that these have.
+
+ghost use Rattle.std.specs.Prelude.{◌≡◌, ◌+◌, ◌≤◌, true, not, map, length, vec_len, vec_capacity};
+ghost use Rattle.std.specs.List.{fold, filter};
+ghost use Rattle.std.specs.List.Sorted.{IsNonDecreasingBy};
+ghost use Rattle.keylist.specs.Keys.{has_key};
+ghost use Rattle.keylist.specs.Order.{IsRising};
+ghost use Rattle.keylist.specs.Puts.{put};
+ghost use Rattle.stated.specs.Exceptions.{place_of, key_of, exceptions_after};
+ghost use Rattle.stated.specs.Growth.{grown};
+ghost use Rattle.osdmap.specs.Changes.{with_up, with_weight};
+ghost use Rattle.osdmap.specs.Marks.{are_below};
+
+use keylist::{Entries, has, last_of, put_all, take_away};
+use stated::{Entry, Exception, Grow, Pg, Pool, Presence, Reweight};
+
+/// Each OSD of a list goes up or down.
+pub(crate) fn set_up(presences: &mut Entries<Presence>, osds: &[u32], up: bool)
+    requires { are_below (λ osd. osd) (length presences.old) osds.now ≡ true }
+    ensures { presences.new ≡ fold (with_up up) presences.old osds.now }
+{
+    for osd in osds {
+        let place = *osd as usize;
+        let exists = presences[place].exists;
+        presences.set(place, Presence { exists, up });
+    }
+}
+
+/// Each OSD of a list gets its reweight.
+pub(crate) fn set_weights(weights: &mut Entries<u32>, reweights: &[Reweight])
+    requires { are_below (λ w. w.osd) (length weights.old) reweights.now ≡ true }
+    ensures { weights.new ≡ fold with_weight weights.old reweights.now }
+{
+    for reweight in reweights {
+        weights.set(reweight.osd as usize, reweight.weight);
+    }
+}
+
+/// A pool after growths, in ascending order: the last one of it counts.
+#[tactic(auto, unfolding(stated::specs::Growth::grown))]
+pub(crate) fn grown(growths: &[Grow], pool: Pool) -> Pool
+    requires { IsNonDecreasingBy (λ g. g.pool) growths.now }
+    ensures { result ≡ grown growths.now pool }
+{
+    match last_of(growths, u64::from(pool.id())) {
+        Some(growth) => growth.grown(&pool),
+        None => pool,
+    }
+}
+
+/// Each pool grows as growths in ascending order say.
+fn grow_all(pools: &mut Vec<Pool>, growths: &[Grow])
+    requires { IsNonDecreasingBy (λ g. g.pool) growths.now }
+    ensures { pools.new.items ≡ map (grown growths.now) pools.old.items }
+{
+    for at in 0..pools.len() {
+        pools[at] = grown(growths, pools[at]);
+    }
+}
+
+/// Pools go, come and grow, each list in ascending order.
+pub(crate) fn change_pools(pools: &mut Vec<Pool>, old: &[u32], new: &[Pool], growths: &[Grow])
+    requires rising { IsRising (λ p. p.id) pools.old.items }
+    requires old { IsNonDecreasingBy (λ id. id) old.now }
+    requires new { IsRising (λ p. p.id) new.now }
+    requires growths { IsNonDecreasingBy (λ g. g.pool) growths.now }
+    requires room { vec_len pools.old + length new.now ≤ vec_capacity pools.old }
+    ensures { pools.new.items ≡ map (grown growths.now) (fold (put (λ p. p.id)) (filter (λ p. not (has_key (λ id. id) old.now p.id)) pools.old.items) new.now) }
+{
+    take_away(pools, old);
+    put_all(pools, new);
+    grow_all(pools, growths);
+}
+
+/// The exceptions of the groups of some pools go.
+fn leave_pools<E: Entry>(exceptions: &mut Vec<Exception<E>>, old_pools: &[u32])
+    requires { IsNonDecreasingBy (λ id. id) old_pools.now }
+    ensures items { exceptions.new.items ≡ filter (λ e. not (has_key (λ id. id) old_pools.now e.pg.pool)) exceptions.old.items }
+    ensures fewer { vec_len exceptions.new ≤ vec_len exceptions.old }
+    ensures room { vec_capacity exceptions.new ≡ vec_capacity exceptions.old }
+{
+    if old_pools.is_empty() {
+        return;
+    }
+    exceptions.retain(
+        |exception: &Exception<E>| -> bool
+            requires { IsNonDecreasingBy (λ id. id) old_pools.now }
+            ensures { result ≡ not (has_key (λ id. id) old_pools.entry.now exception.now.pg.pool) }
+        { !has(old_pools, u64::from(exception.pg.pool)) },
+    );
+}
+
+/// The exceptions of some groups go.
+fn leave_groups<E: Entry>(exceptions: &mut Vec<Exception<E>>, gone: &[Pg])
+    requires { IsNonDecreasingBy place_of gone.now }
+    ensures items { exceptions.new.items ≡ filter (λ e. not (has_key place_of gone.now (key_of e))) exceptions.old.items }
+    ensures fewer { vec_len exceptions.new ≤ vec_len exceptions.old }
+    ensures room { vec_capacity exceptions.new ≡ vec_capacity exceptions.old }
+{
+    if !gone.is_empty() {
+        take_away(exceptions, gone);
+    }
+}
+
+/// Exceptions go with their pools, or by their groups, and come, each list in ascending order. Where none is named and no
+/// pool goes, the list is not looked at.
+pub(crate) fn change_exceptions<E: Entry>(
+    exceptions: &mut Vec<Exception<E>>,
+    old_pools: &[u32],
+    gone: &[Pg],
+    new: &[Exception<E>],
+)
+    requires rising { IsRising key_of exceptions.old.items }
+    requires pools { IsNonDecreasingBy (λ id. id) old_pools.now }
+    requires gone { IsNonDecreasingBy place_of gone.now }
+    requires new { IsRising key_of new.now }
+    requires room { vec_len exceptions.old + length new.now ≤ vec_capacity exceptions.old }
+    ensures { exceptions.new.items ≡ exceptions_after old_pools.now gone.now new.now exceptions.old.items }
+{
+    leave_pools(exceptions, old_pools);
+    leave_groups(exceptions, gone);
+    put_all(exceptions, new);
+}

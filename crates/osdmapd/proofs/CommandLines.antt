@@ -1,0 +1,87 @@
+-- What the parser of the command line finds, in the words of the options.
+use Rattle.std.proofs.Common.{◌≡◌, ◌⊎◌, ◌∙◌, ℕ, Bool, true, List, [], Option, Some, None, Result, Ok, Err, IfSome, sym, refl, ap, subst, inl, inr}
+use Rattle.std.specs.Str.Parse.{IsNumeral, ParsesUnsigned, digits_value, without_leading_plus}
+use Rattle.clap.specs.declared.parser.matches.Found.{Found}
+use Rattle.clap.specs.declared.error.kind.ErrorKind.{ErrorKind}
+use Rattle.clap.specs.declared.error.kind.ErrorKind.TheVariants.{DisplayHelp, DisplayVersion, OutOfMemory}
+use Rattle.clap.specs.Faults.{fault_of, is_simple_and_free}
+use Rattle.clap.specs.Kinds.{IsAmong}
+use Rattle.clap.specs.Matches.{ReadsOne, one_text}
+use Rattle.clap.specs.Simple.{App, is_simple, matches_of}
+use Rattle.clap.specs.Walk.{Row, Text, one_of, rows_of}
+use Rattle.clap.proofs.WalkLemmas.{one_text-rows}
+use Rattle.osdmapd.specs.declared.choices.Options.{Options}
+use Rattle.osdmapd.specs.declared.choices.LineError.{LineError}
+use Rattle.osdmapd.specs.declared.choices.LineError.TheVariants.{Help, Usage, TooMany, Memory}
+use Rattle.osdmapd.specs.CommandLine.{app, found_in, faults_of, IsRequest, TellsOf, Chooses, ReadsLine}
+
+-- a number that is read of an id is that of the text found for it
+pub number_read : {E : Type 0} (G : List ℕ → Result ℕ E → Type 0) (f : Found) (id : Text) (r : Option ℕ)
+    → ((u : List ℕ) (x : Result ℕ E) → G u x → ParsesUnsigned 32 10 u x)
+    → (one_text f id ≡ None → r ≡ None) → ((t : List ℕ) → one_text f id ≡ Some t → ReadsOne G t r)
+    → IfSome r (λ n. (text : Text) × (one_of id (rows_of f) ≡ Some text) × IsNumeral 10 (without_leading_plus text)
+    × (n ≡ digits_value 10 (without_leading_plus text)))
+number_read G f id None parses none some = tt
+number_read G f id (Some n) parses none some = go (one_text f id) refl
+  where
+    go : (o : Option Text) → one_text f id ≡ o
+        → (text : Text) × (one_of id (rows_of f) ≡ Some text) × IsNumeral 10 (without_leading_plus text)
+        × (n ≡ digits_value 10 (without_leading_plus text))
+    go None e =
+        let bad : Some n ≡ None = none e in
+        cc
+    go (Some t) e =
+        let read = parses t (Ok n) (some t e) in
+        (t, sym (one_text-rows f id) ∙ e, read.0.0, read.1)
+
+-- the command is one whose matches and faults the parser's definitions give
+app_simple : is_simple app ≡ true
+app_simple = refl
+
+-- and no argument of it has a rule on another
+app_free : is_simple_and_free app ≡ true
+app_free = refl
+
+-- what is made of words that the parser took
+pub taken_line : (words : List Text) (cmd : App) (rows : List Row) (r : Result Options LineError) → cmd ≡ app
+    → (is_simple cmd ≡ true → rows ≡ matches_of cmd words) → (is_simple_and_free cmd ≡ true → fault_of cmd words ≡ [])
+    → Chooses rows r → ReadsLine words r
+unfolding found_in faults_of
+taken_line words cmd rows r is found free takes =
+    let rows_are : rows ≡ found_in words = found (ap is_simple is ∙ app_simple) ∙ ap (λ (a : App). matches_of a words) is in
+    let none : faults_of words ≡ [] =
+    sym (ap (λ (a : App). fault_of a words) is) ∙ free (ap is_simple_and_free is ∙ app_free) in
+    by_result r none (subst (λ (rs : List Row). Chooses rs r) rows_are takes)
+  where
+    by_result : (s : Result Options LineError) → faults_of words ≡ [] → Chooses (found_in words) s → ReadsLine words s
+    by_result (Ok o) none takes = (none, takes)
+    by_result (Err (Help text)) none takes = absurd takes
+    by_result (Err (Usage text)) none takes = absurd takes
+    by_result (Err TooMany) none takes = (none, takes)
+    by_result (Err Memory) none takes = tt
+
+-- what is told of words that the parser refused
+pub refused_line : (words : List Text) (cmd : App) (kind : ErrorKind) (e : LineError) → cmd ≡ app
+    → (is_simple_and_free cmd ≡ true → (kind ≡ OutOfMemory) ⊎ IsAmong kind (fault_of cmd words))
+    → TellsOf kind e → ReadsLine words (Err e)
+unfolding faults_of
+refused_line words cmd kind e is free told =
+    let among : (kind ≡ OutOfMemory) ⊎ IsAmong kind (faults_of words) =
+    subst (λ (a : App). (kind ≡ OutOfMemory) ⊎ IsAmong kind (fault_of a words)) is (free (ap is_simple_and_free is ∙ app_free)) in
+    by_error e among told
+  where
+    no_request : IsRequest kind → kind ≡ OutOfMemory → ⊥
+    no_request (inl help) memory =
+        let bad : DisplayHelp ≡ OutOfMemory = sym help ∙ memory in
+        cc
+    no_request (inr version) memory =
+        let bad : DisplayVersion ≡ OutOfMemory = sym version ∙ memory in
+        cc
+
+    by_error : (f : LineError) → (kind ≡ OutOfMemory) ⊎ IsAmong kind (faults_of words) → TellsOf kind f → ReadsLine words (Err f)
+    by_error (Help text) (inl memory) told = absurd (no_request told memory)
+    by_error (Help text) (inr among) told = (kind, among, told)
+    by_error (Usage text) (inl memory) told = absurd (told.1 memory)
+    by_error (Usage text) (inr among) told = (kind, among, told.0)
+    by_error TooMany among told = absurd told
+    by_error Memory among told = tt

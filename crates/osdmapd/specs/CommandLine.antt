@@ -1,0 +1,107 @@
+-- What the words of a command line ask for, by the parser's own definitions of what it finds in words.
+use Rattle.std.specs.Prelude.{◌≡◌, ◌≢◌, ◌⊎◌, ◌<◌, ℕ, pos, true, false, List, [], ◌∷◌, length, map, codes, Option, Some, None, Result, Ok, Err, string_bytes}
+use Rattle.std.specs.Str.Parse.{IsNumeral, digits_value, without_leading_plus}
+use Rattle.clap.specs.declared.builder.arg.Arg.{Arg}
+use Rattle.clap.specs.declared.builder.action.ArgAction.TheVariants.{Set, Append}
+use Rattle.clap.specs.declared.builder.value_parser.ValueParser.TheVariants.{Signed}
+use Rattle.clap.specs.declared.error.kind.ErrorKind.{ErrorKind}
+use Rattle.clap.specs.declared.error.kind.ErrorKind.TheVariants.{DisplayHelp, DisplayVersion, OutOfMemory}
+use Rattle.clap.specs.Lexer.{usize_max}
+use Rattle.clap.specs.Kinds.{Kinds, IsAmong}
+use Rattle.clap.specs.Faults.{fault_of}
+use Rattle.clap.specs.Walk.{Row, Rule, Text, first_of, all_of, one_of, rule_of}
+use Rattle.clap.specs.Simple.{App, matches_of, new_app, new_rule, with_rule}
+use Rattle.monitor.specs.States.{max_journal}
+use Rattle.osdmapd.specs.declared.choices.Options.{Options}
+use Rattle.osdmapd.specs.declared.choices.LineError.{LineError}
+use Rattle.osdmapd.specs.declared.choices.LineError.TheVariants.{Help, Usage, TooMany, Memory}
+
+-- ---- the command
+
+-- `--journal N`, N a number from 1 to 65,536, and 1,024 where it is not given
+abbrev pub journal_rule : Rule
+journal_rule = record (new_rule (codes "journal")) {
+  long = Some (codes "journal");
+  action = Some Set;
+  value_names = 1;
+  defaults = codes "1024" ∷ [];
+  parser = Some (Signed (pos 1) (pos max_journal));
+}
+
+-- MAP, one word that must be there
+abbrev pub map_rule : Rule
+map_rule = record (new_rule (codes "MAP")) { action = Some Set; required = true }
+
+-- SCRIPT, one word or more
+abbrev pub script_rule : Rule
+script_rule = record (new_rule (codes "SCRIPT")) {
+  action = Some Append;
+  range = Some (record { start_inclusive = 1; end_inclusive = usize_max });
+  required = true;
+}
+
+-- an argument is read by a rule, at this command alone
+abbrev pub IsReadBy : Rule → Arg → Type 0
+IsReadBy rule arg = (rule_of arg ≡ rule) × (arg.global ≡ false)
+
+-- `osdmapd [--journal N] MAP SCRIPT..`
+abbrev pub app : App
+app = with_rule (with_rule (with_rule (new_app (codes "osdmapd")) journal_rule) map_rule) script_rule
+
+-- what the parser finds in the words, the program's name first
+unfoldable pub found_in : List Text → List Row
+found_in words = matches_of app words
+
+-- what the parser has against the words; nothing where it takes them
+unfoldable pub faults_of : List Text → Kinds
+faults_of words = fault_of app words
+
+-- ---- the options
+
+-- the journal that was found: the number of a text of decimal digits, a plus before them aside
+abbrev pub IsJournalIn : List Row → ℕ → Type 0
+IsJournalIn rows n =
+    (text : Text) × (one_of (codes "journal") rows ≡ Some text) × IsNumeral 10 (without_leading_plus text)
+    × (n ≡ digits_value 10 (without_leading_plus text))
+
+-- the map's path that was found
+abbrev pub map_path_in : List Row → Option Text
+map_path_in rows = first_of (codes "MAP") rows
+
+-- the scripts' paths that were found
+abbrev pub script_paths_in : List Row → Option (List Text)
+script_paths_in rows = all_of (codes "SCRIPT") rows
+
+-- the options are what was found for the journal, the map and the scripts
+pub record AreFound (rows : List Row) (o : Options) : Type 0 where
+  pub journal_found : IsJournalIn rows o.journal
+  pub map_found : map_path_in rows ≡ Some (string_bytes o.map)
+  pub scripts_found : script_paths_in rows ≡ Some (map string_bytes o.scripts.items)
+
+-- the options of what was found; or more scripts than one were found
+abbrev pub Chooses : List Row → Result Options LineError → Type 0
+Chooses rows (Ok o) = AreFound rows o
+Chooses rows (Err (Help text)) = ⊥
+Chooses rows (Err (Usage text)) = ⊥
+Chooses rows (Err TooMany) = (paths : List Text) × (script_paths_in rows ≡ Some paths) × (1 < length paths)
+Chooses rows (Err Memory) = Unit {0}
+
+-- the parser asks for help or a version to be shown
+abbrev pub IsRequest : ErrorKind → Type 0
+IsRequest kind = (kind ≡ DisplayHelp) ⊎ (kind ≡ DisplayVersion)
+
+-- what is told of the parser's reason
+abbrev pub TellsOf : ErrorKind → LineError → Type 0
+TellsOf kind (Help text) = IsRequest kind
+TellsOf kind (Usage text) = (IsRequest kind → ⊥) × (kind ≢ OutOfMemory)
+TellsOf kind TooMany = ⊥
+TellsOf kind Memory = Unit {0}
+
+-- the options of words against which the parser has nothing; or why there are none: the parser's reason, or more
+-- scripts than one
+abbrev pub ReadsLine : List Text → Result Options LineError → Type 0
+ReadsLine words (Ok o) = (faults_of words ≡ []) × Chooses (found_in words) (Ok o)
+ReadsLine words (Err (Help text)) = (kind : ErrorKind) × IsAmong kind (faults_of words) × IsRequest kind
+ReadsLine words (Err (Usage text)) = (kind : ErrorKind) × IsAmong kind (faults_of words) × (IsRequest kind → ⊥)
+ReadsLine words (Err TooMany) = (faults_of words ≡ []) × Chooses (found_in words) (Err TooMany)
+ReadsLine words (Err Memory) = Unit {0}

@@ -1,0 +1,135 @@
+//! Growing pools.
+
+ghost use Rattle.std.specs.Prelude.{◌≡◌};
+ghost use Rattle.std.specs.List.{list_all};
+ghost use Rattle.stated.specs.Growth.{growth_fits};
+
+use crate::limits::{MAX_GROUPS, MAX_POOL_ID};
+use crate::numbers::{is_between, word};
+use crate::parts::GrowPart;
+use crate::pool::Pool;
+use keylist::Keyed;
+use refusal::Refusal;
+use std::marker::Model;
+
+/// What a pool grows to: 1 to 65,535 is its id, 1 to 4,096 its number of groups `pg_num`, 1 to `pg_num` the number
+/// `pgp_num` of groups for placement.
+#[derive(Clone, Copy, Debug)]
+pub struct Grow {
+    pool: u32,
+    pg_num: u32,
+    pgp_num: u32,
+}
+
+impl Model for Grow {
+    ghost use Rattle.stated.specs.Growth.{Growth, IsGrowth};
+
+    ghost Value = { Growth };
+
+    ghost view = { λ g. record { pool = g.pool; pg_num = g.pg_num; pgp_num = g.pgp_num } };
+
+    ghost invariant = { λ g. IsGrowth (record { pool = g.pool; pg_num = g.pg_num; pgp_num = g.pgp_num }) };
+
+    ghost inverse = { λ g. record { pool = g.pool; pg_num = g.pg_num; pgp_num = g.pgp_num } };
+}
+
+/// Whether each number of a growth is within its limits.
+#[tactic(auto, unfolding(crate::specs::Growth::growth_fits))]
+pub fn growth_fits(part: &GrowPart) -> bool
+    ensures { result ≡ growth_fits part.now }
+{
+    is_between(1, MAX_POOL_ID, part.pool)
+        && is_between(1, MAX_GROUPS, part.pg_num)
+        && is_between(1, MAX_GROUPS, part.pgp_num)
+}
+
+/// Whether each number of some growths is within its limits.
+pub fn all_growths_fit(parts: &[GrowPart]) -> bool
+    ensures { result ≡ list_all growth_fits parts.now }
+{
+    parts.iter().all(|part| growth_fits(part))
+}
+
+impl Grow {
+    ghost use Rattle.std.specs.Prelude.{◌≡◌, true};
+    ghost use Rattle.refusal.specs.Outcomes.{Judges, refused_unless};
+    ghost use Rattle.refusal.specs.declared.refused.Refusal.TheVariants.{BadPool};
+    ghost use Rattle.stated.specs.Growth.{IsGrowth, grown_to, growth_fits, grows_evenly, growth_fault, growth_of};
+
+    /// What a pool grows to: `BadLimit` (12) where a number is outside its limits, else `BadPool` (15) where `pgp_num` is
+    /// above `pg_num`.
+    pub fn new(pool: i128, pg_num: i128, pgp_num: i128) -> Result<Grow, Refusal>
+        ensures { Judges result (growth_fault (record { pool = pool; pg_num = pg_num; pgp_num = pgp_num }))
+            (λ g. g ≡ growth_of (record { pool = pool; pg_num = pg_num; pgp_num = pgp_num })) }
+    {
+        let part = GrowPart {
+            pool,
+            pg_num,
+            pgp_num,
+        };
+        if !growth_fits(&part) {
+            return Err(Refusal::BadLimit);
+        }
+        Grow::of_fitting(part)
+    }
+
+    /// The growth that a part states, whose numbers are within their limits: `BadPool` (15) where `pgp_num` is above
+    /// `pg_num`.
+    #[tactic(auto, unfolding(crate::specs::Growth::grows_evenly))]
+    pub fn of_fitting(part: GrowPart) -> Result<Grow, Refusal>
+        requires { growth_fits part ≡ true }
+        ensures { Judges result (refused_unless (grows_evenly part) BadPool) (λ g. g ≡ growth_of part) }
+    {
+        if part.pgp_num > part.pg_num {
+            return Err(Refusal::BadPool);
+        }
+        Ok(Grow {
+            pool: word(part.pool),
+            pg_num: word(part.pg_num),
+            pgp_num: word(part.pgp_num),
+        })
+    }
+
+    /// Its numbers are within their limits: for a proof alone.
+    pub fn is_growth(&self)
+        ensures { IsGrowth self.now }
+    {
+        let _ = &self.pool;
+    }
+
+    /// The id of the pool.
+    pub fn pool(&self) -> u32
+        ensures { result ≡ self.now.pool }
+    {
+        self.pool
+    }
+
+    /// The number of groups.
+    pub fn pg_num(&self) -> u32
+        ensures { result ≡ self.now.pg_num }
+    {
+        self.pg_num
+    }
+
+    /// The number of groups for placement.
+    pub fn pgp_num(&self) -> u32
+        ensures { result ≡ self.now.pgp_num }
+    {
+        self.pgp_num
+    }
+
+    /// A pool with these numbers of groups.
+    pub fn grown(&self, pool: &Pool) -> Pool
+        ensures { result ≡ grown_to pool.now self.now }
+    {
+        pool.with_groups(self.pg_num, self.pgp_num)
+    }
+}
+
+impl Keyed for Grow {
+    ghost key_of = { λ g. g.pool };
+
+    fn key(&self) -> u64 {
+        u64::from(self.pool)
+    }
+}

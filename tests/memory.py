@@ -1,0 +1,112 @@
+"""Runs the built program over each example with one growth refused, for each growth in turn (refuse_nth.c).
+
+    tests/memory.py PROGRAM
+
+A run with a growth refused ends with status 4, `memory` and nothing put out; or it puts out what a run without refusals
+does, of a script in which the line that answers `err 30 Memory` is left out. The last run is the first without a refusal.
+"""
+
+import os
+import pathlib
+import shutil
+import subprocess
+import sys
+import tempfile
+from concurrent.futures import ThreadPoolExecutor
+
+HERE = pathlib.Path(__file__).resolve().parent
+EXAMPLES = HERE.parent / "examples"
+REFUSED = b"err 30 Memory\n"
+SECONDS = 60
+
+
+def refuser(folder):
+    """The library that refuses a growth, built into a folder; None where there is no gcc."""
+    if shutil.which("gcc") is None:
+        return None
+    library = pathlib.Path(folder) / "refuse_nth.so"
+    subprocess.run(["gcc", "-shared", "-fPIC", "-O1", "-o", library, HERE / "refuse_nth.c"], check=True)
+    return library
+
+
+class Example:
+    """An example, and what a run of it may put out."""
+
+    def __init__(self, command, library, example, folder):
+        self.command, self.library, self.example, self.folder = command, library, example, pathlib.Path(folder)
+        self.lines = (example / "script.txt").read_bytes().splitlines(keepends=True)
+        self.whole = (example / "answers.txt").read_bytes()
+        self.without = [self.left_out(place) for place in range(len(self.lines))]
+
+    def run(self, script, refused=None):
+        """A run over a script; with a growth refused where a number is given, and whether it came to that growth."""
+        environment = dict(os.environ)
+        mark = self.folder / f"refused-{refused}"
+        if refused is not None:
+            environment.update(LD_PRELOAD=str(self.library), REFUSE_NTH=str(refused), REFUSED=str(mark))
+        done = subprocess.run([self.command, self.example / "map.json", script], env=environment, timeout=SECONDS,
+                              stdin=subprocess.DEVNULL, capture_output=True)
+        came = mark.exists()
+        if came:
+            mark.unlink()
+        return done, came
+
+    def left_out(self, place):
+        """The output where the line at a place finds no memory: it changes nothing."""
+        script = self.folder / f"without-{place}"
+        script.write_bytes(b"".join(self.lines[:place] + self.lines[place + 1:]))
+        answers = self.run(script)[0].stdout.splitlines(keepends=True)
+        return b"".join(answers[:place + 1] + [REFUSED] + answers[place + 1:])
+
+    def difference(self, number):
+        """What is wrong with the run in which a growth is refused, or None; and whether it came to that growth."""
+        done, came = self.run(self.example / "script.txt", number)
+        got = (done.returncode, done.stdout, done.stderr)
+        if got == (0, self.whole, b"") or (came and got == (4, b"", b"memory\n")):
+            return None, came
+        answers = done.stdout.splitlines(keepends=True)
+        if came and REFUSED in answers and got == (0, self.without[answers.index(REFUSED) - 1], b""):
+            return None, came
+        return f"growth {number}: status {got[0]}, output {got[1][:200]}, error {got[2][:200]}", came
+
+
+def sweep(example, pool):
+    """How many growths were refused, and what is wrong."""
+    wrong, first, step = [], 1, 64
+    while True:
+        numbers = range(first, first + step)
+        for number, (found, came) in zip(numbers, pool.map(example.difference, numbers)):
+            if found:
+                wrong.append(found)
+            if not came:
+                return number - 1, wrong or ([] if number > 1 else ["no growth was refused"])
+        first += step
+
+
+def sweeps(command, pool):
+    """Each example's name, how many growths were refused, and what is wrong; None where there is no gcc."""
+    with tempfile.TemporaryDirectory() as folder:
+        library = refuser(folder)
+        if library is None:
+            return None
+        found = []
+        for script in sorted(EXAMPLES.rglob("script.txt")):
+            own = pathlib.Path(folder) / script.parent.name
+            own.mkdir()
+            found.append((script.parent.name, *sweep(Example(command, library, script.parent, own), pool)))
+        return found
+
+
+def main():
+    with ThreadPoolExecutor(4) as pool:
+        found = sweeps(pathlib.Path(sys.argv[1]).resolve(), pool)
+    if found is None:
+        print("memory: NOT RUN, since there is no gcc to build tests/refuse_nth.c", file=sys.stderr)
+        return 1
+    for name, count, wrong in found:
+        print("\n    ".join([f"{name}: {count} growths refused, {len(wrong)} wrong ends"] + wrong[:10]))
+    return 1 if any(wrong for _, _, wrong in found) else 0
+
+
+if __name__ == "__main__":
+    sys.exit(main())
