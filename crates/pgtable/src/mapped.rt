@@ -38,8 +38,8 @@ fn stored(set: &UpSet) -> OsdSet
 
 /// The mapped set of a group of a pool of a map, by one run of the pool's rule; or `Memory` (30).
 pub fn mapped(map: &OsdMap, pool: &Pool, number: u32, work: &mut Work) -> Result<OsdSet, Memory>
-    requires { pool_at map.now.pools pool.now.id ≡ Some pool.now }
-    ensures set { IfOk result (λ set. set ≡ mapped_set map.now pool.now number) }
+    requires { pool_at map.now.map.pools pool.now.id ≡ Some pool.now }
+    ensures set { IfOk result (λ set. set ≡ mapped_set map.now.map pool.now number) }
     ensures run { RunsOnce work.old work.new result }
 {
     let pg = Pg {
@@ -60,8 +60,8 @@ pub fn all_mapped(
     pool: &Pool,
     work: &mut Work,
 ) -> Result<Vec<OsdSet>, Memory>
-    requires { pool_at map.now.pools pool.now.id ≡ Some pool.now }
-    ensures sets { IfOk result (λ sets. sets.items ≡ sets_of map.now pool.now) }
+    requires { pool_at map.now.map.pools pool.now.id ≡ Some pool.now }
+    ensures sets { IfOk result (λ sets. sets.items ≡ sets_of map.now.map pool.now) }
     ensures runs { OnOk result (RunsMore pool.now.pg_num work.old work.new) }
 {
     let _ = work.runs();

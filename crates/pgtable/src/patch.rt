@@ -110,11 +110,11 @@ impl PgTable {
         pool: &Pool,
         work: &mut Work,
     ) -> Result<Kept, Memory>
-        requires table { IsTableOf self.now update.now.before.now }
-        requires there { pool_at update.now.after.now.pools pool.now.id ≡ Some pool.now }
-        requires untouched { is_touched update.now.after.now update.now.change.now pool.now ≡ false }
-        ensures kept { IfOk result (KeepsPool self.now.pools update.now.after.now pool.now) }
-        ensures runs { OnOk result (RunsMore (evals_in update.now.after.now update.now.change.now pool.now) work.old work.new) }
+        requires table { IsTableOf self.now update.now.before.now.map }
+        requires there { pool_at update.now.after.now.map.pools pool.now.id ≡ Some pool.now }
+        requires untouched { is_touched update.now.after.now.map update.now.change.now pool.now ≡ false }
+        ensures kept { IfOk result (KeepsPool self.now.pools update.now.after.now.map pool.now) }
+        ensures runs { OnOk result (RunsMore (evals_in update.now.after.now.map update.now.change.now pool.now) work.old work.new) }
     {
         update.leads();
         let at = self.place(pool.id());
@@ -131,10 +131,10 @@ impl PgTable {
         pool: &Pool,
         work: &mut Work,
     ) -> Result<(PoolTable, Option<Kept>), Memory>
-        requires table { IsTableOf self.now update.now.before.now }
-        requires there { pool_at update.now.after.now.pools pool.now.id ≡ Some pool.now }
-        ensures made { IfOk result (λ r. MakesPool self.now.pools update.now.after.now pool.now r.0 r.1) }
-        ensures runs { OnOk result (RunsMore (evals_in update.now.after.now update.now.change.now pool.now) work.old work.new) }
+        requires table { IsTableOf self.now update.now.before.now.map }
+        requires there { pool_at update.now.after.now.map.pools pool.now.id ≡ Some pool.now }
+        ensures made { IfOk result (λ r. MakesPool self.now.pools update.now.after.now.map pool.now r.0 r.1) }
+        ensures runs { OnOk result (RunsMore (evals_in update.now.after.now.map update.now.change.now pool.now) work.old work.new) }
     {
         if update.is_touched(pool) {
             let table = PoolTable::of(alloc, update.after, *pool, work)?;
@@ -151,9 +151,9 @@ impl PgTable {
         update: &Update,
         work: &mut Work,
     ) -> Result<(Vec<PoolTable>, Vec<Option<Kept>>), Memory>
-        requires { IsTableOf self.now update.now.before.now }
-        ensures made { IfOk result (λ r. MakesAll self.now.pools update.now.after.now r.0.items r.1.items) }
-        ensures runs { OnOk result (RunsMore (evals_of update.now.after.now update.now.change.now) work.old work.new) }
+        requires { IsTableOf self.now update.now.before.now.map }
+        ensures made { IfOk result (λ r. MakesAll self.now.pools update.now.after.now.map r.0.items r.1.items) }
+        ensures runs { OnOk result (RunsMore (evals_of update.now.after.now.map update.now.change.now) work.old work.new) }
     {
         update.leads();
         let _ = work.runs();
@@ -176,11 +176,11 @@ impl PgTable {
         change: &Change,
         after: &OsdMap,
     ) -> Result<Patch, Memory>
-        requires table { IsTableOf self.now before.now }
-        requires lawful { change_fault before.now change.now ≡ None }
-        requires next { after.now ≡ next before.now change.now }
-        ensures leads { IfOk result (LeadsTo after.now self.now) }
-        ensures counted { IfOk result (λ p. p.work.runs ≡ evals_of after.now change.now) }
+        requires table { IsTableOf self.now before.now.map }
+        requires lawful { change_fault before.now.map change.now ≡ None }
+        requires next { after.now.map ≡ next before.now.map change.now }
+        ensures leads { IfOk result (LeadsTo after.now.map self.now) }
+        ensures counted { IfOk result (λ p. p.work.runs ≡ evals_of after.now.map change.now) }
     {
         before.holds_together();
         after.holds_together();
@@ -203,11 +203,11 @@ impl PgTable {
     /// All that a change makes of the table of a map that does not refuse it; or `Memory` (30). It runs a rule for each of
     /// the evaluations of the change, and for nothing else.
     pub fn prepare(&self, alloc: Global, map: &OsdMap, change: &Change) -> Result<Patch, Memory>
-        requires table { IsTableOf self.now map.now }
-        requires lawful { change_fault map.now change.now ≡ None }
-        requires epoch { map.now.epoch + 1 < 2 ^ 64 }
-        ensures leads { IfOk result (LeadsTo (next map.now change.now) self.now) }
-        ensures counted { IfOk result (λ p. p.work.runs ≡ evals_of (next map.now change.now) change.now) }
+        requires table { IsTableOf self.now map.now.map }
+        requires lawful { change_fault map.now.map change.now ≡ None }
+        requires epoch { map.now.map.epoch + 1 < 2 ^ 64 }
+        ensures leads { IfOk result (LeadsTo (next map.now.map change.now) self.now) }
+        ensures counted { IfOk result (λ p. p.work.runs ≡ evals_of (next map.now.map change.now) change.now) }
     {
         let after = map.after(alloc, change)?;
         self.prepare_to(alloc, map, change, &after)

@@ -30,8 +30,8 @@ impl PoolTable {
         pool: Pool,
         work: &mut Work,
     ) -> Result<PoolTable, Memory>
-        requires { pool_at map.now.pools pool.id ≡ Some pool }
-        ensures table { IfOk result (λ t. t ≡ pool_table map.now pool) }
+        requires { pool_at map.now.map.pools pool.id ≡ Some pool }
+        ensures table { IfOk result (λ t. t ≡ pool_table map.now.map pool) }
         ensures runs { OnOk result (RunsMore pool.pg_num work.old work.new) }
     {
         pool.is_within_limits();

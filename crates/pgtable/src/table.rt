@@ -32,14 +32,14 @@ impl Model for PgTable {
 
 /// Whether an OSD is up.
 fn is_up(map: &OsdMap, osd: u32) -> bool
-    ensures { result ≡ osd_is_up map.now osd }
+    ensures { result ≡ osd_is_up map.now.map osd }
 {
     map.osd(osd).is_some_and(|state| state.up)
 }
 
 /// Which OSDs are up, by number; or `Memory` (30).
 pub(crate) fn ups_of(alloc: Global, map: &OsdMap) -> Result<Vec<bool>, Memory>
-    ensures { IfOk result (λ up. up.items ≡ ups_of map.now) }
+    ensures { IfOk result (λ up. up.items ≡ ups_of map.now.map) }
 {
     let mut up = Vec::with_capacity(alloc, map.max_osd() as usize)?;
     for osd in 0..map.max_osd() {
@@ -59,7 +59,7 @@ impl PgTable {
 
     /// The table of a map, by a run of a rule for each of its groups; or `Memory` (30).
     pub fn build(alloc: Global, map: &OsdMap) -> Result<PgTable, Memory>
-        ensures { IfOk result (λ t. IsTableOf t map.now) }
+        ensures { IfOk result (λ t. IsTableOf t map.now.map) }
     {
         map.holds_together();
         let pools = PgTable::pools_of(alloc, map)?;
@@ -69,7 +69,7 @@ impl PgTable {
 
     /// The tables of all pools of a map.
     fn pools_of(alloc: Global, map: &OsdMap) -> Result<Vec<PoolTable>, Memory>
-        ensures { IfOk result (λ pools. pools.items ≡ tables_of map.now) }
+        ensures { IfOk result (λ pools. pools.items ≡ tables_of map.now.map) }
     {
         map.holds_together();
         let mut work = Work::new(alloc, map.forest())?;

@@ -23,7 +23,7 @@ pub(crate) struct Update<'a> {
     pub before: &'a OsdMap,
     pub change: &'a Change,
     pub after: &'a OsdMap,
-    ghost leads: { LeadsFrom before.now change.now after.now },
+    ghost leads: { LeadsFrom before.now.map change.now after.now.map },
 }
 
 /// Whether exceptions of a group go or come with a change.
@@ -74,7 +74,7 @@ fn names_reweighted<E: Entry>(change: &Change, said: Option<&[E]>) -> bool
 /// Whether the rule of a pool of a map reaches an OSD that gets another reweight.
 #[tactic(auto, unfolding(osdmap::specs::Evals::reaches))]
 fn reaches(map: &OsdMap, change: &Change, pool: &Pool) -> bool
-    ensures { result ≡ reaches map.now change.now pool.now }
+    ensures { result ≡ reaches map.now.map change.now pool.now }
 {
     match map.rule(pool.rule()) {
         Some(rule) => change
@@ -96,18 +96,22 @@ impl Update<'_> {
 
     /// The change leads from the one map to the other: for proofs alone.
     pub fn leads(&self)
-        ensures { LeadsFrom self.now.before.now self.now.change.now self.now.after.now }
+        ensures { LeadsFrom self.now.before.now.map self.now.change.now self.now.after.now.map }
     {
         let _ = &self.before;
     }
 
-    /// Whether all groups of a pool may be placed otherwise: it came with the change, or its rule reaches an OSD that got
-    /// another reweight.
+    /// Whether all groups of a pool may be placed otherwise: the forest and the rules were replaced, it came or grew with the
+    /// change, or its rule reaches an OSD that got another reweight.
     #[tactic(auto, unfolding(osdmap::specs::Evals::is_touched))]
     pub fn is_touched(&self, pool: &Pool) -> bool
-        ensures { result ≡ is_touched self.now.after.now self.now.change.now pool.now }
+        ensures { result ≡ is_touched self.now.after.now.map self.now.change.now pool.now }
     {
-        has(&self.change.parts().new_pools, u64::from(pool.id()))
+        let parts = self.change.parts();
+        let id = u64::from(pool.id());
+        parts.new_crush.is_some()
+            || has(&parts.new_pools, id)
+            || has(&parts.grow_pool, id)
             || reaches(self.after, self.change, pool)
     }
 
@@ -115,7 +119,7 @@ impl Update<'_> {
     /// reweight.
     #[tactic(auto, unfolding(osdmap::specs::Evals::concerns))]
     fn concerns(&self, pool: &Pool, number: u32) -> bool
-        ensures { result ≡ concerns self.now.after.now self.now.change.now (group_of pool.now number) }
+        ensures { result ≡ concerns self.now.after.now.map self.now.change.now (group_of pool.now number) }
     {
         let pg = Pg {
             pool: pool.id(),
@@ -128,7 +132,7 @@ impl Update<'_> {
 
     /// The groups of a pool whose exceptions the change concerns; or `Memory` (30).
     pub fn concerned(&self, alloc: Global, pool: &Pool) -> Result<Vec<u32>, Memory>
-        ensures { IfOk result (λ numbers. numbers.items ≡ concerned self.now.after.now self.now.change.now pool.now) }
+        ensures { IfOk result (λ numbers. numbers.items ≡ concerned self.now.after.now.map self.now.change.now pool.now) }
     {
         Ok(
             (0..pool.pg_num())
@@ -143,9 +147,9 @@ impl Update<'_> {
         pool: &Pool,
         work: &mut Work,
     ) -> Result<Vec<(u32, OsdSet)>, Memory>
-        requires { pool_at self.now.after.now.pools pool.now.id ≡ Some pool.now }
-        ensures changes { IfOk result (λ changes. changes.items ≡ changes_of self.now.after.now self.now.change.now pool.now) }
-        ensures runs { OnOk result (RunsMore (length (concerned self.now.after.now self.now.change.now pool.now)) work.old work.new) }
+        requires { pool_at self.now.after.now.map.pools pool.now.id ≡ Some pool.now }
+        ensures changes { IfOk result (λ changes. changes.items ≡ changes_of self.now.after.now.map self.now.change.now pool.now) }
+        ensures runs { OnOk result (RunsMore (length (concerned self.now.after.now.map self.now.change.now pool.now)) work.old work.new) }
     {
         let numbers = self.concerned(alloc, pool)?;
         self.sets(alloc, pool, &numbers, work)
@@ -159,8 +163,8 @@ impl Update<'_> {
         numbers: &[u32],
         work: &mut Work,
     ) -> Result<Vec<(u32, OsdSet)>, Memory>
-        requires { pool_at self.now.after.now.pools pool.now.id ≡ Some pool.now }
-        ensures changes { IfOk result (λ changes. changes.items ≡ with_sets self.now.after.now pool.now numbers.now) }
+        requires { pool_at self.now.after.now.map.pools pool.now.id ≡ Some pool.now }
+        ensures changes { IfOk result (λ changes. changes.items ≡ with_sets self.now.after.now.map pool.now numbers.now) }
         ensures runs { OnOk result (RunsMore (length numbers.now) work.old work.new) }
     {
         let _ = work.runs();

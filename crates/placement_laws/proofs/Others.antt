@@ -1,9 +1,9 @@
 -- A group that is not among the evaluations of a change has the mapped set that it had.
 use Rattle.std.proofs.Common.{◌≡◌, ◌≢◌, ◌∙◌, refl, sym, ap, subst, ℕ, ◌+◌, ◌*◌, ◌^◌, ◌<◌, ℤ, pos, negsuc, Bool, true, false, not, ◌&&◌, ◌||◌, cond, eqb, List, [], ◌∷◌, ◌++◌, map, Option, Some, None, unwrap_or, inl, inr, arith}
 use mathlib.Core.Bool.{false≢true}
-use Rattle.std.specs.Prelude.{option_and_then, slice_index, nat_lt}
+use Rattle.std.specs.Prelude.{is_some, option_and_then, slice_index, nat_lt}
 use Rattle.std.specs.List.{All, list_any, list_all, find, filter, fold, flat_map}
-use Rattle.std.specs.Option.{option_map}
+use Rattle.std.specs.Option.{option_map, option_map_or}
 use Rattle.std.proofs.lemmas.Bool.{cases_Bool, eqb-true, false_from_ne_true}
 use Rattle.std.proofs.lemmas.Bool.Decides.{nat_tests}
 use Rattle.std.proofs.lemmas.List.{get_or-set_other}
@@ -14,6 +14,7 @@ use Rattle.keylist.specs.Puts.{put}
 use Rattle.keylist.proofs.Tests.{and_first, and_second}
 use Rattle.keylist.proofs.Counts.{find-place}
 use Rattle.keylist.proofs.Each.{map-agree}
+use Rattle.keylist.proofs.KeyedFinds.{find-none_reverse}
 use Rattle.keylist.proofs.KeyedMaps.{entry-put, entry-filter}
 use Rattle.crush.specs.declared.bucket.Bucket.{Bucket}
 use Rattle.crush.specs.Grammar.{IsLawful, rule_limits_ok, rule_ok, is_rule, takes_known}
@@ -26,15 +27,19 @@ use Rattle.stated.specs.declared.exception.Pair.{Pair}
 use Rattle.stated.specs.declared.pg.Pg.{Pg}
 use Rattle.stated.specs.declared.rules.NumberedRule.{NumberedRule}
 use Rattle.stated.specs.Incrementals.{Step}
+use Rattle.stated.specs.Growth.{Growth, grown}
 use Rattle.stated.specs.Pools.{PoolFacts, IsWithinLimits}
-use Rattle.stated.specs.CrushMaps.{is_rule_over}
+use Rattle.stated.specs.CrushMaps.{is_rule_over, rule_at}
+use Rattle.crush.specs.Run.{run_of}
+use Rattle.crush.specs.World.{world_of}
 use Rattle.stated.specs.Exceptions.{place_of, key_of, said_of, is_among, has_group, all_named, is_exception, is_sound, target, sides, stays, exceptions_after}
 use Rattle.osdmap.specs.Maps.{ClusterMap, pool_at, osd_exists, has_rule, HoldsTogether}
-use Rattle.osdmap.specs.Changes.{pools_kept, pools_after, with_weight, apply}
+use Rattle.osdmap.specs.Changes.{pools_kept, pools_after, with_weight, apply, pools_there}
 use Rattle.osdmap.specs.Evals.{reaches, is_touched, is_named, names_reweighted, concerns}
 use Rattle.osdmap.specs.Sets.{kept}
-use Rattle.osdmap.specs.Placement.{placement_input, group_of, existing, placed, raw_set}
+use Rattle.osdmap.specs.Placement.{placement_input, group_of, existing, placed, raw_set, steps_of}
 use Rattle.osdmap.proofs.PlacementLemmas.{found_passes}
+use Rattle.osdmap.proofs.Grown.{entry-grown}
 use Rattle.osdmap.proofs.Kept.{exists-after}
 use Rattle.placement_laws.specs.Mapping.{Agree}
 use Rattle.placement_laws.specs.Untouched.{OthersStay}
@@ -92,9 +97,33 @@ pool_kept m c id p found = by_test (has_key (λ k. k) c.old_pools id) refl (sym 
     by_test true is h = let wrong : None ≡ Some p = rw is at h in absurd (cc)
     by_test false is h = (is, rw is at h)
 
-pool_stays : (m : ClusterMap) (c : ChangeParts) (id : ℕ) (p : PoolFacts) → has_key (λ q. q.id) c.new_pools id ≡ false → pool_at (pools_after m c) id ≡ Some p → (has_key (λ k. k) c.old_pools id ≡ false) × (pool_at m.pools id ≡ Some p)
+pool_put : (m : ClusterMap) (c : ChangeParts) (id : ℕ) (p : PoolFacts) → has_key (λ q. q.id) c.new_pools id ≡ false → entry_at (λ q. q.id) (pools_there m c) id ≡ Some p → (has_key (λ k. k) c.old_pools id ≡ false) × (pool_at m.pools id ≡ Some p)
+unfolding pools_there
+pool_put m c id p none found = pool_kept m c id p (sym (entry_untouched (λ (q : PoolFacts). q.id) (pools_kept m c) c.new_pools id none) ∙ found)
+
+all_fail : {X : Type 0} (p : X → Bool) (xs : List X) → list_any p xs ≡ false → All (λ x. p x ≡ false) xs
+all_fail p [] none = All-nil (λ x. p x ≡ false)
+all_fail p (x ∷ xs) none = All-cons (λ y. p y ≡ false) x xs (or_first (p x) (list_any p xs) none) (all_fail p xs (or_second (p x) (list_any p xs) none))
+
+-- a pool of which no growth comes stays as it is
+not_grown : (gs : List Growth) (p : PoolFacts) → has_key (λ g. g.pool) gs p.id ≡ false → grown gs p ≡ p
+unfolding grown
+not_grown gs p none = rw (find-none_reverse (λ (g : Growth). eqb g.pool p.id) gs (all_fail (λ g. eqb g.pool p.id) gs none)) refl
+
+pool_stays : (m : ClusterMap) (c : ChangeParts) (id : ℕ) (p : PoolFacts) → has_key (λ q. q.id) c.new_pools id ≡ false → has_key (λ g. g.pool) c.grow_pool id ≡ false → pool_at (pools_after m c) id ≡ Some p → (has_key (λ k. k) c.old_pools id ≡ false) × (pool_at m.pools id ≡ Some p)
 unfolding pools_after
-pool_stays m c id p none found = pool_kept m c id p (sym (entry_untouched (λ (q : PoolFacts). q.id) (pools_kept m c) c.new_pools id none) ∙ found)
+pool_stays m c id p none stays found = by_pool (entry_at (λ q. q.id) (pools_there m c) id) refl (sym (entry-grown c.grow_pool (pools_there m c) id) ∙ found)
+  where
+    by_pool : (o : Option PoolFacts) → entry_at (λ q. q.id) (pools_there m c) id ≡ o → option_map (grown c.grow_pool) (entry_at (λ q. q.id) (pools_there m c) id) ≡ Some p → (has_key (λ k. k) c.old_pools id ≡ false) × (pool_at m.pools id ≡ Some p)
+    by_pool None is h = let wrong : None ≡ Some p = rw is at h in absurd (cc)
+    by_pool (Some q) is h =
+        let at = find-place (λ (r : PoolFacts). eqb r.id id) (pools_there m c) q is in
+        let same_id : q.id ≡ id = eqb-true q.id id at.3 in
+        let same : Some (grown c.grow_pool q) ≡ Some p = rw is at h in
+        let ends : grown c.grow_pool q ≡ p = cc in
+        let as_is : grown c.grow_pool q ≡ q = not_grown c.grow_pool q (rw same_id stays) in
+        let one : q ≡ p = sym as_is ∙ ends in
+        pool_put m c id p none (is ∙ ap (λ x. Some x) one)
 
 -- ---- exceptions
 
@@ -196,28 +225,56 @@ rule_lawful buckets r ok =
       grammar = and_first (is_rule r.rule.kind r.rule.steps) (list_all (takes_known buckets) r.rule.steps) second;
     }
 
-placed_stays : (m : ClusterMap) (step : Step) (p : PoolFacts) (n : ℕ) → HoldsTogether m → has_rule m.rules p ≡ true → reaches (apply m step) step.change p ≡ false → placed m p n ≡ placed (apply m step) p n
-unfolding apply reaches placed
-placed_stays m step p n holds has none = by_rule (find (λ r. eqb r.id p.rule) m.rules) refl
+-- two maps of one forest and the same rules, in which no OSD that the rule reaches has another reweight, place alike
+placed_alike : (m other : ClusterMap) (ws : List Reweight) (p : PoolFacts) (n : ℕ) → other.buckets ≡ m.buckets → other.rules ≡ m.rules → other.weights ≡ fold with_weight m.weights ws
+    → HoldsTogether m → has_rule m.rules p ≡ true → list_any (λ w. paths.reaches m.buckets (steps_of m p) (pos w.osd)) ws ≡ false → placed m p n ≡ placed other p n
+unfolding placed
+placed_alike m other ws p n buckets rules weights holds has none = rw (buckets, rules, weights) (by_rule (find (λ r. eqb r.id p.rule) m.rules) refl)
   where
-    by_rule : (r : Option NumberedRule) → find (λ r'. eqb r'.id p.rule) m.rules ≡ r → placed m p n ≡ placed (apply m step) p n
+    by_rule : (r : Option NumberedRule) → find (λ r'. eqb r'.id p.rule) m.rules ≡ r
+        → run_of (world_of m.buckets m.weights (placement_input p n)) (steps_of m p) p.size ≡ run_of (world_of m.buckets (fold with_weight m.weights ws) (placement_input p n)) (steps_of m p) p.size
     by_rule None found = absurd (not_both _ has (rw found refl))
     by_rule (Some r) found =
         let lawful = rule_lawful m.buckets r (found_passes _ (is_rule_over m.buckets) m.rules r found holds.rules_over) in
-        let nowhere : list_any (λ w. paths.reaches m.buckets r.rule.steps (pos w.osd)) step.change.weight ≡ false = rw found at none in
-        rw found (run_reads_reached m.buckets r.rule.kind r.rule.steps m.weights (fold with_weight m.weights step.change.weight) (placement_input p n) p.size holds.forest lawful
-        (λ osd reached. sym (weight_stays m.weights step.change.weight osd (unreached (λ o. paths.reaches m.buckets r.rule.steps (pos o)) step.change.weight osd reached nowhere))))
+        let nowhere : list_any (λ w. paths.reaches m.buckets r.rule.steps (pos w.osd)) ws ≡ false = rw found at none in
+        rw found (run_reads_reached m.buckets r.rule.kind r.rule.steps m.weights (fold with_weight m.weights ws) (placement_input p n) p.size holds.forest lawful
+        (λ osd reached. sym (weight_stays m.weights ws osd (unreached (λ o. paths.reaches m.buckets r.rule.steps (pos o)) ws osd reached nowhere))))
+
+-- the forest and the rules stay where none come
+buckets_stay : (m : ClusterMap) (step : Step) → step.change.new_crush ≡ None → (apply m step).buckets ≡ m.buckets
+unfolding apply
+buckets_stay m step none = rw none refl
+
+rules_stay : (m : ClusterMap) (step : Step) → step.change.new_crush ≡ None → (apply m step).rules ≡ m.rules
+unfolding apply
+rules_stay m step none = rw none refl
+
+weights_are : (m : ClusterMap) (step : Step) → (apply m step).weights ≡ fold with_weight m.weights step.change.weight
+unfolding apply
+weights_are m step = refl
+
+unreached_before : (m other : ClusterMap) (c : ChangeParts) (p : PoolFacts) → other.buckets ≡ m.buckets → other.rules ≡ m.rules → reaches other c p ≡ false → list_any (λ w. paths.reaches m.buckets (steps_of m p) (pos w.osd)) c.weight ≡ false
+unfolding reaches
+unreached_before m other c p buckets rules none =
+    subst (λ (rs : List NumberedRule). list_any (λ w. paths.reaches m.buckets (option_map_or (λ r. r.steps) (rule_at rs p.rule) []) (pos w.osd)) c.weight ≡ false) rules
+    (subst (λ (bs : List Bucket). list_any (λ w. paths.reaches bs (steps_of other p) (pos w.osd)) c.weight ≡ false) buckets none)
+
+placed_stays : (m : ClusterMap) (step : Step) (p : PoolFacts) (n : ℕ) → HoldsTogether m → has_rule m.rules p ≡ true → step.change.new_crush ≡ None → reaches (apply m step) step.change p ≡ false → placed m p n ≡ placed (apply m step) p n
+placed_stays m step p n holds has same none =
+    let buckets = buckets_stay m step same in
+    let rules = rules_stay m step same in
+    placed_alike m (apply m step) step.change.weight p n buckets rules (weights_are m step) holds has (unreached_before m (apply m step) step.change p buckets rules none)
 
 existing_stays : (m : ClusterMap) (step : Step) (x : Option ℤ) → option_and_then (existing m) x ≡ option_and_then (existing (apply m step)) x
 existing_stays m step None = refl
 existing_stays m step (Some (pos osd)) = rw (exists-after m step osd) refl
 existing_stays m step (Some (negsuc n)) = refl
 
-raw_stays : (m : ClusterMap) (step : Step) (p : PoolFacts) (n : ℕ) → HoldsTogether m → has_rule m.rules p ≡ true → reaches (apply m step) step.change p ≡ false → raw_set m p n ≡ raw_set (apply m step) p n
+raw_stays : (m : ClusterMap) (step : Step) (p : PoolFacts) (n : ℕ) → HoldsTogether m → has_rule m.rules p ≡ true → step.change.new_crush ≡ None → reaches (apply m step) step.change p ≡ false → raw_set m p n ≡ raw_set (apply m step) p n
 unfolding raw_set
-raw_stays m step p n holds has none =
+raw_stays m step p n holds has same none =
     let first = map-agree (option_and_then (existing m)) (option_and_then (existing (apply m step))) (existing_stays m step) (placed m p n) in
-    ap (kept p.kind) (first ∙ ap (map (option_and_then (existing (apply m step)))) (placed_stays m step p n holds has none))
+    ap (kept p.kind) (first ∙ ap (map (option_and_then (existing (apply m step)))) (placed_stays m step p n holds has same none))
 
 -- ---- all of it
 
@@ -245,14 +302,36 @@ unconcerned m c g none =
       items = or_second _ (names_reweighted sides c (said_of m.items g)) none;
     }
 
-pub untouched : (m : ClusterMap) (c : ChangeParts) (p : PoolFacts) → is_touched m c p ≡ false → (has_key (λ q. q.id) c.new_pools p.id ≡ false) × (reaches m c p ≡ false)
+none_there : {X : Type 0} (o : Option X) → is_some o ≡ false → o ≡ None
+none_there None h = refl
+none_there (Some x) h = absurd (false≢true (sym h))
+
+-- what does not touch a pool: no forest comes, the pool does not come nor grow, and its rule reaches no OSD that gets another
+-- reweight
+pub record IsUntouched (m : ClusterMap) (c : ChangeParts) (p : PoolFacts) : Type 0 where
+  pub crush : c.new_crush ≡ None
+  pub new : has_key (λ q. q.id) c.new_pools p.id ≡ false
+  pub grow : has_key (λ g. g.pool) c.grow_pool p.id ≡ false
+  pub reach : reaches m c p ≡ false
+
+pub untouched : (m : ClusterMap) (c : ChangeParts) (p : PoolFacts) → is_touched m c p ≡ false → IsUntouched m c p
 unfolding is_touched
-untouched m c p none = (or_first (has_key (λ q. q.id) c.new_pools p.id) (reaches m c p) none, or_second (has_key (λ q. q.id) c.new_pools p.id) (reaches m c p) none)
+untouched m c p none =
+    let three = or_first _ (reaches m c p) none in
+    let two = or_first _ (has_key (λ g. g.pool) c.grow_pool p.id) three in
+    record {
+      crush = none_there c.new_crush (or_first (is_some c.new_crush) (has_key (λ q. q.id) c.new_pools p.id) two);
+      new = or_second (is_some c.new_crush) (has_key (λ q. q.id) c.new_pools p.id) two;
+      grow = or_second _ (has_key (λ g. g.pool) c.grow_pool p.id) three;
+      reach = or_second _ (reaches m c p) none;
+    }
 
 -- the pool of a change that does not touch it was there
 pub pool_there : (m : ClusterMap) (step : Step) (p : PoolFacts) → pool_at (apply m step).pools p.id ≡ Some p → is_touched (apply m step) step.change p ≡ false → (has_key (λ k. k) step.change.old_pools p.id ≡ false) × (pool_at m.pools p.id ≡ Some p)
 unfolding apply
-pool_there m step p found none = pool_stays m step.change p.id p (untouched (apply m step) step.change p none).0 found
+pool_there m step p found none =
+    let quiet = untouched (apply m step) step.change p none in
+    pool_stays m step.change p.id p quiet.new quiet.grow found
 
 explicit_stays : (m : ClusterMap) (step : Step) (g : Pg) → HoldsTogether m → g.number < 2 ^ 32 → has_key (λ k. k) step.change.old_pools g.pool ≡ false → IsUnconcerned (apply m step) step.change g → said_of (apply m step).explicit g ≡ said_of m.explicit g
 unfolding apply
@@ -283,7 +362,7 @@ others_stay m step p n holds lawful found inside none =
     record {
       pool = there.1;
       mapped = alike_map_alike m (apply m step) p p n (record {
-        raw = raw_stays m step p n holds has (untouched (apply m step) step.change p touched).1;
+        raw = raw_stays m step p n holds has (untouched (apply m step) step.change p touched).crush (untouched (apply m step) step.change p touched).reach;
         explicit = sym explicit;
         items = sym items;
         weights = weights_agree m step (group_of p n) quiet explicit items;

@@ -5,5 +5,5 @@ use Rattle.pgtable.proofs.mapped.mapped.Goals as goal
 
 pub stored-requires : goal.stored-requires
 stored-requires c =
-    let there : pool_at c.args.map.now.pools c.id.result ≡ Some c.args.pool.now = rw c.id.ensures c.requires in
-    mapped_small c.args.map.now (record { pool = c.id.result; number = c.args.number }) c.args.pool.now c.in-Ok.set c.holds_together.ensures there c.in-Ok.ensures.set.1
+    let there : pool_at c.args.map.now.map.pools c.id.result ≡ Some c.args.pool.now = rw c.id.ensures c.requires in
+    mapped_small c.args.map.now.map (record { pool = c.id.result; number = c.args.number }) c.args.pool.now c.in-Ok.set c.holds_together.ensures there c.in-Ok.ensures.set.1

@@ -7,6 +7,6 @@ use Rattle.pgtable.proofs.table.PgTable.all_made.Given as goal
 
 abbrev pub invariant-loop-pool : goal.invariant-loop-pool
 invariant-loop-pool l = record {
-  made : Makes l.self.pools l.update.after.now l.pool-index l.pools.items l.kept.items;
-  runs : RunsMore (sum_by (evals_in l.update.after.now l.update.change.now) (take l.pool-index l.update.after.now.pools)) l.initial.work l.work;
+  made : Makes l.self.pools l.update.after.now.map l.pool-index l.pools.items l.kept.items;
+  runs : RunsMore (sum_by (evals_in l.update.after.now.map l.update.change.now) (take l.pool-index l.update.after.now.map.pools)) l.initial.work l.work;
 }

@@ -10,7 +10,7 @@ returns-clause-leads c =
       fits = record {
         pools = made.fits;
         few_pools = omega (arith, made.long, c.holds_together-2.ensures.few_pools);
-        few_osds = rw c.in_ok-up.ensures (few_ups c.args.after.now 1024 c.holds_together-2.ensures.few);
+        few_osds = rw c.in_ok-up.ensures (few_ups c.args.after.now.map 1024 c.holds_together-2.ensures.few);
       };
       table = record {
         holds = c.holds_together-2.ensures;
@@ -20,4 +20,4 @@ returns-clause-leads c =
     }
 
 pub returns-clause-counted : goal.returns-clause-counted
-returns-clause-counted c = omega (arith, c.in_ok-pools.ensures.runs, c.in_ok-work.ensures.runs, evals_few c.args.after.now c.args.change.now c.holds_together-2.ensures)
+returns-clause-counted c = omega (arith, c.in_ok-pools.ensures.runs, c.in_ok-work.ensures.runs, evals_few c.args.after.now.map c.args.change.now c.holds_together-2.ensures)

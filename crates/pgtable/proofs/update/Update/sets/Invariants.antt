@@ -5,6 +5,6 @@ use Rattle.pgtable.proofs.update.Update.sets.Given as goal
 
 abbrev pub invariant-loop-number : goal.invariant-loop-number
 invariant-loop-number l = record {
-  made : l.changes.items ≡ with_sets l.self.after.now l.pool (take l.number-index l.numbers);
+  made : l.changes.items ≡ with_sets l.self.after.now.map l.pool (take l.number-index l.numbers);
   runs : RunsMore l.number-index l.initial.work l.work;
 }
