@@ -5,7 +5,7 @@ pub mod CheckLemmas
 pub mod Coming
 pub mod AfterLemmas
 mod EvalsLemmas
-mod Grown
+pub mod Grown
 mod Devices
 mod Leaving
 mod Growing

@@ -132,7 +132,7 @@ impl UpSet {
     }
 
     /// One more place, in the way of a kind: copies leave out a place without an OSD, coded parts keep it.
-    pub(crate) fn add(&mut self, kind: RuleKind, place: Option<u32>)
+    pub fn add(&mut self, kind: RuleKind, place: Option<u32>)
         requires { length self.old < 10 }
         ensures { self.new ≡ self.old ++ kept_in kind place }
     {

@@ -9,7 +9,7 @@ use Rattle.crush.specs.WellFormed.{bucket_limits_ok, forest_ok, forest_limits_ok
 use Rattle.crush.proofs.Made.{forest-passed, own-ok}
 use Rattle.crush.proofs.Sorted.{bucket_at-moved, forest_ok-moved}
 use Rattle.stated.specs.declared.parts.MapParts.{MapParts}
-use Rattle.refusal.specs.declared.refused.Refusal.TheVariants.{BadForest, BadRule, BadPool, BadOsd, BadException}
+use Rattle.refusal.specs.declared.refused.Refusal.TheVariants.{BadPool, BadOsd, BadException}
 use Rattle.stated.specs.Pools.{IsWithinLimits}
 use Rattle.stated.specs.Parts.{parts_fit}
 use Rattle.stated.specs.Exceptions.{target, sides, is_set, are_pairs}

@@ -1,4 +1,3 @@
-mod MappedLemmas
 mod OrderLaw
 mod FewExceptions
 mod OwnFits

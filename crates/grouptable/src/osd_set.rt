@@ -1,0 +1,97 @@
+//! A set of at most 10 places, two bytes each.
+
+ghost use Rattle.std.specs.Prelude.{◌≡◌, ◌<◌, ◌≤◌, ◌++◌, [], ◌∷◌, Option, None, Some, length, slice_index_or, IfSome};
+ghost use Rattle.std.specs.Prelude.{◌==◌, map};
+ghost use Rattle.std.specs.List.{list_any};
+ghost use Rattle.grouptable.specs.Sets.{place_of, stands};
+
+use std::marker::Model;
+
+/// The greatest size of a set.
+const MAX_PLACES: usize = 10;
+
+/// OSDs have the numbers below this one.
+const MAX_OSDS: u16 = 1024;
+
+/// What is stored for a hole.
+const HOLE: u16 = 0xffff;
+
+/// At each of at most 10 places an OSD, or a hole.
+#[derive(Drop)]
+pub struct OsdSet {
+    len: u8,
+    places: [u16; MAX_PLACES],
+}
+
+impl Model for OsdSet {
+    ghost use Rattle.std.specs.Prelude.{◌≤◌, map, take};
+    ghost use Rattle.grouptable.specs.Sets.{Places, place_of};
+
+    ghost Value = { Places };
+
+    ghost view = { λ s. map place_of (take s.len s.places) };
+
+    ghost invariant = { λ s. s.len ≤ 10 };
+}
+
+impl OsdSet {
+    /// The set without a place.
+    pub fn new() -> Self
+        ensures { result ≡ [] }
+    {
+        OsdSet {
+            len: 0,
+            places: [HOLE; MAX_PLACES],
+        }
+    }
+
+    /// How many places there are.
+    pub fn len(&self) -> usize
+        ensures size { result ≡ length self.now }
+        ensures few { result ≤ 10 }
+    {
+        usize::from(self.len)
+    }
+
+    /// The OSD at a place, if there is one.
+    pub fn at(&self, place: usize) -> Option<u16>
+        requires { place < length self.now }
+        ensures value { result ≡ slice_index_or self.now place None }
+        ensures small { IfSome result (λ osd. osd < 1024) }
+    {
+        let osd = self.filled()[place];
+        if osd < MAX_OSDS { Some(osd) } else { None }
+    }
+
+    /// Whether an OSD stands in the set.
+    pub fn has(&self, osd: u16) -> bool
+        requires { osd < 1024 }
+        ensures { result ≡ stands osd self.now }
+    {
+        holds(self.filled(), osd)
+    }
+
+    /// What is stored.
+    fn filled(&self) -> &[u16]
+        ensures { map place_of result.now ≡ self.now }
+    {
+        &self.places[..usize::from(self.len)]
+    }
+
+    /// One more place.
+    pub fn push(&mut self, place: Option<u16>)
+        requires room { length self.old < 10 }
+        requires small { IfSome place (λ osd. osd < 1024) }
+        ensures { self.new ≡ self.old ++ place ∷ [] }
+    {
+        self.places[usize::from(self.len)] = place.unwrap_or(HOLE);
+        self.len += 1;
+    }
+}
+
+/// Whether an OSD stands at one of some places.
+fn holds(places: &[u16], osd: u16) -> bool
+    ensures { result ≡ list_any (λ x. x == osd) places.now }
+{
+    places.iter().any(|place| *place == osd)
+}

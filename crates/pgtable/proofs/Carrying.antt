@@ -1,0 +1,117 @@
+-- What stays of old tables, taken into the places of the new ones one after another.
+use Rattle.std.proofs.Common.{◌≡◌, ◌≢◌, ◌∙◌, refl, sym, ap, subst, ℕ, zero, suc, ◌+◌, ◌<◌, ◌≤◌, List, [], ◌∷◌, length, map, set, Option, Some, None, inl, inr, arith}
+use Rattle.std.specs.Prelude.{slice_get}
+use Rattle.std.specs.List.{zip}
+use Rattle.std.specs.Option.{option_map, option_map_or}
+use Rattle.std.proofs.lemmas.Bool.{cases_order}
+use Rattle.std.proofs.lemmas.List.{length-set, length-map}
+use Rattle.std.proofs.lemmas.Option.{slice_get-map}
+use Rattle.grouptable.specs.Sets.{changed}
+use Rattle.pgtable.specs.declared.pool_table.PoolTable.{PoolTable}
+use Rattle.pgtable.specs.declared.patch.Kept.{Kept}
+use Rattle.pgtable.specs.Patches.{sets_at, carried, FitsAt, FitAll}
+
+-- ---- lists by places
+
+pub get_set_other : {X : Type 0} (xs : List X) (i k : ℕ) (x : X) → k ≢ i → slice_get (set xs i x) k ≡ slice_get xs k
+get_set_other [] i k x other = refl
+get_set_other (y ∷ ys) zero zero x other = absurd (other refl)
+get_set_other (y ∷ ys) zero (suc k) x other = refl
+get_set_other (y ∷ ys) (suc i) zero x other = refl
+get_set_other (y ∷ ys) (suc i) (suc k) x other = get_set_other ys i k x (λ e. other (ap suc e))
+
+pub get_set_same : {X : Type 0} (xs : List X) (i : ℕ) (x : X) → i < length xs → slice_get (set xs i x) i ≡ Some x
+get_set_same [] i x inside = absurd (omega arith)
+get_set_same (y ∷ ys) zero x inside = refl
+get_set_same (y ∷ ys) (suc i) x inside = get_set_same ys i x (omega arith)
+
+get_zip : {X Y : Type 0} (xs : List X) (ys : List Y) (i : ℕ) (x : X) (y : Y) → slice_get xs i ≡ Some x → slice_get ys i ≡ Some y → slice_get (zip xs ys) i ≡ Some (x, y)
+get_zip [] ys i x y p q = let wrong : None ≡ Some x = p in absurd (cc)
+get_zip (a ∷ xs) [] i x y p q = let wrong : None ≡ Some y = q in absurd (cc)
+get_zip (a ∷ xs) (b ∷ ys) zero x y p q =
+    let e : a ≡ x = cc in
+    let f : b ≡ y = cc in
+    rw (e, f) refl
+get_zip (a ∷ xs) (b ∷ ys) (suc i) x y p q = get_zip xs ys i x y p q
+
+pub long_zip : {X Y : Type 0} (xs : List X) (ys : List Y) → length ys ≡ length xs → length (zip xs ys) ≡ length xs
+long_zip [] ys same = refl
+long_zip (x ∷ xs) [] same = absurd (omega arith)
+long_zip (x ∷ xs) (y ∷ ys) same = ap suc (long_zip xs ys (omega arith))
+
+pub same_lists : {X : Type 0} (xs ys : List X) → length xs ≡ length ys → ((k : ℕ) → k < length xs → slice_get xs k ≡ slice_get ys k) → xs ≡ ys
+same_lists [] [] long same = refl
+same_lists [] (y ∷ ys) long same = absurd (omega arith)
+same_lists (x ∷ xs) [] long same = absurd (omega arith)
+same_lists (x ∷ xs) (y ∷ ys) long same =
+    let first : Some x ≡ Some y = same 0 (omega arith) in
+    let e : x ≡ y = cc in
+    rw (e, same_lists xs ys (omega arith) (λ k inside. same (suc k) (omega arith))) refl
+
+-- ---- so far
+
+-- the first tables have what stays, and all others are as they were
+pub record Carries (old0 pools0 : List PoolTable) (kept0 : List (Option Kept)) (i : ℕ) (old pools : List PoolTable) (kept : List (Option Kept)) : Type 0 where
+  pub long : length pools ≡ length pools0
+  pub kept_long : length kept ≡ length kept0
+  pub old_long : length old ≡ length old0
+  pub done : (k : ℕ) → k < i → slice_get pools k ≡ slice_get (map (λ e. carried old0 e.0 e.1) (zip pools0 kept0)) k
+  pub rest : (k : ℕ) → i ≤ k → slice_get pools k ≡ slice_get pools0 k
+  pub kept_rest : (k : ℕ) → i ≤ k → slice_get kept k ≡ slice_get kept0 k
+  pub olds : (k : ℕ) (b : Kept) → i ≤ k → slice_get kept0 k ≡ Some (Some b) → slice_get old b.at ≡ slice_get old0 b.at
+
+same_sets : (old0 old : List PoolTable) (q : PoolTable) (one : Option Kept) → ((b : Kept) → one ≡ Some b → slice_get old b.at ≡ slice_get old0 b.at) → carried old q one ≡ carried old0 q one
+same_sets old0 old q None same = refl
+same_sets old0 old q (Some k) same = rw (same k refl) refl
+
+pub fits_now : (old0 old : List PoolTable) (k : Kept) → length old ≡ length old0 → slice_get old k.at ≡ slice_get old0 k.at → FitsAt old0 k → FitsAt old k
+fits_now old0 old k long same fits = record {
+  inside = omega (arith, long, fits.inside);
+  patch = rw same fits.patch;
+}
+
+module _ (old0 pools0 : List PoolTable) (kept0 : List (Option Kept)) (fits : FitAll old0 pools0 kept0) where
+  pub carry_begins : Carries old0 pools0 kept0 0 old0 pools0 kept0
+  carry_begins = record {
+    long = refl;
+    kept_long = refl;
+    old_long = refl;
+    done = λ k less. absurd (omega arith);
+    rest = λ k past. refl;
+    kept_rest = λ k past. refl;
+    olds = λ k b past is. refl;
+  }
+
+  module _ (i : ℕ) (old pools : List PoolTable) (kept : List (Option Kept)) (sofar : Carries old0 pools0 kept0 i old pools kept) where
+    pub carry_fits : (k : Kept) → slice_get kept i ≡ Some (Some k) → FitsAt old k
+    carry_fits k is =
+        let at = sym (sofar.kept_rest i (omega arith)) ∙ is in
+        fits_now old0 old k sofar.old_long (sofar.olds i k (omega arith) at) (fits.each i k at)
+
+    pub carry_step : (before after : PoolTable) (one : Option Kept) (old' : List PoolTable) → slice_get pools i ≡ Some before → slice_get kept i ≡ Some one → after ≡ carried old before one
+        → ((j : ℕ) → ((k : Kept) → one ≡ Some k → j ≢ k.at) → slice_get old' j ≡ slice_get old j) → length old' ≡ length old → i < length pools0
+        → Carries old0 pools0 kept0 (i + 1) old' (set pools i after) (set kept i None)
+    carry_step before after one old' here is made others same inside =
+        let at0 = sym (sofar.rest i (omega arith)) ∙ here in
+        let is0 = sym (sofar.kept_rest i (omega arith)) ∙ is in
+        let made0 = made ∙ same_sets old0 old before one (λ b e. sofar.olds i b (omega arith) (is0 ∙ ap (λ x. Some x) e)) in
+        record {
+          long = length-set pools i after ∙ sofar.long;
+          kept_long = length-set kept i None ∙ sofar.kept_long;
+          old_long = same ∙ sofar.old_long;
+          done = λ k less. elim (cases_order k i) [
+            | inl e ↦
+                rw e (get_set_same pools i after (omega (arith, sofar.long)) ∙ ap (λ x. Some x) made0
+                ∙ sym (slice_get-map (λ e'. carried old0 e'.0 e'.1) (zip pools0 kept0) i ∙ ap (option_map (λ e'. carried old0 e'.0 e'.1)) (get_zip pools0 kept0 i before one at0 is0)))
+            | inr (inl below) ↦ get_set_other pools i k after (λ e. omega arith) ∙ sofar.done k below
+            | inr (inr above) ↦ absurd (omega arith)
+          ];
+          rest = λ k past. get_set_other pools i k after (λ e. omega arith) ∙ sofar.rest k (omega arith);
+          kept_rest = λ k past. get_set_other kept i k None (λ e. omega arith) ∙ sofar.kept_rest k (omega arith);
+          olds = λ k b past there. others b.at (λ a e. λ f. fits.apart i k a b (omega arith) (is0 ∙ ap (λ x. Some x) e) there (sym f)) ∙ sofar.olds k b (omega arith) there;
+        }
+
+    pub carry_ends : length pools ≤ i → pools ≡ map (λ e. carried old0 e.0 e.1) (zip pools0 kept0)
+    carry_ends past =
+        let long = long_zip pools0 kept0 fits.same in
+        same_lists pools (map (λ e. carried old0 e.0 e.1) (zip pools0 kept0)) (sofar.long ∙ sym (length-map (zip pools0 kept0) (λ e. carried old0 e.0 e.1) ∙ long)) (λ k inside. sofar.done k (omega arith))

@@ -1,0 +1,50 @@
+-- Sets of groups of pools that are there, and how great what they name is.
+use Rattle.std.proofs.Common.{◌≡◌, refl, ℕ, zero, suc, ◌<◌, ◌≤◌, true, false, eqb, List, [], ◌∷◌, length, get_or, Option, Some, None, arith}
+use Rattle.std.specs.Prelude.{IfSome, nat_lt}
+use Rattle.std.specs.List.{All, find}
+use Rattle.std.proofs.lemmas.Bool.Decides.{nat_tests}
+use Rattle.std.proofs.lemmas.List.{length-map}
+use Rattle.std.proofs.lemmas.List.FromFn.{length-range_with_len, length-map-range_with_len}
+use Rattle.keylist.specs.Order.{IsRising}
+use Rattle.keylist.proofs.KeyedOrder.{rising_head, rising_tail}
+use Rattle.stated.specs.declared.pg.Pg.{Pg}
+use Rattle.stated.specs.Pools.{PoolFacts}
+use Rattle.osdmap.specs.Maps.{ClusterMap, pool_at, osd_exists, HoldsTogether}
+use Rattle.osdmap.specs.Placement.{mapped_set, Places}
+use Rattle.osdmap.proofs.Named.{below_max}
+use Rattle.placement_laws.proofs.Existing.{mapped_exist}
+use Rattle.pgtable.specs.Tables.{sets_of, ups_of, pool_table, tables_of}
+
+-- an element of a list with rising keys is what is found of its key
+pub found_at : {X : Type 0} (key : X → ℕ) (xs : List X) (i : ℕ) (x : X) → IsRising key xs → i < length xs → x ≡ get_or xs i x → find (λ y. eqb (key y) (key x)) xs ≡ Some x
+found_at key [] i x rises inside is = absurd (omega arith)
+found_at key (y ∷ ys) zero x rises inside is =
+    let same : eqb (key y) (key y) ≡ true = grind (arith, nat_tests) in
+    rw (is, same) refl
+found_at key (y ∷ ys) (suc i) x rises inside is =
+    let later : key y < key (get_or ys i x) = rising_head key y ys rises i x (omega arith) in
+    let below : key y < key x = rw (← is) at later in
+    let other : eqb (key y) (key x) ≡ false = grind (arith, nat_tests) in
+    rw (other, found_at key ys i x (rising_tail key y ys rises) (omega arith) is) refl
+
+-- ---- mapped sets
+
+small_place : (m : ClusterMap) (place : Option ℕ) → length m.presences ≤ 1024 → IfSome place (λ osd. osd_exists m osd ≡ true) → IfSome place (λ osd. osd < 1024)
+small_place m None few is = tt
+small_place m (Some osd) few is = let below : nat_lt osd 1024 ≡ true = below_max m osd 1024 few is in grind (arith, nat_tests)
+
+pub mapped_small : (m : ClusterMap) (g : Pg) (p : PoolFacts) (set : List (Option ℕ)) → HoldsTogether m → pool_at m.pools g.pool ≡ Some p → Places mapped_set m g set → All (λ place. IfSome place (λ osd. osd < 1024)) set
+mapped_small m g p set holds there places =
+    let is : set ≡ mapped_set m p g.number = rw there at places.is in
+    λ k d inside. small_place m (get_or set k d) holds.few (rw (← is) at (mapped_exist m p g.number holds) k d inside)
+
+pub few_sets : (m : ClusterMap) (p : PoolFacts) (sets : List (List (Option ℕ))) → p.pg_num ≤ 4096 → sets ≡ sets_of m p → length sets ≤ 4096
+few_sets m p sets few is = rw is (omega (arith, length-map-range_with_len (mapped_set m p) 0 p.pg_num))
+
+-- ---- sizes
+
+pub few_tables : (m : ClusterMap) (n : ℕ) → length m.pools ≤ n → length (tables_of m) ≤ n
+few_tables m n few = omega (arith, length-map m.pools (pool_table m))
+
+pub few_ups : (m : ClusterMap) (n : ℕ) → length m.presences ≤ n → length (ups_of m) ≤ n
+few_ups m n few = simp (length-map, length-range_with_len) few

@@ -1,0 +1,6 @@
+pub mod Found
+pub mod Shows
+pub mod Touched
+pub mod Carrying
+pub mod Keeping
+pub mod Making

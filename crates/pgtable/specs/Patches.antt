@@ -1,0 +1,94 @@
+-- Patches: what they make of a table.
+use Rattle.std.specs.Prelude.{◌≡◌, ◌≢◌, ℕ, ◌+◌, ◌<◌, ◌≤◌, List, [], length, map, Option, Some, None, slice_get}
+use Rattle.std.specs.List.{zip, filter, count_by, range_with_len}
+use Rattle.osdmap.specs.Evals.{concerns, is_evaluated, is_touched}
+use Rattle.osdmap.specs.Placement.{group_of, mapped_set}
+use Rattle.std.specs.Option.{option_map, option_map_or}
+use Rattle.grouptable.specs.Sets.{Places, changed}
+use Rattle.grouptable.specs.Tables.{IsPatchFor}
+use Rattle.stated.specs.declared.change.ChangeParts.{ChangeParts}
+use Rattle.stated.specs.Pools.{PoolFacts}
+use Rattle.osdmap.specs.Maps.{ClusterMap, HoldsTogether}
+use Rattle.osdmap.specs.Changes.{change_fault, apply}
+use Rattle.pgtable.specs.declared.pool_table.PoolTable.{PoolTable}
+use Rattle.pgtable.specs.declared.patch.Kept.{Kept}
+use Rattle.pgtable.specs.declared.patch.Patch.{Patch}
+use Rattle.pgtable.specs.Tables.{TableFacts, sets_of, pool_table, tables_of, IsTableOf}
+
+-- the map after a change, one epoch on
+abbrev pub next : ClusterMap → ChangeParts → ClusterMap
+next m c = apply m (record { epoch = m.epoch + 1; change = c })
+
+-- a change that nothing refuses leads from one map to another
+pub record LeadsFrom (m : ClusterMap) (c : ChangeParts) (after : ClusterMap) : Type 0 where
+  pub lawful : change_fault m c ≡ None
+  pub is : after ≡ next m c
+  pub holds : HoldsTogether m
+  pub holds_after : HoldsTogether after
+
+-- the groups of a pool whose exceptions a change concerns
+abbrev pub concerned : ClusterMap → ChangeParts → PoolFacts → List ℕ
+concerned m c p = filter (λ n. concerns m c (group_of p n)) (range_with_len 0 p.pg_num)
+
+-- groups with their mapped sets
+abbrev pub with_sets : ClusterMap → PoolFacts → List ℕ → List (ℕ × Places)
+with_sets m p numbers = map (λ n. (n, mapped_set m p n)) numbers
+
+abbrev pub changes_of : ClusterMap → ChangeParts → PoolFacts → List (ℕ × Places)
+changes_of m c p = with_sets m p (concerned m c p)
+
+-- how many groups of a pool a change evaluates
+abbrev pub evals_in : ClusterMap → ChangeParts → PoolFacts → ℕ
+evals_in m c p = count_by (is_evaluated m c p) (range_with_len 0 p.pg_num)
+
+-- the sets of the pool that stands at a place
+abbrev pub sets_at : List PoolTable → ℕ → List Places
+sets_at old at = option_map_or (λ q. q.groups) (slice_get old at) []
+
+-- a pool's table as a patch makes it: anew, or that of an old one with other sets for some groups
+abbrev pub carried : List PoolTable → PoolTable → Option Kept → PoolTable
+carried old q None = q
+carried old q (Some k) = record { pool = q.pool; groups = changed (sets_at old k.at) k.patch.changes.items }
+
+-- what is kept is there, and gets other sets for groups that it has
+pub record FitsAt (old : List PoolTable) (k : Kept) : Type 0 where
+  pub inside : k.at < length old
+  pub patch : IsPatchFor (sets_at old k.at) k.patch
+
+-- each table that is kept fits, and none is kept twice
+pub record FitAll (old pools : List PoolTable) (kept : List (Option Kept)) : Type 0 where
+  pub same : length kept ≡ length pools
+  pub each : (i : ℕ) (k : Kept) → slice_get kept i ≡ Some (Some k) → FitsAt old k
+  pub apart : (i j : ℕ) (a b : Kept) → i < j → slice_get kept i ≡ Some (Some a) → slice_get kept j ≡ Some (Some b) → a.at ≢ b.at
+
+-- what is kept of a pool's table gets the sets of a map
+pub record KeepsPool (old : List PoolTable) (m : ClusterMap) (p : PoolFacts) (k : Kept) : Type 0 where
+  pub fits : FitsAt old k
+  pub id : option_map (λ q. q.pool.id) (slice_get old k.at) ≡ Some p.id
+  pub sets : changed (sets_at old k.at) k.patch.changes.items ≡ sets_of m p
+
+-- a pool's table as it is made, with what is kept, gets the sets of a map
+pub record MakesPool (old : List PoolTable) (m : ClusterMap) (p : PoolFacts) (q : PoolTable) (one : Option Kept) : Type 0 where
+  pub table : carried old q one ≡ pool_table m p
+  pub kept : (k : Kept) → one ≡ Some k → KeepsPool old m p k
+
+-- the tables as they are made, with what is kept, are those of a map
+pub record MakesAll (old : List PoolTable) (m : ClusterMap) (pools : List PoolTable) (kept : List (Option Kept)) : Type 0 where
+  pub long : length pools ≡ length m.pools
+  pub fits : FitAll old pools kept
+  pub tables : map (λ e. carried old e.0 e.1) (zip pools kept) ≡ tables_of m
+
+-- a patch fits a table
+pub record Fits (t : TableFacts) (p : Patch) : Type 0 where
+  pub pools : FitAll t.pools p.pools.items p.kept.items
+  pub few_pools : length p.pools.items ≤ 32
+  pub few_osds : length p.up.items ≤ 1024
+
+-- the table after a patch
+abbrev pub patched : TableFacts → Patch → TableFacts
+patched t p = record { pools = map (λ e. carried t.pools e.0 e.1) (zip p.pools.items p.kept.items); up = p.up.items }
+
+-- a patch makes of a table that of a map
+pub record LeadsTo (m : ClusterMap) (t : TableFacts) (p : Patch) : Type 0 where
+  pub fits : Fits t p
+  pub table : IsTableOf (patched t p) m

@@ -1,0 +1,73 @@
+//! The mapped sets of groups, as they are stored.
+
+ghost use Rattle.std.specs.Prelude.{◌≡◌, ◌<◌, map, Some, IfOk, IfSome, OnOk, All};
+ghost use Rattle.std.specs.List.{range_with_len};
+ghost use Rattle.osdmap.specs.Maps.{pool_at};
+ghost use Rattle.osdmap.specs.Placement.{mapped_set, RunsOnce};
+ghost use Rattle.pgtable.specs.Tables.{sets_of, RunsMore};
+
+use crush::Work;
+use grouptable::OsdSet;
+use osdmap::{OsdMap, Pg, Pool, UpSet};
+use refusal::Memory;
+use std::alloc::Global;
+
+/// A place of a set, in two bytes.
+fn stored_place(place: Option<u32>) -> Option<u16>
+    requires { IfSome place (λ osd. osd < 1024) }
+    ensures value { result ≡ place }
+    ensures small { IfSome result (λ osd. osd < 1024) }
+{
+    match place {
+        Some(osd) => Some(osd as u16),
+        None => None,
+    }
+}
+
+/// A set of OSDs below 1,024, in two bytes a place.
+fn stored(set: &UpSet) -> OsdSet
+    requires { All (λ place. IfSome place (λ osd. osd < 1024)) set.now }
+    ensures { result ≡ set.now }
+{
+    let mut stored = OsdSet::new();
+    for place in set.places() {
+        stored.push(stored_place(*place));
+    }
+    stored
+}
+
+/// The mapped set of a group of a pool of a map, by one run of the pool's rule; or `Memory` (30).
+pub fn mapped(map: &OsdMap, pool: &Pool, number: u32, work: &mut Work) -> Result<OsdSet, Memory>
+    requires { pool_at map.now.map.pools pool.now.id ≡ Some pool.now }
+    ensures set { IfOk result (λ set. set ≡ mapped_set map.now.map pool.now number) }
+    ensures run { RunsOnce work.old work.new result }
+{
+    let pg = Pg {
+        pool: pool.id(),
+        number,
+    };
+    map.holds_together();
+    match map.mapped_of(pg, work) {
+        Ok(set) => Ok(stored(&set)),
+        Err(_) => Err(Memory),
+    }
+}
+
+/// The mapped sets of all groups of a pool of a map, by a run of the pool's rule for each; or `Memory` (30).
+pub fn all_mapped(
+    alloc: Global,
+    map: &OsdMap,
+    pool: &Pool,
+    work: &mut Work,
+) -> Result<Vec<OsdSet>, Memory>
+    requires { pool_at map.now.map.pools pool.now.id ≡ Some pool.now }
+    ensures sets { IfOk result (λ sets. sets.items ≡ sets_of map.now.map pool.now) }
+    ensures runs { OnOk result (RunsMore pool.now.pg_num work.old work.new) }
+{
+    let _ = work.runs();
+    let mut sets = Vec::with_capacity(alloc, pool.pg_num() as usize)?;
+    for number in 0..pool.pg_num() {
+        sets.push(mapped(map, pool, number, work)?)?;
+    }
+    Ok(sets)
+}

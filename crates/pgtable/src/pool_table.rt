@@ -1,0 +1,75 @@
+//! The sets of the groups of one pool.
+
+ghost use Rattle.std.specs.Prelude.{◌≡◌, Some, IfOk, OnOk};
+ghost use Rattle.osdmap.specs.Maps.{pool_at};
+ghost use Rattle.pgtable.specs.Tables.{pool_table, RunsMore};
+
+use crate::mapped::all_mapped;
+use crush::Work;
+use grouptable::GroupTable;
+use osdmap::{OsdMap, Pg, Pool};
+use refusal::Memory;
+use std::alloc::Global;
+
+/// The sets of the groups of one pool, and for each OSD the groups in whose set it stands.
+#[derive(Drop)]
+pub struct PoolTable {
+    pub(crate) pool: Pool,
+    pub(crate) groups: GroupTable,
+}
+
+impl PoolTable {
+    ghost use Rattle.std.specs.Prelude.{◌≡◌, ◌++◌, ◌<◌, ◌≤◌, [], length, Some, IfOk, OnOk};
+    ghost use Rattle.osdmap.specs.Maps.{pool_at};
+    ghost use Rattle.pgtable.specs.Tables.{pool_table, held_in, RunsMore};
+
+    /// The mapped sets of the groups of a pool of a map, by a run of the pool's rule for each; or `Memory` (30).
+    pub(crate) fn of(
+        alloc: Global,
+        map: &OsdMap,
+        pool: Pool,
+        work: &mut Work,
+    ) -> Result<PoolTable, Memory>
+        requires { pool_at map.now.map.pools pool.id ≡ Some pool }
+        ensures table { IfOk result (λ t. t ≡ pool_table map.now.map pool) }
+        ensures runs { OnOk result (RunsMore pool.pg_num work.old work.new) }
+    {
+        pool.is_within_limits();
+        let sets = all_mapped(alloc, map, &pool, work)?;
+        let groups = GroupTable::of(alloc, sets)?;
+        Ok(PoolTable { pool, groups })
+    }
+
+    /// The table of a pool without its groups. It takes no memory.
+    pub(crate) fn empty(alloc: Global, pool: Pool) -> PoolTable
+        ensures { result ≡ record { pool = pool; groups = [] } }
+    {
+        PoolTable {
+            pool,
+            groups: GroupTable::nothing(alloc),
+        }
+    }
+
+    /// In how many groups' sets an OSD stands.
+    pub(crate) fn count(&self, osd: u32) -> usize
+        requires { osd < 1024 }
+        ensures value { result ≡ length (held_in osd self.now) }
+        ensures few { result ≤ 4096 }
+    {
+        self.groups.groups(osd).len()
+    }
+
+    /// Adds the groups in whose set an OSD stands, by number upwards; or `Memory` (30).
+    pub(crate) fn add_groups(&self, osd: u32, groups: &mut Vec<Pg>) -> Result<(), Memory>
+        requires { osd < 1024 }
+        ensures { OnOk result (groups.new.items ≡ groups.old.items ++ held_in osd self.now) }
+    {
+        for number in self.groups.groups(osd) {
+            groups.push(Pg {
+                pool: self.pool.id(),
+                number: *number,
+            })?;
+        }
+        Ok(())
+    }
+}

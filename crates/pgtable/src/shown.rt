@@ -1,0 +1,32 @@
+//! Stored sets as callers see them.
+
+ghost use Rattle.std.specs.Prelude.{◌≡◌, map, option_and_then};
+ghost use Rattle.osdmap.specs.Sets.{kept};
+ghost use Rattle.pgtable.specs.Tables.{upward_in};
+
+use crush::RuleKind;
+use grouptable::OsdSet;
+use osdmap::UpSet;
+
+/// The OSD of a place, where there is one that is up.
+fn shown_place(place: Option<u16>, up: &[bool]) -> Option<u32>
+    ensures { result ≡ option_and_then (upward_in up.now) place }
+{
+    let osd = place?;
+    if up.get(usize::from(osd)).copied().unwrap_or(false) {
+        Some(u32::from(osd))
+    } else {
+        None
+    }
+}
+
+/// The set without the OSDs that are down, in the way of a kind.
+pub fn shown(set: &OsdSet, kind: RuleKind, up: &[bool]) -> UpSet
+    ensures { result ≡ kept kind (map (option_and_then (upward_in up.now)) set.now) }
+{
+    let mut shown = UpSet::new();
+    for place in 0..set.len() {
+        shown.add(kind, shown_place(set.at(place), up));
+    }
+    shown
+}

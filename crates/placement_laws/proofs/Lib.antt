@@ -1,0 +1,4 @@
+mod MappedLemmas
+pub mod Standing
+pub mod Existing
+pub mod Others

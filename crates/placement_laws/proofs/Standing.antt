@@ -1,0 +1,61 @@
+-- Which OSDs stand in an up set.
+use Rattle.std.proofs.Common.{◌≡◌, ◌∙◌, refl, ap, ℕ, Bool, true, false, ◌&&◌, ◌||◌, eqb, List, [], ◌∷◌, map, Option, Some, None, inl, inr}
+use Rattle.std.specs.Prelude.{option_and_then, if◌then◌else◌}
+use Rattle.std.proofs.lemmas.Bool.{cases_Bool, eqb-true}
+use Rattle.std.proofs.lemmas.List.Folds.{list_any-append}
+use Rattle.std.proofs.lemmas.List.Concat.{flat_map-cons}
+use Rattle.crush.specs.declared.step.RuleKind.{RuleKind}
+use Rattle.crush.specs.declared.step.RuleKind.TheVariants.{Replicated, Erasure}
+use Rattle.osdmap.specs.Maps.{ClusterMap, osd_is_up}
+use Rattle.osdmap.specs.Mapped.{is_of}
+use Rattle.osdmap.specs.Sets.{kept, kept_in}
+use Rattle.osdmap.specs.Placement.{upward, mapped_set, up_set}
+use Rattle.placement_laws.specs.Standing.{stands, UpAreMappedAndUp}
+
+or_none : (a : Bool) → (a || false) ≡ a
+or_none true = refl
+or_none false = refl
+
+and_none : (a : Bool) → (a && false) ≡ false
+and_none true = refl
+and_none false = refl
+
+spread : (a b u : Bool) → ((a && u) || (b && u)) ≡ ((a || b) && u)
+spread true true true = refl
+spread true true false = refl
+spread true false true = refl
+spread true false false = refl
+spread false b u = refl
+
+-- an OSD stands in what is kept of a place where it has the place
+kept_place : (osd : ℕ) (kind : RuleKind) (place : Option ℕ) → stands osd (kept_in kind place) ≡ is_of osd place
+kept_place osd Replicated None = refl
+kept_place osd Replicated (Some o) = or_none (eqb o osd)
+kept_place osd Erasure place = or_none (is_of osd place)
+
+-- a place keeps its OSD where that is up
+upward_place : (m : ClusterMap) (osd : ℕ) (place : Option ℕ) → is_of osd (option_and_then (upward m) place) ≡ (is_of osd place && osd_is_up m osd)
+upward_place m osd None = refl
+upward_place m osd (Some o) = by_up (osd_is_up m o) refl
+  where
+    by_up : (b : Bool) → osd_is_up m o ≡ b → is_of osd (if b then Some o else None) ≡ (eqb o osd && osd_is_up m osd)
+    by_up true up = elim (cases_Bool (eqb o osd)) [
+      | inl same ↦ rw (same, ← eqb-true o osd same, up) refl
+      | inr other ↦ rw other refl
+    ]
+    by_up false down = elim (cases_Bool (eqb o osd)) [
+      | inl same ↦ rw (same, ← eqb-true o osd same, down) refl
+      | inr other ↦ rw other refl
+    ]
+
+pub stands_up : (m : ClusterMap) (kind : RuleKind) (osd : ℕ) (places : List (Option ℕ)) → stands osd (kept kind (map (option_and_then (upward m)) places)) ≡ (stands osd places && osd_is_up m osd)
+stands_up m kind osd [] = refl
+stands_up m kind osd (place ∷ places) =
+    let first = option_and_then (upward m) place in
+    let rest = map (option_and_then (upward m)) places in
+    let split = ap (stands osd) (flat_map-cons (kept_in kind) first rest) ∙ list_any-append (is_of osd) (kept_in kind first) (kept kind rest) in
+    split ∙ rw (kept_place osd kind first, upward_place m osd place, stands_up m kind osd places) (spread (is_of osd place) (stands osd places) (osd_is_up m osd))
+
+pub up_are_mapped_and_up : UpAreMappedAndUp
+unfolding up_set
+up_are_mapped_and_up m p n osd = stands_up m p.kind osd (mapped_set m p n)

@@ -1,0 +1,5 @@
+use Rattle.placement_laws.proofs.Existing.{mapped_exist}
+use Rattle.placement_laws.proofs.mapped_exist.Goals as goal
+
+pub returns : goal.returns
+returns c = mapped_exist

@@ -1,0 +1,3 @@
+pub mod Mapping
+pub mod Standing
+pub mod Untouched
