@@ -40,7 +40,8 @@ pub fn read_map(alloc: Global, bytes: &[u8]) -> Result<OsdMap, Refusal>
 /// entries, of a new pool what [`osdmap::Pool`] has, of a growth what [`osdmap::Grow`] has, and of a new CRUSH map what a
 /// map's buckets and rules have; `BadForest` (13) where the new buckets are no well-formed forest over 1,024 devices;
 /// `BadRule` (14) where a new rule is outside the grammar, takes a bucket that is not among them, or has the id of another;
-/// `BadPool` (15) where the `pgp_num` of a new or growing pool is above its `pg_num`. Each is tested over the whole text before the next. `Memory` (30).
+/// `BadPool` (15) where the `pgp_num` of a new or growing pool is above its `pg_num`. Each is tested
+/// over the whole text before the next. `Memory` (30).
 pub fn read_change(alloc: Global, bytes: &[u8]) -> Result<(u64, Change), Refusal>
     ensures { Makes result (change_text_fault bytes.now) (StatesChange bytes.now) }
 {
