@@ -118,10 +118,12 @@ module _ (name map_word script : Text) (m : is_plain map_word ≡ true) (s : is_
 abbrev asked : Held
 asked = record { rows = []; pending = Some (codes "journal", []); skip = 0 }
 
+-- the word of the option waits for a number
 opens : walked rules [] first (codes "--journal") ≡ at_option asked (codes "journal") 1
 unfolding clap_on_literals
 opens = refl
 
+-- which the parser has nothing against
 opens_turn : turn_fault top [] first (codes "--journal") ≡ []
 unfolding clap_on_literals
 opens_turn = refl
@@ -190,6 +192,7 @@ record Begins (t : Text) : Type 0 where
   minus : starts_with_minus t ≡ false
   plus : without_leading_plus t ≡ t
 
+-- a numeral does begin so
 begins : (t : Text) → IsNumeral 10 t → Begins t
 begins [] numeral = absurd (omega arith)
 begins (c ∷ cs) numeral =

@@ -26,8 +26,8 @@ pub enum Refusal {
     BadPool,
     /// 16: an OSD's id twice, an id not below `max_osd`, or an OSD that is up but does not exist.
     BadOsd,
-    /// 17: in a map a group twice among the explicit sets or among the pairs, no such group, an OSD that does not exist,
-    /// or what 26 names.
+    /// 17: in a map a group twice among the explicit sets or among the pairs, no such group, an OSD that does not
+    /// exist, or what 26 names.
     BadException,
     /// 20: the change is for another epoch than the current one, which it carries.
     StaleEpoch(u64),
