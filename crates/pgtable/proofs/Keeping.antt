@@ -102,7 +102,7 @@ any_passes p q (x ∷ xs) passes any = elim (cases_Bool (p x)) [
       elim (cases_Bool (q x)) [ inl stays ↦ rw (stays, other) rest | inr goes ↦ rw goes rest ]
 ]
 
-among : (q : ℕ → Bool) (n k : ℕ) → k < n → q k ≡ true → list_any (λ x. eqb x k) (filter q (range_with_len 0 n)) ≡ true
+pub among : (q : ℕ → Bool) (n k : ℕ) → k < n → q k ≡ true → list_any (λ x. eqb x k) (filter q (range_with_len 0 n)) ≡ true
 among q n k inside passes =
     any_passes (λ x. eqb x k) q (range_with_len 0 n) (λ x same. rw (eqb-true x k same) passes)
     (list_any_at (λ x. eqb x k) (range_with_len 0 n) k 0 (omega (arith, length-range_with_len 0 n)) (rw (get_or-range_with_len 0 n k 0 inside) (grind (arith, nat_tests))))

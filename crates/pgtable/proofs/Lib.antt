@@ -4,3 +4,4 @@ pub mod Touched
 pub mod Carrying
 pub mod Keeping
 pub mod Making
+pub mod Concerned

@@ -5,6 +5,7 @@ ghost use Rattle.std.specs.List.{zip};
 ghost use Rattle.pgtable.specs.declared.patch.Kept.{Kept};
 ghost use Rattle.pgtable.specs.Patches.{carried, FitsAt, FitAll};
 
+use crate::candidates::candidates;
 use crate::pool_table::PoolTable;
 use crate::table::{PgTable, ups_of};
 use crate::update::Update;
@@ -184,10 +185,12 @@ impl PgTable {
     {
         before.holds_together();
         after.holds_together();
+        let groups = candidates(alloc, before, change, after)?;
         let update = Update {
             before,
             change,
             after,
+            groups: &groups,
         };
         let mut work = Work::new(alloc, after.forest())?;
         let (pools, kept) = self.all_made(alloc, &update, &mut work)?;

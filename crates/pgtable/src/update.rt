@@ -6,6 +6,7 @@ ghost use Rattle.std.specs.List.{list_any};
 ghost use Rattle.std.specs.List.Sorted.{IsNonDecreasingBy};
 ghost use Rattle.keylist.specs.Keys.{has_key};
 ghost use Rattle.osdmap.specs.Evals.{is_named, names_reweighted, reaches};
+ghost use Rattle.pgtable.specs.Candidates.{IsCandidates};
 ghost use Rattle.pgtable.specs.Patches.{LeadsFrom};
 
 use crate::mapped::mapped;
@@ -23,7 +24,10 @@ pub(crate) struct Update<'a> {
     pub before: &'a OsdMap,
     pub change: &'a Change,
     pub after: &'a OsdMap,
+    /// Among these groups are all whose exceptions the change concerns.
+    pub groups: &'a [Pg],
     ghost leads: { LeadsFrom before.now.map change.now after.now.map },
+    ghost candidates: { IsCandidates after.now.map change.now groups.now },
 }
 
 /// Whether exceptions of a group go or come with a change.
@@ -92,6 +96,7 @@ impl Update<'_> {
     ghost use Rattle.pgtable.specs.Tables.{RunsMore};
     ghost use Rattle.osdmap.specs.Placement.{group_of};
     ghost use Rattle.osdmap.specs.Evals.{is_touched, concerns};
+    ghost use Rattle.pgtable.specs.Candidates.{IsCandidates, number_in, numbers_in};
     ghost use Rattle.pgtable.specs.Patches.{LeadsFrom, concerned, with_sets, changes_of};
 
     /// The change leads from the one map to the other: for proofs alone.
@@ -99,6 +104,13 @@ impl Update<'_> {
         ensures { LeadsFrom self.now.before.now.map self.now.change.now self.now.after.now.map }
     {
         let _ = &self.before;
+    }
+
+    /// Among the groups are all whose exceptions the change concerns: for proofs alone.
+    fn has_candidates(&self)
+        ensures { IsCandidates self.now.after.now.map self.now.change.now self.now.groups.now }
+    {
+        let _ = &self.groups;
     }
 
     /// Whether all groups of a pool may be placed otherwise: the forest and the rules were replaced, it came or grew with the
@@ -130,16 +142,43 @@ impl Update<'_> {
             || names_reweighted(self.change, self.after.items(pg))
     }
 
-    /// The groups of a pool whose exceptions the change concerns; or `Memory` (30).
-    pub fn concerned(&self, alloc: Global, pool: &Pool) -> Result<Vec<u32>, Memory>
-        ensures { IfOk result (λ numbers. numbers.items ≡ concerned self.now.after.now.map self.now.change.now pool.now) }
+    /// The number in a pool of a group that stands in it and that the change concerns.
+    fn number_in(&self, pool: &Pool, group: Pg) -> Option<u32>
+        ensures { result ≡ number_in self.now.after.now.map self.now.change.now pool.now group }
+    {
+        let first = Pg {
+            pool: pool.id(),
+            number: 0,
+        };
+        let number = group.place().checked_sub(first.place())?;
+        if number < u64::from(pool.pg_num()) && self.concerns(pool, number as u32) {
+            Some(number as u32)
+        } else {
+            None
+        }
+    }
+
+    /// The numbers in a pool of those of some groups that stand in it and that the change concerns; or `Memory` (30).
+    fn numbers_in(&self, alloc: Global, pool: &Pool, groups: &[Pg]) -> Result<Vec<u32>, Memory>
+        ensures { IfOk result (λ numbers. numbers.items ≡ numbers_in self.now.after.now.map self.now.change.now pool.now groups.now) }
     {
         Ok(
-            (0..pool.pg_num())
-                .filter(|number| self.concerns(pool, *number))
+            groups
+                .iter()
+                .filter_map(|group| self.number_in(pool, *group))
                 .collect(alloc)?,
         )
     }
+
+    /// The groups of a pool whose exceptions the change concerns, found among the candidates; or `Memory` (30).
+    fn concerned(&self, alloc: Global, pool: &Pool) -> Result<Vec<u32>, Memory>
+        ensures { IfOk result (λ numbers. numbers.items ≡ concerned self.now.after.now.map self.now.change.now pool.now) }
+    {
+        self.has_candidates();
+        let numbers = self.numbers_in(alloc, pool, self.groups)?;
+        Ok(numbers)
+    }
+
     /// These groups with their sets after the change, by one run of the pool's rule for each; or `Memory` (30).
     pub fn changes(
         &self,

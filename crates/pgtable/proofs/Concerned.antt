@@ -1,0 +1,349 @@
+-- The groups that a change concerns are among the candidates, and are found among these in their order.
+use Rattle.std.proofs.Common.{◌≡◌, ◌∙◌, refl, sym, ap, subst, ℕ, zero, suc, ◌⊎◌, ◌+◌, ◌-◌, ◌*◌, ◌^◌, ◌<◌, ◌≤◌, Bool, true, false, ◌&&◌, ◌||◌, eqb, List, [], ◌∷◌, ◌++◌, length, take, map, Option, Some, None, inl, inr, arith}
+use mathlib.Core.Bool.{false≢true}
+use Rattle.std.specs.Prelude.{nat_lt, nat_le, filter_map, is_some, if◌then◌else◌}
+use Rattle.std.specs.List.{All, list_any, filter, fold, range_with_len}
+use Rattle.std.proofs.lemmas.Bool.{cases_Bool, cases_order, eqb-true}
+use Rattle.std.proofs.lemmas.Bool.Decides.{nat_tests}
+use Rattle.std.proofs.lemmas.List.Elements.{All-nil, All-cons, All-head, All-tail}
+use Rattle.std.proofs.lemmas.List.{get_or-map, length-map, take_all}
+use Rattle.std.proofs.lemmas.List.FromFn.{length-range_with_len, get_or-range_with_len}
+use Rattle.std.proofs.lemmas.List.Folds.{list_any_none}
+use Rattle.keylist.specs.Keys.{has_key, entry_at, is_distinct}
+use Rattle.keylist.specs.Order.{IsRising}
+use Rattle.keylist.proofs.KeyedDistinct.{key_among, distinct-append}
+use Rattle.keylist.proofs.KeyedMaps.{has-entry, has-puts, rising-puts}
+use Rattle.keylist.proofs.KeyedOrder.{distinct_rises}
+use Rattle.stated.specs.declared.pg.Pg.{Pg}
+use Rattle.stated.specs.declared.exception.Exception.{Exception}
+use Rattle.stated.specs.declared.change.ChangeParts.{ChangeParts}
+use Rattle.stated.specs.declared.change.Reweight.{Reweight}
+use Rattle.stated.specs.Exceptions.{place_of, key_of, said_of, is_among, target, sides}
+use Rattle.stated.specs.Ordered.{IsInOrder}
+use Rattle.stated.specs.Pools.{PoolFacts}
+use Rattle.osdmap.specs.Maps.{ClusterMap, HoldsTogether}
+use Rattle.osdmap.specs.Changes.{change_fault, names_once}
+use Rattle.osdmap.specs.Evals.{is_named, names_reweighted, concerns}
+use Rattle.osdmap.specs.Placement.{group_of}
+use Rattle.osdmap.proofs.Accepted.{Accepted, accepted}
+use Rattle.osdmap.proofs.Coming.{comes}
+use Rattle.keylist.proofs.KeyedOrder.{rising_head, rising_tail, rising_from, rising-filter}
+use Rattle.keylist.proofs.Tests.{and_first, and_second}
+use Rattle.keylist.proofs.Each.{same_tests}
+use Rattle.pgtable.specs.Candidates.{NamedRise, groups_of, joined, named_in, candidates_by, candidates, number_at, number_in}
+use Rattle.pgtable.specs.Candidates as spec
+use Rattle.pgtable.specs.Patches.{concerned}
+use Rattle.pgtable.proofs.Keeping.{among}
+
+-- ---- rising lists of numbers
+
+abbrev has : ℕ → List ℕ → Bool
+has j xs = list_any (λ x. eqb x j) xs
+
+abbrev Rising : List ℕ → Type 0
+Rising xs = IsRising (λ (n : ℕ). n) xs
+
+or_second : (a b : Bool) → (a || b) ≡ true → a ≡ false → b ≡ true
+or_second true b h k = absurd (false≢true (sym k))
+or_second false b h k = h
+
+true_behind : (a : Bool) → (a || true) ≡ true
+true_behind true = refl
+true_behind false = refl
+
+-- nothing above all of a list is in it
+not_below : (j : ℕ) (xs : List ℕ) → All (λ x. j < x) xs → has j xs ≡ false
+not_below j [] above = refl
+not_below j (x ∷ xs) above =
+    let here : j < x = All-head (λ y. j < y) x xs above in
+    let other : eqb x j ≡ false = grind (arith, nat_tests) in
+    rw (other, not_below j xs (All-tail (λ y. j < y) x xs above)) refl
+
+itself : (x : ℕ) → eqb x x ≡ true
+itself x = grind (arith, nat_tests)
+
+-- rising lists with the same numbers are the same
+pub same_numbers : (xs ys : List ℕ) → Rising xs → Rising ys → ((j : ℕ) → has j xs ≡ has j ys) → xs ≡ ys
+same_numbers [] [] up up' same = refl
+same_numbers [] (y ∷ ys) up up' same = absurd (false≢true (same y ∙ rw (itself y) refl))
+same_numbers (x ∷ xs) [] up up' same = absurd (false≢true (sym (same x) ∙ rw (itself x) refl))
+same_numbers (x ∷ xs) (y ∷ ys) up up' same =
+    let above = rising_head (λ (n : ℕ). n) x xs up in
+    let above' = rising_head (λ (n : ℕ). n) y ys up' in
+    let e : x ≡ y = first x y above above' (same x) (same y) in
+    rw e (ap (λ z. y ∷ z) (same_numbers xs ys (rising_tail (λ (n : ℕ). n) x xs up) (rising_tail (λ (n : ℕ). n) y ys up') (λ j. rest j x y e above above' (same j))))
+  where
+    first : (a b : ℕ) → All (λ z. a < z) xs → All (λ z. b < z) ys → has a (a ∷ xs) ≡ has a (b ∷ ys) → has b (a ∷ xs) ≡ has b (b ∷ ys) → a ≡ b
+    first a b above above' at_a at_b = elim (cases_order a b) [
+      | inl e ↦ e
+      | inr (inl less) ↦
+          let other : eqb b a ≡ false = grind (arith, nat_tests) in
+          let none = not_below a ys (λ k d inside. let h = above' k d inside in omega arith) in
+          let yes : has a (a ∷ xs) ≡ true = rw (itself a) refl in
+          let no : has a (b ∷ ys) ≡ false = rw (other, none) refl in
+          absurd (false≢true (sym no ∙ sym at_a ∙ yes))
+      | inr (inr more) ↦
+          let other : eqb a b ≡ false = grind (arith, nat_tests) in
+          let none = not_below b xs (λ k d inside. let h = above k d inside in omega arith) in
+          let yes : has b (b ∷ ys) ≡ true = rw (itself b) refl in
+          let no : has b (a ∷ xs) ≡ false = rw (other, none) refl in
+          absurd (false≢true (sym no ∙ at_b ∙ yes))
+    ]
+
+    rest : (j a b : ℕ) → a ≡ b → All (λ z. a < z) xs → All (λ z. b < z) ys → has j (a ∷ xs) ≡ has j (b ∷ ys) → has j xs ≡ has j ys
+    rest j a b e above above' at = elim (cases_Bool (eqb a j)) [
+      | inl here ↦
+          let is : a ≡ j = eqb-true a j here in
+          not_below j xs (subst (λ (n : ℕ). All (λ z. n < z) xs) is above) ∙ sym (not_below j ys (subst (λ (n : ℕ). All (λ z. n < z) ys) (sym e ∙ is) above'))
+      | inr other ↦
+          let other' : eqb b j ≡ false = rw e at other in
+          rw (other, other') at at
+    ]
+
+-- ---- numbers in a pool
+
+module _ (q : ℕ → Bool) (base n : ℕ) where
+  abbrev passes : ℕ → Bool
+  passes k = nat_le base k && (nat_lt (k - base) n && q (k - base))
+
+  abbrev numbers : List ℕ → List ℕ
+  numbers ks = filter_map (number_at q base n) ks
+
+  numbers_in : (k : ℕ) (ks : List ℕ) → passes k ≡ true → numbers (k ∷ ks) ≡ (k - base) ∷ numbers ks
+  numbers_in k ks h = rw h refl
+
+  numbers_out : (k : ℕ) (ks : List ℕ) → passes k ≡ false → numbers (k ∷ ks) ≡ numbers ks
+  numbers_out k ks h = rw h refl
+
+  past_base : (k : ℕ) → passes k ≡ true → base ≤ k
+  past_base k h = let le = and_first (nat_le base k) _ h in grind (arith, nat_tests)
+
+  all_above : (k : ℕ) (ks : List ℕ) → base ≤ k → All (λ j. k < j) ks → All (λ j. (k - base) < j) (numbers ks)
+  all_above k [] past above = All-nil (λ j. (k - base) < j)
+  all_above k (j ∷ ks) past above =
+      let here : k < j = All-head (λ i. k < i) j ks above in
+      let later = all_above k ks past (All-tail (λ i. k < i) j ks above) in
+      elim (cases_Bool (passes j)) [
+        | inl stays ↦ rw (numbers_in j ks stays) (All-cons (λ i. (k - base) < i) (j - base) (numbers ks) (omega arith) later)
+        | inr goes ↦ rw (numbers_out j ks goes) later
+      ]
+
+  numbers_rise : (ks : List ℕ) → Rising ks → Rising (numbers ks)
+  numbers_rise [] up = up
+  numbers_rise (k ∷ ks) up =
+      let later = numbers_rise ks (rising_tail (λ (i : ℕ). i) k ks up) in
+      let above = rising_head (λ (i : ℕ). i) k ks up in
+      elim (cases_Bool (passes k)) [
+        | inl stays ↦ rw (numbers_in k ks stays) (rising_from (λ (i : ℕ). i) (k - base) (numbers ks) (all_above k ks (past_base k stays) above) later)
+        | inr goes ↦ rw (numbers_out k ks goes) later
+      ]
+
+  number_passes : (j : ℕ) (ks : List ℕ) → has j (numbers ks) ≡ true → (nat_lt j n && q j) ≡ true
+  number_passes j [] h = absurd (false≢true h)
+  number_passes j (k ∷ ks) h = elim (cases_Bool (passes k)) [
+    | inl stays ↦
+        let split : (eqb (k - base) j || has j (numbers ks)) ≡ true = rw (numbers_in k ks stays) at h in
+        elim (cases_Bool (eqb (k - base) j)) [
+          | inl here ↦ rw (eqb-true (k - base) j here) at (and_second (nat_le base k) _ stays)
+          | inr other ↦ number_passes j ks (or_second _ _ split other)
+        ]
+    | inr goes ↦ number_passes j ks (rw (numbers_out k ks goes) at h)
+  ]
+
+  number_found : (j : ℕ) (ks : List ℕ) → (nat_lt j n && q j) ≡ true → has (base + j) ks ≡ true → has j (numbers ks) ≡ true
+  number_found j [] h there = there
+  number_found j (k ∷ ks) h there = elim (cases_Bool (eqb k (base + j))) [
+    | inl here ↦
+        let is : k ≡ base + j = eqb-true k (base + j) here in
+        let off : k - base ≡ j = omega arith in
+        let past : nat_le base k ≡ true = grind (arith, nat_tests) in
+        let stays : passes k ≡ true = rw (past, off, h) refl in
+        rw (numbers_in k ks stays, off, itself j) refl
+    | inr other ↦
+        let later = number_found j ks h (or_second _ _ there other) in
+        elim (cases_Bool (passes k)) [
+          | inl stays ↦ rw (numbers_in k ks stays, later) (true_behind (eqb (k - base) j))
+          | inr goes ↦ rw (numbers_out k ks goes) later
+        ]
+  ]
+
+  range_rises : (a m : ℕ) → Rising (range_with_len a m)
+  range_rises a m i j d less inside =
+      let long = length-range_with_len a m in
+      rw (get_or-range_with_len a m i d (omega arith), get_or-range_with_len a m j d (omega arith)) (omega arith)
+
+  range_passes : (j a m : ℕ) → has j (filter q (range_with_len a m)) ≡ true → ((nat_lt j (a + m)) && q j) ≡ true
+  range_passes j a zero h = absurd (false≢true h)
+  range_passes j a (suc m) h = elim (cases_Bool (q a)) [
+    | inl stays ↦
+        let split : (eqb a j || has j (filter q (range_with_len (a + 1) m))) ≡ true = rw stays at h in
+        elim (cases_Bool (eqb a j)) [
+          | inl here ↦
+              let is : a ≡ j = eqb-true a j here in
+              let less : nat_lt j (a + suc m) ≡ true = grind (arith, nat_tests) in
+              rw (less, ← is, stays) refl
+          | inr other ↦ further j a m (range_passes j (a + 1) m (or_second _ _ split other))
+        ]
+    | inr goes ↦ further j a m (range_passes j (a + 1) m (rw goes at h))
+  ]
+    where
+      further : (j a m : ℕ) → (nat_lt j (a + 1 + m) && q j) ≡ true → (nat_lt j (a + suc m) && q j) ≡ true
+      further j a m h = let e : a + 1 + m ≡ a + suc m = omega arith in rw e at h
+
+  numbers_all : (ks : List ℕ) → Rising ks → ((j : ℕ) → j < n → q j ≡ true → has (base + j) ks ≡ true) → numbers ks ≡ filter q (range_with_len 0 n)
+  numbers_all ks up complete =
+      same_numbers (numbers ks) (filter q (range_with_len 0 n)) (numbers_rise ks up) (rising-filter (λ (i : ℕ). i) q (range_with_len 0 n) (range_rises 0 n)) (λ j. same_tests _ _
+      (λ h. let both = number_passes j ks h in let less : j < n = below j (and_first (nat_lt j n) (q j) both) in among q n j less (and_second (nat_lt j n) (q j) both))
+      (λ h.
+      let e : 0 + n ≡ n = omega arith in
+      let both : (nat_lt j n && q j) ≡ true = rw e at (range_passes j 0 n h) in
+      let lt : nat_lt j n ≡ true = and_first (nat_lt j n) (q j) both in
+      let less : j < n = below j lt in
+      let yes = and_second (nat_lt j n) (q j) both in
+      number_found j ks (rw (lt, yes) refl) (complete j less yes)))
+    where
+      below : (j : ℕ) → nat_lt j n ≡ true → j < n
+      below j h = grind (arith, nat_tests)
+
+-- ---- groups
+
+over_places : (q : ℕ → Bool) (base n : ℕ) (groups : List Pg) → filter_map (λ g. number_at q base n (place_of g)) groups ≡ filter_map (number_at q base n) (map place_of groups)
+over_places q base n [] = refl
+over_places q base n (g ∷ gs) = elim (cases_Bool (passes q base n (place_of g))) [
+  | inl stays ↦ rw (stays, over_places q base n gs) refl
+  | inr goes ↦ rw (goes, over_places q base n gs) refl
+]
+
+places_rise : (groups : List Pg) → IsRising place_of groups → Rising (map place_of groups)
+places_rise groups up i j d less inside =
+    let long : length (map place_of groups) ≡ length groups = length-map groups place_of in
+    let last : j < length groups = omega (arith, long, inside) in
+    let e : Pg = record { pool = 0; number = 0 } in
+    rw (get_or-map place_of groups i e d (omega arith), get_or-map place_of groups j e d last) (up i j e less last)
+
+pub concerned_found : (m : ClusterMap) (c : ChangeParts) (p : PoolFacts) (groups : List Pg) → IsRising place_of groups → ((g : Pg) → concerns m c g ≡ true → has_key place_of groups (place_of g) ≡ true)
+    → spec.numbers_in m c p groups ≡ concerned m c p
+concerned_found m c p groups up complete =
+    over_places (λ n. concerns m c (group_of p n)) (p.id * 2 ^ 32) p.pg_num groups
+    ∙ numbers_all (λ n. concerns m c (group_of p n)) (p.id * 2 ^ 32) p.pg_num (map place_of groups) (places_rise groups up)
+    (λ j less yes. key_among place_of groups (p.id * 2 ^ 32 + j) ∙ complete (group_of p j) yes)
+
+-- ---- candidates
+
+groups_have : {E : Type 0} (es : List (Exception E)) (k : ℕ) → has_key place_of (groups_of es) k ≡ has_key key_of es k
+groups_have [] k = refl
+groups_have (e ∷ es) k = ap (λ b. eqb (key_of e) k || b) (groups_have es k)
+
+pub groups_rise : {E : Type 0} (es : List (Exception E)) → IsRising key_of es → IsRising place_of (groups_of es)
+groups_rise es up i j d less inside =
+    let long : length (groups_of es) ≡ length es = length-map es (λ e. e.pg) in
+    let last : j < length es = omega (arith, long, inside) in
+    by_element es up i j d less last (element es i (omega arith))
+  where
+    by_element : {E : Type 0} (es : List (Exception E)) → IsRising key_of es → (i j : ℕ) (d : Pg) → i < j → j < length es → Exception E → place_of (Rattle.std.proofs.Common.get_or (groups_of es) i d) < place_of (Rattle.std.proofs.Common.get_or (groups_of es) j d)
+    by_element es up i j d less last e = rw (get_or-map (λ x. x.pg) es i e d (omega arith), get_or-map (λ x. x.pg) es j e d last) (up i j e less last)
+
+    element : {X : Type 0} (xs : List X) (i : ℕ) → i < length xs → X
+    element [] i inside = absurd (omega arith)
+    element (x ∷ xs) i inside = x
+
+first_distinct : (ks js : List ℕ) → is_distinct (ks ++ js) ≡ true → is_distinct ks ≡ true
+first_distinct ks js h = let parts = distinct-append ks js in grind (arith, parts, h)
+
+pub named_rise : (m : ClusterMap) (c : ChangeParts) → change_fault m c ≡ None → IsInOrder c → NamedRise c
+unfolding names_once
+named_rise m c lawful ordered =
+    let ok = accepted m c lawful in
+    let new = comes m c ok ordered in
+    record {
+      old_upmap = distinct_rises place_of c.old_upmap ordered.old_upmap (first_distinct (map place_of c.old_upmap) (map key_of c.new_upmap) (grind (arith, ok.once)));
+      old_items = distinct_rises place_of c.old_items ordered.old_items (first_distinct (map place_of c.old_items) (map key_of c.new_items) (grind (arith, ok.once)));
+      new_upmap = new.upmap;
+      new_items = new.items;
+    }
+
+-- ---- all that are concerned
+
+or_cases : (a b : Bool) → (a || b) ≡ true → (a ≡ true) ⊎ (b ≡ true)
+or_cases true b h = inl refl
+or_cases false b h = inr h
+
+some_or : (a b : Bool) → a ≡ true → (a || b) ≡ true
+some_or a b h = rw h refl
+
+other_or : (a b : Bool) → b ≡ true → (a || b) ≡ true
+other_or a b h = rw h (true_behind a)
+
+has_joined : (some others : List Pg) (k : ℕ) → has_key place_of (joined some others) k ≡ (has_key place_of others k || has_key place_of some k)
+has_joined some others k = has-puts place_of some others k
+
+named_has : (c : ChangeParts) (g : Pg) → is_named c g ≡ true → has_key place_of (named_in c) (place_of g) ≡ true
+unfolding is_named
+named_has c g named =
+    let k = place_of g in
+    let both = joined c.old_upmap c.old_items in
+    let three = joined both (groups_of c.new_upmap) in
+    let in_both = λ (h : (is_among c.old_upmap g || is_among c.old_items g) ≡ true). has_joined c.old_upmap c.old_items k ∙ elim (or_cases _ _ h) [
+      | inl first ↦ other_or (has_key place_of c.old_items k) (has_key place_of c.old_upmap k) first
+      | inr second ↦ some_or (has_key place_of c.old_items k) (has_key place_of c.old_upmap k) second
+    ] in
+    has_joined three (groups_of c.new_items) k ∙ elim (or_cases _ _ named) [
+      | inr last ↦ some_or _ _ (groups_have c.new_items k ∙ last)
+      | inl rest ↦ other_or _ _ (has_joined both (groups_of c.new_upmap) k ∙ elim (or_cases _ _ rest) [
+        | inr third ↦ some_or _ _ (groups_have c.new_upmap k ∙ third)
+        | inl olds ↦ other_or _ _ (in_both olds)
+      ])
+    ]
+
+none_of : (p : ℕ → Bool) (xs : List ℕ) → ((x : ℕ) → p x ≡ false) → list_any p xs ≡ false
+none_of p [] none = refl
+none_of p (x ∷ xs) none = rw (none x) (none_of p xs none)
+
+none_of_entries : {E : Type 0} (names : E → List ℕ) (p : ℕ → Bool) (entries : List E) → ((x : ℕ) → p x ≡ false) → list_any (λ e. list_any p (names e)) entries ≡ false
+none_of_entries names p [] none = refl
+none_of_entries names p (e ∷ es) none = rw (none_of p (names e) none) (none_of_entries names p es none)
+
+-- without reweights no exception names an OSD that gets one
+none_reweighted : {E : Type 0} (names : E → List ℕ) (c : ChangeParts) (said : Option (List E)) → c.weight ≡ [] → names_reweighted names c said ≡ false
+none_reweighted names c None empty = refl
+none_reweighted names c (Some entries) empty = none_of_entries names (has_key (λ w. w.osd) c.weight) entries (λ osd. rw empty refl)
+
+-- an exception that names one is there
+said_has : {E : Type 0} (names : E → List ℕ) (c : ChangeParts) (es : List (Exception E)) (g : Pg) → names_reweighted names c (said_of es g) ≡ true → has_key key_of es (place_of g) ≡ true
+said_has {E} names c es g h = has-entry key_of es (place_of g) ∙ by_entry (entry_at key_of es (place_of g)) refl
+  where
+    by_entry : (e : Option (Exception E)) → entry_at key_of es (place_of g) ≡ e → is_some (entry_at key_of es (place_of g)) ≡ true
+    by_entry None is = absurd (false≢true (rw is at h))
+    by_entry (Some e) is = rw is refl
+
+by_weight : (m : ClusterMap) (c : ChangeParts) (g : Pg) (ws : List Reweight) → c.weight ≡ ws → concerns m c g ≡ true → has_key place_of (candidates_by ws m c) (place_of g) ≡ true
+unfolding concerns
+by_weight m c g [] is loud = elim (or_cases _ _ loud) [
+  | inr items ↦ absurd (false≢true (sym (none_reweighted sides c (said_of m.items g) is) ∙ items))
+  | inl rest ↦ elim (or_cases _ _ rest) [
+    | inr explicit ↦ absurd (false≢true (sym (none_reweighted target c (said_of m.explicit g) is) ∙ explicit))
+    | inl named ↦ named_has c g named
+  ]
+]
+by_weight m c g (w ∷ ws) is loud =
+    let k = place_of g in
+    has_joined (joined (named_in c) (groups_of m.explicit)) (groups_of m.items) k ∙ elim (or_cases _ _ loud) [
+      | inr items ↦ some_or _ _ (groups_have m.items k ∙ said_has sides c m.items g items)
+      | inl rest ↦ other_or _ _ (has_joined (named_in c) (groups_of m.explicit) k ∙ elim (or_cases _ _ rest) [
+        | inr explicit ↦ some_or _ _ (groups_have m.explicit k ∙ said_has target c m.explicit g explicit)
+        | inl named ↦ other_or _ _ (named_has c g named)
+      ])
+    ]
+
+pub candidates_have : (m : ClusterMap) (c : ChangeParts) (g : Pg) → concerns m c g ≡ true → has_key place_of (candidates m c) (place_of g) ≡ true
+unfolding candidates
+candidates_have m c g loud = by_weight m c g c.weight refl loud
+
+-- the groups of exceptions with rising keys, and groups with others among them, rise
+pub groups_rise_all : {E : Type 0} (es : List (Exception E)) (gs : List Pg) (i : ℕ) → IsRising key_of es → gs ≡ groups_of (take i es) → length es ≤ i → IsRising place_of gs
+groups_rise_all es gs i up is past =
+    let all : gs ≡ groups_of es = is ∙ ap groups_of (take_all i es past) in
+    rw all (groups_rise es up)
+
+pub joined_rise : (some others gs : List Pg) → IsRising place_of some → gs ≡ joined some others → IsRising place_of gs
+joined_rise some others gs up is = rw is (rising-puts place_of some others up)

@@ -1,0 +1,59 @@
+-- The groups that a change can concern, found without looking at all groups.
+use Rattle.std.specs.Prelude.{◌≡◌, true, ℕ, ◌*◌, ◌-◌, ◌^◌, Bool, ◌&&◌, nat_lt, nat_le, List, [], ◌∷◌, map, filter_map, Option, Some, None, if◌then◌else◌}
+use Rattle.std.specs.List.{fold}
+use Rattle.keylist.specs.Keys.{has_key}
+use Rattle.keylist.specs.Order.{IsRising}
+use Rattle.keylist.specs.Puts.{put}
+use Rattle.stated.specs.declared.pg.Pg.{Pg}
+use Rattle.stated.specs.declared.exception.Exception.{Exception}
+use Rattle.stated.specs.declared.change.ChangeParts.{ChangeParts}
+use Rattle.stated.specs.declared.change.Reweight.{Reweight}
+use Rattle.stated.specs.Exceptions.{place_of, key_of}
+use Rattle.stated.specs.Pools.{PoolFacts}
+use Rattle.osdmap.specs.Maps.{ClusterMap}
+use Rattle.osdmap.specs.Evals.{concerns}
+use Rattle.osdmap.specs.Placement.{group_of}
+
+-- the groups of some exceptions
+abbrev pub groups_of : {E : Type 0} → List (Exception E) → List Pg
+groups_of es = map (λ e. e.pg) es
+
+-- two rising lists of groups made one
+abbrev pub joined : List Pg → List Pg → List Pg
+joined some others = fold (put place_of) some others
+
+-- the groups that a change names
+abbrev pub named_in : ChangeParts → List Pg
+named_in c = joined (joined (joined c.old_upmap c.old_items) (groups_of c.new_upmap)) (groups_of c.new_items)
+
+-- what a change names is in ascending order, each once
+pub record NamedRise (c : ChangeParts) : Type 0 where
+  pub old_upmap : IsRising place_of c.old_upmap
+  pub old_items : IsRising place_of c.old_items
+  pub new_upmap : IsRising key_of c.new_upmap
+  pub new_items : IsRising key_of c.new_items
+
+-- with those that have exceptions, where some OSD gets another reweight
+abbrev pub candidates_by : List Reweight → ClusterMap → ChangeParts → List Pg
+candidates_by [] m c = named_in c
+candidates_by (w ∷ ws) m c = joined (joined (named_in c) (groups_of m.explicit)) (groups_of m.items)
+
+unfoldable pub candidates : ClusterMap → ChangeParts → List Pg
+candidates m c = candidates_by c.weight m c
+
+-- the number in a pool, whose first group has a place, of the group of another place, where a test passes it
+abbrev pub number_at : (ℕ → Bool) → ℕ → ℕ → ℕ → Option ℕ
+number_at q base n place = if nat_le base place && (nat_lt (place - base) n && q (place - base)) then Some (place - base) else None
+
+-- the number in a pool of a group that a change concerns
+abbrev pub number_in : ClusterMap → ChangeParts → PoolFacts → Pg → Option ℕ
+number_in m c p g = number_at (λ n. concerns m c (group_of p n)) (p.id * 2 ^ 32) p.pg_num (place_of g)
+
+-- the numbers of some groups
+abbrev pub numbers_in : ClusterMap → ChangeParts → PoolFacts → List Pg → List ℕ
+numbers_in m c p groups = filter_map (number_in m c p) groups
+
+-- groups in ascending order, among which are all that a change concerns
+pub record IsCandidates (m : ClusterMap) (c : ChangeParts) (groups : List Pg) : Type 0 where
+  pub rising : IsRising place_of groups
+  pub all : (g : Pg) → concerns m c g ≡ true → has_key place_of groups (place_of g) ≡ true

@@ -1,0 +1,93 @@
+//! The groups that a change can concern.
+
+ghost use Rattle.std.specs.Prelude.{◌≡◌, None, IfOk, OnOk};
+ghost use Rattle.keylist.specs.Order.{IsRising};
+ghost use Rattle.stated.specs.Exceptions.{place_of, key_of};
+ghost use Rattle.osdmap.specs.Changes.{change_fault};
+ghost use Rattle.pgtable.specs.Candidates.{groups_of, joined, NamedRise, IsCandidates, named_in, candidates};
+
+use keylist::put_all;
+use osdmap::{Change, Exception, OsdMap, Pg};
+use refusal::Memory;
+use stated::Blank;
+use std::alloc::Global;
+
+/// The groups of some exceptions, in their order; or `Memory` (30).
+fn groups_of<E: Blank>(alloc: Global, exceptions: &[Exception<E>]) -> Result<Vec<Pg>, Memory>
+    requires { IsRising key_of exceptions.now }
+    ensures groups { IfOk result (λ groups. groups.items ≡ groups_of exceptions.now) }
+    ensures rising { IfOk result (λ groups. IsRising place_of groups.items) }
+{
+    let mut groups = Vec::with_capacity(alloc, exceptions.len())?;
+    for exception in exceptions {
+        groups.push(exception.pg)?;
+    }
+    Ok(groups)
+}
+
+/// Puts some groups among others, each in ascending order; or `Memory` (30).
+fn join(groups: &mut Vec<Pg>, others: &[Pg]) -> Result<(), Memory>
+    requires some { IsRising place_of groups.old.items }
+    requires others { IsRising place_of others.now }
+    ensures groups { OnOk result (groups.new.items ≡ joined groups.old.items others.now) }
+    ensures rising { OnOk result (IsRising place_of groups.new.items) }
+{
+    groups.reserve(others.len())?;
+    put_all(groups, others);
+    Ok(())
+}
+
+/// What a change names that a map does not refuse is in ascending order, each once: for proofs alone.
+fn rise(_map: &OsdMap, change: &Change)
+    requires { change_fault _map.now.map change.now ≡ None }
+    ensures { NamedRise change.now }
+{
+    let _ = change.parts();
+}
+
+/// The groups that a change names, in ascending order; or `Memory` (30).
+fn named(alloc: Global, change: &Change) -> Result<Vec<Pg>, Memory>
+    requires { NamedRise change.now }
+    ensures named { IfOk result (λ groups. groups.items ≡ named_in change.now) }
+    ensures rising { IfOk result (λ groups. IsRising place_of groups.items) }
+{
+    let parts = change.parts();
+    let mut groups = Vec::from_slice(alloc, &parts.old_upmap)?;
+    join(&mut groups, &parts.old_items)?;
+    join(&mut groups, &groups_of(alloc, &parts.new_upmap)?)?;
+    join(&mut groups, &groups_of(alloc, &parts.new_items)?)?;
+    Ok(groups)
+}
+
+/// The groups that a change names, and where some OSD gets another reweight all that have exceptions after it, in
+/// ascending order; or `Memory` (30).
+#[tactic(auto, unfolding(crate::specs::Candidates::candidates))]
+fn with_excepted(alloc: Global, change: &Change, after: &OsdMap) -> Result<Vec<Pg>, Memory>
+    requires { NamedRise change.now }
+    ensures candidates { IfOk result (λ groups. groups.items ≡ candidates after.now.map change.now) }
+    ensures rising { IfOk result (λ groups. IsRising place_of groups.items) }
+{
+    after.holds_together();
+    let mut groups = named(alloc, change)?;
+    if !change.parts().weight.is_empty() {
+        join(&mut groups, &groups_of(alloc, after.explicits())?)?;
+        join(&mut groups, &groups_of(alloc, after.all_items())?)?;
+    }
+    Ok(groups)
+}
+
+/// Groups in ascending order, among which are all whose exceptions a change concerns that a map does not refuse; or `Memory`
+/// (30).
+pub(crate) fn candidates(
+    alloc: Global,
+    before: &OsdMap,
+    change: &Change,
+    after: &OsdMap,
+) -> Result<Vec<Pg>, Memory>
+    requires { change_fault before.now.map change.now ≡ None }
+    ensures { IfOk result (λ groups. IsCandidates after.now.map change.now groups.items) }
+{
+    rise(before, change);
+    let groups = with_excepted(alloc, change, after)?;
+    Ok(groups)
+}
