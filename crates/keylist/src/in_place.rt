@@ -1,30 +1,65 @@
 //! Lists with keys changed where they stand, in the room that they have.
 
-ghost use Rattle.std.specs.Prelude.{◌≡◌, ◌+◌, ◌≤◌, ◌<◌, [], not, take, length, vec_len, vec_capacity, MatchOption};
+ghost use Rattle.std.specs.Prelude.{◌≡◌, ◌+◌, ◌≤◌, ◌<◌, [], not, cond, take, length, slice_set, vec_len, vec_capacity, MatchOption};
 ghost use Rattle.std.specs.List.{fold, filter};
 ghost use Rattle.std.specs.List.Sorted.{IsNonDecreasingBy};
 ghost use Rattle.keylist.specs.Keys.{has_key};
 ghost use Rattle.keylist.specs.Order.{IsRising};
 ghost use Rattle.keylist.specs.Puts.{put, ComesLast};
+ghost use Rattle.keylist.specs.Walks.{rest_from, begins_at};
 
-use crate::find::has;
 use crate::key::Keyed;
 use crate::merge::put_count;
 use std::cmp::Ordering;
 
-/// Takes away the entries whose keys others have, these in ascending order. It takes no memory.
-pub fn take_away<K: Keyed, G: Keyed>(list: &mut Vec<K>, gone: &[G])
-    requires { IsNonDecreasingBy G.key_of gone.now }
+/// What is left of entries in ascending order from a key on.
+fn from<G: Keyed>(gone: &[G], key: u64) -> &[G]
+    ensures { result.now ≡ rest_from G.key_of gone.now key }
+{
+    let below = gone.iter().take_while(|entry| entry.key() < key).count();
+    &gone[below..]
+}
+
+/// Whether the first entry has a key.
+fn begins_at<G: Keyed>(gone: &[G], key: u64) -> bool
+    ensures { result ≡ begins_at G.key_of gone.now key }
+{
+    match gone {
+        [first, ..] => first.key() == key,
+        [] => false,
+    }
+}
+
+/// An entry stays, and then stands at a place, or it goes. The place of the next one that stays.
+fn keep<K: Keyed + Copy>(list: &mut Vec<K>, place: usize, entry: K, goes: bool) -> usize
+    requires { place < vec_len list.old }
+    ensures items { list.new.items ≡ cond goes list.old.items (slice_set list.old.items place entry) }
+    ensures room { vec_capacity list.new ≡ vec_capacity list.old }
+    ensures place { result ≡ cond goes place (place + 1) }
+{
+    if goes {
+        return place;
+    }
+    list[place] = entry;
+    place + 1
+}
+
+/// Takes away the entries whose keys others have, these in ascending order; one walk over the two. It takes no memory.
+pub fn take_away<K: Keyed + Copy, G: Keyed>(list: &mut Vec<K>, gone: &[G])
+    requires list { IsRising K.key_of list.old.items }
+    requires gone { IsNonDecreasingBy G.key_of gone.now }
     ensures items { list.new.items ≡ filter (λ e. not (has_key G.key_of gone.now (K.key_of e))) list.old.items }
     ensures fewer { vec_len list.new ≤ vec_len list.old }
     ensures room { vec_capacity list.new ≡ vec_capacity list.old }
 {
-    list.retain(
-        |entry: &K| -> bool
-            requires { IsNonDecreasingBy G.key_of gone.now }
-            ensures { result ≡ not (has_key G.key_of gone.entry.now (K.key_of entry.now)) }
-        { !has(gone, entry.key()) },
-    );
+    let mut rest = gone;
+    let mut kept = 0;
+    for at in 0..list.len() {
+        let entry = list[at];
+        rest = from(rest, entry.key());
+        kept = keep(list, kept, entry, begins_at(rest, entry.key()));
+    }
+    list.truncate(kept);
 }
 
 /// What comes last of two lists with rising keys made one, an entry of `new` in place of one of `old` with its key; how

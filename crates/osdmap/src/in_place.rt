@@ -92,7 +92,8 @@ fn leave_pools<E: Entry>(exceptions: &mut Vec<Exception<E>>, old_pools: &[u32])
 
 /// The exceptions of some groups go.
 fn leave_groups<E: Entry>(exceptions: &mut Vec<Exception<E>>, gone: &[Pg])
-    requires { IsNonDecreasingBy place_of gone.now }
+    requires rising { IsRising key_of exceptions.old.items }
+    requires gone { IsNonDecreasingBy place_of gone.now }
     ensures items { exceptions.new.items ≡ filter (λ e. not (has_key place_of gone.now (key_of e))) exceptions.old.items }
     ensures fewer { vec_len exceptions.new ≤ vec_len exceptions.old }
     ensures room { vec_capacity exceptions.new ≡ vec_capacity exceptions.old }

@@ -1,8 +1,24 @@
-use Rattle.std.proofs.Common.{not, ◌≡◌, rules, sym}
-use Rattle.std.proofs.lemmas.Fn.{filter_same}
-use Rattle.keylist.specs.Keys.{has_key}
+use Rattle.std.proofs.Common.{ℕ, ◌≡◌, ◌∙◌, ◌<◌, ap, sym, cond, set, get_or, length, rules, arith}
+use Rattle.keylist.specs.Walks.{rest_from, begins_at}
+use Rattle.keylist.proofs.Keeping.{keeping_next, length_kept}
 use Rattle.keylist.proofs.in_place.take_away.Goals as goal
 
-pub returns-clause-items : goal.returns-clause-items
-returns-clause-items g c =
-    filter_same _ (λ e. not (has_key g.G.Keyed.key_of c.args.gone.now (g.K.Keyed.key_of e))) _ (λ x b f' called. search rules) _ _ c.retain.ensures.filtered
+-- two lists of one length have one length as vectors
+sized : {a b c d : ℕ} → a ≡ b → b ≡ c → d ≡ c → a ≡ d
+sized ab bc dc = ab ∙ bc ∙ sym dc
+
+pub loop-at-preserved : goal.loop-at-preserved
+loop-at-preserved g c =
+    let own = g.K.Keyed.key_of in
+    let key = g.G.Keyed.key_of in
+    let e = c.index.result.now in
+    let is : get_or c.loop-at.list.items c.loop-at.at e ≡ e = search rules in
+    let inside : c.loop-at.at < length c.loop-at.list.items = omega (arith, c.loop-at.invariant.long, c.loop-at-test.true, c.len-at-end.ensures) in
+    let rest : c.from-rest.result.now ≡ rest_from key c.loop-at.rest.now (own e) = c.from-rest.ensures ∙ ap (λ k. rest_from key c.loop-at.rest.now k) c.key.ensures in
+    let goes : c.begins_at.result ≡ begins_at key c.from-rest.result.now (own e) = c.begins_at.ensures ∙ ap (λ k. begins_at key c.from-rest.result.now k) c.key-in-loop-at.ensures in
+    let next = keeping_next own key _ _ _ _ _ c.loop-at.invariant.keeping inside e is in
+    record {
+      keeping = rw (c.keep-kept.ensures.items, c.keep-kept.ensures.place, goes, rest) next;
+      long = sized c.keep-kept.new.list.ok.0 (ap length c.keep-kept.ensures.items ∙ length_kept c.begins_at.result c.loop-at.list.items c.loop-at.kept e) c.loop-at.list.ok.0 ∙ c.loop-at.invariant.long;
+      room = c.keep-kept.ensures.room ∙ c.loop-at.invariant.room;
+    }

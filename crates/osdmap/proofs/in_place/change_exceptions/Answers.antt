@@ -1,4 +1,4 @@
-use Rattle.std.proofs.Common.{◌≡◌, ◌∙◌, ap, not, arith, ℕ}
+use Rattle.std.proofs.Common.{◌≡◌, ◌∙◌, ap, not, rules, arith, ℕ}
 use Rattle.std.specs.List.{fold, filter}
 use Rattle.keylist.specs.Keys.{has_key}
 use Rattle.keylist.specs.Puts.{put}
@@ -6,6 +6,9 @@ use Rattle.keylist.proofs.KeyedOrder.{rising-filter}
 use Rattle.stated.specs.Exceptions.{place_of, key_of, stays, exceptions_after}
 use Rattle.osdmap.proofs.Leaving.{filter_twice}
 use Rattle.osdmap.proofs.in_place.change_exceptions.Goals as goal
+
+pub leave_groups-requires : goal.leave_groups-requires
+leave_groups-requires g c = (search rules, (rw c.leave_pools.ensures.items (rising-filter key_of _ _ c.requires.rising), c.requires.gone))
 
 pub put_all-requires-clause-old : goal.put_all-requires-clause-old
 put_all-requires-clause-old g c =
