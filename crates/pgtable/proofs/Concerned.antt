@@ -1,14 +1,13 @@
 -- The groups that a change concerns are among the candidates, and are found among these in their order.
 use Rattle.std.proofs.Common.{◌≡◌, ◌∙◌, refl, sym, ap, subst, ℕ, zero, suc, ◌⊎◌, ◌+◌, ◌-◌, ◌*◌, ◌^◌, ◌<◌, ◌≤◌, Bool, true, false, ◌&&◌, ◌||◌, eqb, List, [], ◌∷◌, ◌++◌, length, take, map, Option, Some, None, inl, inr, arith}
 use mathlib.Core.Bool.{false≢true}
-use Rattle.std.specs.Prelude.{nat_lt, nat_le, filter_map, is_some, if◌then◌else◌}
-use Rattle.std.specs.List.{All, list_any, filter, fold, range_with_len}
+use Rattle.std.specs.Prelude.{nat_lt, nat_le, filter_map, is_some}
+use Rattle.std.specs.List.{All, list_any, filter, range_with_len}
 use Rattle.std.proofs.lemmas.Bool.{cases_Bool, cases_order, eqb-true}
 use Rattle.std.proofs.lemmas.Bool.Decides.{nat_tests}
 use Rattle.std.proofs.lemmas.List.Elements.{All-nil, All-cons, All-head, All-tail}
 use Rattle.std.proofs.lemmas.List.{get_or-map, length-map, take_all}
 use Rattle.std.proofs.lemmas.List.FromFn.{length-range_with_len, get_or-range_with_len}
-use Rattle.std.proofs.lemmas.List.Folds.{list_any_none}
 use Rattle.keylist.specs.Keys.{has_key, entry_at, is_distinct}
 use Rattle.keylist.specs.Order.{IsRising}
 use Rattle.keylist.proofs.KeyedDistinct.{key_among, distinct-append}
@@ -21,11 +20,11 @@ use Rattle.stated.specs.declared.change.Reweight.{Reweight}
 use Rattle.stated.specs.Exceptions.{place_of, key_of, said_of, is_among, target, sides}
 use Rattle.stated.specs.Ordered.{IsInOrder}
 use Rattle.stated.specs.Pools.{PoolFacts}
-use Rattle.osdmap.specs.Maps.{ClusterMap, HoldsTogether}
+use Rattle.osdmap.specs.Maps.{ClusterMap}
 use Rattle.osdmap.specs.Changes.{change_fault, names_once}
 use Rattle.osdmap.specs.Evals.{is_named, names_reweighted, concerns}
 use Rattle.osdmap.specs.Placement.{group_of}
-use Rattle.osdmap.proofs.Accepted.{Accepted, accepted}
+use Rattle.osdmap.proofs.Accepted.{accepted}
 use Rattle.osdmap.proofs.Coming.{comes}
 use Rattle.keylist.proofs.KeyedOrder.{rising_head, rising_tail, rising_from, rising-filter}
 use Rattle.keylist.proofs.Tests.{and_first, and_second}

@@ -1,10 +1,10 @@
 -- A pool that a change does not touch as a whole: what is kept of its table.
-use Rattle.std.proofs.Common.{◌≡◌, ◌∙◌, refl, sym, ap, subst, ℕ, zero, suc, ◌+◌, ◌<◌, ◌≤◌, Bool, true, false, ◌||◌, cond, eqb, List, [], ◌∷◌, length, get_or, map, set, Option, Some, None, IsSome, inl, inr, arith}
+use Rattle.std.proofs.Common.{◌≡◌, ◌∙◌, refl, sym, ap, ℕ, ◌+◌, ◌<◌, Bool, true, false, eqb, List, [], ◌∷◌, length, get_or, map, set, Option, Some, None, IsSome, inl, inr, arith}
 use mathlib.Core.Bool.{false≢true}
 use Rattle.std.specs.Prelude.{slice_get, is_some, position, nat_lt}
 use Rattle.std.specs.List.{All, AllPairs, list_any, find, filter, count_by, range_with_len, position_or_len}
 use Rattle.std.specs.Option.{option_map}
-use Rattle.std.proofs.lemmas.Bool.{cases_Bool, cases_order, eqb-true, lt-ltb, false_from_ne_true}
+use Rattle.std.proofs.lemmas.Bool.{cases_Bool, eqb-true, lt-ltb, false_from_ne_true}
 use Rattle.std.proofs.lemmas.Bool.Decides.{nat_tests}
 use Rattle.std.proofs.lemmas.List.{length-set, length-map, get_or-map, get_or-set_same, get_or-set_other}
 use Rattle.std.proofs.lemmas.List.Elements.{All-map, All-filter}
@@ -18,7 +18,6 @@ use Rattle.grouptable.proofs.Changes.{length-changed}
 use Rattle.stated.specs.declared.change.ChangeParts.{ChangeParts}
 use Rattle.stated.specs.Pools.{PoolFacts}
 use Rattle.osdmap.specs.Maps.{ClusterMap, pool_at}
-use Rattle.osdmap.specs.Changes.{apply}
 use Rattle.osdmap.specs.Evals.{is_touched, concerns, is_evaluated}
 use Rattle.osdmap.specs.Placement.{group_of, mapped_set}
 use Rattle.placement_laws.proofs.Others.{others_stay, pool_there}
@@ -26,7 +25,7 @@ use Rattle.pgtable.specs.declared.pool_table.PoolTable.{PoolTable}
 use Rattle.pgtable.specs.Tables.{TableFacts, sets_of, pool_table, IsTableOf, pool_in}
 use Rattle.grouptable.specs.Tables.{IsPatchFor}
 use Rattle.pgtable.specs.declared.patch.Kept.{Kept}
-use Rattle.pgtable.specs.Patches.{next, LeadsFrom, KeepsPool, concerned, changes_of, evals_in, sets_at}
+use Rattle.pgtable.specs.Patches.{LeadsFrom, KeepsPool, concerned, changes_of, evals_in}
 use Rattle.pgtable.proofs.Shows.{find_map}
 use Rattle.pgtable.proofs.Carrying.{same_lists}
 
@@ -113,7 +112,8 @@ module _ (m after : ClusterMap) (c : ChangeParts) (p : PoolFacts) (leads : Leads
   pub pool_was_there : pool_at m.pools p.id ≡ Some p
   pool_was_there = (pool_there m (record { epoch = m.epoch + 1; change = c }) p (rw leads.is at there) (rw leads.is at touched)).1
 
-  stays_there : (k : ℕ) → k < p.pg_num → concerns after c (group_of p k) ≡ false → mapped_set m p k ≡ mapped_set after p k
+  -- a group whose exceptions the change does not concern keeps its mapped set
+  pub stays_there : (k : ℕ) → k < p.pg_num → concerns after c (group_of p k) ≡ false → mapped_set m p k ≡ mapped_set after p k
   stays_there k inside quiet =
       let none : is_evaluated after c p k ≡ false = rw (touched, quiet) refl in
       rw leads.is (others_stay m (record { epoch = m.epoch + 1; change = c }) p k leads.holds leads.lawful (rw leads.is at there) inside (rw leads.is at none)).mapped

@@ -5,3 +5,4 @@ pub mod Carrying
 pub mod Keeping
 pub mod Making
 pub mod Concerned
+pub mod States

@@ -1,7 +1,7 @@
 -- Patches: what they make of a table.
-use Rattle.std.specs.Prelude.{◌≡◌, ◌≢◌, ℕ, ◌+◌, ◌<◌, ◌≤◌, List, [], length, map, Option, Some, None, slice_get}
-use Rattle.std.specs.List.{zip, filter, count_by, range_with_len}
-use Rattle.osdmap.specs.Evals.{concerns, is_evaluated, is_touched}
+use Rattle.std.specs.Prelude.{◌≡◌, ◌≢◌, ℕ, ◌+◌, ◌<◌, ◌≤◌, Bool, true, false, not, ◌&&◌, List, [], ◌∷◌, length, map, Option, Some, None, is_some, slice_get, slice_set, IfSome}
+use Rattle.std.specs.List.{zip, filter, fold, count_by, range_with_len}
+use Rattle.osdmap.specs.Evals.{concerns, is_evaluated}
 use Rattle.osdmap.specs.Placement.{group_of, mapped_set}
 use Rattle.std.specs.Option.{option_map, option_map_or}
 use Rattle.grouptable.specs.Sets.{Places, changed}
@@ -12,6 +12,7 @@ use Rattle.osdmap.specs.Maps.{ClusterMap, HoldsTogether}
 use Rattle.osdmap.specs.Changes.{change_fault, apply}
 use Rattle.pgtable.specs.declared.pool_table.PoolTable.{PoolTable}
 use Rattle.pgtable.specs.declared.patch.Kept.{Kept}
+use Rattle.pgtable.specs.declared.patch.Brought.{Brought}
 use Rattle.pgtable.specs.declared.patch.Patch.{Patch}
 use Rattle.pgtable.specs.Tables.{TableFacts, sets_of, pool_table, tables_of, IsTableOf}
 
@@ -25,6 +26,31 @@ pub record LeadsFrom (m : ClusterMap) (c : ChangeParts) (after : ClusterMap) : T
   pub is : after ≡ next m c
   pub holds : HoldsTogether m
   pub holds_after : HoldsTogether after
+
+-- whether a list has no entries
+abbrev pub is_none : {X : Type 0} → List X → Bool
+is_none [] = true
+is_none (x ∷ xs) = false
+
+-- whether a change leaves all pools as they are, and the forest and the rules
+unfoldable pub leaves_pools : ChangeParts → Bool
+leaves_pools c = is_none c.old_pools && not (is_some c.new_crush) && is_none c.new_pools && is_none c.grow_pool
+
+-- whether it leaves all exceptions
+unfoldable pub leaves_exceptions : ChangeParts → Bool
+leaves_exceptions c = is_none c.old_upmap && is_none c.old_items && is_none c.new_upmap && is_none c.new_items
+
+-- whether a change brings OSDs up or down and does nothing else, so that no group is placed otherwise
+unfoldable pub is_of_states : ChangeParts → Bool
+is_of_states c = leaves_pools c && leaves_exceptions c && is_none c.weight
+
+-- some OSDs go up or down
+abbrev pub turned : Bool → List Bool → List ℕ → List Bool
+turned up ups osds = fold (λ us osd. slice_set us osd up) ups osds
+
+-- which OSDs are up after a change
+abbrev pub ups_after : List Bool → ChangeParts → List Bool
+ups_after ups c = turned true (turned false ups c.down) c.up
 
 -- the groups of a pool whose exceptions a change concerns
 abbrev pub concerned : ClusterMap → ChangeParts → PoolFacts → List ℕ
@@ -78,15 +104,24 @@ pub record MakesAll (old : List PoolTable) (m : ClusterMap) (pools : List PoolTa
   pub fits : FitAll old pools kept
   pub tables : map (λ e. carried old e.0 e.1) (zip pools kept) ≡ tables_of m
 
+-- the tables that a patch brings fit those of a table
+pub record FitPools (t : TableFacts) (b : Brought) : Type 0 where
+  pub pools : FitAll t.pools b.pools.items b.kept.items
+  pub few_pools : length b.pools.items ≤ 32
+
 -- a patch fits a table
 pub record Fits (t : TableFacts) (p : Patch) : Type 0 where
-  pub pools : FitAll t.pools p.pools.items p.kept.items
-  pub few_pools : length p.pools.items ≤ 32
+  pub pools : IfSome p.brought (FitPools t)
   pub few_osds : length p.up.items ≤ 1024
+
+-- the tables of pools after a patch: those that it brings, with what they keep of the old ones; or the old ones
+abbrev pub pools_patched : List PoolTable → Option Brought → List PoolTable
+pools_patched old None = old
+pools_patched old (Some b) = map (λ e. carried old e.0 e.1) (zip b.pools.items b.kept.items)
 
 -- the table after a patch
 abbrev pub patched : TableFacts → Patch → TableFacts
-patched t p = record { pools = map (λ e. carried t.pools e.0 e.1) (zip p.pools.items p.kept.items); up = p.up.items }
+patched t p = record { pools = pools_patched t.pools p.brought; up = p.up.items }
 
 -- a patch makes of a table that of a map
 pub record LeadsTo (m : ClusterMap) (t : TableFacts) (p : Patch) : Type 0 where

@@ -1,9 +1,10 @@
 //! Patches: what a change makes of a table.
 
-ghost use Rattle.std.specs.Prelude.{◌≡◌, ◌≢◌, ◌<◌, ◌==◌, ℕ, length, map, position, slice_get, Some, None};
+ghost use Rattle.std.specs.Prelude.{◌≡◌, ◌≢◌, ◌<◌, ◌==◌, ℕ, true, length, map, position, slice_get, Some, None};
 ghost use Rattle.std.specs.List.{zip};
 ghost use Rattle.pgtable.specs.declared.patch.Kept.{Kept};
-ghost use Rattle.pgtable.specs.Patches.{carried, FitsAt, FitAll};
+ghost use Rattle.osdmap.specs.Marks.{are_below};
+ghost use Rattle.pgtable.specs.Patches.{carried, FitsAt, FitAll, is_none, leaves_pools, leaves_exceptions, is_of_states, turned};
 
 use crate::candidates::candidates;
 use crate::pool_table::PoolTable;
@@ -25,13 +26,68 @@ pub(crate) struct Kept {
     pub patch: GroupPatch,
 }
 
-/// All that a change makes of a table, and the work by which it was found.
+/// The tables of all pools as a change makes them, with what each keeps of an old one.
+#[derive(Drop)]
+pub(crate) struct Brought {
+    pub pools: Vec<PoolTable>,
+    pub kept: Vec<Option<Kept>>,
+}
+
+/// All that a change makes of a table, and the work by which it was found. Where it brings no tables of pools, these stay.
 #[derive(Drop)]
 pub struct Patch {
-    pub(crate) pools: Vec<PoolTable>,
-    pub(crate) kept: Vec<Option<Kept>>,
+    pub(crate) brought: Option<Brought>,
     pub(crate) up: Vec<bool>,
     pub(crate) work: Work,
+}
+
+/// Whether a list has no entries.
+fn is_none<T>(entries: &[T]) -> bool
+    ensures { result ≡ is_none entries.now }
+{
+    matches!(entries, [])
+}
+
+/// Whether a change leaves all pools as they are, and the forest and the rules.
+#[tactic(auto, unfolding(crate::specs::Patches::leaves_pools))]
+fn leaves_pools(change: &Change) -> bool
+    ensures { result ≡ leaves_pools change.now }
+{
+    let parts = change.parts();
+    is_none(&parts.old_pools)
+        && parts.new_crush.is_none()
+        && is_none(&parts.new_pools)
+        && is_none(&parts.grow_pool)
+}
+
+/// Whether it leaves all exceptions.
+#[tactic(auto, unfolding(crate::specs::Patches::leaves_exceptions))]
+fn leaves_exceptions(change: &Change) -> bool
+    ensures { result ≡ leaves_exceptions change.now }
+{
+    let parts = change.parts();
+    is_none(&parts.old_upmap)
+        && is_none(&parts.old_items)
+        && is_none(&parts.new_upmap)
+        && is_none(&parts.new_items)
+}
+
+/// Whether a change brings OSDs up or down and does nothing else.
+#[tactic(auto, unfolding(crate::specs::Patches::is_of_states))]
+fn is_of_states(change: &Change) -> bool
+    ensures { result ≡ is_of_states change.now }
+{
+    leaves_pools(change) && leaves_exceptions(change) && is_none(&change.parts().weight)
+}
+
+/// Some OSDs go up or down.
+fn turn(ups: &mut [bool], osds: &[u32], up: bool)
+    requires { are_below (λ osd. osd) (length ups.old) osds.now ≡ true }
+    ensures { ups.new ≡ turned up ups.old osds.now }
+{
+    for osd in osds {
+        ups[*osd as usize] = up;
+    }
 }
 
 impl Patch {
@@ -88,12 +144,12 @@ fn place_of(pools: &[PoolTable], id: u32) -> Option<usize>
 }
 
 impl PgTable {
-    ghost use Rattle.std.specs.Prelude.{◌≡◌, ◌+◌, ◌^◌, ◌<◌, true, false, None, is_some, length, slice_get, Some, IfOk, OnOk};
+    ghost use Rattle.std.specs.Prelude.{◌≡◌, ◌+◌, ◌^◌, ◌<◌, true, false, None, is_some, length, slice_get, Some, IfOk, OnOk, IfSome};
     ghost use Rattle.osdmap.specs.Maps.{ClusterMap, pool_at};
     ghost use Rattle.osdmap.specs.Changes.{change_fault};
     ghost use Rattle.osdmap.specs.Evals.{is_touched, evals_of};
     ghost use Rattle.pgtable.specs.Tables.{IsTableOf, pool_in, RunsMore};
-    ghost use Rattle.pgtable.specs.Patches.{next, evals_in, KeepsPool, MakesPool, MakesAll, Fits, LeadsTo, patched};
+    ghost use Rattle.pgtable.specs.Patches.{next, evals_in, KeepsPool, MakesPool, MakesAll, FitPools, Fits, LeadsTo, patched, pools_patched, ups_after, is_of_states};
 
     /// The place of the pool of an id.
     fn place(&self, id: u32) -> usize
@@ -196,11 +252,42 @@ impl PgTable {
         let (pools, kept) = self.all_made(alloc, &update, &mut work)?;
         let up = ups_of(alloc, after)?;
         Ok(Patch {
-            pools,
-            kept,
+            brought: Some(Brought { pools, kept }),
             up,
             work,
         })
+    }
+
+    /// The same of a change that brings OSDs up or down and does nothing else: no group is placed otherwise, and the map after
+    /// the change need not be there.
+    fn prepare_states(&self, alloc: Global, map: &OsdMap, change: &Change) -> Result<Patch, Memory>
+        requires table { IsTableOf self.now map.now.map }
+        requires lawful { change_fault map.now.map change.now ≡ None }
+        requires states { is_of_states change.now ≡ true }
+        ensures leads { IfOk result (LeadsTo (next map.now.map change.now) self.now) }
+        ensures counted { IfOk result (λ p. p.work.runs ≡ evals_of (next map.now.map change.now) change.now) }
+    {
+        map.holds_together();
+        let _ = change.parts();
+        let up = self.ups_after(alloc, change)?;
+        let work = Work::new(alloc, map.forest())?;
+        Ok(Patch {
+            brought: None,
+            up,
+            work,
+        })
+    }
+
+    /// Which OSDs are up after a change; or `Memory` (30).
+    fn ups_after(&self, alloc: Global, change: &Change) -> Result<Vec<bool>, Memory>
+        requires down { are_below (λ osd. osd) (length self.now.up) change.now.down ≡ true }
+        requires up { are_below (λ osd. osd) (length self.now.up) change.now.up ≡ true }
+        ensures { IfOk result (λ up. up.items ≡ ups_after self.now.up change.now) }
+    {
+        let mut up = Vec::from_slice(alloc, &self.up)?;
+        turn(&mut up, &change.parts().down, false);
+        turn(&mut up, &change.parts().up, true);
+        Ok(up)
     }
 
     /// All that a change makes of the table of a map that does not refuse it; or `Memory` (30). It runs a rule for each of
@@ -212,6 +299,9 @@ impl PgTable {
         ensures leads { IfOk result (LeadsTo (next map.now.map change.now) self.now) }
         ensures counted { IfOk result (λ p. p.work.runs ≡ evals_of (next map.now.map change.now) change.now) }
     {
+        if is_of_states(change) {
+            return self.prepare_states(alloc, map, change);
+        }
         let after = map.after(alloc, change)?;
         self.prepare_to(alloc, map, change, &after)
     }
@@ -222,9 +312,19 @@ impl PgTable {
         ensures value { self.new ≡ patched self.old patch }
         ensures table { (m : ClusterMap) → LeadsTo m self.old patch → IsTableOf self.new m }
     {
-        let mut pools = patch.pools;
-        carry_all(&mut self.pools, &mut pools, patch.kept);
-        self.pools = pools;
+        self.bring(patch.brought);
         self.up = patch.up;
+    }
+
+    /// Makes the tables of pools those that are brought, if any are.
+    fn bring(&mut self, brought: Option<Brought>)
+        requires { IfSome brought (FitPools self.old) }
+        ensures pools { self.new.pools ≡ pools_patched self.old.pools brought }
+        ensures up { self.new.up ≡ self.old.up }
+    {
+        if let Some(Brought { mut pools, kept }) = brought {
+            carry_all(&mut self.pools, &mut pools, kept);
+            self.pools = pools;
+        }
     }
 }

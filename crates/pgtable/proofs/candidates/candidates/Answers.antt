@@ -1,4 +1,3 @@
-use Rattle.stated.specs.Exceptions.{place_of}
 use Rattle.pgtable.proofs.Concerned.{candidates_have}
 use Rattle.pgtable.proofs.candidates.candidates.Goals as goal
 

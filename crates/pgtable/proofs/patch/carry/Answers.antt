@@ -1,5 +1,3 @@
-use Rattle.std.proofs.Common.{◌≡◌, ◌∙◌, sym}
-use Rattle.pgtable.specs.Patches.{carried, FitsAt}
 use Rattle.pgtable.proofs.patch.carry.Goals as goal
 
 pub carry_one-requires : goal.carry_one-requires

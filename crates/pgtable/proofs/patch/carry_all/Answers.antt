@@ -1,7 +1,6 @@
-use Rattle.std.proofs.Common.{◌≡◌, ◌∙◌, ◌<◌, refl, sym, ap, subst, length, set, Some, None, arith}
-use Rattle.std.specs.Prelude.{slice_get}
+use Rattle.std.proofs.Common.{◌∙◌, ◌<◌, refl, sym, ap, length, Some, arith}
 use Rattle.std.proofs.lemmas.Option.{slice_get_read}
-use Rattle.pgtable.proofs.Carrying.{Carries, carry_begins, carry_fits, carry_step, carry_ends}
+use Rattle.pgtable.proofs.Carrying.{carry_begins, carry_fits, carry_step, carry_ends}
 use Rattle.pgtable.proofs.patch.carry_all.Goals as goal
 
 pub loop-at-init : goal.loop-at-init

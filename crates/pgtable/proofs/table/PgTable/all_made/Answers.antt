@@ -1,11 +1,10 @@
-use Rattle.std.proofs.Common.{◌≡◌, ◌+◌, ◌<◌, ◌∙◌, refl, sym, ap, length, get_or, take, Some, arith}
-use Rattle.std.specs.List.{sum_by}
+use Rattle.std.proofs.Common.{◌≡◌, ◌<◌, refl, ap, length, arith}
 use Rattle.std.proofs.lemmas.List.Sums.{sum_by_more}
 use Rattle.std.proofs.lemmas.Option.{slice_get_read}
 use Rattle.stated.specs.Pools.{PoolFacts}
 use Rattle.pgtable.specs.Patches.{evals_in}
 use Rattle.pgtable.proofs.Found.{found_at}
-use Rattle.pgtable.proofs.Making.{Makes, make_begins, make_more, make_ends, evals_all}
+use Rattle.pgtable.proofs.Making.{make_more, make_ends, evals_all}
 use Rattle.pgtable.proofs.table.PgTable.all_made.Goals as goal
 
 pub made-requires-clause-there : goal.made-requires-clause-there

@@ -1,4 +1,4 @@
-use Rattle.std.proofs.Common.{◌≡◌, take}
+use Rattle.std.proofs.Common.{take}
 use Rattle.std.specs.List.{sum_by}
 use Rattle.pgtable.specs.Tables.{RunsMore}
 use Rattle.pgtable.specs.Patches.{evals_in}

@@ -1,4 +1,4 @@
-use Rattle.std.proofs.Common.{◌≡◌, sym, ◌∙◌}
+use Rattle.std.proofs.Common.{sym, ◌∙◌}
 use Rattle.pgtable.proofs.Keeping.{evals_touched}
 use Rattle.pgtable.proofs.table.PgTable.made.Goals as goal
 

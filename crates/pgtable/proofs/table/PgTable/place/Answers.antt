@@ -1,4 +1,4 @@
-use Rattle.std.proofs.Common.{◌≡◌, sym, ◌∙◌, eqb}
+use Rattle.std.proofs.Common.{sym, ◌∙◌, eqb}
 use Rattle.pgtable.specs.declared.pool_table.PoolTable.{PoolTable}
 use Rattle.pgtable.proofs.Keeping.{position_there, position_found}
 use Rattle.pgtable.proofs.table.PgTable.place.Goals as goal

@@ -1,4 +1,4 @@
-use Rattle.std.proofs.Common.{◌≡◌, ◌≤◌, ◌∙◌, length, arith}
+use Rattle.std.proofs.Common.{arith}
 use Rattle.pgtable.proofs.Found.{few_ups}
 use Rattle.pgtable.proofs.Making.{evals_few}
 use Rattle.pgtable.proofs.table.PgTable.prepare_to.Goals as goal
@@ -8,8 +8,7 @@ returns-clause-leads c =
     let made = c.in_ok-pools.ensures.made in
     record {
       fits = record {
-        pools = made.fits;
-        few_pools = omega (arith, made.long, c.holds_together-2.ensures.few_pools);
+        pools = record { pools = made.fits; few_pools = omega (arith, made.long, c.holds_together-2.ensures.few_pools) };
         few_osds = rw c.in_ok-up.ensures (few_ups c.args.after.now.map 1024 c.holds_together-2.ensures.few);
       };
       table = record {
