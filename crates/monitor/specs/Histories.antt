@@ -1,7 +1,7 @@
 -- One history: what a member has seen before a call and after it, and what the call answers by that.
-use Rattle.std.specs.Prelude.{◌≡◌, ◌⊎◌, ℕ, ◌+◌, List, [], ◌∷◌, ◌++◌, length, Result, None, Some, MatchResult}
+use Rattle.std.specs.Prelude.{◌≡◌, ◌⊎◌, ℕ, ◌+◌, List, [], ◌∷◌, ◌++◌, length, Option, None, Result, Ok, Err, MatchResult}
 use Rattle.refusal.specs.declared.refused.Refusal.{Refusal}
-use Rattle.refusal.specs.declared.refused.Refusal.TheVariants.{Memory as OutOfMemory, NotSealed, SeatSpent}
+use Rattle.refusal.specs.declared.refused.Refusal.TheVariants.{SeatSpent}
 use Rattle.refusal.specs.Outcomes.{Gives}
 use Rattle.stated.specs.declared.change.ChangeParts.{ChangeParts}
 use Rattle.stated.specs.Incrementals.{Step}
@@ -9,7 +9,7 @@ use Rattle.osdmap.specs.Maps.{ClusterMap}
 use Rattle.osdmap.specs.Evals.{evals_of}
 use Rattle.osdmap.specs.Changes.{after, IsLawful, epoch_after}
 use Rattle.epochlog.specs.Epochs.{Begins}
-use Rattle.state.specs.States.{commit_fault}
+use Rattle.state.specs.States.{commit_fault, IsRefusedBy}
 use Rattle.mapjson.specs.Written.{written}
 
 -- a history goes on: the one before begins it, and it is lawful from the first map
@@ -47,4 +47,4 @@ abbrev pub Commits : ClusterMap → ℕ → List Step → List Step → ℕ → 
 Commits first most before now base change r =
     GoesOn first before now
     × MatchResult r (λ ok. IsCommitted first most before now base change ok.0 ok.1)
-        (λ e. (e ≡ SeatSpent) ⊎ IsRefused (commit_fault (after first now) (length now) most base change) e)
+        (λ e. (e ≡ SeatSpent) ⊎ IsRefusedBy (commit_fault (after first now) (length now) most base change) e)
