@@ -1,7 +1,7 @@
 //! Who follows the row of a monitor without its lock.
 
-ghost use Rattle.std.specs.Prelude.{◌≡◌, ◌+◌, ◌≤◌, IsTrue, IfOk, OnErr};
-ghost use Rattle.epochlog.specs.Epochs.{Begins, epoch_of};
+ghost use Rattle.std.specs.Prelude.{◌≡◌, ◌+◌, length, nat_lt, IfOk, OnErr};
+ghost use Rattle.epochlog.specs.Epochs.{Begins};
 ghost use Rattle.monitor.specs.Followers.{Steps};
 
 use crate::member::Member;
@@ -35,15 +35,17 @@ impl Model for Follower {
     ghost invariant = { λ f. IsFollowed (record { first = f.first.map; row = f.pass.row; history = applied f.first.map f.map.map f.pass.history; map = f.map.map }) };
 }
 
-/// Whether the epoch after this one is sealed, as far as the row shows; then the pass has seen it.
+/// Whether a pass has seen more than this epoch, once it has read one more where it had not.
 fn sees_next(row: &Row, pass: &mut Pass, epoch: u64) -> bool
-    requires row { pass.old.row ≡ row.now }
-    requires seen { epoch ≤ epoch_of pass.old }
+    requires { pass.old.row ≡ row.now }
     ensures row { pass.new.row ≡ row.now }
     ensures begins { Begins pass.old.history pass.new.history }
-    ensures next { IsTrue result → epoch + 1 ≤ epoch_of pass.new }
+    ensures next { result ≡ nat_lt epoch (row.now.first + length pass.new.history) }
 {
-    epoch < pass.epoch() || row.read_next(pass).is_some()
+    if pass.epoch() <= epoch {
+        let _ = row.read_next(pass);
+    }
+    epoch < pass.epoch()
 }
 
 /// Applies an incremental of the next epoch, unless the map refuses its change; or `Memory` (30).

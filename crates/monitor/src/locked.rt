@@ -38,7 +38,7 @@ pub(crate) fn see(pass: &mut Pass, state: &State)
     requires seen { length pass.old.history ≤ length state.now.pass.history }
     ensures pass { pass.new ≡ state.now.pass }
     ensures begins { Begins pass.old.history pass.new.history }
-    ensures lawful { IsLawful state.now.first pass.new.history }
+    ensures lawful { IsLawful state.now.first state.now.pass.history }
 {
     pass.join(state.pass());
     let _ = state.map();

@@ -100,11 +100,7 @@ impl Monitor {
     }
 
     /// The state that a member shares, which has seen just what it has.
-    pub(crate) fn shown<'g>(
-        &self,
-        guard: &'g ReadGuard<'_, Locked>,
-        member: &Member,
-    ) -> &'g State
+    pub(crate) fn shown<'g>(&self, guard: &'g ReadGuard<'_, Locked>, member: &Member) -> &'g State
         requires shares { Shares self.now guard.now }
         requires seen { (lent guard.now).pass ≡ member.now.pass }
         ensures map { result.now.map ≡ after self.now.first member.now.pass.history }
