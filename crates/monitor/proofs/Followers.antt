@@ -35,8 +35,10 @@ begun_both {T} (x ∷ xs) (y ∷ ys) (z ∷ zs) p q = more (begun_both xs ys zs 
   where
     tail_of : {a b : T} {us vs : List T} → a ∷ us ≡ b ∷ vs → us ≡ vs
     tail_of e = cc e
+
     heads : x ≡ y
     heads = let one : x ∷ (xs ++ p.0) ≡ z ∷ zs = p.1 in let two : y ∷ (ys ++ q.0) ≡ z ∷ zs = q.1 in cc
+
     more : OneBegins xs ys → OneBegins (x ∷ xs) (y ∷ ys)
     more (inl b) = inl (b.0, ap (λ h. h ∷ (xs ++ b.0)) heads ∙ ap (λ t. y ∷ t) b.1)
     more (inr b) = inr (b.0, ap (λ h. h ∷ (ys ++ b.0)) (sym heads) ∙ ap (λ t. x ∷ t) b.1)
@@ -103,7 +105,7 @@ module _ (first : ClusterMap) (row : Line) (seen more : List Step) (m : ClusterM
       let at : slice_get more (m.epoch - first.epoch) ≡ Some step = ap (λ n. slice_get more (m.epoch - n)) (sym followed.begins) ∙ place in
       let count : m2.epoch - first.epoch ≡ suc (m.epoch - first.epoch) = omega (arith, epoch, followed.epoch) in
       let history : applied first m2 more ≡ applied first m seen ++ step ∷ [] =
-          ap (λ n. take n more) count ∙ take_one_more more (m.epoch - first.epoch) step at ∙ ap (λ xs. xs ++ step ∷ []) same_part in (
+      ap (λ n. take n more) count ∙ take_one_more more (m.epoch - first.epoch) step at ∙ ap (λ xs. xs ++ step ∷ []) same_part in (
         record {
           begins = ap (λ (l : Line). l.first) rows ∙ followed.begins;
           lawful = subst (IsLawful first) (sym history) (IsLawful-snoc first (applied first m seen) step followed.lawful

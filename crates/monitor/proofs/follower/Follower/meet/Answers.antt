@@ -8,4 +8,4 @@ pub returns-clause-begins : goal.returns-clause-begins
 returns-clause-begins c =
     let f = c.self.inside in
     subst (λ (s : Followed). OneBegins s.history c.args.member.now.pass.history) c.self.view_is
-        (one_begins_part (f.map.map.epoch - f.first.map.epoch) f.pass.history c.args.member.now.pass.history c.meet.ensures.begins)
+    (one_begins_part (f.map.map.epoch - f.first.map.epoch) f.pass.history c.args.member.now.pass.history c.meet.ensures.begins)
