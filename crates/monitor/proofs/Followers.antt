@@ -1,13 +1,12 @@
 -- Followers: what one more incremental does to one, and to what it has seen.
-use Rattle.std.proofs.Common.{◌≡◌, ◌∙◌, sym, ap, refl, subst, ℕ, zero, suc, ◌+◌, ◌-◌, ◌≤◌, ◌<◌, Bool, true, false, List, [], ◌∷◌, ◌++◌, length, take, drop, Some, None, Result, Ok, Err, IfOk, OnErr, slice_get, inl, inr, arith, length-append}
-use Rattle.std.proofs.lemmas.List.{take-append-le, length-take, take-append-drop}
-use Rattle.std.proofs.lemmas.Option.{slice_get_within}
+use Rattle.std.proofs.Common.{◌≡◌, ◌∙◌, sym, ap, refl, subst, ℕ, zero, suc, ◌+◌, ◌-◌, ◌≤◌, Bool, true, false, List, [], ◌∷◌, ◌++◌, length, take, Some, None, Result, Ok, Err, IfOk, OnErr, slice_get, inl, inr, arith, length-append}
+use Rattle.std.proofs.lemmas.List.{take-append-le, length-take}
 use Rattle.stated.specs.Incrementals.{Step}
 use Rattle.osdmap.specs.Maps.{ClusterMap}
 use Rattle.osdmap.specs.Changes.{IsLawful, after, apply, change_fault, epoch_after}
-use Rattle.epochlog.specs.Epochs.{Line, Seen, Begins, OneBegins}
+use Rattle.epochlog.specs.Epochs.{Line, Begins, OneBegins}
 use Rattle.sealed.proofs.Beginnings.{begins_itself, begins_on, begins_by}
-use Rattle.state.proofs.Journals.{after-snoc, epoch-after, IsLawful-snoc}
+use Rattle.state.proofs.Journals.{after-snoc, IsLawful-snoc}
 use Rattle.monitor.specs.Followers.{IsFollowed, Followed, Steps, applied}
 
 -- a follower by its parts

@@ -1,6 +1,5 @@
 -- Histories: what goes on from them, and what is answered by them.
-use Rattle.std.proofs.Common.{◌≡◌, ◌≢◌, ◌∙◌, Bool, true, false, not, if◌then◌else◌, nat_lt, ◌==◌, IfErr, sym, ap, refl, subst, ℕ, ◌+◌, List, [], ◌∷◌, ◌++◌, length, Option, Some, None, Result, Ok, Err, OnErr, inl, inr, ◌⊎◌}
-use Rattle.std.specs.Prelude.{MatchResult}
+use Rattle.std.proofs.Common.{◌≡◌, ◌≢◌, ◌∙◌, Bool, true, false, not, if◌then◌else◌, nat_lt, ◌==◌, IfErr, sym, ap, subst, ℕ, ◌+◌, List, [], ◌∷◌, ◌++◌, length, Option, Some, None, Result, Ok, Err, inl, inr}
 use Rattle.refusal.specs.declared.refused.Refusal.{Refusal}
 use Rattle.refusal.specs.declared.refused.Refusal.TheVariants.{StaleEpoch, UnknownOsd, BadWeight, UnknownPool, PoolExists, BadForest, BadPool, UnknownGroup, BadNewException, DuplicatePart, JournalFull, Memory as OutOfMemory, SeatSpent, NotSealed}
 use Rattle.stated.specs.declared.change.ChangeParts.{ChangeParts}
@@ -8,11 +7,11 @@ use Rattle.stated.specs.Incrementals.{Step}
 use Rattle.osdmap.specs.Maps.{ClusterMap}
 use Rattle.osdmap.specs.Evals.{evals_of}
 use Rattle.osdmap.specs.Changes.{IsLawful, after, epoch_after, change_fault, names_osds, weighs_rightly, names_pools, brings_new, brings_forest, brings_rightly, names_groups, excepts_soundly, names_once}
-use Rattle.epochlog.specs.Epochs.{Seen, Begins}
+use Rattle.epochlog.specs.Epochs.{Begins}
 use Rattle.sealed.proofs.Beginnings.{begins_itself, begins_on}
-use Rattle.state.specs.States.{Kept, committed, next_step, commit_fault, fault_in, unless, Takes, IsRefusedBy, Commits as TakesCommit}
-use Rattle.state.proofs.Journals.{accepted, epoch-after}
-use Rattle.monitor.specs.Histories.{GoesOn, IsCommitted, Commits}
+use Rattle.state.specs.States.{Kept, committed, next_step, commit_fault, fault_in, unless, IsRefusedBy, Commits as TakesCommit}
+use Rattle.state.proofs.Journals.{accepted}
+use Rattle.monitor.specs.Histories.{Commits}
 
 -- a history of nothing is lawful
 pub lawful_none : (first : ClusterMap) → IsLawful first []

@@ -1,5 +1,5 @@
 -- Followers: who reads the row of epochs without the lock.
-use Rattle.std.specs.Prelude.{◌≡◌, ℕ, ◌-◌, Bool, true, false, None, List, take}
+use Rattle.std.specs.Prelude.{◌≡◌, ◌-◌, Bool, true, false, None, List, take}
 use Rattle.stated.specs.Incrementals.{Step}
 use Rattle.osdmap.specs.Maps.{ClusterMap}
 use Rattle.osdmap.specs.Changes.{change_fault, apply, after, IsLawful, epoch_after}

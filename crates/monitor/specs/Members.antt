@@ -1,7 +1,6 @@
 -- What callers see of a monitor, who its members are, and what a member that holds its lock knows.
-use Rattle.std.specs.Prelude.{◌≡◌, ℕ, [], IsSomeAnd, Option, option_and_then, option_map, unwrap_or}
+use Rattle.std.specs.Prelude.{◌≡◌, ℕ, [], IsSomeAnd, option_and_then, option_map, unwrap_or}
 use Rattle.ticketlock.specs.declared.table.Words.{Words}
-use Rattle.ticketlock.specs.declared.tokens.Seat.{Seat}
 use Rattle.ticketlock.specs.declared.read_guard.ReadGuard.{ReadGuard}
 use Rattle.ticketlock.specs.declared.write_guard.WriteGuard.{WriteGuard}
 use Rattle.ticketlock.specs.Standing.{IsAt}

@@ -1,6 +1,5 @@
 use Rattle.std.proofs.Common.{◌≡◌, ◌∙◌, sym, ap, refl, subst, ◌+◌, ◌-◌, Some, slice_get}
-use Rattle.stated.specs.Incrementals.{Step}
-use Rattle.epochlog.specs.Epochs.{Line, Begins}
+use Rattle.epochlog.specs.Epochs.{Begins}
 use Rattle.monitor.specs.Followers.{Followed, IsFollowed, GoesOnFrom, applied}
 use Rattle.monitor.proofs.Followers.{by_parts, followed_on}
 use Rattle.monitor.proofs.follower.Follower.advance.Goals as goal

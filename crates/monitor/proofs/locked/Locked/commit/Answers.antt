@@ -1,6 +1,3 @@
-use Rattle.std.proofs.Common.{subst, ap, sym, length}
-use Rattle.epochlog.specs.Epochs.{Seen, Line}
-use Rattle.monitor.specs.Histories.{Commits}
 use Rattle.monitor.proofs.Histories.{committed_by, unspent}
 use Rattle.monitor.proofs.locked.Locked.commit.Goals as goal
 
