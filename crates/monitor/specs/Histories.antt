@@ -1,0 +1,50 @@
+-- One history: what a member has seen before a call and after it, and what the call answers by that.
+use Rattle.std.specs.Prelude.{◌≡◌, ◌⊎◌, ℕ, ◌+◌, List, [], ◌∷◌, ◌++◌, length, None, Result, Ok, Err, MatchResult}
+use Rattle.refusal.specs.declared.refused.Refusal.{Refusal}
+use Rattle.refusal.specs.declared.refused.Refusal.TheVariants.{SeatSpent}
+use Rattle.refusal.specs.Outcomes.{Gives}
+use Rattle.stated.specs.declared.change.ChangeParts.{ChangeParts}
+use Rattle.stated.specs.Incrementals.{Step}
+use Rattle.osdmap.specs.Maps.{ClusterMap}
+use Rattle.osdmap.specs.Evals.{evals_of}
+use Rattle.osdmap.specs.Changes.{after, IsLawful, epoch_after}
+use Rattle.epochlog.specs.Epochs.{Begins}
+use Rattle.state.specs.States.{commit_fault, IsRefusedBy}
+use Rattle.mapjson.specs.Written.{written}
+
+-- a history goes on: the one before begins it, and it is lawful from the first map
+pub record GoesOn (first : ClusterMap) (before now : List Step) : Type 0 where
+  pub begins : Begins before now
+  pub lawful : IsLawful first now
+
+-- what a look-up answers: the answer by the map after the history that its member has seen then, which goes on from the one before; or that
+-- its seat has made its draws
+abbrev pub Looks : {X : Type 0} → ClusterMap → List Step → List Step → (ClusterMap → Result X Refusal → Type 0) → Result X Refusal → Type 0
+Looks first before now finds r = GoesOn first before now × ((r ≡ Err SeatSpent) ⊎ finds (after first now) r)
+
+-- the epoch
+abbrev pub FindsEpoch : ClusterMap → Result ℕ Refusal → Type 0
+FindsEpoch m r = r ≡ Ok m.epoch
+
+-- the written form of the map, in a list of any form
+abbrev pub FindsText : {X : Type 0} → (X → List ℕ) → ClusterMap → Result X Refusal → Type 0
+FindsText listed m r = Gives r None (λ text. listed text ≡ written m)
+
+-- a change is committed: to the map after some history, which goes on from the one before; the history now is that one with the
+-- incremental at its end
+pub record IsCommitted (first : ClusterMap) (most : ℕ) (before now : List Step) (base : ℕ) (change : ChangeParts) (epoch evals : ℕ) : Type 0 where
+  pub found : List Step
+  pub goes_on : Begins before found
+  pub ends : now ≡ found ++ record { epoch = epoch; change = change } ∷ []
+  pub based : base ≡ epoch_after first found
+  pub next : epoch ≡ base + 1
+  pub counted : evals ≡ evals_of (after first now) change
+  pub accepted : commit_fault (after first found) (length found) most base change ≡ None
+
+-- what a commit answers: that the change is committed; or the fault at the history now, or where there is none that memory was short or another
+-- sealed the epoch; or that its seat has made its draws
+abbrev pub Commits : ClusterMap → ℕ → List Step → List Step → ℕ → ChangeParts → Result (ℕ × ℕ) Refusal → Type 0
+Commits first most before now base change r =
+    GoesOn first before now
+    × MatchResult r (λ ok. IsCommitted first most before now base change ok.0 ok.1)
+    (λ e. (e ≡ SeatSpent) ⊎ IsRefusedBy (commit_fault (after first now) (length now) most base change) e)

@@ -1,0 +1,87 @@
+-- The state of a monitor: the object of one thread, whose answers a monitor gives to many.
+use Rattle.std.specs.Prelude.{◌≡◌, ℕ, ◌+◌, ◌==◌, not, [], ◌∷◌, ◌++◌, length, nat_lt, Option, Some, None, Result, OnErr, ◌⊎◌, MatchResult, if◌then◌else◌}
+use Rattle.refusal.specs.declared.refused.Refusal.{Refusal}
+use Rattle.refusal.specs.declared.refused.Refusal.TheVariants.{StaleEpoch, JournalFull, Memory as OutOfMemory, NotSealed}
+use Rattle.stated.specs.declared.change.ChangeParts.{ChangeParts}
+use Rattle.stated.specs.Incrementals.{Step}
+use Rattle.osdmap.specs.Maps.{ClusterMap}
+use Rattle.osdmap.specs.Evals.{evals_of}
+use Rattle.osdmap.specs.Changes.{change_fault, apply, after, IsLawful}
+use Rattle.epochlog.specs.Epochs.{Line, Seen}
+use Rattle.osdmap.specs.Stored.{StoredMap, HasRoomFor}
+use Rattle.pgtable.specs.declared.patch.Patch.{Patch}
+use Rattle.pgtable.specs.Patches.{next, LeadsTo}
+use Rattle.pgtable.specs.Tables.{TableFacts, IsTableOf}
+
+-- what callers see of a state: the first map, what its pass has seen, whose history is the journal, and the present map
+pub record Kept : Type 0 where
+  pub first : ClusterMap
+  pub pass : Seen
+  pub map : ClusterMap
+
+-- the fact of every state: its journal is lawful from the first map, after whose epoch its row begins; its map is the first
+-- map with the journal applied in the order of epochs, without gaps; and its table is that of its map
+pub record IsKept (k : Kept) (t : TableFacts) : Type 0 where
+  pub lawful : IsLawful k.first k.pass.history
+  pub begins : k.pass.row.first ≡ k.first.epoch
+  pub map : k.map ≡ after k.first k.pass.history
+  pub table : IsTableOf t k.map
+
+-- a state at its beginning
+abbrev pub opened : ClusterMap → Line → Kept
+opened m row = record { first = m; pass = record { row = row; history = [] }; map = m }
+
+-- ---- commits
+
+-- the incremental of a change to a map
+abbrev pub next_step : ClusterMap → ChangeParts → Step
+next_step m change = record { epoch = m.epoch + 1; change = change }
+
+-- a refusal, else another
+abbrev pub unless : Option Refusal → Option Refusal → Option Refusal
+unless (Some r) other = Some r
+unless None other = other
+
+-- the first refusal that applies where a map is the present one, after so many changes of at most so many: the base is not its epoch; what
+-- refuses the change; the journal is full
+unfoldable pub commit_fault : ClusterMap → ℕ → ℕ → ℕ → ChangeParts → Option Refusal
+commit_fault m done most base change =
+    if not (base == m.epoch) then Some (StaleEpoch m.epoch)
+    else unless (change_fault m change) (if nat_lt done most then None else Some JournalFull)
+
+-- the same of a state
+abbrev pub fault_in : Kept → ℕ → ChangeParts → Option Refusal
+fault_in k base change = commit_fault k.map (length k.pass.history) (length k.pass.row.cells) base change
+
+-- a pass that has seen one incremental more
+abbrev pub longer_by : Seen → Step → Seen
+longer_by pass step = record pass { history = pass.history ++ step ∷ [] }
+
+-- the state after a commit
+abbrev pub committed : Kept → ChangeParts → Kept
+committed k change =
+    record k { pass = longer_by k.pass (next_step k.map change); map = apply k.map (next_step k.map change) }
+
+-- why a commit is refused: the fault; or, where there is none, that a growth was refused or another sealed the epoch
+abbrev pub IsRefusedBy : Option Refusal → Refusal → Type 0
+IsRefusedBy fault e = ((fault ≡ None) × ((e ≡ OutOfMemory) ⊎ (e ≡ NotSealed))) ⊎ (fault ≡ Some e)
+
+-- of a commit: what is done exactly where there is no fault, but that a growth may be refused there, or the epoch be sealed by another
+abbrev pub Takes : {X : Type 0} → Result X Refusal → Option Refusal → (X → Type 0) → Type 0
+Takes r fault P =
+    MatchResult r (λ x. (fault ≡ None) × P x) (IsRefusedBy fault)
+
+-- what a commit answers and leaves: where there is no fault the new epoch and the evaluations, with the journal longer by
+-- the change; else the fault; and after a refusal nothing is changed
+abbrev pub Commits : Kept → Kept → ℕ → ChangeParts → Result (ℕ × ℕ) Refusal → Type 0
+Commits old new base change r =
+    Takes r (fault_in old base change) (λ ok. (new ≡ committed old change) × (ok.0 ≡ base + 1) × (ok.1 ≡ evals_of new.map change))
+    × OnErr r (new ≡ old)
+
+-- all that a commit needs is ready: room in the map, a patch that makes of the table that of the map after the change and whose work counts
+-- the evaluations, and the incremental
+pub record IsReady (m : StoredMap) (t : TableFacts) (number : ℕ) (change : ChangeParts) (patch : Patch) (made : Step) : Type 0 where
+  pub step : made ≡ record { epoch = number; change = change }
+  pub room : HasRoomFor change m
+  pub leads : LeadsTo (next m.map change) t patch
+  pub counted : patch.work.runs ≡ evals_of (next m.map change) change

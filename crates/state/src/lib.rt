@@ -1,0 +1,8 @@
+//! The state of a monitor: the first map, the journal of sealed epochs since, the present map and its table. All calls are those of
+//! one thread; the monitor above lends a state to many.
+#![tactic(auto)]
+
+mod answers;
+mod state;
+
+pub use state::State;

@@ -1,0 +1,180 @@
+//! The state of a monitor: the first map, what its pass has seen of the row of epochs, the present map and its table.
+
+ghost use Rattle.std.specs.Prelude.{◌≡◌, ◌+◌, IfOk, None};
+ghost use Rattle.osdmap.specs.Changes.{change_fault, apply};
+ghost use Rattle.pgtable.specs.Tables.{IsTableOf};
+ghost use Rattle.pgtable.specs.Patches.{LeadsTo};
+ghost use Rattle.osdmap.specs.Stored.{HasRoomFor};
+ghost use Rattle.state.specs.States.{IsReady};
+
+use epochlog::{Pass, Row};
+use osdmap::{Change, Incremental, OsdMap};
+use pgtable::{Patch, PgTable};
+use refusal::{Memory, Refusal};
+use std::alloc::Global;
+use std::marker::Model;
+
+/// The state of a monitor.
+#[derive(Drop)]
+pub struct State {
+    pub(crate) first: OsdMap,
+    pub(crate) pass: Pass,
+    pub(crate) map: OsdMap,
+    pub(crate) table: PgTable,
+}
+
+impl Model for State {
+    ghost use Rattle.state.specs.States.{Kept, IsKept};
+
+    ghost Value = { Kept };
+
+    ghost view = { λ s. record { first = s.first.map; pass = s.pass; map = s.map.map } };
+
+    ghost invariant = { λ s. IsKept (record { first = s.first.map; pass = s.pass; map = s.map.map }) s.table };
+}
+
+/// All that a commit needs memory for: room in the map, the patch of its table, and the incremental of the epoch in a box.
+fn prepared(
+    alloc: Global,
+    map: &mut OsdMap,
+    table: &PgTable,
+    epoch: u64,
+    change: Change,
+) -> Result<(Patch, Box<Incremental>), Memory>
+    requires table { IsTableOf table.now map.old.map }
+    requires lawful { change_fault map.old.map change ≡ None }
+    requires next { epoch ≡ map.old.map.epoch + 1 }
+    ensures same { map.new.map ≡ map.old.map }
+    ensures ready { IfOk result (λ r. IsReady map.new table.now epoch change r.0 r.1.value) }
+{
+    map.reserve_for(alloc, &change)?;
+    let patch = table.prepare(alloc, map, &change)?;
+    let step = Box::new(alloc, Incremental::new(epoch, change))?;
+    Ok((patch, step))
+}
+
+/// Makes the map and its table those after an incremental, for which all is ready. It takes no memory and cannot fail.
+fn make(map: &mut OsdMap, table: &mut PgTable, step: &Incremental, patch: Patch)
+    requires next { step.now.epoch ≡ map.old.map.epoch + 1 }
+    requires lawful { change_fault map.old.map step.now.change ≡ None }
+    requires room { HasRoomFor step.now.change map.old }
+    requires leads { LeadsTo (apply map.old.map step.now) table.old patch }
+    ensures map { map.new.map ≡ apply map.old.map step.now }
+    ensures table { IsTableOf table.new (apply map.old.map step.now) }
+{
+    map.apply(step);
+    table.install(patch);
+}
+
+impl State {
+    ghost use Rattle.std.specs.Prelude.{◌≡◌, ◌≤◌, not, nat_lt, length, IfOk, OnOk};
+    ghost use Rattle.std.specs.Result.{result_err};
+    ghost use Rattle.osdmap.specs.Changes.{epoch_after, after, IsLawful};
+    ghost use Rattle.pgtable.specs.Tables.{IsTableOf};
+    ghost use Rattle.state.specs.States.{opened, Commits, fault_in};
+
+    /// The state at its beginning: no change yet. It is for a row whose first epoch is the map's. The one error is `Memory` (30).
+    pub fn new(alloc: Global, map: OsdMap, row: &Row) -> Result<State, Memory>
+        requires { row.now.first ≡ map.map.epoch }
+        ensures { IfOk result (λ s. s ≡ opened map.map row.now) }
+    {
+        let first = map.copy(alloc)?;
+        let table = PgTable::build(alloc, &map)?;
+        let pass = row.pass(alloc)?;
+        Ok(State {
+            first,
+            pass,
+            map,
+            table,
+        })
+    }
+
+    /// The present map: the first map with the changes of the journal applied in the order of their epochs, which follow
+    /// on that of the first map without gaps.
+    pub fn map(&self) -> &OsdMap
+        ensures map { result.now.map ≡ self.now.map }
+        ensures after { self.now.map ≡ after self.now.first self.now.pass.history }
+        ensures lawful { IsLawful self.now.first self.now.pass.history }
+        ensures epoch { self.now.map.epoch ≡ epoch_after self.now.first self.now.pass.history }
+    {
+        &self.map
+    }
+
+    /// The table of the present map.
+    pub fn table(&self) -> &PgTable
+        ensures { IsTableOf result.now self.now.map }
+    {
+        &self.table
+    }
+
+    /// What the state has seen of its row: all changes since the first map.
+    pub fn pass(&self) -> &Pass
+        ensures pass { result.now ≡ self.now.pass }
+        ensures begins { self.now.pass.row.first ≡ self.now.first.epoch }
+    {
+        &self.pass
+    }
+
+    /// Applies a change to the present map, whose epoch `base` must be, and seals it in the row: the new epoch, and the number of
+    /// groups whose rules it ran, which are those whose placement it can alter. `pass` is one of the caller that has seen what
+    /// the state has; it sees the change too.
+    ///
+    /// `StaleEpoch` (20) with the present epoch where `base` is another; else what
+    /// `OsdMap::check` refuses (21, 22, 23, 24, 13, 15, 25, 26, 27); else `JournalFull` (28); else `Memory` (30), or `NotSealed` (32)
+    /// where another sealed the epoch. After a refusal all is as before. All memory is taken before the seal; after it nothing can fail.
+    pub fn commit(
+        &mut self,
+        alloc: Global,
+        row: &Row,
+        pass: &mut Pass,
+        base: u64,
+        change: Change,
+    ) -> Result<(u64, usize), Refusal>
+        requires row { self.old.pass.row ≡ row.now }
+        requires pass { pass.old ≡ self.old.pass }
+        ensures commits { Commits self.old self.new base change result }
+        ensures pass { pass.new ≡ self.new.pass }
+    {
+        self.accepts(row, base, &change)?;
+        let (patch, step) = prepared(alloc, &mut self.map, &self.table, base + 1, change)?;
+        let Ok(epoch) = row.seal(pass, step) else {
+            return Err(Refusal::NotSealed);
+        };
+        self.pass.join(pass);
+        let evals = patch.runs() as usize;
+        make(
+            &mut self.map,
+            &mut self.table,
+            row.at(&self.pass, epoch),
+            patch,
+        );
+        Ok((epoch, evals))
+    }
+
+    /// Whether a commit of a change to the map of the epoch `base` is refused, memory and the seal aside.
+    #[tactic(auto, unfolding(crate::specs::States::commit_fault))]
+    fn accepts(&self, row: &Row, base: u64, change: &Change) -> Result<(), Refusal>
+        requires { self.now.pass.row ≡ row.now }
+        ensures fault { result_err result ≡ fault_in self.now base change.now }
+        ensures early { OnOk result (self.now.map.epoch ≤ 2147549184) }
+    {
+        let current = self.map.epoch();
+        if base != current {
+            return Err(Refusal::StaleEpoch(current));
+        }
+        self.map.check(change)?;
+        if self.is_full(row) {
+            return Err(Refusal::JournalFull);
+        }
+        Ok(())
+    }
+
+    /// Whether each epoch of the row is sealed.
+    fn is_full(&self, row: &Row) -> bool
+        requires { self.now.pass.row ≡ row.now }
+        ensures full { result ≡ not (nat_lt (length self.now.pass.history) (length self.now.pass.row.cells)) }
+        ensures early { self.now.map.epoch ≤ 2147549184 }
+    {
+        self.pass.epoch() - self.first.epoch() >= u64::from(row.capacity())
+    }
+}
