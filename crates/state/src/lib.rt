@@ -3,6 +3,7 @@
 #![tactic(auto)]
 
 mod answers;
+mod balancing;
 mod state;
 
 pub use state::State;

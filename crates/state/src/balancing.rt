@@ -1,0 +1,41 @@
+//! Balancing the groups of a pool.
+
+use crate::state::State;
+use balancer::plan;
+use epochlog::{Pass, Row};
+use refusal::Refusal;
+use std::alloc::Global;
+
+impl State {
+    ghost use Rattle.std.specs.Prelude.{◌≡◌, ◌≤◌};
+    ghost use Rattle.state.specs.Balances.{Balances};
+
+    /// Plans the moves that balance the groups of a pool, at most `limit`, 1 to 1,024, and commits their change at the present epoch: the
+    /// epoch then, and how many moves. Where no move is good, nothing is committed and the epoch stays, also where the journal is full. `pass` is as in `commit`.
+    ///
+    /// `UnknownPool` (23), else `BalanceRule` (29) where the pool's rule has more than one block, else `Memory` (30), `JournalFull` (28) or
+    /// `NotSealed` (32) as in `commit`. After a refusal all is as before.
+    pub fn balance(
+        &mut self,
+        alloc: Global,
+        row: &Row,
+        pass: &mut Pass,
+        pool: u32,
+        limit: u32,
+    ) -> Result<(u64, usize), Refusal>
+        requires row { self.old.pass.row ≡ row.now }
+        requires pass { pass.old ≡ self.old.pass }
+        requires some { 1 ≤ limit }
+        requires few { limit ≤ 1024 }
+        ensures balances { Balances self.old self.new pool limit result }
+        ensures pass { pass.new ≡ self.new.pass }
+    {
+        let (change, moves) = plan(alloc, &self.map, &self.table, pool, limit)?;
+        let current = self.map.epoch();
+        if moves == 0 {
+            return Ok((current, 0));
+        }
+        let (epoch, _) = self.commit(alloc, row, pass, current, change)?;
+        Ok((epoch, moves))
+    }
+}
