@@ -108,7 +108,7 @@ full_unspent (Some r) room fine e = fine e
 full_unspent None true fine e = absurd (cc e)
 full_unspent None false fine e = absurd (let same : Some JournalFull ≡ Some SeatSpent = e in cc)
 
-commit_unspent : (m : ClusterMap) (done most base : ℕ) (change : ChangeParts) → commit_fault m done most base change ≢ Some SeatSpent
+pub commit_unspent : (m : ClusterMap) (done most base : ℕ) (change : ChangeParts) → commit_fault m done most base change ≢ Some SeatSpent
 unfolding commit_fault
 commit_unspent m done most base change =
     not_spent (base == m.epoch) (StaleEpoch m.epoch) _ (λ e. absurd (cc e))

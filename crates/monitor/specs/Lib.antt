@@ -3,3 +3,4 @@ pub mod Members
 pub mod Opening
 pub mod Looking
 pub mod Followers
+pub mod Balances

@@ -9,10 +9,11 @@ use std::alloc::Global;
 use std::sync::Wait;
 
 impl Monitor {
-    ghost use Rattle.std.specs.Prelude.{◌≡◌, length, IfErr};
+    ghost use Rattle.std.specs.Prelude.{◌≡◌, ◌≤◌, length, IfErr};
     ghost use Rattle.refusal.specs.declared.refused.Refusal.TheVariants.{SeatSpent};
     ghost use Rattle.state.specs.Answers.{FindsUp, FindsCount, FindsGroups};
     ghost use Rattle.monitor.specs.Histories.{Looks, FindsEpoch, FindsText, Commits};
+    ghost use Rattle.monitor.specs.Balances.{Balances};
     ghost use Rattle.monitor.specs.Members.{IsMemberOf, IsSpent};
 
     /// The epoch and the up set of a group: `UnknownPool` (23), else `UnknownGroup` (25). `SeatSpent` (31) only where the
@@ -123,6 +124,34 @@ impl Monitor {
         let answer = guard
             .value_mut()
             .commit(alloc, &self.row, &mut member.pass, base, change);
+        self.put_back(guard, member);
+        answer
+    }
+
+    /// Plans the moves that balance the groups of a pool, at most `limit`, 1 to 1,024, and commits their change, both in one hold of the
+    /// lock: the epoch then, and how many moves. Where no move is good, nothing is committed, also where the journal is full.
+    ///
+    /// `SeatSpent` (31) only where the member's seat has made its draws; `UnknownPool` (23), else `BalanceRule` (29) where the pool's rule
+    /// has more than one block; else `Memory` (30), and where a move is good `JournalFull` (28) or `NotSealed` (32).
+    pub fn balance<R: Wait>(
+        &self,
+        rt: &R,
+        alloc: Global,
+        member: &mut Member,
+        pool: u32,
+        limit: u32,
+    ) -> Result<(u64, usize), Refusal>
+        requires member { IsMemberOf self.now member.old }
+        requires some { 1 ≤ limit }
+        requires few { limit ≤ 1024 }
+        ensures member { IsMemberOf self.now member.new }
+        ensures balances { Balances self.now.first (length self.now.row.cells) member.old.pass.history member.new.pass.history pool limit result }
+        ensures spent { IfErr result (λ e. e ≡ SeatSpent → IsSpent self.now member.new) }
+    {
+        let mut guard = self.hold(rt, member)?;
+        let answer = guard
+            .value_mut()
+            .balance(alloc, &self.row, &mut member.pass, pool, limit);
         self.put_back(guard, member);
         answer
     }

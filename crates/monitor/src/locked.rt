@@ -45,9 +45,10 @@ pub(crate) fn see(pass: &mut Pass, state: &State)
 }
 
 impl Locked {
-    ghost use Rattle.std.specs.Prelude.{◌≡◌, ◌≢◌, IfErr, length};
+    ghost use Rattle.std.specs.Prelude.{◌≡◌, ◌≢◌, ◌≤◌, IfErr, length};
     ghost use Rattle.refusal.specs.declared.refused.Refusal.TheVariants.{SeatSpent};
     ghost use Rattle.monitor.specs.Histories.{Commits};
+    ghost use Rattle.monitor.specs.Balances.{Balances};
 
     /// Commits a change, by one who has seen all that the state has.
     pub(crate) fn commit(
@@ -68,6 +69,31 @@ impl Locked {
     {
         let _ = self.state.map();
         let answer = self.state.commit(alloc, row, pass, base, change);
+        let _ = self.state.map();
+        answer
+    }
+
+    /// Plans and commits the moves that balance a pool, by one who has seen all that the state has.
+    pub(crate) fn balance(
+        &mut self,
+        alloc: Global,
+        row: &Row,
+        pass: &mut Pass,
+        pool: u32,
+        limit: u32,
+    ) -> Result<(u64, usize), Refusal>
+        requires row { self.old.state.pass.row ≡ row.now }
+        requires pass { pass.old ≡ self.old.state.pass }
+        requires some { 1 ≤ limit }
+        requires few { limit ≤ 1024 }
+        ensures balances { Balances self.old.state.first (length row.now.cells) pass.old.history pass.new.history pool limit result }
+        ensures unspent { IfErr result (λ e. e ≢ SeatSpent) }
+        ensures pass { pass.new ≡ self.new.state.pass }
+        ensures first { self.new.state.first ≡ self.old.state.first }
+        ensures row { self.new.state.pass.row ≡ row.now }
+    {
+        let _ = self.state.map();
+        let answer = self.state.balance(alloc, row, pass, pool, limit);
         let _ = self.state.map();
         answer
     }

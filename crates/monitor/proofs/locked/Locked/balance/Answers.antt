@@ -1,0 +1,17 @@
+use Rattle.monitor.proofs.Balancing.{balanced_by, never_spent}
+use Rattle.monitor.proofs.locked.Locked.balance.Goals as goal
+
+pub returns-clause-balances : goal.returns-clause-balances
+returns-clause-balances c =
+    let old = c.args.self.now.state in
+    let new = c.balance-answer.new.self in
+    let was = c.map.ensures in
+    let is = c.map-2.ensures in
+    let done = balanced_by old c.args.pool c.args.limit (record { map = was.after; lawful = was.lawful; epoch = was.epoch }) new c.balance-answer.result
+    (record { map = is.after; lawful = is.lawful; epoch = is.epoch })
+    c.balance-answer.ensures.balances in
+    rw (c.balance-answer.ensures.pass, c.requires.pass, ← c.requires.row) done
+
+pub returns-clause-unspent : goal.returns-clause-unspent
+returns-clause-unspent c =
+    never_spent c.args.self.now.state c.balance-answer.new.self c.args.pool c.args.limit c.balance-answer.result c.balance-answer.ensures.balances
