@@ -36,7 +36,7 @@ pub record IsCommitted (first : ClusterMap) (most : ℕ) (before now : List Step
   pub found : List Step
   pub goes_on : Begins before found
   pub ends : now ≡ found ++ record { epoch = epoch; change = change } ∷ []
-  pub base : base ≡ epoch_after first found
+  pub based : base ≡ epoch_after first found
   pub next : epoch ≡ base + 1
   pub counted : evals ≡ evals_of (after first now) change
   pub accepted : commit_fault (after first found) (length found) most base change ≡ None

@@ -1,1 +1,5 @@
 pub mod Histories
+pub mod Members
+pub mod Opening
+pub mod Looking
+pub mod Followers

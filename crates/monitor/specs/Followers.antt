@@ -1,0 +1,43 @@
+-- Followers: who reads the row of epochs without the lock.
+use Rattle.std.specs.Prelude.{◌≡◌, ℕ, ◌-◌, Bool, true, false, None, List, take}
+use Rattle.stated.specs.Incrementals.{Step}
+use Rattle.osdmap.specs.Maps.{ClusterMap}
+use Rattle.osdmap.specs.Changes.{change_fault, apply, after, IsLawful, epoch_after}
+use Rattle.epochlog.specs.Epochs.{Line, Begins}
+use Rattle.monitor.specs.Members.{Monitored}
+
+-- what callers see of a follower: the first map, the row that it reads, its history, which are the incrementals that it has
+-- applied, and its map
+pub record Followed : Type 0 where
+  pub first : ClusterMap
+  pub row : Line
+  pub history : List Step
+  pub map : ClusterMap
+
+-- the follower reads the row of this monitor, from the monitor's first map
+pub record Follows (monitor : Monitored) (follower : Followed) : Type 0 where
+  pub first : follower.first ≡ monitor.first
+  pub row : follower.row ≡ monitor.row
+
+-- of what a pass has seen, what leads from the first map to the present one
+abbrev pub applied : ClusterMap → ClusterMap → List Step → List Step
+applied first now seen = take (now.epoch - first.epoch) seen
+
+-- the fact of every follower: its history is lawful from the first map, which is that of its row; and its map is the first
+-- map with the history applied in the order of epochs, without gaps
+pub record IsFollowed (f : Followed) : Type 0 where
+  pub begins : f.row.first ≡ f.first.epoch
+  pub lawful : IsLawful f.first f.history
+  pub map : f.map ≡ after f.first f.history
+  pub epoch : f.map.epoch ≡ epoch_after f.first f.history
+
+-- the same follower, whose history has not become shorter
+pub record GoesOnFrom (before now : Followed) : Type 0 where
+  pub first : now.first ≡ before.first
+  pub row : now.row ≡ before.row
+  pub begins : Begins before.history now.history
+
+-- an incremental is applied to a map that does not refuse its change; or the map stays
+abbrev pub Steps : ClusterMap → ClusterMap → Step → Bool → Type 0
+Steps before now step true = (change_fault before step.change ≡ None) × (now ≡ apply before step)
+Steps before now step false = now ≡ before

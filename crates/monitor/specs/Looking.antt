@@ -1,0 +1,17 @@
+-- What callers see of a look.
+use Rattle.std.specs.Prelude.{◌≡◌}
+use Rattle.ticketlock.specs.Guards.{first_of_read}
+use Rattle.osdmap.specs.Maps.{ClusterMap}
+use Rattle.osdmap.specs.Changes.{IsLawful}
+use Rattle.monitor.specs.declared.look.Look.{Look}
+use Rattle.monitor.specs.Members.{Monitored, Shares}
+
+-- the first map of the state that it lends
+abbrev pub first_of_look : Look → ClusterMap
+first_of_look look = (first_of_read look.guard).state.first
+
+-- the look shares this monitor's lock; its pass is of the monitor's row, with a history that is lawful from the first map
+pub record IsLookOf (monitor : Monitored) (look : Look) : Type 0 where
+  pub guard : Shares monitor look.guard
+  pub row : look.pass.row ≡ monitor.row
+  pub lawful : IsLawful monitor.first look.pass.history

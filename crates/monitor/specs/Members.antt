@@ -1,0 +1,66 @@
+-- What callers see of a monitor, who its members are, and what a member that holds its lock knows.
+use Rattle.std.specs.Prelude.{◌≡◌, ℕ, [], IsSomeAnd, Option, option_and_then, option_map, unwrap_or}
+use Rattle.ticketlock.specs.declared.table.Words.{Words}
+use Rattle.ticketlock.specs.declared.tokens.Seat.{Seat}
+use Rattle.ticketlock.specs.declared.read_guard.ReadGuard.{ReadGuard}
+use Rattle.ticketlock.specs.declared.write_guard.WriteGuard.{WriteGuard}
+use Rattle.ticketlock.specs.Standing.{IsAt}
+use Rattle.ticketlock.specs.Guards.{first_of_read, first_of_write}
+use Rattle.osdmap.specs.Maps.{ClusterMap}
+use Rattle.osdmap.specs.Changes.{IsLawful}
+use Rattle.epochlog.specs.Epochs.{Line}
+use Rattle.state.specs.States.{Kept}
+use Rattle.monitor.specs.declared.locked.Locked.{Locked}
+use Rattle.monitor.specs.declared.member.Member.{Member}
+
+-- what callers see of a monitor: the first map, the row of epochs, and the words of the lock from which its seats draw
+pub record Monitored : Type 0 where
+  pub first : ClusterMap
+  pub row : Line
+  pub words : Words
+
+-- the state is one of this monitor: its first map is the monitor's, and its pass is of the monitor's row
+pub record IsStateOf (monitor : Monitored) (state : Kept) : Type 0 where
+  pub first : state.first ≡ monitor.first
+  pub row : state.pass.row ≡ monitor.row
+
+-- the fact of every monitor, and of the state that its lock was made with: it is one of this monitor, whose row goes on from the
+-- epoch of the first map
+pub record IsOpened (monitor : Monitored) (opened : Kept) : Type 0 where
+  pub state : IsStateOf monitor opened
+  pub begins : monitor.row.first ≡ monitor.first.epoch
+
+-- the member has a seat of this monitor; its pass is of the monitor's row, with a history that is lawful from the first map
+pub record IsMemberOf (monitor : Monitored) (member : Member) : Type 0 where
+  pub seat : IsSomeAnd member.seat (λ seat. IsAt monitor.words seat.place)
+  pub row : member.pass.row ≡ monitor.row
+  pub lawful : IsLawful monitor.first member.pass.history
+
+-- the member is one of this monitor that has seen nothing
+abbrev pub IsNewMemberOf : Monitored → Member → Type 0
+IsNewMemberOf monitor member = IsMemberOf monitor member × (member.pass.history ≡ [])
+
+-- how often a seat of the monitor may draw
+abbrev pub draws_of : Monitored → ℕ
+draws_of monitor = monitor.words.limit
+
+-- the member's seat has made its draws
+abbrev pub IsSpent : Monitored → Member → Type 0
+IsSpent monitor member = IsSomeAnd member.seat (λ seat. seat.place.draws ≡ draws_of monitor)
+
+-- ---- who holds the lock
+
+-- the state that a guard lends: while it lends none, the one that the lock was made with
+abbrev pub lent : ReadGuard Locked → Kept
+lent guard =
+    unwrap_or (option_and_then (λ slot. option_map (λ kept. kept.value.state) slot) guard.claim.value) (first_of_read guard).state
+
+-- the guard shares this monitor's lock
+pub record Shares (monitor : Monitored) (guard : ReadGuard Locked) : Type 0 where
+  pub place : IsAt monitor.words guard.turn.place
+  pub first : IsStateOf monitor (first_of_read guard).state
+
+-- the guard has this monitor's lock alone
+pub record Holds (monitor : Monitored) (guard : WriteGuard Locked) : Type 0 where
+  pub place : IsAt monitor.words guard.turn.place
+  pub first : IsStateOf monitor (first_of_write guard).state

@@ -1,0 +1,28 @@
+-- What a monitor is opened with.
+use Rattle.std.specs.Prelude.{◌≡◌, ℕ, ◌&&◌, ◌^◌, Bool, nat_le, List, length, All}
+use Rattle.osdmap.specs.Maps.{ClusterMap}
+use Rattle.epochlog.specs.Epochs.{is_within_limits}
+use Rattle.monitor.specs.declared.member.Member.{Member}
+use Rattle.monitor.specs.Members.{Monitored, IsNewMemberOf, draws_of}
+
+-- the greatest number of seats
+abbrev pub max_seats : ℕ
+max_seats = 1024
+
+-- the greatest number of draws of a seat
+abbrev pub max_draws : ℕ
+max_draws = 2 ^ 40
+
+-- a first epoch, a capacity of the journal, a number of seats and one of draws, each within its limits
+abbrev pub can_open : ℕ → ℕ → ℕ → ℕ → Bool
+can_open epoch journal seats draws =
+    is_within_limits epoch journal && (nat_le 1 seats && nat_le seats max_seats && (nat_le 1 draws && nat_le draws max_draws))
+
+-- a monitor with this first map and a journal of such a capacity, and so many members, each with so many draws, who have seen
+-- nothing
+pub record IsOpening (map : ClusterMap) (journal seats draws : ℕ) (monitor : Monitored) (members : List Member) : Type 0 where
+  pub first : monitor.first ≡ map
+  pub capacity : length monitor.row.cells ≡ journal
+  pub limit : draws_of monitor ≡ draws
+  pub count : length members ≡ seats
+  pub each : All (IsNewMemberOf monitor) members

@@ -1,0 +1,153 @@
+//! Who follows the row of a monitor without its lock.
+
+ghost use Rattle.std.specs.Prelude.{◌≡◌, ◌+◌, ◌≤◌, IsTrue, IfOk, OnErr};
+ghost use Rattle.epochlog.specs.Epochs.{Begins, epoch_of};
+ghost use Rattle.monitor.specs.Followers.{Steps};
+
+use crate::member::Member;
+use crate::monitor::Monitor;
+use crush::Work;
+use epochlog::{Pass, Row};
+use mapjson::write_map;
+use osdmap::{Incremental, OsdMap, Pg, UpSet};
+use refusal::{Memory, Refusal};
+use std::alloc::Global;
+use std::marker::Model;
+
+/// One who follows the row of sealed epochs without the lock: it waits for no one, and has a map of its own, at an epoch whose
+/// incrementals it has applied one by one. It may move to another thread, and be dropped.
+#[derive(Drop)]
+pub struct Follower {
+    pub(crate) first: OsdMap,
+    pub(crate) pass: Pass,
+    pub(crate) map: OsdMap,
+    pub(crate) work: Work,
+}
+
+impl Model for Follower {
+    ghost use Rattle.std.specs.Prelude.{◌≤◌, length};
+    ghost use Rattle.monitor.specs.Followers.{Followed, IsFollowed, applied};
+
+    ghost Value = { Followed };
+
+    ghost view = { λ f. record { first = f.first.map; row = f.pass.row; history = applied f.first.map f.map.map f.pass.history; map = f.map.map } };
+
+    ghost invariant = { λ f. IsFollowed (record { first = f.first.map; row = f.pass.row; history = applied f.first.map f.map.map f.pass.history; map = f.map.map }) };
+}
+
+/// Whether the epoch after this one is sealed, as far as the row shows; then the pass has seen it.
+fn sees_next(row: &Row, pass: &mut Pass, epoch: u64) -> bool
+    requires row { pass.old.row ≡ row.now }
+    requires seen { epoch ≤ epoch_of pass.old }
+    ensures row { pass.new.row ≡ row.now }
+    ensures begins { Begins pass.old.history pass.new.history }
+    ensures next { IsTrue result → epoch + 1 ≤ epoch_of pass.new }
+{
+    epoch < pass.epoch() || row.read_next(pass).is_some()
+}
+
+/// Applies an incremental of the next epoch, unless the map refuses its change; or `Memory` (30).
+fn step_on(map: &mut OsdMap, alloc: Global, step: &Incremental) -> Result<bool, Memory>
+    requires { step.now.epoch ≡ map.old.map.epoch + 1 }
+    ensures made { IfOk result (λ made. Steps map.old.map map.new.map step.now made) }
+    ensures same { OnErr result (map.new.map ≡ map.old.map) }
+{
+    if map.check(step.change()).is_err() {
+        return Ok(false);
+    }
+    map.reserve_for(alloc, step.change())?;
+    map.apply(step);
+    Ok(true)
+}
+
+impl Follower {
+    ghost use Rattle.std.specs.Prelude.{◌≡◌, [], IfOk, Some};
+    ghost use Rattle.refusal.specs.Outcomes.{Gives};
+    ghost use Rattle.osdmap.specs.Placement.{group_fault};
+    ghost use Rattle.osdmap.specs.Changes.{epoch_after, after, IsLawful};
+    ghost use Rattle.epochlog.specs.Epochs.{Begins, OneBegins};
+    ghost use Rattle.pgtable.specs.Index.{up_at};
+    ghost use Rattle.mapjson.specs.Written.{written};
+    ghost use Rattle.monitor.specs.Followers.{Follows, GoesOnFrom};
+
+    /// A follower of this monitor, at the first map. The one error is `Memory` (30).
+    pub fn new(alloc: Global, monitor: &Monitor) -> Result<Follower, Memory>
+        ensures { IfOk result (λ follower. Follows monitor.now follower × (follower.history ≡ []) × (follower.map ≡ monitor.now.first)) }
+    {
+        let first = monitor.first.copy(alloc)?;
+        let map = monitor.first.copy(alloc)?;
+        let pass = monitor.row.pass(alloc)?;
+        let work = Work::new(alloc, map.forest())?;
+        Ok(Follower {
+            first,
+            pass,
+            map,
+            work,
+        })
+    }
+
+    /// The map's epoch, which its history reaches.
+    pub fn epoch(&self) -> u64
+        ensures value { result ≡ self.now.map.epoch }
+        ensures reached { result ≡ epoch_after self.now.first self.now.history }
+        ensures map { self.now.map ≡ after self.now.first self.now.history }
+        ensures lawful { IsLawful self.now.first self.now.history }
+    {
+        self.map.epoch()
+    }
+
+    /// Applies the incremental of the next epoch, if the row shows one and the map does not refuse it.
+    fn advance(&mut self, alloc: Global, row: &Row) -> Result<bool, Memory>
+        requires { self.old.row ≡ row.now }
+        ensures { GoesOnFrom self.old self.new }
+    {
+        let epoch = self.map.epoch();
+        if !sees_next(row, &mut self.pass, epoch) {
+            return Ok(false);
+        }
+        step_on(&mut self.map, alloc, row.at(&self.pass, epoch + 1))
+    }
+
+    /// Applies what the row shows after the follower's epoch, one incremental after another, and answers the epoch that it has
+    /// reached. It stops before one that its map refuses. After `Memory` (30) it stands at an epoch that it has fully applied.
+    /// It waits for no one.
+    pub fn catch_up(&mut self, alloc: Global, monitor: &Monitor) -> Result<u64, Memory>
+        requires { Follows monitor.now self.old }
+        ensures goes_on { GoesOnFrom self.old self.new }
+        ensures epoch { IfOk result (λ epoch. epoch ≡ epoch_after self.new.first self.new.history) }
+    {
+        for _ in 0..monitor.row.capacity() {
+            if !self.advance(alloc, &monitor.row)? {
+                break;
+            }
+        }
+        Ok(self.epoch())
+    }
+
+    /// The epoch and the up set of a group by the follower's map: `UnknownPool` (23), else `UnknownGroup` (25), else `Memory` (30).
+    pub fn up(&mut self, pg: Pg) -> Result<(u64, UpSet), Refusal>
+        ensures answer { Gives result (group_fault self.old.map pg) (λ answer. (answer.0 ≡ self.old.map.epoch) × (Some answer.1 ≡ up_at self.old.map pg)) }
+        ensures same { self.new ≡ self.old }
+    {
+        let set = self.map.up_of(pg, &mut self.work)?;
+        Ok((self.map.epoch(), set))
+    }
+
+    /// The text of the follower's map, as `mapjson::write_map` writes it. The one error is `Memory` (30).
+    pub fn dump(&self, alloc: Global) -> Result<Vec<u8>, Memory>
+        ensures { IfOk result (λ text. text.items ≡ written self.now.map) }
+    {
+        write_map(alloc, &self.map)
+    }
+
+    /// After it the history of one is known to begin that of the other. Both are of one monitor. It takes no memory and waits
+    /// for no one.
+    pub fn meet(&mut self, member: &mut Member)
+        requires { self.old.row ≡ member.old.pass.row }
+        ensures mine { self.new ≡ self.old }
+        ensures theirs { member.new ≡ member.old }
+        ensures begins { OneBegins self.old.history member.old.pass.history }
+    {
+        self.pass.meet(&mut member.pass);
+    }
+}

@@ -1,0 +1,19 @@
+//! The monitor: the state behind a lock, the row of sealed epochs beside it, the members who ask and commit by the lock, and
+//! followers who read the row without it. What each call answers is that of the state of one thread after one history, which
+//! goes on from all that the caller has seen.
+#![tactic(auto)]
+
+mod calls;
+mod follower;
+mod locked;
+mod look;
+mod member;
+mod monitor;
+mod open;
+mod turns;
+
+pub use follower::Follower;
+pub use look::Look;
+pub use member::Member;
+pub use monitor::Monitor;
+pub use state::State;

@@ -1,0 +1,72 @@
+//! What lies under the lock of a monitor.
+
+ghost use Rattle.std.specs.Prelude.{◌≡◌, ◌≤◌, length, nat_lt};
+ghost use Rattle.osdmap.specs.Changes.{IsLawful, after};
+ghost use Rattle.epochlog.specs.Epochs.{Begins};
+
+use epochlog::{Pass, Row};
+use osdmap::Change;
+use refusal::Refusal;
+use state::State;
+use std::alloc::Global;
+use ticketlock::Fact;
+
+/// A state under the lock. Each that is lent or put back has the first map of the one that the lock was made with, and a
+/// pass of the same row; what else holds of it holds of every state.
+#[derive(Drop)]
+pub(crate) struct Locked {
+    pub(crate) state: State,
+}
+
+impl Fact for Locked {
+    ghost use Rattle.std.specs.Prelude.{◌≡◌};
+
+    ghost fact = { λ opened now. (now.state.first ≡ opened.state.first) × (now.state.pass.row ≡ opened.state.pass.row) };
+}
+
+/// Whether a pass has seen more than a state.
+pub(crate) fn is_behind(state: &State, pass: &Pass) -> bool
+    requires { state.now.pass.row ≡ pass.now.row }
+    ensures { result ≡ nat_lt (length state.now.pass.history) (length pass.now.history) }
+{
+    state.pass().epoch() < pass.epoch()
+}
+
+/// A pass that has seen no more than a state sees all that it has.
+pub(crate) fn see(pass: &mut Pass, state: &State)
+    requires row { pass.old.row ≡ state.now.pass.row }
+    requires seen { length pass.old.history ≤ length state.now.pass.history }
+    ensures pass { pass.new ≡ state.now.pass }
+    ensures begins { Begins pass.old.history pass.new.history }
+    ensures lawful { IsLawful state.now.first pass.new.history }
+{
+    pass.join(state.pass());
+    let _ = state.map();
+}
+
+impl Locked {
+    ghost use Rattle.std.specs.Prelude.{◌≡◌, length};
+    ghost use Rattle.monitor.specs.Histories.{Commits};
+
+    /// Commits a change, by one who has seen all that the state has.
+    pub(crate) fn commit(
+        &mut self,
+        alloc: Global,
+        row: &Row,
+        pass: &mut Pass,
+        base: u64,
+        change: Change,
+    ) -> Result<(u64, usize), Refusal>
+        requires row { self.old.state.pass.row ≡ row.now }
+        requires pass { pass.old ≡ self.old.state.pass }
+        ensures commits { Commits self.old.state.first (length row.now.cells) pass.old.history pass.new.history base change result }
+        ensures pass { pass.new ≡ self.new.state.pass }
+        ensures first { self.new.state.first ≡ self.old.state.first }
+        ensures row { self.new.state.pass.row ≡ row.now }
+    {
+        let _ = self.state.map();
+        let answer = self.state.commit(alloc, row, pass, base, change);
+        let _ = self.state.map();
+        answer
+    }
+}

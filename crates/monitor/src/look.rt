@@ -1,0 +1,71 @@
+//! A look at the state under the lock.
+
+ghost use Rattle.std.specs.Prelude.{◌≡◌};
+ghost use Rattle.monitor.specs.Members.{lent};
+
+use crate::locked::Locked;
+use crate::member::Member;
+use crate::monitor::Monitor;
+use crate::turns::state_of;
+use epochlog::Pass;
+use state::State;
+use std::sync::Wait;
+use ticketlock::ReadGuard;
+
+/// A member that shares the lock, and looks at the state as long as it likes: nobody commits meanwhile. It must be spent, by
+/// [`Look::leave`], and stays in its thread.
+pub struct Look<'a> {
+    pub(crate) guard: ReadGuard<'a, Locked>,
+    pub(crate) pass: Pass,
+    pub ghost seen: { (lent guard).pass ≡ pass },
+}
+
+impl Monitor {
+    ghost use Rattle.std.specs.Prelude.{◌≡◌, IfOk, IfErr};
+    ghost use Rattle.monitor.specs.Histories.{GoesOn};
+    ghost use Rattle.monitor.specs.Members.{IsMemberOf, IsSpent};
+    ghost use Rattle.monitor.specs.Looking.{IsLookOf};
+
+    /// Shares the lock, to look at the state. `Err` (31, `SeatSpent`), only where the member's seat has made its draws, is the
+    /// member. It takes no memory.
+    pub fn look<R: Wait>(&self, rt: &R, member: Member) -> Result<Look<'_>, Member>
+        requires { IsMemberOf self.now member }
+        ensures ok { IfOk result (λ look. IsLookOf self.now look × GoesOn self.now.first member.pass.history look.pass.history) }
+        ensures err { IfErr result (λ back. IsMemberOf self.now back × IsSpent self.now back × (back.pass ≡ member.pass)) }
+    {
+        let mut member = member;
+        match self.share(rt, &mut member) {
+            Ok(guard) => Ok(Look {
+                guard,
+                pass: member.pass,
+            }),
+            Err(_) => Err(member),
+        }
+    }
+}
+
+impl<'a> Look<'a> {
+    ghost use Rattle.std.specs.Prelude.{◌≡◌};
+    ghost use Rattle.monitor.specs.Members.{Monitored, IsMemberOf};
+    ghost use Rattle.monitor.specs.Looking.{IsLookOf, first_of_look};
+
+    /// The state, the same at each call: its first map is the monitor's, and it has seen what the member has.
+    pub fn state(&self) -> &State
+        ensures first { result.now.first ≡ first_of_look self.now }
+        ensures pass { result.now.pass ≡ self.now.pass }
+    {
+        state_of(&self.guard)
+    }
+
+    /// Leaves the lock: the member, with what it has seen.
+    pub fn leave(self) -> Member
+        ensures member { (monitor : Monitored) → IsLookOf monitor self.entry → IsMemberOf monitor result }
+        ensures pass { result.pass ≡ self.entry.pass }
+    {
+        let Look { guard, pass } = self;
+        Member {
+            seat: Some(guard.leave()),
+            pass,
+        }
+    }
+}

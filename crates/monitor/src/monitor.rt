@@ -1,0 +1,29 @@
+//! The monitor, and how one is opened.
+
+ghost use Rattle.std.specs.Prelude.{◌≡◌};
+
+use crate::locked::Locked;
+use epochlog::Row;
+use osdmap::OsdMap;
+use std::marker::Model;
+use ticketlock::Lock;
+
+/// A monitor: a state that its members share by a lock, and beside the lock the row of sealed epochs and the first map. Many
+/// threads may use it.
+#[derive(Drop)]
+pub struct Monitor {
+    pub(crate) lock: Lock<Locked>,
+    pub(crate) row: Row,
+    pub(crate) first: OsdMap,
+}
+
+impl Model for Monitor {
+    ghost use Rattle.ticketlock.specs.Callers.{first_of};
+    ghost use Rattle.monitor.specs.Members.{Monitored, IsOpened};
+
+    ghost Value = { Monitored };
+
+    ghost view = { λ m. record { first = m.first.map; row = m.row; words = m.lock.words } };
+
+    ghost invariant = { λ m. IsOpened (record { first = m.first.map; row = m.row; words = m.lock.words }) (first_of m.lock).state };
+}

@@ -1,0 +1,123 @@
+//! How a monitor is opened.
+
+ghost use Rattle.std.specs.Prelude.{◌≡◌, length, All, IfOk};
+ghost use Rattle.ticketlock.specs.Callers.{IsNewOf, first_of, limit_of};
+ghost use Rattle.monitor.specs.Opening.{can_open};
+
+use crate::locked::Locked;
+use crate::member::Member;
+use crate::monitor::Monitor;
+use epochlog::{MAX_CAPACITY, MAX_FIRST_EPOCH, Row};
+use osdmap::OsdMap;
+use refusal::{Memory, Refusal};
+use state::State;
+use std::alloc::Global;
+use ticketlock::limits::{MAX_DRAWS, MAX_SEATS};
+use ticketlock::{Lock, Seat};
+
+/// Whether each of these is within its limits.
+fn can_open(epoch: u64, journal: u32, seats: u32, draws: u64) -> bool
+    ensures { result ≡ can_open epoch journal seats draws }
+{
+    (1..=MAX_FIRST_EPOCH).contains(&epoch)
+        && (1..=MAX_CAPACITY).contains(&journal)
+        && (1..=MAX_SEATS).contains(&seats)
+        && (1..=MAX_DRAWS).contains(&draws)
+}
+
+/// A row of epochs after this one.
+fn row_after(alloc: Global, epoch: u64, journal: u32) -> Result<Row, Memory>
+    ensures { IfOk result (λ row. (row.first ≡ epoch) × (length row.cells ≡ journal)) }
+{
+    Row::new(alloc, epoch, journal).map_err(|_refusal| Memory)
+}
+
+/// A state under a lock, and the seats.
+fn locked(
+    alloc: Global,
+    state: State,
+    seats: u32,
+    draws: u64,
+) -> Result<(Lock<Locked>, Vec<Seat>), Memory>
+    ensures seats { IfOk result (λ r. (length r.1.items ≡ seats) × All (IsNewOf r.0) r.1.items) }
+    ensures lock { IfOk result (λ r. ((first_of r.0).state ≡ state) × (limit_of r.0 ≡ draws)) }
+{
+    Lock::with_limit(alloc, Locked { state }, seats, draws).map_err(|_error| Memory)
+}
+
+impl Monitor {
+    ghost use Rattle.std.specs.Prelude.{◌≡◌, length, All, IfOk};
+    ghost use Rattle.refusal.specs.declared.refused.Refusal.TheVariants.{BadLimit};
+    ghost use Rattle.refusal.specs.Outcomes.{refused_unless, Gives};
+    ghost use Rattle.ticketlock.specs.Callers.{IsNewAt};
+    ghost use Rattle.monitor.specs.Opening.{can_open, max_draws, IsOpening};
+    ghost use Rattle.monitor.specs.Members.{IsNewMemberOf};
+
+    /// Members with these seats, who have seen nothing.
+    fn members(&self, alloc: Global, seats: Vec<Seat>) -> Result<Vec<Member>, Memory>
+        requires { All (IsNewAt self.now.words) seats.items }
+        ensures { IfOk result (λ members. (length members.items ≡ length seats.items) × All (IsNewMemberOf self.now) members.items) }
+    {
+        let mut members = Vec::with_capacity(alloc, seats.len())?;
+        for seat in seats {
+            let pass = self.row.pass(alloc)?;
+            members.push(Member {
+                seat: Some(seat),
+                pass,
+            })?;
+        }
+        Ok(members)
+    }
+
+    /// The monitor with these limits, which hold, and its members.
+    fn opened(
+        alloc: Global,
+        map: OsdMap,
+        journal: u32,
+        seats: u32,
+        draws: u64,
+    ) -> Result<(Monitor, Vec<Member>), Memory>
+        ensures { IfOk result (λ r. IsOpening map.map journal seats draws r.0 r.1.items) }
+    {
+        let row = row_after(alloc, map.epoch(), journal)?;
+        let first = map.copy(alloc)?;
+        let state = State::new(alloc, map, &row)?;
+        let (lock, seats) = locked(alloc, state, seats, draws)?;
+        let monitor = Monitor { lock, row, first };
+        let members = monitor.members(alloc, seats)?;
+        Ok((monitor, members))
+    }
+
+    /// A monitor that begins with this map, whose journal has room for so many changes, and its members, each with a seat of
+    /// so many draws: each call of a member that takes the lock spends a draw, and a second only where the lent state has not
+    /// seen what the member has. The members have seen nothing.
+    ///
+    /// `BadLimit` (12) exactly where the map's epoch is not 1 to 2,147,483,648, `journal` not 1 to 65,536 epochs, `seats` not 1
+    /// to 1,024 or `draws` not 1 to 2^40; else `Memory` (30).
+    pub fn open_limited(
+        alloc: Global,
+        map: OsdMap,
+        journal: u32,
+        seats: u32,
+        draws: u64,
+    ) -> Result<(Monitor, Vec<Member>), Refusal>
+        ensures { Gives result (refused_unless (can_open map.map.epoch journal seats draws) BadLimit) (λ r. IsOpening map.map journal seats draws r.0 r.1.items) }
+    {
+        if !can_open(map.epoch(), journal, seats, draws) {
+            return Err(Refusal::BadLimit);
+        }
+        Ok(Monitor::opened(alloc, map, journal, seats, draws)?)
+    }
+
+    /// The same, each seat with the most draws, which are 2^40.
+    pub fn open(
+        alloc: Global,
+        map: OsdMap,
+        journal: u32,
+        seats: u32,
+    ) -> Result<(Monitor, Vec<Member>), Refusal>
+        ensures { Gives result (refused_unless (can_open map.map.epoch journal seats max_draws) BadLimit) (λ r. IsOpening map.map journal seats max_draws r.0 r.1.items) }
+    {
+        Monitor::open_limited(alloc, map, journal, seats, MAX_DRAWS)
+    }
+}

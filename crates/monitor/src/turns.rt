@@ -1,0 +1,137 @@
+//! The turns that a member takes at the lock of its monitor. In a turn it has seen just what the state has.
+
+ghost use Rattle.std.specs.Prelude.{◌≡◌};
+ghost use Rattle.ticketlock.specs.Guards.{first_of_read};
+ghost use Rattle.osdmap.specs.Changes.{after};
+ghost use Rattle.monitor.specs.Members.{lent};
+
+use crate::locked::{Locked, is_behind, see};
+use crate::member::Member;
+use crate::monitor::Monitor;
+use refusal::Refusal;
+use state::State;
+use std::sync::Wait;
+use ticketlock::{ReadGuard, WriteGuard};
+
+/// The state that a guard lends.
+pub(crate) fn state_of<'g>(guard: &'g ReadGuard<'_, Locked>) -> &'g State
+    ensures lends { result.now ≡ lent guard.now }
+    ensures first { result.now.first ≡ (first_of_read guard.now).state.first }
+    ensures row { result.now.pass.row ≡ (first_of_read guard.now).state.pass.row }
+    ensures map { result.now.map ≡ after result.now.first result.now.pass.history }
+{
+    let state = &guard.value().state;
+    let _ = state.map();
+    state
+}
+
+impl Monitor {
+    ghost use Rattle.std.specs.Prelude.{◌≡◌, IfOk, IfErr};
+    ghost use Rattle.osdmap.specs.Changes.{after, IsLawful};
+    ghost use Rattle.refusal.specs.declared.refused.Refusal.TheVariants.{SeatSpent};
+    ghost use Rattle.monitor.specs.Histories.{GoesOn};
+    ghost use Rattle.monitor.specs.Members.{IsMemberOf, IsStateOf, IsSpent, Shares, Holds, lent};
+
+    /// Shares the lock. Where the lent state has not seen what the member has, it draws again. `SeatSpent` (31).
+    pub(crate) fn share<R: Wait>(
+        &self,
+        rt: &R,
+        member: &mut Member,
+    ) -> Result<ReadGuard<'_, Locked>, Refusal>
+        requires { IsMemberOf self.now member.old }
+        ensures row { member.new.pass.row ≡ self.now.row }
+        ensures goes_on { GoesOn self.now.first member.old.pass.history member.new.pass.history }
+        ensures shares { IfOk result (λ guard. Shares self.now guard × ((lent guard).pass ≡ member.new.pass)) }
+        ensures spent { IfErr result (λ e. (e ≡ SeatSpent) × IsMemberOf self.now member.new × IsSpent self.now member.new) }
+    {
+        let Some(mut seat) = member.seat.take() else {
+            unreachable!()
+        };
+        for _ in rt.forever() {
+            match self.lock.wait_read(rt, seat) {
+                Ok(guard) => {
+                    if !is_behind(state_of(&guard), &member.pass) {
+                        see(&mut member.pass, state_of(&guard));
+                        return Ok(guard);
+                    }
+                    seat = guard.leave();
+                }
+                Err(back) => {
+                    member.seat = Some(back);
+                    return Err(Refusal::SeatSpent);
+                }
+            }
+        }
+        unreachable!()
+    }
+
+    /// Takes the lock alone. Where the state has not seen what the member has, it draws again. `SeatSpent` (31).
+    pub(crate) fn hold<R: Wait>(
+        &self,
+        rt: &R,
+        member: &mut Member,
+    ) -> Result<WriteGuard<'_, Locked>, Refusal>
+        requires { IsMemberOf self.now member.old }
+        ensures row { member.new.pass.row ≡ self.now.row }
+        ensures goes_on { GoesOn self.now.first member.old.pass.history member.new.pass.history }
+        ensures holds { IfOk result (λ guard. Holds self.now guard × (guard.value.state.first ≡ self.now.first) × (guard.value.state.pass ≡ member.new.pass)) }
+        ensures spent { IfErr result (λ e. (e ≡ SeatSpent) × IsMemberOf self.now member.new × IsSpent self.now member.new) }
+    {
+        let Some(mut seat) = member.seat.take() else {
+            unreachable!()
+        };
+        for _ in rt.forever() {
+            match self.lock.wait_write(rt, seat) {
+                Ok(guard) => {
+                    let state = &guard.value().state;
+                    if !is_behind(state, &member.pass) {
+                        see(&mut member.pass, state);
+                        return Ok(guard);
+                    }
+                    seat = guard.leave();
+                }
+                Err(back) => {
+                    member.seat = Some(back);
+                    return Err(Refusal::SeatSpent);
+                }
+            }
+        }
+        unreachable!()
+    }
+
+    /// The state that a member shares, which has seen just what it has.
+    pub(crate) fn shown<'g>(
+        &self,
+        guard: &'g ReadGuard<'_, Locked>,
+        member: &Member,
+    ) -> &'g State
+        requires shares { Shares self.now guard.now }
+        requires seen { (lent guard.now).pass ≡ member.now.pass }
+        ensures map { result.now.map ≡ after self.now.first member.now.pass.history }
+    {
+        state_of(guard)
+    }
+
+    /// A member that shared the lock has its seat again.
+    pub(crate) fn give_back(&self, guard: ReadGuard<'_, Locked>, member: &mut Member)
+        requires shares { Shares self.now guard }
+        requires row { member.old.pass.row ≡ self.now.row }
+        requires lawful { IsLawful self.now.first member.old.pass.history }
+        ensures member { IsMemberOf self.now member.new }
+        ensures pass { member.new.pass ≡ member.old.pass }
+    {
+        member.seat = Some(guard.leave());
+    }
+
+    /// A member that had the lock alone has its seat again.
+    pub(crate) fn put_back(&self, guard: WriteGuard<'_, Locked>, member: &mut Member)
+        requires holds { Holds self.now guard }
+        requires state { IsStateOf self.now guard.value.state }
+        requires row { member.old.pass.row ≡ self.now.row }
+        requires lawful { IsLawful self.now.first member.old.pass.history }
+        ensures member { IsMemberOf self.now member.new }
+        ensures pass { member.new.pass ≡ member.old.pass }
+    {
+        member.seat = Some(guard.leave());
+    }
+}
