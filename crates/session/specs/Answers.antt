@@ -1,5 +1,8 @@
 -- What a line answers to a session of a monitor, by what its member and its follower have seen before and after it.
-use Rattle.std.specs.Prelude.{◌≡◌, ◌⊎◌, ℕ, ◌<◌, ◌≤◌, Bool, List, [], codes, vec_items, Option, Some, None, Result, Ok, Err, MatchResult}
+use Rattle.std.specs.Prelude.{◌≡◌, ◌⊎◌, ℕ, ◌<◌, ◌≤◌, Bool, List, codes, Option, Some, None, Result, Err, MatchResult}
+use Rattle.std.specs.declared.vec.Vec.{Vec}
+use Rattle.std.specs.declared.alloc.Global.{Global}
+use Rattle.stated.specs.declared.pg.Pg.{Pg}
 use Rattle.stated.specs.declared.change.ChangeParts.{ChangeParts}
 use Rattle.stated.specs.Incrementals.{Step}
 use Rattle.refusal.specs.declared.refused.Refusal.{Refusal}
@@ -39,10 +42,10 @@ Asks first before now (Up pg) answer =
 Asks first before now (Count osd) answer =
     IsLineOf (Looks first before now (λ m. FindsCount m osd)) (λ found. count_text found.0 osd found.1) answer
 Asks first before now (Groups osd) answer =
-    IsLineOf (Looks first before now (λ m. FindsGroups (λ groups. vec_items groups) m osd)) (λ found. groups_text found.0 osd (vec_items found.1)) answer
+    IsLineOf (Looks first before now (λ m. FindsGroups (λ (groups : Vec Pg Global). groups.items) m osd)) (λ found. groups_text found.0 osd found.1.items) answer
 Asks first before now Epoch answer = IsLineOf (Looks first before now FindsEpoch) (epoch_text (codes "epoch")) answer
 Asks first before now Dump answer =
-    IsLineOf (Looks first before now (FindsText (λ text. vec_items text))) (λ text. dump_text (codes "dump") (vec_items text)) answer
+    IsLineOf (Looks first before now (FindsText (λ (text : Vec ℕ Global). text.items))) (λ text. dump_text (codes "dump") text.items) answer
 
 -- what a change answers, the new epoch and the evaluations: its text is read, where a growth may be refused in place of any answer; then
 -- what it states is committed; a text that is refused changes nothing, and nothing is looked at
@@ -67,11 +70,12 @@ abbrev pub Tells : ClusterMap → List Step → List Step → Task → List ℕ 
 Tells first before now task.CatchUp answer =
     IsLineOf (λ r. GoesOn first before now × Makes r None (λ epoch. epoch ≡ (after first now).epoch)) (epoch_text (codes "follow")) answer
 Tells first before now (task.Up pg) answer =
-    IsLineOf (λ r. (now ≡ before) × Makes r (group_fault (after first now) pg) (λ found.
+    IsLineOf (λ r. (now ≡ before) × Makes r (group_fault (after first now) pg) (λ (found : ℕ × List (Option ℕ)).
     (found.0 ≡ (after first now).epoch) × (Some found.1 ≡ up_at (after first now) pg)))
     (λ found. set_text (codes "fup") found.0 pg found.1) answer
 Tells first before now task.Dump answer =
-    IsLineOf (λ r. (now ≡ before) × Makes r None (λ text. text ≡ written (after first now))) (dump_text (codes "fdump")) answer
+    IsLineOf (λ r. (now ≡ before) × Makes r None (λ (text : Vec ℕ Global). text.items ≡ written (after first now)))
+    (λ text. dump_text (codes "fdump") text.items) answer
 
 -- ---- lines
 

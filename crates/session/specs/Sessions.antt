@@ -1,10 +1,9 @@
 -- A session and its monitor.
-use Rattle.std.specs.Prelude.{◌≡◌, List, [], length, Option, Some, None, IfSome, Bool, ℕ}
+use Rattle.std.specs.Prelude.{List, [], length, Option, Some, None, IfSome, Bool, ℕ}
 use Rattle.stated.specs.Incrementals.{Step}
 use Rattle.monitor.specs.Members.{Monitored}
 use Rattle.monitor.specs.Followers.{Followed, Follows}
 use Rattle.monitor.specs.declared.member.Member.{Member}
-use Rattle.monitor.specs.declared.follower.Follower.{Follower}
 use Rattle.session.specs.Transcripts.{Manner}
 use Rattle.session.specs.Answers.{Sight, session_with}
 

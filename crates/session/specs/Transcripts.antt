@@ -1,7 +1,7 @@
 -- What a session writes, whatever it speaks with. S is what it has seen of that. `answers before line answer left`: where
 -- it has seen the first, a line that is not empty is answered so, and leaves it with the last. `lets number passes`: the
 -- gate may answer so where it is asked for the line of this number. Lines are numbered from 1, the empty ones too.
-use Rattle.std.specs.Prelude.{◌≡◌, ◌⊎◌, ℕ, suc, Bool, true, false, List, [], ◌∷◌, ◌++◌, ◌+◌, length}
+use Rattle.std.specs.Prelude.{◌≡◌, ℕ, suc, Bool, true, false, List, [], ◌∷◌, ◌++◌, ◌+◌, length}
 
 -- how a session goes
 pub record Manner (S : Type 0) : Type 1 where

@@ -1,5 +1,5 @@
 //! The commands of a script.
-ghost use Rattle.std.specs.Prelude.{◌≡◌, ◌<◌, ◌∷◌, ◌^◌, length, position, IfSome};
+ghost use Rattle.std.specs.Prelude.{◌≡◌, ◌<◌, ◌∷◌, ◌+◌, ◌*◌, ◌^◌, length, position, IfSome};
 ghost use Rattle.std.specs.Option.{option_map, option_and_then};
 ghost use Rattle.stated.specs.PgText.{digit_of, value_after};
 ghost use Rattle.session.specs.Commands.{is_newline, lines_in, below, osd_in, epoch_in, question_in, task_in, shown, command_in};
@@ -96,14 +96,20 @@ fn digit(byte: u8) -> Option<u64>
     }
 }
 
+/// A number with a digit more behind it, where it has at most 64 bits.
+fn with_digit(value: u64, digit: u64) -> Option<u64>
+    ensures { result ≡ below (2 ^ 64) (value * 10 + digit) }
+{
+    value.checked_mul(10)?.checked_add(digit)
+}
+
 /// The number that digits write, where it has at most 64 bits.
 fn value(digits: &[u8]) -> Option<u64>
     ensures { result ≡ option_and_then (below (2 ^ 64)) (value_after 10 0 digits.now) }
 {
     let mut value: u64 = 0;
     for byte in digits {
-        let digit = digit(*byte)?;
-        value = value.checked_mul(10)?.checked_add(digit)?;
+        value = with_digit(value, digit(*byte)?)?;
     }
     Some(value)
 }

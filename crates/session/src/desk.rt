@@ -6,6 +6,7 @@ use crate::reply::{Reply, Speaker};
 use crossbeam_utils::Backoff;
 use mapjson::read_change;
 use monitor::{Follower, Member, Monitor};
+use osdmap::{Pg, UpSet};
 use refusal::{Memory, Refusal};
 use std::alloc::Global;
 use std::sync::Wait;
@@ -14,6 +15,7 @@ use std::sync::Wait;
 const MAX_TURNS: u32 = 1_000_000;
 
 /// Where a session asks: its monitor, and what the monitor's calls need.
+#[derive(Drop)]
 pub(crate) struct Desk<'a, R> {
     pub(crate) alloc: Global,
     pub(crate) rt: &'a R,
@@ -31,19 +33,115 @@ fn text_of(bytes: Vec<u8>) -> String
     }
 }
 
-impl<'a, R: Wait> Desk<'a, R> {
-    ghost use Rattle.std.specs.Prelude.{◌≡◌, length, IfOk, OnOk, IsSomeAnd};
-    ghost use Rattle.osdmap.specs.Changes.{after};
-    ghost use Rattle.monitor.specs.Histories.{GoesOn};
-    ghost use Rattle.std.specs.Option.{option_map};
+impl<'a, R> Desk<'a, R> {
+    ghost use Rattle.std.specs.Prelude.{◌≡◌, None, Some, IfOk, OnOk, OnErr, IsSomeAnd, IsUtf8};
     ghost use Rattle.refusal.specs.Outcomes.{Makes};
-    ghost use Rattle.monitor.specs.Members.{IsMemberOf};
+    ghost use Rattle.osdmap.specs.Changes.{after};
+    ghost use Rattle.osdmap.specs.Placement.{group_fault};
+    ghost use Rattle.pgtable.specs.Index.{up_at};
+    ghost use Rattle.mapjson.specs.Written.{written};
+    ghost use Rattle.monitor.specs.Histories.{GoesOn};
     ghost use Rattle.monitor.specs.Followers.{Follows};
+    ghost use Rattle.session.specs.Texts.{line_of};
+    ghost use Rattle.session.specs.Replies.{reply_text};
+    ghost use Rattle.session.specs.Answers.{Tells};
+    ghost use Rattle.session.specs.Sessions.{followed, IsFollowerOf};
+
+    /// Makes the follower, where there is none yet.
+    fn need_follower(&self, follower: &mut Option<Follower>) -> Result<(), Memory>
+        requires { IsFollowerOf self.now.monitor.now follower.old }
+        ensures there { OnOk result (IsSomeAnd follower.new (Follows self.now.monitor.now) × (followed follower.new ≡ followed follower.old)) }
+        ensures none { OnErr result ((follower.old ≡ None) × (follower.new ≡ None)) }
+    {
+        if follower.is_none() {
+            *follower = Some(Follower::new(self.alloc, self.monitor)?);
+        }
+        Ok(())
+    }
+
+    /// Has the follower go on: the epoch that it has reached.
+    fn catch_up(&self, follower: &mut Follower) -> Result<u64, Refusal>
+        requires { Follows self.now.monitor.now follower.old }
+        ensures follower { Follows self.now.monitor.now follower.new }
+        ensures goes_on { GoesOn self.now.monitor.now.first follower.old.history follower.new.history }
+        ensures epoch { Makes result None (λ epoch. epoch ≡ (after self.now.monitor.now.first follower.new.history).epoch) }
+    {
+        let reached = follower.catch_up(self.alloc, self.monitor);
+        let _ = follower.epoch();
+        Ok(reached?)
+    }
+
+    /// The up set of a group by the follower.
+    fn placed(&self, follower: &mut Follower, pg: Pg) -> Result<(u64, UpSet), Refusal>
+        requires { Follows self.now.monitor.now follower.old }
+        ensures follower { follower.new ≡ follower.old }
+        ensures placed { Makes result (group_fault (after self.now.monitor.now.first follower.old.history) pg) (λ found.
+            (found.0 ≡ (after self.now.monitor.now.first follower.old.history).epoch)
+            × (Some found.1 ≡ up_at (after self.now.monitor.now.first follower.old.history) pg)) }
+    {
+        let _ = follower.epoch();
+        follower.up(pg)
+    }
+
+    /// The written form of the follower's map.
+    fn written(&self, follower: &Follower) -> Result<Vec<u8>, Refusal>
+        requires { Follows self.now.monitor.now follower.now }
+        ensures text { Makes result None (λ text. text.items ≡ written (after self.now.monitor.now.first follower.now.history)) }
+        ensures utf8 { IfOk result (λ text. IsUtf8 text.items) }
+    {
+        let _ = follower.epoch();
+        Ok(follower.dump(self.alloc)?)
+    }
+
+    /// What the follower answers to a task.
+    fn tell(&self, follower: &mut Follower, task: Task) -> Result<Reply, Refusal>
+        requires { Follows self.now.monitor.now follower.old }
+        ensures follower { Follows self.now.monitor.now follower.new }
+        ensures tells { Tells self.now.monitor.now.first follower.old.history follower.new.history task (line_of reply_text result) }
+    {
+        let by = Speaker::Follower;
+        match task {
+            Task::CatchUp => {
+                let epoch = self.catch_up(follower)?;
+                Ok(Reply::Epoch { by, epoch })
+            }
+            Task::Up(pg) => {
+                let (epoch, set) = self.placed(follower, pg)?;
+                Ok(Reply::Up { by, epoch, pg, set })
+            }
+            Task::Dump => {
+                let map = self.written(follower)?;
+                Ok(Reply::Dump {
+                    by,
+                    map: text_of(map),
+                })
+            }
+        }
+    }
+
+    /// What the session's follower, which is made where there is none yet, answers to a task.
+    fn follow(&self, follower: &mut Option<Follower>, task: Task) -> Result<Reply, Refusal>
+        requires { IsFollowerOf self.now.monitor.now follower.old }
+        ensures follower { IsFollowerOf self.now.monitor.now follower.new }
+        ensures tells { Tells self.now.monitor.now.first (followed follower.old) (followed follower.new) task (line_of reply_text result) }
+    {
+        self.need_follower(follower)?;
+        match follower {
+            Some(follower) => self.tell(follower, task),
+            None => unreachable!(),
+        }
+    }
+}
+
+impl<'a, R: Wait> Desk<'a, R> {
+    ghost use Rattle.std.specs.Prelude.{length};
+    ghost use Rattle.std.specs.Option.{option_map};
+    ghost use Rattle.monitor.specs.Members.{IsMemberOf};
     ghost use Rattle.session.specs.Texts.{line_of};
     ghost use Rattle.session.specs.Commands.{shown};
     ghost use Rattle.session.specs.Replies.{reply_text};
-    ghost use Rattle.session.specs.Answers.{Asks, Changes, Awaits, Tells, Does};
-    ghost use Rattle.session.specs.Sessions.{followed, seen_by, IsFollowerOf};
+    ghost use Rattle.session.specs.Answers.{Asks, Changes, Awaits, Does};
+    ghost use Rattle.session.specs.Sessions.{seen_by, IsFollowerOf};
 
     /// What the monitor answers to a question.
     fn ask(&self, member: &mut Member, question: Question) -> Result<Reply, Refusal>
@@ -99,7 +197,7 @@ impl<'a, R: Wait> Desk<'a, R> {
         ensures awaits { Awaits self.now.monitor.now.first wanted member.old.pass.history member.new.pass.history result }
     {
         let backoff = Backoff::new();
-        for _turn in 0..MAX_TURNS {
+        for turn in 0..MAX_TURNS {
             let epoch = self.monitor.epoch(self.rt, member)?;
             if epoch >= wanted {
                 return Ok(epoch);
@@ -107,72 +205,6 @@ impl<'a, R: Wait> Desk<'a, R> {
             backoff.snooze();
         }
         Err(Refusal::AwaitSpent)
-    }
-
-    /// Makes the follower, where there is none yet.
-    fn need_follower(&self, follower: &mut Option<Follower>) -> Result<(), Memory>
-        requires { IsFollowerOf self.now.monitor.now follower.old }
-        ensures follower { IsFollowerOf self.now.monitor.now follower.new }
-        ensures there { OnOk result (IsSomeAnd follower.new (Follows self.now.monitor.now)) }
-        ensures same { followed follower.new ≡ followed follower.old }
-    {
-        if follower.is_none() {
-            *follower = Some(Follower::new(self.alloc, self.monitor)?);
-        }
-        Ok(())
-    }
-
-    /// Has the follower go on: the epoch that it has reached.
-    fn catch_up(&self, follower: &mut Follower) -> Result<u64, Memory>
-        requires { Follows self.now.monitor.now follower.old }
-        ensures follower { Follows self.now.monitor.now follower.new }
-        ensures goes_on { GoesOn self.now.monitor.now.first follower.old.history follower.new.history }
-        ensures epoch { IfOk result (λ epoch. epoch ≡ (after self.now.monitor.now.first follower.new.history).epoch) }
-    {
-        let reached = follower.catch_up(self.alloc, self.monitor);
-        let _ = follower.epoch();
-        reached
-    }
-
-    /// What the follower answers to a task.
-    fn tell(&self, follower: &mut Follower, task: Task) -> Result<Reply, Refusal>
-        requires { Follows self.now.monitor.now follower.old }
-        ensures follower { Follows self.now.monitor.now follower.new }
-        ensures tells { Tells self.now.monitor.now.first follower.old.history follower.new.history task (line_of reply_text result) }
-    {
-        let by = Speaker::Follower;
-        match task {
-            Task::CatchUp => {
-                let epoch = self.catch_up(follower)?;
-                Ok(Reply::Epoch { by, epoch })
-            }
-            Task::Up(pg) => {
-                let _ = follower.epoch();
-                let (epoch, set) = follower.up(pg)?;
-                Ok(Reply::Up { by, epoch, pg, set })
-            }
-            Task::Dump => {
-                let _ = follower.epoch();
-                let map = follower.dump(self.alloc)?;
-                Ok(Reply::Dump {
-                    by,
-                    map: text_of(map),
-                })
-            }
-        }
-    }
-
-    /// What the session's follower, which is made where there is none yet, answers to a task.
-    fn follow(&self, follower: &mut Option<Follower>, task: Task) -> Result<Reply, Refusal>
-        requires { IsFollowerOf self.now.monitor.now follower.old }
-        ensures follower { IsFollowerOf self.now.monitor.now follower.new }
-        ensures tells { Tells self.now.monitor.now.first (followed follower.old) (followed follower.new) task (line_of reply_text result) }
-    {
-        self.need_follower(follower)?;
-        match follower {
-            Some(follower) => self.tell(follower, task),
-            None => unreachable!(),
-        }
     }
 
     /// Does a command; `None` is a line that is no command.
