@@ -47,4 +47,4 @@ abbrev pub Commits : ClusterMap → ℕ → List Step → List Step → ℕ → 
 Commits first most before now base change r =
     GoesOn first before now
     × MatchResult r (λ ok. IsCommitted first most before now base change ok.0 ok.1)
-        (λ e. (e ≡ SeatSpent) ⊎ IsRefusedBy (commit_fault (after first now) (length now) most base change) e)
+    (λ e. (e ≡ SeatSpent) ⊎ IsRefusedBy (commit_fault (after first now) (length now) most base change) e)

@@ -22,6 +22,7 @@ can_open epoch journal seats draws =
 -- nothing
 pub record IsOpening (map : ClusterMap) (journal seats draws : ℕ) (monitor : Monitored) (members : List Member) : Type 0 where
   pub first : monitor.first ≡ map
+  pub begins : monitor.row.first ≡ map.epoch
   pub capacity : length monitor.row.cells ≡ journal
   pub limit : draws_of monitor ≡ draws
   pub count : length members ≡ seats

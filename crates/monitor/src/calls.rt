@@ -17,12 +17,7 @@ impl Monitor {
 
     /// The epoch and the up set of a group: `UnknownPool` (23), else `UnknownGroup` (25). `SeatSpent` (31) only where the
     /// member's seat has made its draws. It takes no memory. Members share the lock.
-    pub fn up<R: Wait>(
-        &self,
-        rt: &R,
-        member: &mut Member,
-        pg: Pg,
-    ) -> Result<(u64, UpSet), Refusal>
+    pub fn up<R: Wait>(&self, rt: &R, member: &mut Member, pg: Pg) -> Result<(u64, UpSet), Refusal>
         requires { IsMemberOf self.now member.old }
         ensures member { IsMemberOf self.now member.new }
         ensures looks { Looks self.now.first member.old.pass.history member.new.pass.history (λ m. FindsUp m pg) result }

@@ -1,7 +1,7 @@
 //! Who follows the row of a monitor without its lock.
 
-ghost use Rattle.std.specs.Prelude.{◌≡◌, ◌+◌, ◌≤◌, IsTrue, IfOk, OnErr};
-ghost use Rattle.epochlog.specs.Epochs.{Begins, epoch_of};
+ghost use Rattle.std.specs.Prelude.{◌≡◌, ◌+◌, ◌-◌, ◌≤◌, slice_get, Some, IfSome, IfOk, OnErr};
+ghost use Rattle.epochlog.specs.Epochs.{Begins};
 ghost use Rattle.monitor.specs.Followers.{Steps};
 
 use crate::member::Member;
@@ -35,15 +35,23 @@ impl Model for Follower {
     ghost invariant = { λ f. IsFollowed (record { first = f.first.map; row = f.pass.row; history = applied f.first.map f.map.map f.pass.history; map = f.map.map }) };
 }
 
-/// Whether the epoch after this one is sealed, as far as the row shows; then the pass has seen it.
-fn sees_next(row: &Row, pass: &mut Pass, epoch: u64) -> bool
+/// The incremental of the next epoch after this one, if a pass has seen it, or sees it now.
+fn next_after<'r>(row: &'r Row, pass: &mut Pass, epoch: u64) -> Option<&'r Incremental>
     requires row { pass.old.row ≡ row.now }
-    requires seen { epoch ≤ epoch_of pass.old }
+    requires from { row.now.first ≤ epoch }
     ensures row { pass.new.row ≡ row.now }
     ensures begins { Begins pass.old.history pass.new.history }
-    ensures next { IsTrue result → epoch + 1 ≤ epoch_of pass.new }
+    ensures epoch { IfSome result (λ step. step.now.epoch ≡ epoch + 1) }
+    ensures place { IfSome result (λ step. slice_get pass.new.history (epoch - row.now.first) ≡ Some step.now) }
 {
-    epoch < pass.epoch() || row.read_next(pass).is_some()
+    if pass.epoch() <= epoch {
+        let _ = row.read_next(pass);
+    }
+    if epoch < pass.epoch() {
+        Some(row.at(pass, epoch + 1))
+    } else {
+        None
+    }
 }
 
 /// Applies an incremental of the next epoch, unless the map refuses its change; or `Memory` (30).
@@ -101,11 +109,10 @@ impl Follower {
         requires { self.old.row ≡ row.now }
         ensures { GoesOnFrom self.old self.new }
     {
-        let epoch = self.map.epoch();
-        if !sees_next(row, &mut self.pass, epoch) {
-            return Ok(false);
+        match next_after(row, &mut self.pass, self.map.epoch()) {
+            Some(step) => step_on(&mut self.map, alloc, step),
+            None => Ok(false),
         }
-        step_on(&mut self.map, alloc, row.at(&self.pass, epoch + 1))
     }
 
     /// Applies what the row shows after the follower's epoch, one incremental after another, and answers the epoch that it has

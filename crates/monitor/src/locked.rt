@@ -38,14 +38,15 @@ pub(crate) fn see(pass: &mut Pass, state: &State)
     requires seen { length pass.old.history ≤ length state.now.pass.history }
     ensures pass { pass.new ≡ state.now.pass }
     ensures begins { Begins pass.old.history pass.new.history }
-    ensures lawful { IsLawful state.now.first pass.new.history }
+    ensures lawful { IsLawful state.now.first state.now.pass.history }
 {
     pass.join(state.pass());
     let _ = state.map();
 }
 
 impl Locked {
-    ghost use Rattle.std.specs.Prelude.{◌≡◌, length};
+    ghost use Rattle.std.specs.Prelude.{◌≡◌, ◌≢◌, IfErr, length};
+    ghost use Rattle.refusal.specs.declared.refused.Refusal.TheVariants.{SeatSpent};
     ghost use Rattle.monitor.specs.Histories.{Commits};
 
     /// Commits a change, by one who has seen all that the state has.
@@ -60,6 +61,7 @@ impl Locked {
         requires row { self.old.state.pass.row ≡ row.now }
         requires pass { pass.old ≡ self.old.state.pass }
         ensures commits { Commits self.old.state.first (length row.now.cells) pass.old.history pass.new.history base change result }
+        ensures unspent { IfErr result (λ e. e ≢ SeatSpent) }
         ensures pass { pass.new ≡ self.new.state.pass }
         ensures first { self.new.state.first ≡ self.old.state.first }
         ensures row { self.new.state.pass.row ≡ row.now }

@@ -53,6 +53,19 @@ impl Monitor {
     ghost use Rattle.monitor.specs.Opening.{can_open, max_draws, IsOpening};
     ghost use Rattle.monitor.specs.Members.{IsNewMemberOf};
 
+    /// A member with this seat, who has seen nothing.
+    #[tactic(auto, using(crate::proofs::Histories::lawful_none))]
+    fn member(&self, alloc: Global, seat: Seat) -> Result<Member, Memory>
+        requires { IsNewAt self.now.words seat }
+        ensures { IfOk result (IsNewMemberOf self.now) }
+    {
+        let pass = self.row.pass(alloc)?;
+        Ok(Member {
+            seat: Some(seat),
+            pass,
+        })
+    }
+
     /// Members with these seats, who have seen nothing.
     fn members(&self, alloc: Global, seats: Vec<Seat>) -> Result<Vec<Member>, Memory>
         requires { All (IsNewAt self.now.words) seats.items }
@@ -60,11 +73,7 @@ impl Monitor {
     {
         let mut members = Vec::with_capacity(alloc, seats.len())?;
         for seat in seats {
-            let pass = self.row.pass(alloc)?;
-            members.push(Member {
-                seat: Some(seat),
-                pass,
-            })?;
+            members.push(self.member(alloc, seat)?)?;
         }
         Ok(members)
     }

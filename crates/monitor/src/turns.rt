@@ -26,7 +26,7 @@ pub(crate) fn state_of<'g>(guard: &'g ReadGuard<'_, Locked>) -> &'g State
 }
 
 impl Monitor {
-    ghost use Rattle.std.specs.Prelude.{◌≡◌, IfOk, IfErr};
+    ghost use Rattle.std.specs.Prelude.{◌≡◌, IfOk, IfErr, OnErr};
     ghost use Rattle.osdmap.specs.Changes.{after, IsLawful};
     ghost use Rattle.refusal.specs.declared.refused.Refusal.TheVariants.{SeatSpent};
     ghost use Rattle.monitor.specs.Histories.{GoesOn};
@@ -43,6 +43,7 @@ impl Monitor {
         ensures goes_on { GoesOn self.now.first member.old.pass.history member.new.pass.history }
         ensures shares { IfOk result (λ guard. Shares self.now guard × ((lent guard).pass ≡ member.new.pass)) }
         ensures spent { IfErr result (λ e. (e ≡ SeatSpent) × IsMemberOf self.now member.new × IsSpent self.now member.new) }
+        ensures same { OnErr result (member.new.pass ≡ member.old.pass) }
     {
         let Some(mut seat) = member.seat.take() else {
             unreachable!()
@@ -76,6 +77,7 @@ impl Monitor {
         ensures goes_on { GoesOn self.now.first member.old.pass.history member.new.pass.history }
         ensures holds { IfOk result (λ guard. Holds self.now guard × (guard.value.state.first ≡ self.now.first) × (guard.value.state.pass ≡ member.new.pass)) }
         ensures spent { IfErr result (λ e. (e ≡ SeatSpent) × IsMemberOf self.now member.new × IsSpent self.now member.new) }
+        ensures same { OnErr result (member.new.pass ≡ member.old.pass) }
     {
         let Some(mut seat) = member.seat.take() else {
             unreachable!()
@@ -100,11 +102,7 @@ impl Monitor {
     }
 
     /// The state that a member shares, which has seen just what it has.
-    pub(crate) fn shown<'g>(
-        &self,
-        guard: &'g ReadGuard<'_, Locked>,
-        member: &Member,
-    ) -> &'g State
+    pub(crate) fn shown<'g>(&self, guard: &'g ReadGuard<'_, Locked>, member: &Member) -> &'g State
         requires shares { Shares self.now guard.now }
         requires seen { (lent guard.now).pass ≡ member.now.pass }
         ensures map { result.now.map ≡ after self.now.first member.now.pass.history }

@@ -1,5 +1,5 @@
 -- What is answered of a map by its table: the same under any lock, at any epoch.
-use Rattle.std.specs.Prelude.{◌≡◌, ℕ, List, Option, Some, Result, Ok}
+use Rattle.std.specs.Prelude.{◌≡◌, ℕ, List, Option, Some, Result}
 use Rattle.refusal.specs.declared.refused.Refusal.{Refusal}
 use Rattle.refusal.specs.declared.refused.Refusal.TheVariants.{UnknownOsd}
 use Rattle.refusal.specs.Outcomes.{refused_unless, Judges, Gives}

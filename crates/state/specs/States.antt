@@ -1,5 +1,5 @@
 -- The state of a monitor: the object of one thread, whose answers a monitor gives to many.
-use Rattle.std.specs.Prelude.{◌≡◌, ℕ, ◌+◌, ◌==◌, not, List, [], ◌∷◌, ◌++◌, length, nat_lt, Option, Some, None, Result, OnErr, ◌⊎◌, MatchResult, if◌then◌else◌}
+use Rattle.std.specs.Prelude.{◌≡◌, ℕ, ◌+◌, ◌==◌, not, [], ◌∷◌, ◌++◌, length, nat_lt, Option, Some, None, Result, OnErr, ◌⊎◌, MatchResult, if◌then◌else◌}
 use Rattle.refusal.specs.declared.refused.Refusal.{Refusal}
 use Rattle.refusal.specs.declared.refused.Refusal.TheVariants.{StaleEpoch, JournalFull, Memory as OutOfMemory, NotSealed}
 use Rattle.stated.specs.declared.change.ChangeParts.{ChangeParts}

@@ -38,7 +38,11 @@ impl State {
     fn has_osd(&self, osd: u32) -> Result<(), Refusal>
         ensures { result_err result ≡ osd_fault self.now.map osd }
     {
-        if self.map.exists(osd) { Ok(()) } else { Err(Refusal::UnknownOsd) }
+        if self.map.exists(osd) {
+            Ok(())
+        } else {
+            Err(Refusal::UnknownOsd)
+        }
     }
 
     /// The epoch, and in how many groups' up sets an OSD stands: `UnknownOsd` (21). It takes no memory.

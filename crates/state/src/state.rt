@@ -67,7 +67,7 @@ fn make(map: &mut OsdMap, table: &mut PgTable, step: &Incremental, patch: Patch)
 }
 
 impl State {
-    ghost use Rattle.std.specs.Prelude.{◌≡◌, ◌≤◌, IfOk};
+    ghost use Rattle.std.specs.Prelude.{◌≡◌, ◌≤◌, not, nat_lt, length, IfOk, OnOk};
     ghost use Rattle.std.specs.Result.{result_err};
     ghost use Rattle.osdmap.specs.Changes.{epoch_after, after, IsLawful};
     ghost use Rattle.pgtable.specs.Tables.{IsTableOf};
@@ -142,7 +142,12 @@ impl State {
         };
         self.pass.join(pass);
         let evals = patch.runs() as usize;
-        make(&mut self.map, &mut self.table, row.at(&self.pass, epoch), patch);
+        make(
+            &mut self.map,
+            &mut self.table,
+            row.at(&self.pass, epoch),
+            patch,
+        );
         Ok((epoch, evals))
     }
 
@@ -150,7 +155,8 @@ impl State {
     #[tactic(auto, unfolding(crate::specs::States::commit_fault))]
     fn accepts(&self, row: &Row, base: u64, change: &Change) -> Result<(), Refusal>
         requires { self.now.pass.row ≡ row.now }
-        ensures { result_err result ≡ fault_in self.now base change.now }
+        ensures fault { result_err result ≡ fault_in self.now base change.now }
+        ensures early { OnOk result (self.now.map.epoch ≤ 2147549184) }
     {
         let current = self.map.epoch();
         if base != current {
@@ -166,7 +172,8 @@ impl State {
     /// Whether each epoch of the row is sealed.
     fn is_full(&self, row: &Row) -> bool
         requires { self.now.pass.row ≡ row.now }
-        ensures { result ≡ not (nat_lt (length self.now.pass.history) (length self.now.pass.row.cells)) }
+        ensures full { result ≡ not (nat_lt (length self.now.pass.history) (length self.now.pass.row.cells)) }
+        ensures early { self.now.map.epoch ≤ 2147549184 }
     {
         self.pass.epoch() - self.first.epoch() >= u64::from(row.capacity())
     }

@@ -1,0 +1,21 @@
+use Rattle.std.proofs.Common.{subst, ap, sym, length}
+use Rattle.epochlog.specs.Epochs.{Seen, Line}
+use Rattle.monitor.specs.Histories.{Commits}
+use Rattle.monitor.proofs.Histories.{committed_by, unspent}
+use Rattle.monitor.proofs.locked.Locked.commit.Goals as goal
+
+pub returns-clause-commits : goal.returns-clause-commits
+returns-clause-commits c =
+    let old = c.args.self.now.state in
+    let new = c.commit-answer.new.self in
+    let was = c.map.ensures in
+    let is = c.map-2.ensures in
+    let done = committed_by old new c.args.base c.args.change c.commit-answer.result
+    (record { map = was.after; lawful = was.lawful; epoch = was.epoch })
+    (record { map = is.after; lawful = is.lawful; epoch = is.epoch })
+    c.commit-answer.ensures.commits in
+    rw (c.commit-answer.ensures.pass, c.requires.pass, ← c.requires.row) done
+
+pub returns-clause-unspent : goal.returns-clause-unspent
+returns-clause-unspent c =
+    unspent c.args.self.now.state c.commit-answer.new.self c.args.base c.args.change c.commit-answer.result c.commit-answer.ensures.commits

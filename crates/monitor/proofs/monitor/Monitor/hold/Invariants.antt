@@ -1,0 +1,6 @@
+use Rattle.std.proofs.Common.{◌≡◌}
+use Rattle.ticketlock.specs.Standing.{IsAt}
+use Rattle.monitor.proofs.monitor.Monitor.hold.Given as goal
+
+abbrev pub invariant-loop : goal.invariant-loop
+invariant-loop g l = IsAt l.self.words l.seat.place × (l.member.pass ≡ l.fn.member.pass)

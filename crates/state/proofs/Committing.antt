@@ -1,0 +1,29 @@
+-- A commit that nothing refuses, from the seal on.
+use Rattle.std.proofs.Common.{◌≡◌, ◌∙◌, ap, ℕ, ◌+◌, ◌-◌, ◌<◌, [], ◌∷◌, ◌++◌, length, arith, Some, slice_get}
+use Rattle.stated.specs.declared.change.ChangeParts.{ChangeParts}
+use Rattle.stated.specs.Incrementals.{Step}
+use Rattle.epochlog.specs.Epochs.{Seen, longer, epoch_of}
+use Rattle.pgtable.specs.Tables.{TableFacts}
+use Rattle.state.specs.States.{Kept, IsKept, next_step, longer_by}
+use Rattle.state.proofs.Journals.{IsAccepted, step_is, joined_is, shown_is, last_epoch-snoc, epoch-kept}
+
+-- what holds once the epoch is sealed and the state's pass has joined the one that sealed it
+pub record IsSealed (k : Kept) (base : ℕ) (change : ChangeParts) (after : Seen) : Type 0 where
+  pub joined : after ≡ longer_by k.pass (next_step k.map change)
+  pub later : k.pass.row.first < base + 1
+  pub seen : epoch_of after ≡ base + 1
+  pub shown : (step : Step) → slice_get after.history ((base + 1) - (k.pass.row.first + 1)) ≡ Some step → step ≡ next_step k.map change
+
+pub sealed : (k : Kept) (t : TableFacts) (base : ℕ) (change : ChangeParts) (step : Step) (pass joined : Seen) → IsKept k t → IsAccepted k base change
+    → step ≡ record { epoch = base + 1; change = change } → pass.history ≡ k.pass.history ++ step ∷ [] → joined.row ≡ k.pass.row
+    → joined.history ≡ longer k.pass.history pass.history → IsSealed k base change joined
+sealed k t base change step pass joined kept ok is more row join =
+    let next = step_is k base change step ok.current is in
+    let all = joined_is k.pass step pass joined more row join in
+    let place : (base + 1) - (k.pass.row.first + 1) ≡ length k.pass.history = omega (arith, ok.current, epoch-kept k t kept, kept.begins) in
+    record {
+      joined = all ∙ ap (longer_by k.pass) next;
+      later = omega (arith, ok.current, epoch-kept k t kept, kept.begins);
+      seen = ap epoch_of all ∙ last_epoch-snoc k.pass.row.first k.pass.history step ∙ ap (λ (s : Step). s.epoch) is;
+      shown = λ found at. shown_is k.pass step found joined _ all place at ∙ next;
+    }
