@@ -9,7 +9,7 @@ use std::alloc::Global;
 use std::sync::Wait;
 
 impl Monitor {
-    ghost use Rattle.std.specs.Prelude.{◌≡◌, length, IfErr};
+    ghost use Rattle.std.specs.Prelude.{◌≡◌, length, IfErr, IfOk, IsUtf8};
     ghost use Rattle.refusal.specs.declared.refused.Refusal.TheVariants.{SeatSpent};
     ghost use Rattle.state.specs.Answers.{FindsUp, FindsCount, FindsGroups};
     ghost use Rattle.monitor.specs.Histories.{Looks, FindsEpoch, FindsText, Commits};
@@ -92,6 +92,7 @@ impl Monitor {
         requires { IsMemberOf self.now member.old }
         ensures member { IsMemberOf self.now member.new }
         ensures looks { Looks self.now.first member.old.pass.history member.new.pass.history (FindsText (λ text. text.items)) result }
+        ensures utf8 { IfOk result (λ text. IsUtf8 text.items) }
         ensures spent { IfErr result (λ e. e ≡ SeatSpent → IsSpent self.now member.new) }
     {
         let guard = self.share(rt, member)?;

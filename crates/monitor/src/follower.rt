@@ -69,7 +69,7 @@ fn step_on(map: &mut OsdMap, alloc: Global, step: &Incremental) -> Result<bool, 
 }
 
 impl Follower {
-    ghost use Rattle.std.specs.Prelude.{◌≡◌, [], IfOk, Some};
+    ghost use Rattle.std.specs.Prelude.{◌≡◌, [], IfOk, Some, IsUtf8};
     ghost use Rattle.refusal.specs.Outcomes.{Gives};
     ghost use Rattle.osdmap.specs.Placement.{group_fault};
     ghost use Rattle.osdmap.specs.Changes.{epoch_after, after, IsLawful};
@@ -142,7 +142,8 @@ impl Follower {
 
     /// The text of the follower's map, as `mapjson::write_map` writes it. The one error is `Memory` (30).
     pub fn dump(&self, alloc: Global) -> Result<Vec<u8>, Memory>
-        ensures { IfOk result (λ text. text.items ≡ written self.now.map) }
+        ensures text { IfOk result (λ text. text.items ≡ written self.now.map) }
+        ensures utf8 { IfOk result (λ text. IsUtf8 text.items) }
     {
         write_map(alloc, &self.map)
     }
