@@ -1,17 +1,13 @@
 -- Followers: what one more incremental does to one, and to what it has seen.
 use Rattle.std.proofs.Common.{◌≡◌, ◌∙◌, sym, ap, refl, subst, ℕ, zero, suc, ◌+◌, ◌-◌, ◌≤◌, Bool, true, false, List, [], ◌∷◌, ◌++◌, length, take, Some, None, Result, Ok, Err, IfOk, OnErr, slice_get, inl, inr, arith, length-append}
-use Rattle.std.proofs.lemmas.List.{take-append-le, length-take}
+use Rattle.std.proofs.lemmas.List.{take-append-le, length-take, append-nil}
 use Rattle.stated.specs.Incrementals.{Step}
 use Rattle.osdmap.specs.Maps.{ClusterMap}
 use Rattle.osdmap.specs.Changes.{IsLawful, after, apply, change_fault, epoch_after}
-use Rattle.epochlog.specs.Epochs.{Line, Begins, OneBegins}
-use Rattle.sealed.proofs.Beginnings.{begins_itself, begins_on, begins_by}
+use Rattle.epochlog.specs.Epochs.{Line, Seen, Begins, OneBegins}
+use Rattle.sealed.proofs.Beginnings.{begins_on, begins_by}
 use Rattle.state.proofs.Journals.{after-snoc, IsLawful-snoc}
-use Rattle.monitor.specs.Followers.{IsFollowed, Followed, Steps, applied}
-
--- a follower by its parts
-abbrev pub by_parts : ClusterMap → Line → List Step → ClusterMap → Followed
-by_parts first row seen m = record { first = first; row = row; history = applied first m seen; map = m }
+use Rattle.monitor.specs.Followers.{IsFollowed, Steps, GoesOnFrom, applied, followed}
 
 -- ---- lists that begin one another
 
@@ -50,11 +46,11 @@ one_begins_part n xs ys (inr p) = begun_both (take n xs) ys xs (begins_by (take 
 -- ---- followers
 
 -- a follower at the first map, which has seen nothing
-pub followed_new : (first m : ClusterMap) (row : Line) (seen : List Step) → m ≡ first → seen ≡ [] → row.first ≡ first.epoch
-    → IsFollowed (by_parts first row seen m)
+pub followed_new : (first m : ClusterMap) (pass : Seen) → m ≡ first → pass.history ≡ [] → pass.row.first ≡ first.epoch
+    → IsFollowed (followed first pass m)
 unfolding IsLawful
-followed_new first m row seen same none begins =
-    let nothing : applied first m seen ≡ [] = take_none (m.epoch - first.epoch) seen none in
+followed_new first m pass same none begins =
+    let nothing : applied first m pass.history ≡ [] = take_none (m.epoch - first.epoch) pass.history none in
     record {
       begins = begins;
       lawful = subst (IsLawful first) (sym nothing) tt;
@@ -72,60 +68,67 @@ epoch_made : (m : ClusterMap) (step : Step) → (apply m step).epoch ≡ step.ep
 unfolding apply
 epoch_made m step = refl
 
-module _ (first : ClusterMap) (row : Line) (seen more : List Step) (m : ClusterMap) (followed : IsFollowed (by_parts first row seen m))
-    (goes : Begins seen more) where
-  -- it has seen all that it has applied
-  few : (m.epoch - first.epoch) ≤ length seen
-  few = omega (arith, followed.epoch, length-take (m.epoch - first.epoch) seen)
+-- a follower that has seen more: what it stands at
+module _ (first m : ClusterMap) (seen more : Seen) (is : IsFollowed (followed first seen m)) (rows : more.row ≡ seen.row)
+    (goes : Begins seen.history more.history) where
+  -- what is so of it with this map
+  abbrev pub Stands : ClusterMap → Type 0
+  Stands m2 = IsFollowed (followed first more m2) × GoesOnFrom (followed first seen m) (followed first more m2)
+
+  -- it had seen all that it had applied
+  few : (m.epoch - first.epoch) ≤ length seen.history
+  few = omega (arith, is.epoch, length-take (m.epoch - first.epoch) seen.history)
 
   -- what it sees beyond changes nothing
-  same_part : applied first m more ≡ applied first m seen
-  same_part = take_begun (m.epoch - first.epoch) seen more goes few
+  same_part : applied first m more.history ≡ applied first m seen.history
+  same_part = take_begun (m.epoch - first.epoch) seen.history more.history goes few
 
-  pub followed_same : (row2 : Line) (m2 : ClusterMap) → row2 ≡ row → m2 ≡ m
-      → IsFollowed (by_parts first row2 more m2) × Begins (applied first m seen) (applied first m2 more)
-  followed_same row2 m2 rows maps =
-      let history : applied first m2 more ≡ applied first m seen = ap (λ x. applied first x more) maps ∙ same_part in (
-        record {
-          begins = ap (λ (l : Line). l.first) rows ∙ followed.begins;
-          lawful = subst (IsLawful first) (sym history) followed.lawful;
-          map = maps ∙ followed.map ∙ ap (after first) (sym history);
-          epoch = ap (λ (x : ClusterMap). x.epoch) maps ∙ followed.epoch ∙ ap (epoch_after first) (sym history);
-        },
-        subst (Begins (applied first m seen)) (sym history) (begins_itself (applied first m seen)),
-      )
+  stands_by : (m2 : ClusterMap) (rest : List Step) → applied first m2 more.history ≡ applied first m seen.history ++ rest
+      → IsLawful first (applied first m seen.history ++ rest) → m2 ≡ after first (applied first m seen.history ++ rest)
+      → m2.epoch ≡ epoch_after first (applied first m seen.history ++ rest) → Stands m2
+  stands_by m2 rest history lawful map epoch = (
+    record {
+      begins = ap (λ (l : Line). l.first) rows ∙ is.begins;
+      lawful = subst (IsLawful first) (sym history) lawful;
+      map = map ∙ ap (after first) (sym history);
+      epoch = epoch ∙ ap (epoch_after first) (sym history);
+    },
+    record { first = refl; row = rows; begins = (rest, sym history) },
+  )
+
+  -- nothing is applied
+  stands_same : (m2 : ClusterMap) → m2 ≡ m → Stands m2
+  stands_same m2 same =
+      let none : applied first m seen.history ++ [] ≡ applied first m seen.history = append-nil (applied first m seen.history) in
+      stands_by m2 [] (ap (λ x. applied first x more.history) same ∙ same_part ∙ sym none) (subst (IsLawful first) (sym none) is.lawful)
+      (same ∙ is.map ∙ ap (after first) (sym none)) (ap (λ (x : ClusterMap). x.epoch) same ∙ is.epoch ∙ ap (epoch_after first) (sym none))
 
   -- one incremental more is applied
-  followed_made : (row2 : Line) (m2 : ClusterMap) (step : Step) → row2 ≡ row → step.epoch ≡ m.epoch + 1
-      → slice_get more (m.epoch - row.first) ≡ Some step → change_fault m step.change ≡ None → m2 ≡ apply m step
-      → IsFollowed (by_parts first row2 more m2) × Begins (applied first m seen) (applied first m2 more)
-  followed_made row2 m2 step rows next place fine made =
+  stands_next : (m2 : ClusterMap) (step : Step) → step.epoch ≡ m.epoch + 1
+      → slice_get more.history (m.epoch - seen.row.first) ≡ Some step → change_fault m step.change ≡ None → m2 ≡ apply m step → Stands m2
+  stands_next m2 step next place fine made =
+      let past = applied first m seen.history in
       let epoch : m2.epoch ≡ m.epoch + 1 = ap (λ (x : ClusterMap). x.epoch) made ∙ epoch_made m step ∙ next in
-      let at : slice_get more (m.epoch - first.epoch) ≡ Some step = ap (λ n. slice_get more (m.epoch - n)) (sym followed.begins) ∙ place in
-      let count : m2.epoch - first.epoch ≡ suc (m.epoch - first.epoch) = omega (arith, epoch, followed.epoch) in
-      let history : applied first m2 more ≡ applied first m seen ++ step ∷ [] =
-      ap (λ n. take n more) count ∙ take_one_more more (m.epoch - first.epoch) step at ∙ ap (λ xs. xs ++ step ∷ []) same_part in (
-        record {
-          begins = ap (λ (l : Line). l.first) rows ∙ followed.begins;
-          lawful = subst (IsLawful first) (sym history) (IsLawful-snoc first (applied first m seen) step followed.lawful
-              (next ∙ ap (λ (x : ClusterMap). x.epoch + 1) followed.map)
-              (subst (λ (x : ClusterMap). change_fault x step.change ≡ None) followed.map fine));
-          map = made ∙ ap (λ x. apply x step) followed.map ∙ sym (after-snoc first (applied first m seen) step) ∙ ap (after first) (sym history);
-          epoch = omega (arith, epoch, followed.epoch, ap length history, length-append (applied first m seen) (step ∷ []));
-        },
-        subst (Begins (applied first m seen)) (sym history) (step ∷ [], refl),
-      )
+      let at : slice_get more.history (m.epoch - first.epoch) ≡ Some step =
+      ap (λ n. slice_get more.history (m.epoch - n)) (sym is.begins) ∙ place in
+      let count : m2.epoch - first.epoch ≡ suc (m.epoch - first.epoch) = omega (arith, epoch, is.epoch) in
+      let history : applied first m2 more.history ≡ past ++ step ∷ [] =
+      ap (λ n. take n more.history) count ∙ take_one_more more.history (m.epoch - first.epoch) step at
+      ∙ ap (λ xs. xs ++ step ∷ []) same_part in
+      let lawful : IsLawful first (past ++ step ∷ []) =
+      IsLawful-snoc first past step is.lawful (next ∙ ap (λ (x : ClusterMap). x.epoch + 1) is.map)
+      (subst (λ (x : ClusterMap). change_fault x step.change ≡ None) is.map fine) in
+      stands_by m2 (step ∷ []) history lawful (made ∙ ap (λ x. apply x step) is.map ∙ sym (after-snoc first past step))
+      (omega (arith, epoch, is.epoch, length-append past (step ∷ [])))
 
   -- a step that is made, or is not
-  followed_step : (row2 : Line) (m2 : ClusterMap) (step : Step) (made : Bool) → row2 ≡ row → step.epoch ≡ m.epoch + 1
-      → slice_get more (m.epoch - row.first) ≡ Some step → Steps m m2 step made
-      → IsFollowed (by_parts first row2 more m2) × Begins (applied first m seen) (applied first m2 more)
-  followed_step row2 m2 step true rows next place steps = followed_made row2 m2 step rows next place steps.0 steps.1
-  followed_step row2 m2 step false rows next place steps = followed_same row2 m2 rows steps
+  stands_step : (m2 : ClusterMap) (step : Step) (made : Bool) → step.epoch ≡ m.epoch + 1
+      → slice_get more.history (m.epoch - seen.row.first) ≡ Some step → Steps m m2 step made → Stands m2
+  stands_step m2 step true next place steps = stands_next m2 step next place steps.0 steps.1
+  stands_step m2 step false next place steps = stands_same m2 steps
 
   -- a step that is made, or is not, or for which there is no memory
-  pub followed_on : {E : Type 0} → (row2 : Line) (m2 : ClusterMap) (step : Step) (r : Result Bool E) → row2 ≡ row → step.epoch ≡ m.epoch + 1
-      → slice_get more (m.epoch - row.first) ≡ Some step → IfOk r (λ made. Steps m m2 step made) → OnErr r (m2 ≡ m)
-      → IsFollowed (by_parts first row2 more m2) × Begins (applied first m seen) (applied first m2 more)
-  followed_on row2 m2 step (Ok made) rows next place steps same = followed_step row2 m2 step made rows next place steps
-  followed_on row2 m2 step (Err e) rows next place steps same = followed_same row2 m2 rows same
+  pub stands_on : {E : Type 0} → (m2 : ClusterMap) (step : Step) (r : Result Bool E) → step.epoch ≡ m.epoch + 1
+      → slice_get more.history (m.epoch - seen.row.first) ≡ Some step → IfOk r (Steps m m2 step) → OnErr r (m2 ≡ m) → Stands m2
+  stands_on m2 step (Ok made) next place steps same = stands_step m2 step made next place steps
+  stands_on m2 step (Err e) next place steps same = stands_same m2 same

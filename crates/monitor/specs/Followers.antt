@@ -3,11 +3,11 @@ use Rattle.std.specs.Prelude.{◌≡◌, ◌-◌, Bool, true, false, None, List,
 use Rattle.stated.specs.Incrementals.{Step}
 use Rattle.osdmap.specs.Maps.{ClusterMap}
 use Rattle.osdmap.specs.Changes.{change_fault, apply, after, IsLawful, epoch_after}
-use Rattle.epochlog.specs.Epochs.{Line, Begins}
+use Rattle.epochlog.specs.Epochs.{Line, Seen, Begins}
 use Rattle.monitor.specs.Members.{Monitored}
 
--- what callers see of a follower: the first map, the row that it reads, its history, which are the incrementals that it has
--- applied, and its map
+-- what callers see of a follower: the first map, the row that it reads, its history, which are the incrementals that it
+-- has applied, and its map
 pub record Followed : Type 0 where
   pub first : ClusterMap
   pub row : Line
@@ -23,8 +23,13 @@ pub record Follows (monitor : Monitored) (follower : Followed) : Type 0 where
 abbrev pub applied : ClusterMap → ClusterMap → List Step → List Step
 applied first now seen = take (now.epoch - first.epoch) seen
 
--- the fact of every follower: its history is lawful from the first map, which is that of its row; and its map is the first
--- map with the history applied in the order of epochs, without gaps
+-- a follower by its first map, its pass, which may have seen more than it has applied, and its present map
+abbrev pub followed : ClusterMap → Seen → ClusterMap → Followed
+followed first pass now =
+    record { first = first; row = pass.row; history = applied first now pass.history; map = now }
+
+-- the fact of every follower: its history is lawful from the first map, after whose epoch its row begins; and its map is
+-- the first map with the history applied in the order of epochs, without gaps
 pub record IsFollowed (f : Followed) : Type 0 where
   pub begins : f.row.first ≡ f.first.epoch
   pub lawful : IsLawful f.first f.history

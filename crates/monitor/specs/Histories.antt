@@ -17,9 +17,10 @@ pub record GoesOn (first : ClusterMap) (before now : List Step) : Type 0 where
   pub begins : Begins before now
   pub lawful : IsLawful first now
 
--- what a look-up answers: the answer by the map after the history that its member has seen then, which goes on from the one before; or that
--- its seat has made its draws
-abbrev pub Looks : {X : Type 0} → ClusterMap → List Step → List Step → (ClusterMap → Result X Refusal → Type 0) → Result X Refusal → Type 0
+-- what a look-up answers: the answer by the map after the history that its member has seen then, which goes on from the
+-- one before; or that its seat has made its draws
+abbrev pub Looks : {X : Type 0} → ClusterMap → List Step → List Step → (ClusterMap → Result X Refusal → Type 0)
+    → Result X Refusal → Type 0
 Looks first before now finds r = GoesOn first before now × ((r ≡ Err SeatSpent) ⊎ finds (after first now) r)
 
 -- the epoch
@@ -30,9 +31,10 @@ FindsEpoch m r = r ≡ Ok m.epoch
 abbrev pub FindsText : {X : Type 0} → (X → List ℕ) → ClusterMap → Result X Refusal → Type 0
 FindsText listed m r = Gives r None (λ text. listed text ≡ written m)
 
--- a change is committed: to the map after some history, which goes on from the one before; the history now is that one with the
--- incremental at its end
-pub record IsCommitted (first : ClusterMap) (most : ℕ) (before now : List Step) (base : ℕ) (change : ChangeParts) (epoch evals : ℕ) : Type 0 where
+-- a change is committed: to the map after some history, which goes on from the one before; the history now is that one
+-- with the incremental at its end
+pub record IsCommitted (first : ClusterMap) (most : ℕ) (before now : List Step) (base : ℕ) (change : ChangeParts)
+    (epoch evals : ℕ) : Type 0 where
   pub found : List Step
   pub goes_on : Begins before found
   pub ends : now ≡ found ++ record { epoch = epoch; change = change } ∷ []
@@ -41,8 +43,8 @@ pub record IsCommitted (first : ClusterMap) (most : ℕ) (before now : List Step
   pub counted : evals ≡ evals_of (after first now) change
   pub accepted : commit_fault (after first found) (length found) most base change ≡ None
 
--- what a commit answers: that the change is committed; or the fault at the history now, or where there is none that memory was short or another
--- sealed the epoch; or that its seat has made its draws
+-- what a commit answers: that the change is committed; or the fault at the history now, or where there is none that
+-- memory was short or another sealed the epoch; or that its seat has made its draws
 abbrev pub Commits : ClusterMap → ℕ → List Step → List Step → ℕ → ChangeParts → Result (ℕ × ℕ) Refusal → Type 0
 Commits first most before now base change r =
     GoesOn first before now

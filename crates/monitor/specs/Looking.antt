@@ -10,7 +10,8 @@ use Rattle.monitor.specs.Members.{Monitored, Shares}
 abbrev pub first_of_look : Look → ClusterMap
 first_of_look look = (first_of_read look.guard).state.first
 
--- the look shares this monitor's lock; its pass is of the monitor's row, with a history that is lawful from the first map
+-- the look shares this monitor's lock; its pass is of the monitor's row, with a history that is lawful from the first
+-- map
 pub record IsLookOf (monitor : Monitored) (look : Look) : Type 0 where
   pub guard : Shares monitor look.guard
   pub row : look.pass.row ≡ monitor.row

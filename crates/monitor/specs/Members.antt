@@ -18,18 +18,23 @@ pub record Monitored : Type 0 where
   pub row : Line
   pub words : Words
 
+-- a monitor by its parts
+abbrev pub monitored : ClusterMap → Line → Words → Monitored
+monitored first row words = record { first = first; row = row; words = words }
+
 -- the state is one of this monitor: its first map is the monitor's, and its pass is of the monitor's row
 pub record IsStateOf (monitor : Monitored) (state : Kept) : Type 0 where
   pub first : state.first ≡ monitor.first
   pub row : state.pass.row ≡ monitor.row
 
--- the fact of every monitor, and of the state that its lock was made with: it is one of this monitor, whose row goes on from the
--- epoch of the first map
+-- the fact of every monitor, and of the state that its lock was made with: it is one of this monitor, whose row goes on
+-- from the epoch of the first map
 pub record IsOpened (monitor : Monitored) (opened : Kept) : Type 0 where
   pub state : IsStateOf monitor opened
   pub begins : monitor.row.first ≡ monitor.first.epoch
 
--- the member has a seat of this monitor; its pass is of the monitor's row, with a history that is lawful from the first map
+-- the member has a seat of this monitor; its pass is of the monitor's row, with a history that is lawful from the first
+-- map
 pub record IsMemberOf (monitor : Monitored) (member : Member) : Type 0 where
   pub seat : IsSomeAnd member.seat (λ seat. IsAt monitor.words seat.place)
   pub row : member.pass.row ≡ monitor.row
@@ -52,7 +57,7 @@ IsSpent monitor member = IsSomeAnd member.seat (λ seat. seat.place.draws ≡ dr
 -- the state that a guard lends: while it lends none, the one that the lock was made with
 abbrev pub lent : ReadGuard Locked → Kept
 lent guard =
-    unwrap_or (option_and_then (λ slot. option_map (λ kept. kept.value.state) slot) guard.claim.value) (first_of_read guard).state
+    unwrap_or (option_and_then (option_map (λ kept. kept.value.state)) guard.claim.value) (first_of_read guard).state
 
 -- the guard shares this monitor's lock
 pub record Shares (monitor : Monitored) (guard : ReadGuard Locked) : Type 0 where

@@ -16,11 +16,13 @@ max_draws = 2 ^ 40
 -- a first epoch, a capacity of the journal, a number of seats and one of draws, each within its limits
 abbrev pub can_open : ℕ → ℕ → ℕ → ℕ → Bool
 can_open epoch journal seats draws =
-    is_within_limits epoch journal && (nat_le 1 seats && nat_le seats max_seats && (nat_le 1 draws && nat_le draws max_draws))
+    is_within_limits epoch journal
+    && (nat_le 1 seats && nat_le seats max_seats && (nat_le 1 draws && nat_le draws max_draws))
 
--- a monitor with this first map and a journal of such a capacity, and so many members, each with so many draws, who have seen
--- nothing
-pub record IsOpening (map : ClusterMap) (journal seats draws : ℕ) (monitor : Monitored) (members : List Member) : Type 0 where
+-- a monitor with this first map and a journal of such a capacity, and so many members, each with so many draws, who have
+-- seen nothing
+pub record IsOpening (map : ClusterMap) (journal seats draws : ℕ) (monitor : Monitored) (members : List Member)
+    : Type 0 where
   pub first : monitor.first ≡ map
   pub begins : monitor.row.first ≡ map.epoch
   pub capacity : length monitor.row.cells ≡ journal

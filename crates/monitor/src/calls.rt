@@ -9,19 +9,21 @@ use std::alloc::Global;
 use std::sync::Wait;
 
 impl Monitor {
-    ghost use Rattle.std.specs.Prelude.{◌≡◌, ◌≤◌, length, IfErr};
+    ghost use Rattle.std.specs.Prelude.{◌≡◌, ◌≤◌, length, IfOk, IfErr};
+    ghost use Rattle.std.specs.Str.{IsUtf8};
     ghost use Rattle.refusal.specs.declared.refused.Refusal.TheVariants.{SeatSpent};
     ghost use Rattle.state.specs.Answers.{FindsUp, FindsCount, FindsGroups};
     ghost use Rattle.monitor.specs.Histories.{Looks, FindsEpoch, FindsText, Commits};
     ghost use Rattle.monitor.specs.Balances.{Balances};
     ghost use Rattle.monitor.specs.Members.{IsMemberOf, IsSpent};
 
-    /// The epoch and the up set of a group: `UnknownPool` (23), else `UnknownGroup` (25). `SeatSpent` (31) only where the
-    /// member's seat has made its draws. It takes no memory. Members share the lock.
+    /// The epoch and the up set of a group: `UnknownPool` (23), else `UnknownGroup` (25). `SeatSpent` (31) only where
+    /// the member's seat has made its draws. It takes no memory. Members share the lock.
     pub fn up<R: Wait>(&self, rt: &R, member: &mut Member, pg: Pg) -> Result<(u64, UpSet), Refusal>
         requires { IsMemberOf self.now member.old }
         ensures member { IsMemberOf self.now member.new }
-        ensures looks { Looks self.now.first member.old.pass.history member.new.pass.history (λ m. FindsUp m pg) result }
+        ensures looks { Looks self.now.first member.old.pass.history member.new.pass.history
+            (λ m. FindsUp m pg) result }
         ensures spent { IfErr result (λ e. e ≡ SeatSpent → IsSpent self.now member.new) }
     {
         let guard = self.share(rt, member)?;
@@ -30,8 +32,8 @@ impl Monitor {
         answer
     }
 
-    /// The epoch, and in how many groups' up sets an OSD stands: `UnknownOsd` (21). `SeatSpent` (31) only where the member's
-    /// seat has made its draws. It takes no memory. Members share the lock.
+    /// The epoch, and in how many groups' up sets an OSD stands: `UnknownOsd` (21). `SeatSpent` (31) only where the
+    /// member's seat has made its draws. It takes no memory. Members share the lock.
     pub fn count<R: Wait>(
         &self,
         rt: &R,
@@ -40,7 +42,8 @@ impl Monitor {
     ) -> Result<(u64, usize), Refusal>
         requires { IsMemberOf self.now member.old }
         ensures member { IsMemberOf self.now member.new }
-        ensures looks { Looks self.now.first member.old.pass.history member.new.pass.history (λ m. FindsCount m osd) result }
+        ensures looks { Looks self.now.first member.old.pass.history member.new.pass.history
+            (λ m. FindsCount m osd) result }
         ensures spent { IfErr result (λ e. e ≡ SeatSpent → IsSpent self.now member.new) }
     {
         let guard = self.share(rt, member)?;
@@ -49,8 +52,8 @@ impl Monitor {
         answer
     }
 
-    /// The epoch, and the groups in whose up set an OSD stands, by pool upwards, then by number: `UnknownOsd` (21), else
-    /// `Memory` (30). `SeatSpent` (31) only where the member's seat has made its draws. Members share the lock.
+    /// The epoch, and the groups in whose up set an OSD stands, by pool upwards, then by number: `UnknownOsd` (21),
+    /// else `Memory` (30). `SeatSpent` (31) only where the member's seat has made its draws. Members share the lock.
     pub fn groups<R: Wait>(
         &self,
         rt: &R,
@@ -60,7 +63,8 @@ impl Monitor {
     ) -> Result<(u64, Vec<Pg>), Refusal>
         requires { IsMemberOf self.now member.old }
         ensures member { IsMemberOf self.now member.new }
-        ensures looks { Looks self.now.first member.old.pass.history member.new.pass.history (λ m. FindsGroups (λ groups. groups.items) m osd) result }
+        ensures looks { Looks self.now.first member.old.pass.history member.new.pass.history
+            (λ m. FindsGroups (λ groups. groups.items) m osd) result }
         ensures spent { IfErr result (λ e. e ≡ SeatSpent → IsSpent self.now member.new) }
     {
         let guard = self.share(rt, member)?;
@@ -69,7 +73,8 @@ impl Monitor {
         answer
     }
 
-    /// The epoch. `SeatSpent` (31) only where the member's seat has made its draws. It takes no memory. Members share the lock.
+    /// The epoch. `SeatSpent` (31) only where the member's seat has made its draws. It takes no memory. Members share
+    /// the lock.
     pub fn epoch<R: Wait>(&self, rt: &R, member: &mut Member) -> Result<u64, Refusal>
         requires { IsMemberOf self.now member.old }
         ensures member { IsMemberOf self.now member.new }
@@ -82,8 +87,8 @@ impl Monitor {
         Ok(epoch)
     }
 
-    /// The text of the map, as `mapjson::write_map` writes it: `Memory` (30). `SeatSpent` (31) only where the member's seat
-    /// has made its draws. Members share the lock.
+    /// The text of the map, as `mapjson::write_map` writes it: `Memory` (30). `SeatSpent` (31) only where the member's
+    /// seat has made its draws. Members share the lock.
     pub fn dump<R: Wait>(
         &self,
         rt: &R,
@@ -92,7 +97,9 @@ impl Monitor {
     ) -> Result<Vec<u8>, Refusal>
         requires { IsMemberOf self.now member.old }
         ensures member { IsMemberOf self.now member.new }
-        ensures looks { Looks self.now.first member.old.pass.history member.new.pass.history (FindsText (λ text. text.items)) result }
+        ensures looks { Looks self.now.first member.old.pass.history member.new.pass.history
+            (FindsText (λ text. text.items)) result }
+        ensures utf8 { IfOk result (λ text. IsUtf8 text.items) }
         ensures spent { IfErr result (λ e. e ≡ SeatSpent → IsSpent self.now member.new) }
     {
         let guard = self.share(rt, member)?;
@@ -101,12 +108,12 @@ impl Monitor {
         Ok(text?)
     }
 
-    /// Commits a change to the map of the epoch `base`: the new epoch, and how many groups' placement was worked out anew. The
-    /// member has the lock alone.
+    /// Commits a change to the map of the epoch `base`: the new epoch, and for how many groups a rule was run, which are
+    /// those whose placement it can alter. The member has the lock alone.
     ///
-    /// `SeatSpent` (31) only where the member's seat has made its draws; `StaleEpoch` (20) with the present epoch where `base`
-    /// is another; else what [`osdmap::OsdMap::check`] refuses (21, 22, 23, 24, 13, 15, 25, 26, 27); else `JournalFull` (28);
-    /// else `Memory` (30), or `NotSealed` (32) where another sealed the epoch.
+    /// `SeatSpent` (31) only where the member's seat has made its draws; `StaleEpoch` (20) with the present epoch where
+    /// `base` is another; else what [`osdmap::OsdMap::check`] refuses (21, 22, 23, 24, 13, 15, 25, 26, 27); else
+    /// `JournalFull` (28); else `Memory` (30), or `NotSealed` (32) where another sealed the epoch.
     pub fn commit<R: Wait>(
         &self,
         rt: &R,
@@ -117,13 +124,13 @@ impl Monitor {
     ) -> Result<(u64, usize), Refusal>
         requires { IsMemberOf self.now member.old }
         ensures member { IsMemberOf self.now member.new }
-        ensures commits { Commits self.now.first (length self.now.row.cells) member.old.pass.history member.new.pass.history base change result }
+        ensures commits { Commits self.now.first (length self.now.row.cells)
+            member.old.pass.history member.new.pass.history base change result }
         ensures spent { IfErr result (λ e. e ≡ SeatSpent → IsSpent self.now member.new) }
     {
         let mut guard = self.hold(rt, member)?;
-        let answer = guard
-            .value_mut()
-            .commit(alloc, &self.row, &mut member.pass, base, change);
+        let locked = guard.value_mut();
+        let answer = locked.commit(alloc, &self.row, &mut member.pass, base, change);
         self.put_back(guard, member);
         answer
     }

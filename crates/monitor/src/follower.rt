@@ -14,8 +14,8 @@ use refusal::{Memory, Refusal};
 use std::alloc::Global;
 use std::marker::Model;
 
-/// One who follows the row of sealed epochs without the lock: it waits for no one, and has a map of its own, at an epoch whose
-/// incrementals it has applied one by one. It may move to another thread, and be dropped.
+/// One who follows the row of sealed epochs without the lock: it waits for no one, and has a map of its own, up to
+/// whose epoch it has applied the incrementals one by one. It may move to another thread, and be dropped.
 #[derive(Drop)]
 pub struct Follower {
     pub(crate) first: OsdMap,
@@ -25,14 +25,13 @@ pub struct Follower {
 }
 
 impl Model for Follower {
-    ghost use Rattle.std.specs.Prelude.{◌≤◌, length};
-    ghost use Rattle.monitor.specs.Followers.{Followed, IsFollowed, applied};
+    ghost use Rattle.monitor.specs.Followers.{Followed, IsFollowed, followed};
 
     ghost Value = { Followed };
 
-    ghost view = { λ f. record { first = f.first.map; row = f.pass.row; history = applied f.first.map f.map.map f.pass.history; map = f.map.map } };
+    ghost view = { λ f. followed f.first.map f.pass f.map.map };
 
-    ghost invariant = { λ f. IsFollowed (record { first = f.first.map; row = f.pass.row; history = applied f.first.map f.map.map f.pass.history; map = f.map.map }) };
+    ghost invariant = { λ f. IsFollowed (followed f.first.map f.pass f.map.map) };
 }
 
 /// The incremental of the next epoch after this one, if a pass has seen it, or sees it now.
@@ -70,6 +69,7 @@ fn step_on(map: &mut OsdMap, alloc: Global, step: &Incremental) -> Result<bool, 
 
 impl Follower {
     ghost use Rattle.std.specs.Prelude.{◌≡◌, [], IfOk, Some};
+    ghost use Rattle.std.specs.Str.{IsUtf8};
     ghost use Rattle.refusal.specs.Outcomes.{Gives};
     ghost use Rattle.osdmap.specs.Placement.{group_fault};
     ghost use Rattle.osdmap.specs.Changes.{epoch_after, after, IsLawful};
@@ -80,7 +80,8 @@ impl Follower {
 
     /// A follower of this monitor, at the first map. The one error is `Memory` (30).
     pub fn new(alloc: Global, monitor: &Monitor) -> Result<Follower, Memory>
-        ensures { IfOk result (λ follower. Follows monitor.now follower × (follower.history ≡ []) × (follower.map ≡ monitor.now.first)) }
+        ensures { IfOk result (λ follower.
+            Follows monitor.now follower × (follower.history ≡ []) × (follower.map ≡ monitor.now.first)) }
     {
         let first = monitor.first.copy(alloc)?;
         let map = monitor.first.copy(alloc)?;
@@ -115,9 +116,9 @@ impl Follower {
         }
     }
 
-    /// Applies what the row shows after the follower's epoch, one incremental after another, and answers the epoch that it has
-    /// reached. It stops before one that its map refuses. After `Memory` (30) it stands at an epoch that it has fully applied.
-    /// It waits for no one.
+    /// Applies what the row shows after the follower's epoch, one incremental after another, and answers the epoch that
+    /// it has reached. It stops before one that its map refuses. After `Memory` (30) it stands at an epoch that it has
+    /// fully applied. It waits for no one.
     pub fn catch_up(&mut self, alloc: Global, monitor: &Monitor) -> Result<u64, Memory>
         requires { Follows monitor.now self.old }
         ensures goes_on { GoesOnFrom self.old self.new }
@@ -131,9 +132,11 @@ impl Follower {
         Ok(self.epoch())
     }
 
-    /// The epoch and the up set of a group by the follower's map: `UnknownPool` (23), else `UnknownGroup` (25), else `Memory` (30).
+    /// The epoch and the up set of a group by the follower's map: `UnknownPool` (23), else `UnknownGroup` (25), else
+    /// `Memory` (30).
     pub fn up(&mut self, pg: Pg) -> Result<(u64, UpSet), Refusal>
-        ensures answer { Gives result (group_fault self.old.map pg) (λ answer. (answer.0 ≡ self.old.map.epoch) × (Some answer.1 ≡ up_at self.old.map pg)) }
+        ensures answer { Gives result (group_fault self.old.map pg)
+            (λ answer. (answer.0 ≡ self.old.map.epoch) × (Some answer.1 ≡ up_at self.old.map pg)) }
         ensures same { self.new ≡ self.old }
     {
         let set = self.map.up_of(pg, &mut self.work)?;
@@ -142,13 +145,14 @@ impl Follower {
 
     /// The text of the follower's map, as `mapjson::write_map` writes it. The one error is `Memory` (30).
     pub fn dump(&self, alloc: Global) -> Result<Vec<u8>, Memory>
-        ensures { IfOk result (λ text. text.items ≡ written self.now.map) }
+        ensures text { IfOk result (λ text. text.items ≡ written self.now.map) }
+        ensures utf8 { IfOk result (λ text. IsUtf8 text.items) }
     {
         write_map(alloc, &self.map)
     }
 
-    /// After it the history of one is known to begin that of the other. Both are of one monitor. It takes no memory and waits
-    /// for no one.
+    /// After it the history of one is known to begin that of the other. Both are of one monitor. It takes no memory and
+    /// waits for no one.
     pub fn meet(&mut self, member: &mut Member)
         requires { self.old.row ≡ member.old.pass.row }
         ensures mine { self.new ≡ self.old }

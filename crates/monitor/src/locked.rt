@@ -11,8 +11,8 @@ use state::State;
 use std::alloc::Global;
 use ticketlock::Fact;
 
-/// A state under the lock. Each that is lent or put back has the first map of the one that the lock was made with, and a
-/// pass of the same row; what else holds of it holds of every state.
+/// A state under the lock. Each that is lent or put back has the first map of the one that the lock was made with, and
+/// a pass of the same row; what else holds of it holds of every state.
 #[derive(Drop)]
 pub(crate) struct Locked {
     pub(crate) state: State,
@@ -21,7 +21,8 @@ pub(crate) struct Locked {
 impl Fact for Locked {
     ghost use Rattle.std.specs.Prelude.{◌≡◌};
 
-    ghost fact = { λ opened now. (now.state.first ≡ opened.state.first) × (now.state.pass.row ≡ opened.state.pass.row) };
+    ghost fact = { λ made now.
+        (now.state.first ≡ made.state.first) × (now.state.pass.row ≡ made.state.pass.row) };
 }
 
 /// Whether a pass has seen more than a state.
@@ -61,7 +62,8 @@ impl Locked {
     ) -> Result<(u64, usize), Refusal>
         requires row { self.old.state.pass.row ≡ row.now }
         requires pass { pass.old ≡ self.old.state.pass }
-        ensures commits { Commits self.old.state.first (length row.now.cells) pass.old.history pass.new.history base change result }
+        ensures commits { Commits self.old.state.first (length row.now.cells)
+            pass.old.history pass.new.history base change result }
         ensures unspent { IfErr result (λ e. e ≢ SeatSpent) }
         ensures pass { pass.new ≡ self.new.state.pass }
         ensures first { self.new.state.first ≡ self.old.state.first }

@@ -12,8 +12,8 @@ use state::State;
 use std::sync::Wait;
 use ticketlock::ReadGuard;
 
-/// A member that shares the lock, and looks at the state as long as it likes: nobody commits meanwhile. It must be spent, by
-/// [`Look::leave`], and stays in its thread.
+/// A member that shares the lock, and looks at the state as long as it likes: nobody commits meanwhile. It must be
+/// spent, by [`Look::leave`], and stays in its thread.
 pub struct Look<'a> {
     pub(crate) guard: ReadGuard<'a, Locked>,
     pub(crate) pass: Pass,
@@ -26,12 +26,14 @@ impl Monitor {
     ghost use Rattle.monitor.specs.Members.{IsMemberOf, IsSpent};
     ghost use Rattle.monitor.specs.Looking.{IsLookOf};
 
-    /// Shares the lock, to look at the state. `Err` (31, `SeatSpent`), only where the member's seat has made its draws, is the
-    /// member. It takes no memory.
+    /// Shares the lock, to look at the state. `Err` (31, `SeatSpent`), only where the member's seat has made its draws,
+    /// is the member. It takes no memory.
     pub fn look<R: Wait>(&self, rt: &R, member: Member) -> Result<Look<'_>, Member>
         requires { IsMemberOf self.now member }
-        ensures ok { IfOk result (λ look. IsLookOf self.now look × GoesOn self.now.first member.pass.history look.pass.history) }
-        ensures err { IfErr result (λ back. IsMemberOf self.now back × IsSpent self.now back × (back.pass ≡ member.pass)) }
+        ensures ok { IfOk result (λ look.
+            IsLookOf self.now look × GoesOn self.now.first member.pass.history look.pass.history) }
+        ensures err { IfErr result (λ back.
+            IsMemberOf self.now back × IsSpent self.now back × (back.pass ≡ member.pass)) }
     {
         let mut member = member;
         match self.share(rt, &mut member) {

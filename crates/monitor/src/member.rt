@@ -6,8 +6,8 @@ ghost use Rattle.epochlog.specs.Epochs.{OneBegins};
 use epochlog::Pass;
 use ticketlock::Seat;
 
-/// One who asks a monitor and commits to it: a seat at its lock, and what it has seen of its row. It may move to another
-/// thread, and be dropped. Its seat is there between any two calls.
+/// One who asks a monitor and commits to it: a seat at its lock, and what it has seen of its row. It may move to
+/// another thread, and be dropped. Its seat is there between any two calls.
 #[derive(Drop)]
 pub struct Member {
     pub(crate) seat: Option<Seat>,
@@ -15,8 +15,8 @@ pub struct Member {
 }
 
 impl Member {
-    /// After it the history of one member is known to begin that of the other. Both are members of one monitor. It takes
-    /// no memory and waits for no one.
+    /// After it the history of one member is known to begin that of the other. Both are members of one monitor. It
+    /// takes no memory and waits for no one.
     pub fn meet(&mut self, other: &mut Member)
         requires { self.old.pass.row ≡ other.old.pass.row }
         ensures mine { self.new ≡ self.old }

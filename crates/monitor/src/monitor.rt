@@ -8,8 +8,8 @@ use osdmap::OsdMap;
 use std::marker::Model;
 use ticketlock::Lock;
 
-/// A monitor: a state that its members share by a lock, and beside the lock the row of sealed epochs and the first map. Many
-/// threads may use it.
+/// A monitor: a state that its members share by a lock, and beside the lock the row of sealed epochs and the first map.
+/// Many threads may use it.
 #[derive(Drop)]
 pub struct Monitor {
     pub(crate) lock: Lock<Locked>,
@@ -19,11 +19,11 @@ pub struct Monitor {
 
 impl Model for Monitor {
     ghost use Rattle.ticketlock.specs.Callers.{first_of};
-    ghost use Rattle.monitor.specs.Members.{Monitored, IsOpened};
+    ghost use Rattle.monitor.specs.Members.{Monitored, IsOpened, monitored};
 
     ghost Value = { Monitored };
 
-    ghost view = { λ m. record { first = m.first.map; row = m.row; words = m.lock.words } };
+    ghost view = { λ m. monitored m.first.map m.row m.lock.words };
 
-    ghost invariant = { λ m. IsOpened (record { first = m.first.map; row = m.row; words = m.lock.words }) (first_of m.lock).state };
+    ghost invariant = { λ m. IsOpened (monitored m.first.map m.row m.lock.words) (first_of m.lock).state };
 }

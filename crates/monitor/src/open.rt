@@ -69,7 +69,8 @@ impl Monitor {
     /// Members with these seats, who have seen nothing.
     fn members(&self, alloc: Global, seats: Vec<Seat>) -> Result<Vec<Member>, Memory>
         requires { All (IsNewAt self.now.words) seats.items }
-        ensures { IfOk result (λ members. (length members.items ≡ length seats.items) × All (IsNewMemberOf self.now) members.items) }
+        ensures { IfOk result (λ members.
+            (length members.items ≡ length seats.items) × All (IsNewMemberOf self.now) members.items) }
     {
         let mut members = Vec::with_capacity(alloc, seats.len())?;
         for seat in seats {
@@ -97,12 +98,12 @@ impl Monitor {
         Ok((monitor, members))
     }
 
-    /// A monitor that begins with this map, whose journal has room for so many changes, and its members, each with a seat of
-    /// so many draws: each call of a member that takes the lock spends a draw, and a second only where the lent state has not
-    /// seen what the member has. The members have seen nothing.
+    /// A monitor that begins with this map, whose journal has room for so many changes, and its members, each with a
+    /// seat of so many draws: each call of a member that takes the lock spends a draw, and a second only where the lent
+    /// state has not seen what the member has. The members have seen nothing.
     ///
-    /// `BadLimit` (12) exactly where the map's epoch is not 1 to 2,147,483,648, `journal` not 1 to 65,536 epochs, `seats` not 1
-    /// to 1,024 or `draws` not 1 to 2^40; else `Memory` (30).
+    /// `BadLimit` (12) exactly where the map's epoch is not 1 to 2,147,483,648, `journal` not 1 to 65,536 epochs,
+    /// `seats` not 1 to 1,024 or `draws` not 1 to 2^40; else `Memory` (30).
     pub fn open_limited(
         alloc: Global,
         map: OsdMap,
@@ -110,7 +111,8 @@ impl Monitor {
         seats: u32,
         draws: u64,
     ) -> Result<(Monitor, Vec<Member>), Refusal>
-        ensures { Gives result (refused_unless (can_open map.map.epoch journal seats draws) BadLimit) (λ r. IsOpening map.map journal seats draws r.0 r.1.items) }
+        ensures { Gives result (refused_unless (can_open map.map.epoch journal seats draws) BadLimit)
+            (λ r. IsOpening map.map journal seats draws r.0 r.1.items) }
     {
         if !can_open(map.epoch(), journal, seats, draws) {
             return Err(Refusal::BadLimit);
@@ -125,7 +127,8 @@ impl Monitor {
         journal: u32,
         seats: u32,
     ) -> Result<(Monitor, Vec<Member>), Refusal>
-        ensures { Gives result (refused_unless (can_open map.map.epoch journal seats max_draws) BadLimit) (λ r. IsOpening map.map journal seats max_draws r.0 r.1.items) }
+        ensures { Gives result (refused_unless (can_open map.map.epoch journal seats max_draws) BadLimit)
+            (λ r. IsOpening map.map journal seats max_draws r.0 r.1.items) }
     {
         Monitor::open_limited(alloc, map, journal, seats, MAX_DRAWS)
     }

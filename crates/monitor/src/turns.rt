@@ -42,7 +42,8 @@ impl Monitor {
         ensures row { member.new.pass.row ≡ self.now.row }
         ensures goes_on { GoesOn self.now.first member.old.pass.history member.new.pass.history }
         ensures shares { IfOk result (λ guard. Shares self.now guard × ((lent guard).pass ≡ member.new.pass)) }
-        ensures spent { IfErr result (λ e. (e ≡ SeatSpent) × IsMemberOf self.now member.new × IsSpent self.now member.new) }
+        ensures spent { IfErr result (λ e.
+            (e ≡ SeatSpent) × IsMemberOf self.now member.new × IsSpent self.now member.new) }
         ensures same { OnErr result (member.new.pass ≡ member.old.pass) }
     {
         let Some(mut seat) = member.seat.take() else {
@@ -75,8 +76,10 @@ impl Monitor {
         requires { IsMemberOf self.now member.old }
         ensures row { member.new.pass.row ≡ self.now.row }
         ensures goes_on { GoesOn self.now.first member.old.pass.history member.new.pass.history }
-        ensures holds { IfOk result (λ guard. Holds self.now guard × (guard.value.state.first ≡ self.now.first) × (guard.value.state.pass ≡ member.new.pass)) }
-        ensures spent { IfErr result (λ e. (e ≡ SeatSpent) × IsMemberOf self.now member.new × IsSpent self.now member.new) }
+        ensures holds { IfOk result (λ guard. Holds self.now guard
+            × (guard.value.state.first ≡ self.now.first) × (guard.value.state.pass ≡ member.new.pass)) }
+        ensures spent { IfErr result (λ e.
+            (e ≡ SeatSpent) × IsMemberOf self.now member.new × IsSpent self.now member.new) }
         ensures same { OnErr result (member.new.pass ≡ member.old.pass) }
     {
         let Some(mut seat) = member.seat.take() else {

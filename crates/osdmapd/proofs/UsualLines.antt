@@ -18,7 +18,7 @@ use Rattle.clap.specs.Values.{Accepts}
 use Rattle.clap.specs.Walk.{Held, Row, Rule, Text, Walk, all_of, arg_by_index, finished, first_of, nothing_held, one_of, settled, to_positional, walk_from, walked}
 use Rattle.clap.proofs.OnLiterals.{clap_on_literals}
 use Rattle.clap.proofs.ValueTestLemmas.{Accepts-accepts}
-use Rattle.monitor.specs.States.{max_journal}
+use Rattle.epochlog.specs.Epochs.{max_capacity}
 use Rattle.osdmapd.specs.declared.choices.Options.{Options}
 use Rattle.osdmapd.specs.declared.choices.LineError.{LineError}
 use Rattle.osdmapd.specs.declared.choices.LineError.TheVariants.{Help, Usage, TooMany, Memory}
@@ -129,7 +129,7 @@ unfolding clap_on_literals
 opens_turn = refl
 
 module _ (name number map_word script : Text) (j : is_plain number ≡ true) (m : is_plain map_word ≡ true) (s : is_plain script ≡ true)
-    (accepted : accepts false (Signed (pos 1) (pos max_journal)) number ≡ true) where
+    (accepted : accepts false (Signed (pos 1) (pos max_capacity)) number ≡ true) where
   abbrev given : Held
   given = record { rows = []; pending = Some (codes "journal", number ∷ []); skip = 0 }
 
@@ -201,15 +201,15 @@ begins (c ∷ cs) numeral =
     record { plain = ap not minus; minus = minus; plus = ap (λ (b : Bool). drop (cond b 1 0) (c ∷ cs)) plus }
 
 -- a numeral within the limits passes the parser of the journal
-numeral_accepted : (t : Text) (n : ℕ) → IsNumeral 10 t → digits_value 10 t ≡ n → 1 ≤ n → n ≤ max_journal
-    → accepts false (Signed (pos 1) (pos max_journal)) t ≡ true
+numeral_accepted : (t : Text) (n : ℕ) → IsNumeral 10 t → digits_value 10 t ≡ n → 1 ≤ n → n ≤ max_capacity
+    → accepts false (Signed (pos 1) (pos max_capacity)) t ≡ true
 numeral_accepted t n numeral value least most =
     let b = begins t numeral in
     let bare : without_leading_sign t ≡ t = ap (λ (x : Bool). cond x (drop 1 t) (without_leading_plus t)) b.minus ∙ b.plus in
     let signed : signed_digits_value 10 t ≡ pos n =
     ap (λ (x : Bool). cond x (neg_ℤ (pos (digits_value 10 (without_leading_sign t)))) (pos (digits_value 10 (without_leading_sign t)))) b.minus
     ∙ ap (λ u. pos (digits_value 10 u)) bare ∙ ap pos value in
-    Accepts-accepts false (Signed (pos 1) (pos max_journal)) t
+    Accepts-accepts false (Signed (pos 1) (pos max_capacity)) t
     (rw bare numeral, rw signed (omega (arith, ints)), rw signed (omega (arith, ints)), rw signed (omega (arith, ints)))
 
 -- ---- what is made of it
@@ -233,7 +233,7 @@ none_among kind (k ∷ ks) none among =
 gives_options : (words : List Text) (journal map_word script : Text) (n : ℕ) → Finds words journal map_word script
     → digits_value 10 (without_leading_plus journal) ≡ n → (r : Result Options LineError) → ReadsLine words r
     → GivesOptions r n map_word script
-gives_options words journal map_word script n finds number (Ok o) (none, found) =
+gives_options words journal map_word script n finds number (Ok o) (none, found, few) =
     let map_same : Some (string_bytes o.map) ≡ Some map_word = sym found.map_found ∙ finds.map_is in
     let script_same : Some (map string_bytes o.scripts.items) ≡ Some (script ∷ []) = sym found.scripts_found ∙ finds.script_is in
     (journal_of (found_in words) o.journal journal finds.journal_is found.journal_found ∙ number, cc, cc)
@@ -250,7 +250,7 @@ gives_options words journal map_word script n finds number (Err Memory) reads = 
 -- a line with a journal
 with_journal : (name number map_word script : Text) (r : Result Options LineError)
     → ReadsLine (name ∷ codes "--journal" ∷ number ∷ map_word ∷ script ∷ []) r
-    → (n : ℕ) → number ≡ decimal n → 1 ≤ n → n ≤ max_journal → is_plain map_word ≡ true → is_plain script ≡ true
+    → (n : ℕ) → number ≡ decimal n → 1 ≤ n → n ≤ max_capacity → is_plain map_word ≡ true → is_plain script ≡ true
     → GivesOptions r n map_word script
 with_journal name number map_word script r reads n is least most m s =
     let written = decimal_is_IsNumeral n (omega arith) in

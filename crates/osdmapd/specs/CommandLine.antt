@@ -12,10 +12,14 @@ use Rattle.clap.specs.Kinds.{Kinds, IsAmong}
 use Rattle.clap.specs.Faults.{fault_of}
 use Rattle.clap.specs.Walk.{Row, Rule, Text, first_of, all_of, one_of, rule_of}
 use Rattle.clap.specs.Simple.{App, matches_of, new_app, new_rule, with_rule}
-use Rattle.monitor.specs.States.{max_journal}
+use Rattle.epochlog.specs.Epochs.{max_capacity}
 use Rattle.osdmapd.specs.declared.choices.Options.{Options}
 use Rattle.osdmapd.specs.declared.choices.LineError.{LineError}
 use Rattle.osdmapd.specs.declared.choices.LineError.TheVariants.{Help, Usage, TooMany, Memory}
+
+-- the most scripts
+abbrev pub max_scripts : ℕ
+max_scripts = 64
 
 -- ---- the command
 
@@ -26,7 +30,7 @@ journal_rule = record (new_rule (codes "journal")) {
   action = Some Set;
   value_names = 1;
   defaults = codes "1024" ∷ [];
-  parser = Some (Signed (pos 1) (pos max_journal));
+  parser = Some (Signed (pos 1) (pos max_capacity));
 }
 
 -- MAP, one word that must be there
@@ -87,12 +91,12 @@ pub record AreFound (rows : List Row) (o : Options) : Type 0 where
   pub map_found : map_path_in rows ≡ Some (string_bytes o.map)
   pub scripts_found : script_paths_in rows ≡ Some (map string_bytes o.scripts.items)
 
--- the options of what was found; or more scripts than one were found
+-- the options of what was found, of which the scripts are at most 64; or more were found
 abbrev pub Chooses : List Row → Result Options LineError → Type 0
-Chooses rows (Ok o) = AreFound rows o
+Chooses rows (Ok o) = AreFound rows o × (length o.scripts.items ≤ max_scripts)
 Chooses rows (Err (Help text)) = ⊥
 Chooses rows (Err (Usage text)) = ⊥
-Chooses rows (Err TooMany) = (paths : List Text) × (script_paths_in rows ≡ Some paths) × (1 < length paths)
+Chooses rows (Err TooMany) = (paths : List Text) × (script_paths_in rows ≡ Some paths) × (max_scripts < length paths)
 Chooses rows (Err Memory) = Unit {0}
 
 -- the parser asks for help or a version to be shown
@@ -107,7 +111,7 @@ TellsOf kind TooMany = ⊥
 TellsOf kind Memory = Unit {0}
 
 -- the options of words against which the parser has nothing; or why there are none: the parser's reason, or more
--- scripts than one
+-- scripts than 64
 abbrev pub ReadsLine : List Text → Result Options LineError → Type 0
 ReadsLine words (Ok o) = (faults_of words ≡ []) × Chooses (found_in words) (Ok o)
 ReadsLine words (Err (Help text)) = (kind : ErrorKind) × IsAmong kind (faults_of words) × IsRequest kind
@@ -135,6 +139,6 @@ abbrev pub ReadsUsual : List Text → Result Options LineError → Type 0
 ReadsUsual (name ∷ map_word ∷ script ∷ []) r =
     is_plain map_word ≡ true → is_plain script ≡ true → GivesOptions r 1024 map_word script
 ReadsUsual (name ∷ option ∷ number ∷ map_word ∷ script ∷ []) r =
-    (n : ℕ) → option ≡ codes "--journal" → number ≡ decimal n → 1 ≤ n → n ≤ max_journal
+    (n : ℕ) → option ≡ codes "--journal" → number ≡ decimal n → 1 ≤ n → n ≤ max_capacity
     → is_plain map_word ≡ true → is_plain script ≡ true → GivesOptions r n map_word script
 ReadsUsual words r = Unit {0}

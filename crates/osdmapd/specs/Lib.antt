@@ -1,3 +1,5 @@
 pub mod CommandLine
 pub mod Endings
+pub mod Pairs
 pub mod Serving
+pub mod Players

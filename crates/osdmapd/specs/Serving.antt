@@ -1,50 +1,72 @@
 -- What a run of the program writes.
-use Rattle.std.specs.Prelude.{◌≡◌, ℕ, Bool, true, false, List, ◌++◌, codes, Some, None, Result, Ok, Err}
+use Rattle.std.specs.Prelude.{◌≡◌, ℕ, Bool, true, false, List, [], ◌++◌, codes, length, map, Some, None, Result, Ok, Err}
+use Rattle.std.specs.Fmt.{decimal}
+use Rattle.std.specs.List.{concat}
+use Rattle.std.specs.declared.vec.Vec.{Vec}
+use Rattle.std.specs.declared.alloc.Global.{Global}
 use Rattle.osdmap.specs.Maps.{ClusterMap}
 use Rattle.mapjson.specs.MapTexts.{map_text_fault, StatesMap}
-use Rattle.monitor.specs.States.{History, opened}
+use Rattle.monitor.specs.Members.{Monitored}
 use Rattle.session.specs.Commands.{lines_in}
-use Rattle.session.specs.Answers.{alone}
+use Rattle.session.specs.Answers.{Sight, session_with}
 use Rattle.session.specs.Transcripts.{IsTranscript}
 use Rattle.session.specs.Sinks.{HasPut}
 use Rattle.session.specs.declared.sink.Buffer.{Buffer}
 use Rattle.session.specs.Buffers.{buffered}
+use Rattle.osdmapd.specs.Pairs.{Pairs}
 use Rattle.osdmapd.specs.declared.serving.Fault.{Fault}
 use Rattle.osdmapd.specs.declared.serving.Fault.TheVariants.{Map, Output, Memory}
 
--- the line above the answers of the first session
-abbrev pub heading : List ℕ
-heading = codes "session 1\n"
+-- ---- one session
+
+-- the line above the answers of the session of a number
+abbrev pub heading : ℕ → List ℕ
+heading number = codes "session " ++ decimal number ++ codes "\n"
 
 -- the gate of the program lets each line through
 abbrev pub lets_all : ℕ → Bool → Type 0
 lets_all number passes = passes ≡ true
 
--- the answers of the script from the map that a text states
-abbrev pub IsPlayed : ℕ → List ℕ → List ℕ → List ℕ → Type 0
-IsPlayed journal map script answers =
-    (m : ClusterMap) × (last : History) × StatesMap map m
-    × IsTranscript (alone lets_all) 1 (opened m journal) (lines_in script) answers last
+-- what a session has seen before its first line
+abbrev pub unseen : Sight
+unseen = record { member = []; follower = [] }
 
--- the answers where the map is not refused, or why there are none
-abbrev pub Answered : ℕ → List ℕ → List ℕ → Result Buffer Fault → Type 0
-Answered journal map script (Ok answers) = (map_text_fault map ≡ None) × IsPlayed journal map script (buffered answers)
-Answered journal map script (Err (Map refusal)) = map_text_fault map ≡ Some refusal
-Answered journal map script (Err Output) = ⊥
-Answered journal map script (Err Memory) = Unit {0}
+-- the text of the session of a number: its heading, and the answers of its script, from this first map and with a journal for so many changes
+abbrev pub IsTextOf : ClusterMap → ℕ → ℕ → List ℕ → List ℕ → Type 0
+IsTextOf first journal number script text =
+    (answers : List ℕ) × (last : Sight) × IsTranscript (session_with first journal lets_all) 1 unseen (lines_in script) answers last
+    × (text ≡ heading number ++ answers)
 
--- what is out at the end: the heading and the answers of a map that is not refused, or where the output fails a
--- beginning of them; nothing where the map is refused, or memory is short
-abbrev pub Serves : ℕ → List ℕ → List ℕ → List ℕ → List ℕ → Result Unit Fault → Type 0
-Serves journal map script before after (Ok done) =
-    (map_text_fault map ≡ None)
-    × ((answers : List ℕ) × IsPlayed journal map script answers × (after ≡ before ++ heading ++ answers))
-Serves journal map script before after (Err (Map refusal)) = (map_text_fault map ≡ Some refusal) × (after ≡ before)
-Serves journal map script before after (Err Output) =
-    (map_text_fault map ≡ None)
-    × ((answers : List ℕ) × (rest : List ℕ) × IsPlayed journal map script answers
-    × HasPut before (heading ++ answers) rest after)
-Serves journal map script before after (Err Memory) = after ≡ before
+-- the same of a session of this monitor
+abbrev pub IsTextBy : Monitored → ℕ → List ℕ → List ℕ → Type 0
+IsTextBy monitor number script text = IsTextOf monitor.first (length monitor.row.cells) number script text
+
+-- ---- all sessions
+
+-- the texts of the sessions of these scripts, numbered from 1, from the map that a text states
+abbrev pub AreTextsOf : ℕ → List ℕ → List (Vec ℕ Global) → List (List ℕ) → Type 0
+AreTextsOf journal stated scripts texts =
+    (m : ClusterMap) × StatesMap stated m × Pairs (λ number (script : Vec ℕ Global) text. IsTextOf m journal number script.items text) 1 scripts texts
+
+-- the texts where the map is not refused, or why there are none
+abbrev pub Answered : ℕ → List ℕ → List (Vec ℕ Global) → Result (Vec Buffer Global) Fault → Type 0
+Answered journal stated scripts (Ok texts) =
+    (map_text_fault stated ≡ None) × AreTextsOf journal stated scripts (map buffered texts.items)
+Answered journal stated scripts (Err (Map refusal)) = map_text_fault stated ≡ Some refusal
+Answered journal stated scripts (Err Output) = ⊥
+Answered journal stated scripts (Err Memory) = Unit {0}
+
+-- what is out at the end: the texts of a map that is not refused, one after the other, or where the output fails a beginning of them; nothing where
+-- the map is refused, or memory is short
+abbrev pub Serves : ℕ → List ℕ → List (Vec ℕ Global) → List ℕ → List ℕ → Result Unit Fault → Type 0
+Serves journal stated scripts before after (Ok done) =
+    (map_text_fault stated ≡ None)
+    × ((texts : List (List ℕ)) × AreTextsOf journal stated scripts texts × (after ≡ before ++ concat texts))
+Serves journal stated scripts before after (Err (Map refusal)) = (map_text_fault stated ≡ Some refusal) × (after ≡ before)
+Serves journal stated scripts before after (Err Output) =
+    (map_text_fault stated ≡ None)
+    × ((texts : List (List ℕ)) × (rest : List ℕ) × AreTextsOf journal stated scripts texts × HasPut before (concat texts) rest after)
+Serves journal stated scripts before after (Err Memory) = after ≡ before
 
 -- whether the sink has failed: where the output is told to have, and else not
 abbrev pub has_output_failed : Result Unit Fault → Bool

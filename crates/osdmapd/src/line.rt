@@ -5,23 +5,23 @@ ghost use Rattle.clap.specs.Matches.{found_of};
 ghost use Rattle.clap.specs.Simple.{app_of};
 ghost use Rattle.clap.specs.Values.{kind_of};
 ghost use Rattle.clap.specs.Walk.{rows_of};
-ghost use Rattle.monitor.specs.States.{max_journal};
+ghost use Rattle.epochlog.specs.Epochs.{max_capacity};
 ghost use Rattle.osdmapd.specs.CommandLine.{journal_rule, map_rule, script_rule, IsReadBy, app};
-ghost use Rattle.osdmapd.specs.CommandLine.{HasNoJournal, IsJournalIn, map_path_in, script_paths_in, Chooses, TellsOf, ReadsLine, ReadsUsual};
+ghost use Rattle.osdmapd.specs.CommandLine.{max_scripts, HasNoJournal, IsJournalIn, map_path_in, script_paths_in, Chooses, TellsOf, ReadsLine, ReadsUsual};
 
 use crate::choices::{LineError, Options};
 use clap::error::ErrorKind;
 use clap::{Arg, ArgAction, ArgMatches, Command, Error, value_parser};
-use monitor::state::MAX_JOURNAL;
+use epochlog::MAX_CAPACITY;
 use std::alloc::{AllocError, Global};
 
 /// How many scripts can be run.
-const MAX_SCRIPTS: usize = 1;
+const MAX_SCRIPTS: usize = 64;
 
 /// What the program says of itself where help is asked for.
 const ABOUT: &str =
-    "Keeps the OSDMap of a Ceph-like cluster: reads a map, answers the lines of a script over it, one line each, \
-and ends. Statuses: 0 done, 1 command line, 2 map refused, 3 file or output, 4 memory. The formats of maps, \
+    "Keeps the OSDMap of a Ceph-like cluster: reads a map, answers the lines of scripts over it, one line each, all scripts at \
+once, and ends. Statuses: 0 done, 1 command line, 2 map refused, 3 file or output, 4 memory. The formats of maps, \
 changes, scripts and answers are in docs/FORMATS.md.";
 
 /// `--journal N`.
@@ -33,7 +33,7 @@ fn journal_option<'a>(alloc: Global) -> Arg<'a>
         .value_name("N")
         .help("How many changes the journal holds: 1 to 65536")
         .action(ArgAction::Set)
-        .value_parser(value_parser!(u32).range(1..=i64::from(MAX_JOURNAL)))
+        .value_parser(value_parser!(u32).range(1..=i64::from(MAX_CAPACITY)))
         .default_value("1024")
 }
 
@@ -47,12 +47,14 @@ fn map_word<'a>(alloc: Global) -> Arg<'a>
         .action(ArgAction::Set)
 }
 
-/// SCRIPT, of which the parser takes any number, so that more than one is told by a text of ours.
+/// SCRIPT, of which the parser takes any number, so that more than 64 are told by a text of ours.
 fn script_words<'a>(alloc: Global) -> Arg<'a>
     ensures { IsReadBy script_rule result }
 {
     Arg::new(alloc, "SCRIPT")
-        .help("The file of the script: lines such as up 1.0, epoch, dump, change {..}")
+        .help(
+            "The file of a script: lines such as up 1.0, groups 2, epoch, await 3, dump, change {..}; 1 to 64 scripts",
+        )
         .required(true)
         .num_args(1..)
         .action(ArgAction::Append)
@@ -124,14 +126,15 @@ fn scripts_in<'m>(matches: &'m ArgMatches<'_>) -> Option<&'m [&'m str]>
 /// The options of words that the parser took. A value that it had to find and did not is told as out of memory.
 fn taken(alloc: Global, matches: &ArgMatches<'_>) -> Result<Options, LineError>
     ensures least { IfOk result (λ o. 1 ≤ o.journal) }
-    ensures most { IfOk result (λ o. o.journal ≤ max_journal) }
-    ensures scripts { IfOk result (λ o. vec_len o.scripts ≡ 1) }
+    ensures most { IfOk result (λ o. o.journal ≤ max_capacity) }
+    ensures some { IfOk result (λ o. 1 ≤ vec_len o.scripts) }
+    ensures few { IfOk result (λ o. vec_len o.scripts ≤ max_scripts) }
     ensures taken { Chooses (rows_of (found_of matches.now)) result }
 {
     let journal = journal_in(matches).ok_or(LineError::Memory)?;
     let map = map_in(matches).ok_or(LineError::Memory)?;
     let scripts = scripts_in(matches).ok_or(LineError::Memory)?;
-    if journal < 1 || journal > MAX_JOURNAL || scripts.is_empty() {
+    if journal < 1 || journal > MAX_CAPACITY || scripts.is_empty() {
         return Err(LineError::Memory);
     }
     if scripts.len() > MAX_SCRIPTS {
@@ -144,15 +147,16 @@ fn taken(alloc: Global, matches: &ArgMatches<'_>) -> Result<Options, LineError>
     })
 }
 
-/// What a command line asks for, the program's name first: `[--journal N] MAP SCRIPT`, N from 1 to 65,536 and 1,024
-/// where it is not given. The options are those that the parser finds in the words, exactly where it has nothing
-/// against them and there is one script; `Help` where help was asked for, `Usage` for what else the parser has against
-/// the words, `TooMany` where there are more scripts, else `Memory`. So where MAP and SCRIPT begin with no hyphen, they
+/// What a command line asks for, the program's name first: `[--journal N] MAP SCRIPT..`, N from 1 to 65,536 and 1,024
+/// where it is not given, and 1 to 64 scripts. The options are those that the parser finds in the words, exactly where it has
+/// nothing against them and there are no more scripts; `Help` where help was asked for, `Usage` for what else the parser has against
+/// the words, `TooMany` where there are more scripts, else `Memory`. So where MAP and one SCRIPT begin with no hyphen, they
 /// are the map and the script, and the journal is N or 1,024.
 pub fn options(alloc: Global, words: &[String]) -> Result<Options, LineError>
     ensures least { IfOk result (λ o. 1 ≤ o.journal) }
-    ensures most { IfOk result (λ o. o.journal ≤ max_journal) }
-    ensures scripts { IfOk result (λ o. vec_len o.scripts ≡ 1) }
+    ensures most { IfOk result (λ o. o.journal ≤ max_capacity) }
+    ensures some { IfOk result (λ o. 1 ≤ vec_len o.scripts) }
+    ensures few { IfOk result (λ o. vec_len o.scripts ≤ max_scripts) }
     ensures read { ReadsLine (map string_bytes words.now) result }
     ensures usual { ReadsUsual (map string_bytes words.now) result }
 {

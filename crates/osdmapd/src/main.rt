@@ -1,15 +1,17 @@
-//! Answers a script of commands over the map of a cluster: `osdmapd [--journal N] MAP SCRIPT`.
+//! Answers scripts of commands over the map of a cluster: `osdmapd [--journal N] MAP SCRIPT..`.
 #![tactic(auto)]
 
-ghost use Rattle.std.specs.Prelude.{◌≡◌, ◌≤◌, IfErr, vec_len};
+ghost use Rattle.std.specs.Prelude.{◌≡◌, ◌≤◌, IfOk, IfErr, length, vec_len};
 ghost use Rattle.std.specs.declared.io.ErrorKind.{ErrorKind};
 ghost use Rattle.std.specs.Process.{exit_status};
-ghost use Rattle.monitor.specs.States.{max_journal};
+ghost use Rattle.epochlog.specs.Epochs.{max_capacity};
+ghost use Rattle.osdmapd.specs.CommandLine.{max_scripts};
 ghost use Rattle.osdmapd.specs.Endings.{file_ending, run_status, status_of, TellsLine};
 
 mod choices;
 mod ending;
 mod line;
+mod playing;
 mod serving;
 
 use choices::{LineError, Options};
@@ -17,6 +19,8 @@ use ending::Ending;
 use session::Buffer;
 use std::process::ExitCode;
 use std::rt::Files;
+use std::sync::Wait;
+use std::thread::Threads;
 use std::{fs, io};
 
 /// Ends a run: where something kept it from being done, standard error tells why.
@@ -40,24 +44,40 @@ fn read<'a, R: Files + AllocGlobal>(rt: &R, path: &'a str) -> Result<Vec<u8>, En
     fs::read(rt, path).map_err(|error| Ending::of_file(&error, path))
 }
 
-/// Reads the files, the map first, and puts the answers to standard output.
-fn work<'a, R: Files + AllocGlobal + Print>(rt: &R, options: &'a Options) -> Result<(), Ending<'a>>
-    requires least { 1 ≤ options.now.journal }
-    requires most { options.now.journal ≤ max_journal }
-    requires scripts { vec_len options.now.scripts ≡ 1 }
-    ensures { IfErr result (λ e. 2 ≤ status_of e) }
+/// The bytes of each script.
+fn read_all<'a, R: Files + AllocGlobal>(
+    rt: &R,
+    paths: &'a [String],
+) -> Result<Vec<Vec<u8>>, Ending<'a>>
+    ensures count { IfOk result (λ scripts. vec_len scripts ≡ length paths.now) }
+    ensures status { IfErr result (λ e. 3 ≤ status_of e) }
 {
-    let alloc = rt.alloc();
-    let map = read(rt, options.map.as_str())?;
-    let mut scripts = Vec::new(alloc);
-    for path in options.scripts.iter() {
+    let mut scripts = Vec::new(rt.alloc());
+    for path in paths {
         let script = read(rt, path.as_str())?;
         if scripts.push(script).is_err() {
             return Err(Ending::Memory);
         }
     }
+    Ok(scripts)
+}
+
+/// Reads the files, the map first, and puts the answers to standard output.
+fn work<'a, R: Files + AllocGlobal + Print + Threads + Wait + Sync>(
+    rt: &R,
+    options: &'a Options,
+) -> Result<(), Ending<'a>>
+    requires least { 1 ≤ options.now.journal }
+    requires most { options.now.journal ≤ max_capacity }
+    requires some { 1 ≤ vec_len options.now.scripts }
+    requires few { vec_len options.now.scripts ≤ max_scripts }
+    ensures { IfErr result (λ e. 2 ≤ status_of e) }
+{
+    let alloc = rt.alloc();
+    let map = read(rt, options.map.as_str())?;
+    let scripts = read_all(rt, options.scripts.as_slice())?;
     let mut out = Buffer::new(alloc);
-    if let Err(fault) = serving::serve(alloc, options.journal, &map, &scripts, &mut out) {
+    if let Err(fault) = serving::serve(alloc, rt, options.journal, &map, &scripts, &mut out) {
         return Err(Ending::of_fault(fault));
     }
     io::Write::write_all(&mut io::writer(rt), out.bytes()).map_err(|_| Ending::Output)

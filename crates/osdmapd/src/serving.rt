@@ -1,20 +1,23 @@
 //! What the program does with its files.
-ghost use Rattle.std.specs.Prelude.{◌≡◌, ◌≢◌, ◌≤◌, ◌++◌, ℕ, List, length, false, is_err};
-ghost use Rattle.std.specs.Prelude.{OnOk, OnErr, IfSome, slice_get};
+ghost use Rattle.std.specs.Prelude.{◌≡◌, ◌≢◌, ◌≤◌, ◌++◌, ℕ, List, length, map, false, is_err};
+ghost use Rattle.std.specs.Prelude.{OnOk, OnErr};
+ghost use Rattle.std.specs.List.{concat};
 ghost use Rattle.refusal.specs.declared.refused.Refusal.TheVariants.{Memory as OutOfMemory};
-ghost use Rattle.osdmapd.specs.declared.serving.Fault.TheVariants.{Output as NoOutput};
-ghost use Rattle.monitor.specs.States.{max_journal};
+ghost use Rattle.osdmapd.specs.declared.serving.Fault.TheVariants.{Output as NoOutput, Memory as NoMemory};
+ghost use Rattle.epochlog.specs.Epochs.{max_capacity};
 ghost use Rattle.session.specs.Sinks.{HasPut};
-ghost use Rattle.osdmapd.specs.Serving.{heading, Answered, Serves, has_output_failed};
+ghost use Rattle.session.specs.Buffers.{buffered};
+ghost use Rattle.osdmapd.specs.CommandLine.{max_scripts};
+ghost use Rattle.osdmapd.specs.Serving.{Answered, Serves, has_output_failed};
 
+use crate::playing::texts;
 use mapjson::read_map;
-use monitor::State;
+use monitor::Monitor;
 use refusal::Refusal;
-use session::{Buffer, Open, Sink, WriteFailed, write_whole};
-use std::alloc::Global;
-
-/// The line above the answers of the first session.
-const HEADING: &[u8] = b"session 1\n";
+use session::{Buffer, Sink, WriteFailed, write_whole};
+use std::alloc::{AllocError, Global};
+use std::sync::Wait;
+use std::thread::Threads;
 
 /// Why nothing is served, or not all of it.
 #[derive(Clone, Copy, Debug, PartialEq, Eq)]
@@ -35,7 +38,15 @@ impl From<WriteFailed> for Fault {
     }
 }
 
-/// Why there is no state, where this refusal is the answer.
+impl From<AllocError> for Fault {
+    ghost from_gives = { λ _ fault. fault ≡ NoMemory };
+
+    fn from(_error: AllocError) -> Fault {
+        Fault::Memory
+    }
+}
+
+/// Why there is no map, where this refusal is the answer.
 fn fault_of(refusal: Refusal) -> Fault
     ensures memory { refusal ≡ OutOfMemory → result ≡ Fault.Memory }
     ensures other { refusal ≢ OutOfMemory → result ≡ Fault.Map refusal }
@@ -46,59 +57,66 @@ fn fault_of(refusal: Refusal) -> Fault
     }
 }
 
-/// The answers of a script from a map, in memory.
-fn answered(alloc: Global, journal: u32, map: &[u8], script: &[u8]) -> Result<Buffer, Fault>
-    requires least { 1 ≤ journal }
-    requires most { journal ≤ max_journal }
-    ensures { Answered journal map.now script.now result }
+/// The texts of the sessions of scripts from a map, in memory.
+fn answered<R: Threads + Wait + Sync>(
+    alloc: Global,
+    rt: &R,
+    journal: u32,
+    map: &[u8],
+    scripts: &[Vec<u8>],
+) -> Result<Vec<Buffer>, Fault>
+    requires few { length scripts.now ≤ max_scripts }
+    ensures { Answered journal map.now scripts.now result }
 {
     let map = match read_map(alloc, map) {
         Ok(map) => map,
         Err(refusal) => return Err(fault_of(refusal)),
     };
-    // The epoch of a map that was read and the journal are within their limits, so that only memory can be short.
-    let Ok(mut state) = State::new(alloc, map, journal) else {
+    // The epoch of a map that was read, the journal and the number of scripts are within their limits, so that only memory can be short.
+    let Ok((monitor, members)) = Monitor::open(alloc, map, journal, scripts.len() as u32) else {
         return Err(Fault::Memory);
     };
-    let mut answers = Buffer::new(alloc);
-    match session::run(alloc, &mut state, script, &mut answers, &Open) {
-        Ok(()) => Ok(answers),
-        Err(_) => Err(Fault::Memory),
-    }
+    Ok(texts(alloc, rt, &monitor, members, scripts)?)
 }
 
-/// Puts the heading and the answers to a sink. At an `Err` the sink has failed, and has a beginning of the two.
-fn put<W: Sink>(out: &mut W, answers: &[u8]) -> Result<(), WriteFailed>
+/// Puts texts to a sink, one after the other. At an `Err` the sink has failed, and has a beginning of them.
+fn put<W: Sink>(out: &mut W, texts: &[Buffer]) -> Result<(), WriteFailed>
     requires { W.has_failed out.old ≡ false }
-    ensures whole { OnOk result (W.written out.new ≡ W.written out.old ++ heading ++ answers.now) }
+    ensures whole { OnOk result (W.written out.new ≡ W.written out.old ++ concat (map buffered texts.now)) }
     ensures part { OnErr result ((rest : List ℕ)
-        × HasPut (W.written out.old) (heading ++ answers.now) rest (W.written out.new)) }
+        × HasPut (W.written out.old) (concat (map buffered texts.now)) rest (W.written out.new)) }
     ensures failed { W.has_failed out.new ≡ is_err result }
 {
-    write_whole(out, HEADING)?;
-    write_whole(out, answers)
+    for text in texts {
+        write_whole(out, text.bytes())?;
+    }
+    Ok(())
 }
 
-/// Runs a script over the map that a text states, and then puts its heading and its answers to a sink; `journal` is how
-/// many changes may be committed. Where the map is refused (10 to 17) or memory is short (30), nothing is put. `Output`
-/// comes only where the map is not refused and the sink has failed, which then has a beginning of the two; at every
-/// other end it has not failed.
-pub fn serve<W: Sink>(
+/// Runs scripts over the map that a text states, each in a session and a thread of its own, with a seat at one monitor; after all have ended
+/// it puts to a sink for each script in order the heading of its session and its answers. All threads are started before one is
+/// joined. `journal` is how many changes may be committed, 1 to 65,536; there are 1 to 64 scripts.
+///
+/// Where the map is refused (10 to 17), nothing is put, nor at `Memory`: a growth was refused (30) before the sessions or for one of their
+/// texts, or a thread could not be made. `Output` comes only where the map is not refused and the sink has failed, which then has a
+/// beginning of the texts; at every other end it has not failed.
+pub fn serve<R: Threads + Wait + Sync, W: Sink>(
     alloc: Global,
+    rt: &R,
     journal: u32,
     map: &[u8],
     scripts: &[Vec<u8>],
     out: &mut W,
 ) -> Result<(), Fault>
     requires least { 1 ≤ journal }
-    requires most { journal ≤ max_journal }
-    requires scripts { length scripts.now ≡ 1 }
+    requires most { journal ≤ max_capacity }
+    requires some { 1 ≤ length scripts.now }
+    requires few { length scripts.now ≤ max_scripts }
     requires unfailed { W.has_failed out.old ≡ false }
-    ensures served { IfSome (slice_get scripts.now 0) (λ script.
-        Serves journal map.now script.items (W.written out.old) (W.written out.new) result) }
+    ensures served { Serves journal map.now scripts.now (W.written out.old) (W.written out.new) result }
     ensures failed { W.has_failed out.new ≡ has_output_failed result }
 {
-    let answers = answered(alloc, journal, map, &scripts[0])?;
-    put(out, answers.bytes())?;
+    let texts = answered(alloc, rt, journal, map, scripts)?;
+    put(out, &texts)?;
     Ok(())
 }

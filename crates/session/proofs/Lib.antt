@@ -1,3 +1,6 @@
 mod LinesIn
 mod Transcribed
 mod Replies
+mod Numbers
+mod Histories
+mod Told

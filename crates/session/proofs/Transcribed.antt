@@ -1,9 +1,9 @@
 -- A transcript grows by a line at its end.
-use Rattle.std.proofs.Common.{◌≡◌, ℕ, ◌+◌, suc, false, List, [], ◌∷◌, ◌++◌, length, ◌<◌, true, refl, sym, subst, append_assoc, append-nil, add-zero, inl, inr, arith, Result, Ok, Err, IfErr}
+use Rattle.std.proofs.Common.{◌≡◌, ℕ, ◌+◌, suc, false, List, [], ◌∷◌, ◌++◌, length, ◌<◌, true, refl, sym, subst, append_assoc, append-nil, add-zero, inr, arith, Result, Ok, Err, IfErr}
 use Rattle.std.proofs.lemmas.List.{length-append}
 use Rattle.session.specs.declared.session.SessionError.{SessionError}
 use Rattle.session.specs.declared.session.SessionError.TheVariants.{Write, Memory, Held}
-use Rattle.session.specs.Transcripts.{Manner, TakesLine, IsTranscript, Rests, Breaks, Holds, Stopping, Stops}
+use Rattle.session.specs.Transcripts.{Manner, TakesLine, IsTranscript, Breaks, Stopping, Stops}
 use Rattle.std.specs.Result.{IsErrAnd}
 use Rattle.session.specs.Ends.{Ends, Halts}
 use Rattle.session.proofs.Replies.{takes_line}
@@ -77,22 +77,12 @@ stops m way first between last lines count others before out (whole, cut, many, 
 
 -- ---- the ends of a session
 
--- the error that is handed on is the one that the session stopped by
-pub handed_on : {S : Type 0} (m : Manner S) (first last : S) (lines : List (List ℕ)) (before after : List ℕ)
-    (r : Result Unit SessionError) (e : SessionError) → IsErrAnd r (λ f. f ≡ e)
-    → (out : List ℕ) × Stops m (Halts m e) first lines out last × (after ≡ before ++ out)
-    → IfErr r (λ f. (out : List ℕ) × Stops m (Halts m f) first lines out last × (after ≡ before ++ out))
-handed_on m first last lines before after (Ok done) e is stopped = tt
-handed_on m first last lines before after (Err f) e is stopped = rw is stopped
+-- what holds of the error that the session stopped by holds of the one that is handed on
+pub handed_on : (P : SessionError → Type 0) (r : Result Unit SessionError) (e : SessionError) → IsErrAnd r (λ f. f ≡ e) → P e → IfErr r P
+handed_on P (Ok done) e is holds = tt
+handed_on P (Err f) e is holds = rw is holds
 
--- the session, and what is out of it, where no more lines begin
-pub stops_before : {S : Type 0} (m : Manner S) (first last : S) (lines : List (List ℕ)) (count : ℕ)
-    (others : List (List ℕ)) (before put bytes : List ℕ) → Reaches m first lines count others bytes last → put ≡ before ++ bytes
-    → (out : List ℕ) × Stops m (Halts m Memory) first lines out last × (put ≡ before ++ out)
-stops_before m first last lines count others before put bytes reached is =
-    (bytes, stops m (Halts m Memory) first last last lines count others bytes bytes reached (inl (refl, refl)), is)
-
--- the same where the gate holds the next line
+-- the session, and what is out of it, where the gate holds the next line
 pub stops_held : {S : Type 0} (m : Manner S) (first last : S) (lines : List (List ℕ)) (count : ℕ) (line : List ℕ)
     (others : List (List ℕ)) (before put bytes : List ℕ) → Reaches m first lines count (line ∷ others) bytes last
     → put ≡ before ++ bytes → 0 < length line → m.lets (count + 1) false
@@ -108,14 +98,14 @@ stops_held m first last lines count (c ∷ cs) others before put bytes reached i
 pub stops_at : {S : Type 0} (m : Manner S) (first between last : S) (lines : List (List ℕ)) (count : ℕ) (line : List ℕ)
     (others : List (List ℕ)) (before put after bytes : List ℕ) (e : SessionError)
     → Reaches m first lines count (line ∷ others) bytes between → put ≡ before ++ bytes → 0 < length line
-    → m.lets (count + 1) true → m.link between between → Ends (m.answers between line) last put after (Err e)
+    → m.lets (count + 1) true → Ends (m.answers between line) last put after (Err e)
     → (out : List ℕ) × Stops m (Halts m e) first lines out last × (after ≡ before ++ out)
-stops_at m first between last lines count line others before put after bytes e reached is some lets link ends = by_error e ends
+stops_at m first between last lines count line others before put after bytes e reached is some lets ends = by_error e ends
   where
     cut_off : (answer rest part : List ℕ) → m.answers between line answer last → answer ≡ part ++ rest
         → Breaks m (count + 1) between (line ∷ others) bytes (bytes ++ part) last
     cut_off answer rest part answered cut =
-        (line, others, answer, part, rest, refl, takes_line m (count + 1) between between last line answer some lets link answered, cut, refl)
+        (line, others, answer, part, rest, refl, takes_line m (count + 1) between last line answer some lets answered, cut, refl)
 
     all_out : (part : List ℕ) → after ≡ put ++ part → after ≡ before ++ (bytes ++ part)
     all_out part more = rw (more, is, append_assoc before bytes part) refl

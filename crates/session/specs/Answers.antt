@@ -1,50 +1,101 @@
--- What a line answers at a state, and the state that it leaves: a question is answered by the map alone, and a change
--- is a step of the state.
-use Rattle.std.specs.Prelude.{◌≡◌, ℕ, Bool, List, Option, Some, None, Result, Ok, Err, MatchResult}
+-- What a line answers to a session of a monitor, by what its member and its follower have seen before and after it.
+use Rattle.std.specs.Prelude.{◌≡◌, ◌⊎◌, ℕ, ◌<◌, ◌≤◌, Bool, List, codes, Option, Some, None, Result, Err, MatchResult}
+use Rattle.std.specs.declared.vec.Vec.{Vec}
+use Rattle.std.specs.declared.alloc.Global.{Global}
+use Rattle.stated.specs.declared.pg.Pg.{Pg}
 use Rattle.stated.specs.declared.change.ChangeParts.{ChangeParts}
+use Rattle.stated.specs.Incrementals.{Step}
 use Rattle.refusal.specs.declared.refused.Refusal.{Refusal}
-use Rattle.refusal.specs.declared.refused.Refusal.TheVariants.{BadCommand}
-use Rattle.refusal.specs.Outcomes.{Gives, Makes}
+use Rattle.refusal.specs.declared.refused.Refusal.TheVariants.{BadCommand, SeatSpent, AwaitSpent}
+use Rattle.refusal.specs.Outcomes.{Makes}
 use Rattle.osdmap.specs.Maps.{ClusterMap}
-use Rattle.osdmap.specs.Placement.{group_fault, up_set, Places}
+use Rattle.osdmap.specs.Placement.{group_fault}
+use Rattle.osdmap.specs.Changes.{after}
+use Rattle.pgtable.specs.Index.{up_at}
 use Rattle.mapjson.specs.ChangeTexts.{change_text_fault, StatesChange}
 use Rattle.mapjson.specs.Written.{written}
-use Rattle.monitor.specs.States.{History, Commits}
+use Rattle.state.specs.Answers.{FindsUp, FindsCount, FindsGroups}
+use Rattle.monitor.specs.Histories.{GoesOn, Looks, FindsEpoch, FindsText, Commits}
 use Rattle.session.specs.declared.command.Question.{Question}
-use Rattle.session.specs.declared.command.Question.TheVariants.{Up, Epoch, Dump}
-use Rattle.session.specs.Commands.{Command, ask, change, command_in}
+use Rattle.session.specs.declared.command.Question.TheVariants.{Up, Count, Groups, Epoch, Dump}
+use Rattle.session.specs.declared.command.Task.{Task}
+use Rattle.session.specs.declared.command.Task.TheVariants as task
+use Rattle.session.specs.Commands.{Command, ask, change, wait, follower, command_in}
 use Rattle.session.specs.Transcripts.{Manner}
-use Rattle.session.specs.Texts.{up_text, epoch_text, dump_text, ok_text, refusal_text, line_of}
+use Rattle.session.specs.Texts.{set_text, count_text, groups_text, epoch_text, dump_text, ok_text, refusal_text, line_of}
 
--- the line that a question finds in a map, or why it is refused: for want of memory only where nothing else refuses it,
--- and the epoch never
-abbrev pub Finds : ClusterMap → Question → Result (List ℕ) Refusal → Type 0
-Finds m Epoch r = r ≡ Ok (epoch_text m.epoch)
-Finds m Dump r = Gives r None (λ text. text ≡ dump_text (written m))
-Finds m (Up pg) r =
-    Gives r (group_fault m pg)
-    (λ text. (places : List (Option ℕ)) × Places up_set m pg places × (text ≡ up_text m.epoch pg places))
+-- what a session has seen: the history of its member; and that of its follower, which is empty where there is none yet
+pub record Sight : Type 0 where
+  pub member : List Step
+  pub follower : List Step
 
--- what a change answers, the new epoch and the evaluations: its text is read, where a growth may be refused in place of
--- any answer; then what it states is committed, where want of memory is told only where nothing else refuses it; a text
--- that is refused changes nothing
-abbrev pub Changes : History → List ℕ → Result (ℕ × ℕ) Refusal → History → Type 0
-Changes old text r new =
+-- the line of what is answered so, or of its refusal
+abbrev pub IsLineOf : {X : Type 0} → (Result X Refusal → Type 0) → (X → List ℕ) → List ℕ → Type 0
+IsLineOf {X} answers text line = (r : Result X Refusal) × answers r × (line ≡ line_of text r)
+
+-- ---- the member
+
+-- what a question answers
+abbrev pub Asks : ClusterMap → List Step → List Step → Question → List ℕ → Type 0
+Asks first before now (Up pg) answer =
+    IsLineOf (Looks first before now (λ m. FindsUp m pg)) (λ found. set_text (codes "up") found.0 pg found.1) answer
+Asks first before now (Count osd) answer =
+    IsLineOf (Looks first before now (λ m. FindsCount m osd)) (λ found. count_text found.0 osd found.1) answer
+Asks first before now (Groups osd) answer =
+    IsLineOf (Looks first before now (λ m. FindsGroups (λ (groups : Vec Pg Global). groups.items) m osd)) (λ found. groups_text found.0 osd found.1.items) answer
+Asks first before now Epoch answer = IsLineOf (Looks first before now FindsEpoch) (epoch_text (codes "epoch")) answer
+Asks first before now Dump answer =
+    IsLineOf (Looks first before now (FindsText (λ (text : Vec ℕ Global). text.items))) (λ text. dump_text (codes "dump") text.items) answer
+
+-- what a change answers, the new epoch and the evaluations: its text is read, where a growth may be refused in place of any answer; then
+-- what it states is committed; a text that is refused changes nothing, and nothing is looked at
+abbrev pub Changes : ClusterMap → ℕ → List Step → List Step → List ℕ → Result (ℕ × ℕ) Refusal → Type 0
+Changes first most before now text r =
     (read : Result (ℕ × ChangeParts) Refusal) × Makes read (change_text_fault text) (StatesChange text)
-    × MatchResult read (λ stated. Commits old new stated.0 stated.1 r) (λ e. (r ≡ Err e) × (new ≡ old))
+    × MatchResult read (λ stated. Commits first most before now stated.0 stated.1 r) (λ e. (r ≡ Err e) × (now ≡ before))
 
--- what a command answers, and the state that it leaves; none is a line that is no command
-abbrev pub Does : History → Option Command → List ℕ → History → Type 0
-Does old None answer new = (answer ≡ refusal_text BadCommand) × (new ≡ old)
-Does old (Some (ask question)) answer new =
-    ((r : Result (List ℕ) Refusal) × Finds old.map question r × (answer ≡ line_of (λ text. text) r)) × (new ≡ old)
-Does old (Some (change text)) answer new =
-    (r : Result (ℕ × ℕ) Refusal) × Changes old text r new × (answer ≡ line_of (λ ok. ok_text ok.0 ok.1) r)
+-- what waiting for an epoch answers: one that is at least that, at the history that its member has seen then, which goes on from the one
+-- before; or that the turns are spent, at a history whose epoch is below it; or that its seat has made its draws
+abbrev pub Awaits : ClusterMap → ℕ → List Step → List Step → Result ℕ Refusal → Type 0
+Awaits first wanted before now r =
+    GoesOn first before now
+    × MatchResult r (λ epoch. (epoch ≡ (after first now).epoch) × (wanted ≤ epoch))
+    (λ e. (e ≡ SeatSpent) ⊎ ((e ≡ AwaitSpent) × ((after first now).epoch < wanted)))
 
--- what a line answers, and the state that it leaves
-abbrev pub IsAnswered : History → List ℕ → List ℕ → History → Type 0
-IsAnswered old line answer new = Does old (command_in line) answer new
+-- ---- the follower
 
--- how a session goes that has its state alone, behind a gate: each line finds what the one before it left
-abbrev pub alone : (ℕ → Bool → Type 0) → Manner History
-alone lets = record { answers = IsAnswered; link = λ left found. found ≡ left; lets = lets }
+-- what a follower's task answers, where a growth may be refused in place of any answer: the epoch of its history, which goes on from the
+-- one before; or what its map says, after the same history as before
+abbrev pub Tells : ClusterMap → List Step → List Step → Task → List ℕ → Type 0
+Tells first before now task.CatchUp answer =
+    IsLineOf (λ r. GoesOn first before now × Makes r None (λ epoch. epoch ≡ (after first now).epoch)) (epoch_text (codes "follow")) answer
+Tells first before now (task.Up pg) answer =
+    IsLineOf (λ r. (now ≡ before) × Makes r (group_fault (after first now) pg) (λ (found : ℕ × List (Option ℕ)).
+    (found.0 ≡ (after first now).epoch) × (Some found.1 ≡ up_at (after first now) pg)))
+    (λ found. set_text (codes "fup") found.0 pg found.1) answer
+Tells first before now task.Dump answer =
+    IsLineOf (λ r. (now ≡ before) × Makes r None (λ (text : Vec ℕ Global). text.items ≡ written (after first now)))
+    (λ text. dump_text (codes "fdump") text.items) answer
+
+-- ---- lines
+
+-- what a command answers to a session of a monitor with this first map and a journal for so many changes, and what it has seen then; none
+-- is a line that is no command
+abbrev pub Does : ClusterMap → ℕ → Sight → Option Command → List ℕ → Sight → Type 0
+Does first most before None answer now = (answer ≡ refusal_text BadCommand) × (now ≡ before)
+Does first most before (Some (ask question)) answer now =
+    Asks first before.member now.member question answer × (now.follower ≡ before.follower)
+Does first most before (Some (change text)) answer now =
+    IsLineOf (Changes first most before.member now.member text) (λ ok. ok_text ok.0 ok.1) answer × (now.follower ≡ before.follower)
+Does first most before (Some (wait epoch)) answer now =
+    IsLineOf (Awaits first epoch before.member now.member) (epoch_text (codes "epoch")) answer × (now.follower ≡ before.follower)
+Does first most before (Some (follower t)) answer now =
+    Tells first before.follower now.follower t answer × (now.member ≡ before.member)
+
+-- what a line answers, and what the session has seen then
+abbrev pub IsAnswered : ClusterMap → ℕ → Sight → List ℕ → List ℕ → Sight → Type 0
+IsAnswered first most before line answer now = Does first most before (command_in line) answer now
+
+-- how a session goes behind a gate
+abbrev pub session_with : ClusterMap → ℕ → (ℕ → Bool → Type 0) → Manner Sight
+session_with first most lets = record { answers = IsAnswered first most; lets = lets }

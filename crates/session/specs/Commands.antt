@@ -1,13 +1,15 @@
 -- The lines of a script, and the command of a line.
-use Rattle.std.specs.Prelude.{ℕ, ◌==◌, Bool, List, [], ◌∷◌, length, take, drop, codes, Option, Some, None, if◌then◌else◌}
+use Rattle.std.specs.Prelude.{ℕ, ◌==◌, ◌^◌, Bool, List, [], ◌∷◌, length, take, drop, codes, nat_lt, Option, Some, None, if◌then◌else◌}
 use Rattle.std.specs.List.{onto_first}
-use Rattle.std.specs.Option.{option_map}
+use Rattle.std.specs.Option.{option_map, option_and_then}
 use Rattle.std.specs.Str.{bytes_eq}
-use Rattle.stated.specs.PgText.{group_in}
+use Rattle.stated.specs.PgText.{group_in, number_in}
 use Rattle.session.specs.declared.command.Command.{Command as Read}
-use Rattle.session.specs.declared.command.Command.TheVariants.{Ask, Change}
+use Rattle.session.specs.declared.command.Command.TheVariants.{Ask, Change, Await, Follower}
 use Rattle.session.specs.declared.command.Question.{Question}
-use Rattle.session.specs.declared.command.Question.TheVariants.{Up, Epoch, Dump}
+use Rattle.session.specs.declared.command.Question.TheVariants.{Up, Count, Groups, Epoch, Dump}
+use Rattle.session.specs.declared.command.Task.{Task}
+use Rattle.session.specs.declared.command.Task.TheVariants as task
 
 -- the byte of a newline
 abbrev pub is_newline : ℕ → Bool
@@ -18,29 +20,74 @@ unfoldable pub lines_in : List ℕ → List (List ℕ)
 lines_in [] = []
 lines_in (c ∷ cs) = if is_newline c then [] ∷ lines_in cs else onto_first c (lines_in cs)
 
--- what a line asks for: a question about the map, or a change that a JSON text states
+-- ---- numbers
+
+-- a number below a limit
+abbrev pub below : ℕ → ℕ → Option ℕ
+below limit n = if nat_lt n limit then Some n else None
+
+-- the number that a text is in decimal, without a sign or leading zeros, and below a limit
+abbrev pub number_below : ℕ → List ℕ → Option ℕ
+number_below limit text = option_and_then (below limit) (number_in 10 text)
+
+-- the number of an OSD, of 32 bits
+abbrev pub osd_in : List ℕ → Option ℕ
+osd_in text = number_below (2 ^ 32) text
+
+-- the number of an epoch, of 64 bits
+abbrev pub epoch_in : List ℕ → Option ℕ
+epoch_in text = number_below (2 ^ 64) text
+
+-- ---- commands
+
+-- what a line asks for: a question to the monitor; a change that a JSON text states; to wait until the epoch is at least a number; or a task
+-- of the session's follower
 pub data Command : Type 0 where
   ask : Question → Command
   change : List ℕ → Command
+  wait : ℕ → Command
+  follower : Task → Command
 
 -- the command that was read of a line
 abbrev pub shown : Read → Command
 shown (Ask question) = ask question
 shown (Change text) = change text.now
+shown (Await epoch) = wait epoch
+shown (Follower t) = follower t
 
 -- what stands behind a word and its space
 abbrev pub behind : List ℕ → List ℕ → Option (List ℕ)
 behind word line = if bytes_eq (take (length word) line) word then Some (drop (length word) line) else None
 
--- the command of a line; none where the line is not `epoch`, `dump`, `change ` and a text, or `up ` and a group
-unfoldable pub command_in : List ℕ → Option Command
-command_in line =
-    if bytes_eq line (codes "epoch") then Some (ask Epoch)
-    else if bytes_eq line (codes "dump") then Some (ask Dump)
-    else elim (behind (codes "change ") line) [
-      | Some text ↦ Some (change text)
-      | None ↦ elim (behind (codes "up ") line) [
-        | Some group ↦ option_map (λ pg. ask (Up pg)) (group_in group)
-        | None ↦ None
+-- the question of a line: `epoch`, `dump`, `up ` and a group, `count ` or `groups ` and an OSD
+unfoldable pub question_in : List ℕ → Option Question
+question_in line =
+    if bytes_eq line (codes "epoch") then Some Epoch
+    else if bytes_eq line (codes "dump") then Some Dump
+    else elim (behind (codes "up ") line) [
+      | Some group ↦ option_map Up (group_in group)
+      | None ↦ elim (behind (codes "count ") line) [
+        | Some osd ↦ option_map Count (osd_in osd)
+        | None ↦ option_and_then (λ osd. option_map Groups (osd_in osd)) (behind (codes "groups ") line)
       ]
     ]
+
+-- the task of a line: `follow`, `fdump`, `fup ` and a group
+unfoldable pub task_in : List ℕ → Option Task
+task_in line =
+    if bytes_eq line (codes "follow") then Some task.CatchUp
+    else if bytes_eq line (codes "fdump") then Some task.Dump
+    else option_and_then (λ group. option_map task.Up (group_in group)) (behind (codes "fup ") line)
+
+-- the command of a line: `change ` and a text, `await ` and an epoch, a question, or a task; none where it is none of them
+unfoldable pub command_in : List ℕ → Option Command
+command_in line = elim (behind (codes "change ") line) [
+  | Some text ↦ Some (change text)
+  | None ↦ elim (behind (codes "await ") line) [
+    | Some epoch ↦ option_map wait (epoch_in epoch)
+    | None ↦ elim (question_in line) [
+      | Some question ↦ Some (ask question)
+      | None ↦ option_map follower (task_in line)
+    ]
+  ]
+]

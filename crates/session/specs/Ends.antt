@@ -1,5 +1,5 @@
 -- How much of a line's answer is out, how a session ends, and what an end says of the sink.
-use Rattle.std.specs.Prelude.{◌≡◌, ◌⊎◌, ℕ, true, false, Bool, List, ◌++◌, Result, Ok, Err, MatchResult}
+use Rattle.std.specs.Prelude.{◌≡◌, ◌⊎◌, ℕ, true, false, Bool, List, ◌++◌, Result, Ok, Err}
 use Rattle.session.specs.declared.session.SessionError.{SessionError}
 use Rattle.session.specs.declared.session.SessionError.TheVariants.{Write, Memory, Held}
 use Rattle.session.specs.Sinks.{HasPut}

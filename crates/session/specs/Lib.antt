@@ -5,4 +5,5 @@ pub mod Texts
 pub mod Replies
 pub mod Transcripts
 pub mod Answers
+pub mod Sessions
 pub mod Ends

@@ -21,33 +21,43 @@ osd_text word None = word
 abbrev pub place_text : Option ℕ → List ℕ
 place_text place = osd_text (codes "none") place
 
--- places behind others, each with a comma before it
-abbrev pub more_places : List (Option ℕ) → List ℕ
-more_places [] = []
-more_places (place ∷ places) = 44 ∷ place_text place ++ more_places places
+-- texts behind others, each with a comma before it
+abbrev pub more_texts : {X : Type 0} → (X → List ℕ) → List X → List ℕ
+more_texts text [] = []
+more_texts text (x ∷ xs) = 44 ∷ text x ++ more_texts text xs
 
--- a set: its places with commas between them
-abbrev pub set_text : List (Option ℕ) → List ℕ
-set_text [] = []
-set_text (place ∷ places) = place_text place ++ more_places places
+-- texts with commas between them
+abbrev pub list_text : {X : Type 0} → (X → List ℕ) → List X → List ℕ
+list_text text [] = []
+list_text text (x ∷ xs) = text x ++ more_texts text xs
 
 -- the primary: its OSD, or -1
 abbrev pub primary_text : Option ℕ → List ℕ
 primary_text primary = osd_text (codes "-1") primary
 
--- `up EPOCH PG [SET] PRIMARY`
-unfoldable pub up_text : ℕ → Pg → List (Option ℕ) → List ℕ
-up_text epoch pg places =
-    codes "up " ++ decimal epoch ++ codes " " ++ group_text pg ++ codes " [" ++ set_text places ++ codes "] "
+-- `WORD EPOCH PG [SET] PRIMARY`
+unfoldable pub set_text : List ℕ → ℕ → Pg → List (Option ℕ) → List ℕ
+set_text word epoch pg places =
+    word ++ codes " " ++ decimal epoch ++ codes " " ++ group_text pg ++ codes " [" ++ list_text place_text places ++ codes "] "
     ++ primary_text (primary_of places) ++ newline
 
--- `epoch EPOCH`
-abbrev pub epoch_text : ℕ → List ℕ
-epoch_text epoch = codes "epoch " ++ decimal epoch ++ newline
+-- `count EPOCH OSD N`
+unfoldable pub count_text : ℕ → ℕ → ℕ → List ℕ
+count_text epoch osd count =
+    codes "count " ++ decimal epoch ++ codes " " ++ decimal osd ++ codes " " ++ decimal count ++ newline
 
--- `dump TEXT`
-unfoldable pub dump_text : List ℕ → List ℕ
-dump_text text = codes "dump " ++ text ++ newline
+-- `groups EPOCH OSD [PG,PG,..]`
+unfoldable pub groups_text : ℕ → ℕ → List Pg → List ℕ
+groups_text epoch osd groups =
+    codes "groups " ++ decimal epoch ++ codes " " ++ decimal osd ++ codes " [" ++ list_text group_text groups ++ codes "]" ++ newline
+
+-- `WORD EPOCH`
+unfoldable pub epoch_text : List ℕ → ℕ → List ℕ
+epoch_text word epoch = word ++ codes " " ++ decimal epoch ++ newline
+
+-- `WORD TEXT`
+unfoldable pub dump_text : List ℕ → List ℕ → List ℕ
+dump_text word text = word ++ codes " " ++ text ++ newline
 
 -- `ok EPOCH evals N`
 unfoldable pub ok_text : ℕ → ℕ → List ℕ

@@ -1,22 +1,18 @@
--- What a session writes, whatever it speaks with. S is what its answers depend on. `answers found line answer left`:
--- at what it finds, a line that is not empty is answered so, and leaves that. `link left found`: the next line may find
--- this where the one before left that; where a session is alone the same, where others write between what they may have
--- made. `lets number passes`: the gate may answer so where it is asked for the line of this number. Lines are numbered
--- from 1, the empty ones too.
-use Rattle.std.specs.Prelude.{◌≡◌, ◌⊎◌, ℕ, suc, Bool, true, false, List, [], ◌∷◌, ◌++◌, ◌+◌, length}
+-- What a session writes, whatever it speaks with. S is what it has seen of that. `answers before line answer left`: where
+-- it has seen the first, a line that is not empty is answered so, and leaves it with the last. `lets number passes`: the
+-- gate may answer so where it is asked for the line of this number. Lines are numbered from 1, the empty ones too.
+use Rattle.std.specs.Prelude.{◌≡◌, ℕ, suc, Bool, true, false, List, [], ◌∷◌, ◌++◌, ◌+◌, length}
 
 -- how a session goes
 pub record Manner (S : Type 0) : Type 1 where
   pub answers : S → List ℕ → List ℕ → S → Type 0
-  pub link : S → S → Type 0
   pub lets : ℕ → Bool → Type 0
 
--- the line of a number is taken: an empty one answers nothing and finds nothing, and the gate is not asked for it; any
--- other is let through and then answered
+-- the line of a number is taken: an empty one answers nothing, and the gate is not asked for it; any other is let through
+-- and then answered
 abbrev pub TakesLine : {S : Type 0} → Manner S → ℕ → S → List ℕ → List ℕ → S → Type 0
 TakesLine m number before [] answer left = (answer ≡ []) × (left ≡ before)
-TakesLine {S = S} m number before (c ∷ cs) answer left =
-    m.lets number true × (found : S) × m.link before found × m.answers found (c ∷ cs) answer left
+TakesLine m number before (c ∷ cs) answer left = m.lets number true × m.answers before (c ∷ cs) answer left
 
 -- the bytes are the answers of the lines in order, the first of which has this number
 unfoldable pub IsTranscript : {S : Type 0} → Manner S → ℕ → S → List (List ℕ) → List ℕ → S → Type 0

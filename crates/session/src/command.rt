@@ -1,7 +1,8 @@
 //! The commands of a script.
-ghost use Rattle.std.specs.Prelude.{◌≡◌, ◌<◌, ◌∷◌, length, position, IfSome};
-ghost use Rattle.std.specs.Option.{option_map};
-ghost use Rattle.session.specs.Commands.{is_newline, lines_in, shown, command_in};
+ghost use Rattle.std.specs.Prelude.{◌≡◌, ◌<◌, ◌∷◌, ◌+◌, ◌*◌, ◌^◌, length, position, IfSome};
+ghost use Rattle.std.specs.Option.{option_map, option_and_then};
+ghost use Rattle.stated.specs.PgText.{digit_of, value_after};
+ghost use Rattle.session.specs.Commands.{is_newline, lines_in, below, osd_in, epoch_in, question_in, task_in, shown, command_in};
 
 use osdmap::Pg;
 
@@ -9,18 +10,45 @@ const EPOCH: &[u8] = b"epoch";
 
 const DUMP: &[u8] = b"dump";
 
-const CHANGE: &[u8] = b"change ";
-
 const UP: &[u8] = b"up ";
 
-/// A question about the map.
+const COUNT: &[u8] = b"count ";
+
+const GROUPS: &[u8] = b"groups ";
+
+const CHANGE: &[u8] = b"change ";
+
+const AWAIT: &[u8] = b"await ";
+
+const FOLLOW: &[u8] = b"follow";
+
+const FOLLOWER_DUMP: &[u8] = b"fdump";
+
+const FOLLOWER_UP: &[u8] = b"fup ";
+
+/// A question to the monitor.
 #[derive(Clone, Copy, Debug)]
 pub(crate) enum Question {
     /// The up set of a group.
     Up(Pg),
+    /// In how many groups' up sets an OSD stands.
+    Count(u32),
+    /// In which groups' up sets an OSD stands.
+    Groups(u32),
     /// The epoch.
     Epoch,
     /// The written form of the map.
+    Dump,
+}
+
+/// What the session's follower is to do.
+#[derive(Clone, Copy, Debug)]
+pub(crate) enum Task {
+    /// To go on to the last sealed epoch.
+    CatchUp,
+    /// To tell the up set of a group.
+    Up(Pg),
+    /// To tell the written form of its map.
     Dump,
 }
 
@@ -31,6 +59,10 @@ pub(crate) enum Command<'a> {
     Ask(Question),
     /// Commits the change that a JSON text states.
     Change(&'a [u8]),
+    /// Waits until the epoch is at least this.
+    Await(u64),
+    /// Has the session's follower do something.
+    Follower(Task),
 }
 
 /// The place of the first newline.
@@ -53,20 +85,102 @@ pub(crate) fn first_line(text: &[u8]) -> (&[u8], &[u8])
     }
 }
 
+/// The decimal digit that a byte is.
+#[tactic(auto, unfolding(stated::specs::PgText::digit_of))]
+fn digit(byte: u8) -> Option<u64>
+    ensures { result ≡ digit_of 10 byte }
+{
+    match byte {
+        b'0'..=b'9' => Some(u64::from(byte - b'0')),
+        _ => None,
+    }
+}
+
+/// A number with a digit more behind it, where it has at most 64 bits.
+fn with_digit(value: u64, digit: u64) -> Option<u64>
+    ensures { result ≡ below (2 ^ 64) (value * 10 + digit) }
+{
+    value.checked_mul(10)?.checked_add(digit)
+}
+
+/// The number that digits write, where it has at most 64 bits.
+fn value(digits: &[u8]) -> Option<u64>
+    ensures { result ≡ option_and_then (below (2 ^ 64)) (value_after 10 0 digits.now) }
+{
+    let mut value: u64 = 0;
+    for byte in digits {
+        value = with_digit(value, digit(*byte)?)?;
+    }
+    Some(value)
+}
+
+/// The epoch that a text is: a number of at most 64 bits, without a sign or leading zeros.
+#[tactic(auto, unfolding(stated::specs::PgText::number_in))]
+fn read_epoch(text: &[u8]) -> Option<u64>
+    ensures { result ≡ epoch_in text.now }
+{
+    match text {
+        [] | [b'0', _, ..] => None,
+        _ => value(text),
+    }
+}
+
+/// The OSD that a text is: a number of at most 32 bits, without a sign or leading zeros.
+fn read_osd(text: &[u8]) -> Option<u32>
+    ensures { result ≡ osd_in text.now }
+{
+    u32::try_from(read_epoch(text)?).ok()
+}
+
+/// The question of a line; `None` where it is none.
+#[tactic(auto, unfolding(crate::specs::Commands::question_in))]
+fn read_question(line: &[u8]) -> Option<Question>
+    ensures { result ≡ question_in line.now }
+{
+    if line == EPOCH {
+        return Some(Question::Epoch);
+    }
+    if line == DUMP {
+        return Some(Question::Dump);
+    }
+    if let Some(group) = line.strip_prefix(UP) {
+        return Some(Question::Up(Pg::parse(group)?));
+    }
+    if let Some(osd) = line.strip_prefix(COUNT) {
+        return Some(Question::Count(read_osd(osd)?));
+    }
+    let osd = line.strip_prefix(GROUPS)?;
+    Some(Question::Groups(read_osd(osd)?))
+}
+
+/// The follower's task of a line; `None` where it is none.
+#[tactic(auto, unfolding(crate::specs::Commands::task_in))]
+fn read_task(line: &[u8]) -> Option<Task>
+    ensures { result ≡ task_in line.now }
+{
+    if line == FOLLOW {
+        return Some(Task::CatchUp);
+    }
+    if line == FOLLOWER_DUMP {
+        return Some(Task::Dump);
+    }
+    let group = line.strip_prefix(FOLLOWER_UP)?;
+    Some(Task::Up(Pg::parse(group)?))
+}
+
 /// The command of a line; `None` where the line is none.
 #[tactic(auto, unfolding(crate::specs::Commands::command_in))]
 pub(crate) fn read_command(line: &[u8]) -> Option<Command<'_>>
     ensures { option_map shown result ≡ command_in line.now }
 {
-    if line == EPOCH {
-        return Some(Command::Ask(Question::Epoch));
-    }
-    if line == DUMP {
-        return Some(Command::Ask(Question::Dump));
-    }
     if let Some(text) = line.strip_prefix(CHANGE) {
         return Some(Command::Change(text));
     }
-    let group = line.strip_prefix(UP)?;
-    Some(Command::Ask(Question::Up(Pg::parse(group)?)))
+    if let Some(epoch) = line.strip_prefix(AWAIT) {
+        return Some(Command::Await(read_epoch(epoch)?));
+    }
+    if let Some(question) = read_question(line) {
+        return Some(Command::Ask(question));
+    }
+    Some(Command::Follower(read_task(line)?))
 }

@@ -2,6 +2,7 @@
 #![tactic(auto)]
 
 mod command;
+mod desk;
 mod gate;
 mod reply;
 mod session;

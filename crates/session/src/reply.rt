@@ -1,24 +1,92 @@
 //! What the commands of a script answer, and its line.
 ghost use Rattle.std.specs.Prelude.{◌≡◌, ◌++◌, OnOk};
 ghost use Rattle.std.specs.String.{string_bytes};
-ghost use Rattle.session.specs.Texts.{osd_text, set_text, up_text, refusal_text, line_of};
-ghost use Rattle.session.specs.Replies.{reply_text};
+ghost use Rattle.session.specs.Texts.{place_text, osd_text, list_text, set_text, groups_text, refusal_text, line_of};
+ghost use Rattle.session.specs.Replies.{up_word, epoch_word, dump_word, reply_text};
+ghost use Rattle.stated.specs.PgText.{group_text};
 
 use osdmap::{Pg, UpSet};
 use refusal::Refusal;
 use std::alloc::AllocError;
 
+/// Whose map a reply tells of.
+#[derive(Clone, Copy, Debug)]
+pub(crate) enum Speaker {
+    /// The monitor.
+    Monitor,
+    /// The session's follower.
+    Follower,
+}
+
 /// What a command that is not refused answers.
 #[derive(Debug, Drop)]
 pub(crate) enum Reply {
     /// The up set of a group at an epoch.
-    Up { epoch: u64, pg: Pg, set: UpSet },
+    Up {
+        by: Speaker,
+        epoch: u64,
+        pg: Pg,
+        set: UpSet,
+    },
+    /// In how many groups' up sets an OSD stands at an epoch.
+    Count {
+        epoch: u64,
+        osd: u32,
+        count: usize,
+    },
+    /// In which groups' up sets an OSD stands at an epoch.
+    Groups {
+        epoch: u64,
+        osd: u32,
+        groups: Vec<Pg>,
+    },
     /// The epoch.
-    Epoch(u64),
+    Epoch {
+        by: Speaker,
+        epoch: u64,
+    },
     /// The written form of the map.
-    Dump(String),
+    Dump {
+        by: Speaker,
+        map: String,
+    },
     /// The epoch after a change, and the number of groups whose placement the change can alter.
-    Changed { epoch: u64, evals: usize },
+    Changed {
+        epoch: u64,
+        evals: usize,
+    },
+}
+
+impl Speaker {
+    /// The first word of an up set.
+    fn up_word(self) -> &'static str
+        ensures { result.now ≡ up_word self }
+    {
+        match self {
+            Speaker::Monitor => "up",
+            Speaker::Follower => "fup",
+        }
+    }
+
+    /// The first word of an epoch.
+    fn epoch_word(self) -> &'static str
+        ensures { result.now ≡ epoch_word self }
+    {
+        match self {
+            Speaker::Monitor => "epoch",
+            Speaker::Follower => "follow",
+        }
+    }
+
+    /// The first word of a map's text.
+    fn dump_word(self) -> &'static str
+        ensures { result.now ≡ dump_word self }
+    {
+        match self {
+            Speaker::Monitor => "dump",
+            Speaker::Follower => "fdump",
+        }
+    }
 }
 
 /// An OSD in decimal, or a word where there is none.
@@ -32,8 +100,8 @@ fn push_osd(text: &mut String, osd: Option<u32>, word: &str) -> Result<(), Alloc
 }
 
 /// The places with commas between them.
-fn push_set(text: &mut String, places: &[Option<u32>]) -> Result<(), AllocError>
-    ensures { OnOk result (string_bytes text.new ≡ string_bytes text.old ++ set_text places.now) }
+fn push_places(text: &mut String, places: &[Option<u32>]) -> Result<(), AllocError>
+    ensures { OnOk result (string_bytes text.new ≡ string_bytes text.old ++ list_text place_text places.now) }
 {
     let [first, others @ ..] = places else {
         return Ok(());
@@ -46,15 +114,44 @@ fn push_set(text: &mut String, places: &[Option<u32>]) -> Result<(), AllocError>
     Ok(())
 }
 
-#[tactic(auto, unfolding(crate::specs::Texts::up_text))]
-fn push_up(text: &mut String, epoch: u64, pg: Pg, set: &UpSet) -> Result<(), AllocError>
-    ensures { OnOk result (string_bytes text.new ≡ string_bytes text.old ++ up_text epoch pg set.now) }
+/// The groups with commas between them.
+fn push_list(text: &mut String, groups: &[Pg]) -> Result<(), AllocError>
+    ensures { OnOk result (string_bytes text.new ≡ string_bytes text.old ++ list_text group_text groups.now) }
 {
-    write!(text, "up {epoch} {pg} [")?;
-    push_set(text, set.places())?;
+    let [first, others @ ..] = groups else {
+        return Ok(());
+    };
+    write!(text, "{first}")?;
+    for group in others {
+        write!(text, ",{group}")?;
+    }
+    Ok(())
+}
+
+#[tactic(auto, unfolding(crate::specs::Texts::set_text))]
+fn push_set(
+    text: &mut String,
+    word: &str,
+    epoch: u64,
+    pg: Pg,
+    set: &UpSet,
+) -> Result<(), AllocError>
+    ensures { OnOk result (string_bytes text.new ≡ string_bytes text.old ++ set_text word.now epoch pg set.now) }
+{
+    write!(text, "{word} {epoch} {pg} [")?;
+    push_places(text, set.places())?;
     text.push_str("] ")?;
     push_osd(text, set.primary(), "-1")?;
     text.push_str("\n")
+}
+
+#[tactic(auto, unfolding(crate::specs::Texts::groups_text))]
+fn push_groups(text: &mut String, epoch: u64, osd: u32, groups: &[Pg]) -> Result<(), AllocError>
+    ensures { OnOk result (string_bytes text.new ≡ string_bytes text.old ++ groups_text epoch osd groups.now) }
+{
+    write!(text, "groups {epoch} {osd} [")?;
+    push_list(text, groups)?;
+    text.push_str("]\n")
 }
 
 #[tactic(auto, unfolding(crate::specs::Texts::refusal_text))]
@@ -70,14 +167,16 @@ fn push_refusal(text: &mut String, refusal: Refusal) -> Result<(), AllocError>
 
 impl Reply {
     /// Puts the reply's line behind a text. The one error is out of memory.
-    #[tactic(auto, unfolding(crate::specs::Texts::dump_text, crate::specs::Texts::ok_text))]
+    #[tactic(auto, unfolding(crate::specs::Texts::count_text, crate::specs::Texts::epoch_text, crate::specs::Texts::dump_text, crate::specs::Texts::ok_text))]
     fn push_to(&self, text: &mut String) -> Result<(), AllocError>
         ensures { OnOk result (string_bytes text.new ≡ string_bytes text.old ++ reply_text self.now) }
     {
         match self {
-            Reply::Up { epoch, pg, set } => push_up(text, *epoch, *pg, set),
-            Reply::Epoch(epoch) => writeln!(text, "epoch {epoch}"),
-            Reply::Dump(map) => writeln!(text, "dump {map}"),
+            Reply::Up { by, epoch, pg, set } => push_set(text, by.up_word(), *epoch, *pg, set),
+            Reply::Count { epoch, osd, count } => writeln!(text, "count {epoch} {osd} {count}"),
+            Reply::Groups { epoch, osd, groups } => push_groups(text, *epoch, *osd, groups),
+            Reply::Epoch { by, epoch } => writeln!(text, "{} {epoch}", by.epoch_word()),
+            Reply::Dump { by, map } => writeln!(text, "{} {map}", by.dump_word()),
             Reply::Changed { epoch, evals } => writeln!(text, "ok {epoch} evals {evals}"),
         }
     }

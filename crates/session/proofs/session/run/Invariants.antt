@@ -1,16 +1,19 @@
 use Rattle.std.proofs.Common.{◌≡◌, ℕ, ◌+◌, ◌≤◌, List, ◌++◌, false, length}
+use Rattle.monitor.specs.Members.{IsMemberOf}
 use Rattle.session.specs.Commands.{lines_in}
-use Rattle.session.specs.Answers.{alone}
+use Rattle.session.specs.Sessions.{seen_by, sight_of, session_of, IsFollowerOf}
 use Rattle.session.proofs.Transcribed.{Reaches}
 use Rattle.session.proofs.session.run.Given as goal
 
 -- the lines so far, as many as the number says, are answered; each took a byte at least, and no write has failed
-abbrev pub invariant-loop-rest : goal.invariant-loop-rest
-invariant-loop-rest g l =
+abbrev pub invariant-loop-desk : goal.invariant-loop-desk
+invariant-loop-desk g l =
     ((bytes : List ℕ)
-    × Reaches (alone (g.G.Gate.lets l.gate)) l.initial.state (lines_in l.script) l.number (lines_in l.rest) bytes l.state
-    × (g.W.Sink.written l.sink ≡ g.W.Sink.written l.initial.sink ++ bytes))
+    × Reaches (session_of l.monitor (g.G.Gate.lets l.gate)) (sight_of l.fn.member) (lines_in l.script) l.number (lines_in l.rest) bytes
+    (seen_by l.member l.room.follower)
+    × (g.W.Sink.written l.sink ≡ g.W.Sink.written l.fn.sink ++ bytes))
     × (g.W.Sink.has_failed l.sink ≡ false) × (l.number + length l.rest ≤ length l.script)
+    × IsMemberOf l.monitor l.member × IsFollowerOf l.monitor l.room.follower
 
-abbrev pub decreases-loop-rest : goal.decreases-loop-rest
-decreases-loop-rest g l = length l.rest
+abbrev pub decreases-loop-desk : goal.decreases-loop-desk
+decreases-loop-desk g l = length l.rest

@@ -6,6 +6,7 @@ use Rattle.monitor.proofs.follower.Follower.new.Goals as goal
 
 pub invariant_of-result : goal.invariant_of-result
 invariant_of-result c =
-    let begins = ap (λ (l : Line). l.first) c.in_ok-pass.ensures.row ∙ c.monitor.invariant.begins ∙ ap (λ (m : ClusterMap). m.epoch) (sym c.in_ok-first.ensures) in
-    followed_new c.in_ok-first.first.map c.in_ok-map.map.map c.in_ok-pass.pass.row c.in_ok-pass.pass.history
-    (c.in_ok-map.ensures ∙ sym c.in_ok-first.ensures) c.in_ok-pass.ensures.history begins
+    let row = ap (λ (l : Line). l.first) c.in_ok-pass.ensures.row in
+    let epoch = ap (λ (m : ClusterMap). m.epoch) (sym c.in_ok-first.ensures) in
+    followed_new c.in_ok-first.first.map c.in_ok-map.map.map c.in_ok-pass.pass (c.in_ok-map.ensures ∙ sym c.in_ok-first.ensures)
+    c.in_ok-pass.ensures.history (row ∙ c.monitor.invariant.begins ∙ epoch)

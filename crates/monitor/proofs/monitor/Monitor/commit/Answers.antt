@@ -6,9 +6,12 @@ use Rattle.monitor.proofs.monitor.Monitor.commit.Goals as goal
 
 pub returns-clause-commits : goal.returns-clause-commits
 returns-clause-commits g c =
-    let state = c.value_mut.result.now.state in
+    let lent = c.value_mut-locked in
+    let first = lent.result.now.state.first in
     let rows : c.self.inside.row ≡ c.args.self.now.row = ap (λ (m : Monitored). m.row) c.self.view_is in
-    let firsts : state.first ≡ c.args.self.now.first = ap (λ (l : Locked). l.state.first) c.value_mut.ensures.value ∙ c.in_ok-guard.ensures.holds.1 in
-    let done = commits_from state.first (length c.self.inside.row.cells) c.args.member.now.pass.history c.hold.new.member.pass.history
-    c.commit-answer.new.pass.history c.args.base c.args.change c.commit-answer.result c.hold.ensures.goes_on.begins c.commit-answer.ensures.commits in
+    let firsts : first ≡ c.args.self.now.first =
+    ap (λ (l : Locked). l.state.first) lent.ensures.value ∙ c.in_ok-guard.ensures.holds.1 in
+    let done = commits_from first (length c.self.inside.row.cells) c.args.member.now.pass.history
+    c.hold.new.member.pass.history c.commit-answer.new.pass.history c.args.base c.args.change c.commit-answer.result
+    c.hold.ensures.goes_on.begins c.commit-answer.ensures.commits in
     rw (c.put_back.ensures.pass, ← rows, ← firsts) done

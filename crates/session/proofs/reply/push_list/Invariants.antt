@@ -1,0 +1,10 @@
+use Rattle.std.proofs.Common.{◌≡◌, ◌++◌, drop}
+use Rattle.std.specs.String.{string_bytes}
+use Rattle.stated.specs.PgText.{group_text}
+use Rattle.session.specs.Texts.{more_texts}
+use Rattle.session.proofs.reply.push_list.Given as goal
+
+-- the text so far, with the groups that are left
+abbrev pub invariant-loop-group : goal.invariant-loop-group
+invariant-loop-group l =
+    string_bytes l.text ++ more_texts group_text (drop l.group-index l.others) ≡ string_bytes l.initial.text ++ more_texts group_text l.others

@@ -1,0 +1,29 @@
+-- A session and its monitor.
+use Rattle.std.specs.Prelude.{List, [], length, Option, Some, None, IfSome, Bool, ℕ}
+use Rattle.stated.specs.Incrementals.{Step}
+use Rattle.monitor.specs.Members.{Monitored}
+use Rattle.monitor.specs.Followers.{Followed, Follows}
+use Rattle.monitor.specs.declared.member.Member.{Member}
+use Rattle.session.specs.Transcripts.{Manner}
+use Rattle.session.specs.Answers.{Sight, session_with}
+
+-- the follower's history, and an empty one where there is none yet
+abbrev pub followed : Option Followed → List Step
+followed (Some follower) = follower.history
+followed None = []
+
+-- what is seen by a member and a follower
+abbrev pub seen_by : Member → Option Followed → Sight
+seen_by member follower = record { member = member.pass.history; follower = followed follower }
+
+-- the follower, where there is one, is of this monitor
+abbrev pub IsFollowerOf : Monitored → Option Followed → Type 0
+IsFollowerOf monitor follower = IfSome follower (Follows monitor)
+
+-- what a member has seen, before its session has a follower
+abbrev pub sight_of : Member → Sight
+sight_of member = seen_by member None
+
+-- how a session of this monitor goes behind a gate
+abbrev pub session_of : Monitored → (ℕ → Bool → Type 0) → Manner Sight
+session_of monitor lets = session_with monitor.first (length monitor.row.cells) lets

@@ -1,0 +1,239 @@
+//! What a session asks of its monitor and of its follower.
+ghost use Rattle.std.specs.Prelude.{◌≡◌, string_bytes, IsUtf8};
+
+use crate::command::{Command, Question, Task};
+use crate::reply::{Reply, Speaker};
+use crossbeam_utils::Backoff;
+use mapjson::read_change;
+use monitor::{Follower, Member, Monitor};
+use osdmap::{Pg, UpSet};
+use refusal::{Memory, Refusal};
+use std::alloc::Global;
+use std::sync::Wait;
+
+/// How often `await` asks for the epoch.
+const MAX_TURNS: u32 = 1_000_000;
+
+/// Where a session asks: its monitor, and what the monitor's calls need.
+#[derive(Drop)]
+pub(crate) struct Desk<'a, R> {
+    pub(crate) alloc: Global,
+    pub(crate) rt: &'a R,
+    pub(crate) monitor: &'a Monitor,
+}
+
+/// The text that bytes are.
+fn text_of(bytes: Vec<u8>) -> String
+    requires { IsUtf8 bytes.items }
+    ensures { string_bytes result ≡ bytes.items }
+{
+    match String::from_utf8(bytes) {
+        Ok(text) => text,
+        Err(_) => unreachable!(),
+    }
+}
+
+impl<'a, R> Desk<'a, R> {
+    ghost use Rattle.std.specs.Prelude.{◌≡◌, None, Some, IfOk, OnOk, OnErr, IsSomeAnd, IsUtf8};
+    ghost use Rattle.refusal.specs.Outcomes.{Makes};
+    ghost use Rattle.osdmap.specs.Changes.{after};
+    ghost use Rattle.osdmap.specs.Placement.{group_fault};
+    ghost use Rattle.pgtable.specs.Index.{up_at};
+    ghost use Rattle.mapjson.specs.Written.{written};
+    ghost use Rattle.monitor.specs.Histories.{GoesOn};
+    ghost use Rattle.monitor.specs.Followers.{Follows};
+    ghost use Rattle.session.specs.Texts.{line_of};
+    ghost use Rattle.session.specs.Replies.{reply_text};
+    ghost use Rattle.session.specs.Answers.{Tells};
+    ghost use Rattle.session.specs.Sessions.{followed, IsFollowerOf};
+
+    /// Makes the follower, where there is none yet.
+    fn need_follower(&self, follower: &mut Option<Follower>) -> Result<(), Memory>
+        requires { IsFollowerOf self.now.monitor.now follower.old }
+        ensures there { OnOk result (IsSomeAnd follower.new (Follows self.now.monitor.now) × (followed follower.new ≡ followed follower.old)) }
+        ensures none { OnErr result ((follower.old ≡ None) × (follower.new ≡ None)) }
+    {
+        if follower.is_none() {
+            *follower = Some(Follower::new(self.alloc, self.monitor)?);
+        }
+        Ok(())
+    }
+
+    /// Has the follower go on: the epoch that it has reached.
+    fn catch_up(&self, follower: &mut Follower) -> Result<u64, Refusal>
+        requires { Follows self.now.monitor.now follower.old }
+        ensures follower { Follows self.now.monitor.now follower.new }
+        ensures goes_on { GoesOn self.now.monitor.now.first follower.old.history follower.new.history }
+        ensures epoch { Makes result None (λ epoch. epoch ≡ (after self.now.monitor.now.first follower.new.history).epoch) }
+    {
+        let reached = follower.catch_up(self.alloc, self.monitor);
+        let _ = follower.epoch();
+        Ok(reached?)
+    }
+
+    /// The up set of a group by the follower.
+    fn placed(&self, follower: &mut Follower, pg: Pg) -> Result<(u64, UpSet), Refusal>
+        requires { Follows self.now.monitor.now follower.old }
+        ensures follower { follower.new ≡ follower.old }
+        ensures placed { Makes result (group_fault (after self.now.monitor.now.first follower.old.history) pg) (λ found.
+            (found.0 ≡ (after self.now.monitor.now.first follower.old.history).epoch)
+            × (Some found.1 ≡ up_at (after self.now.monitor.now.first follower.old.history) pg)) }
+    {
+        let _ = follower.epoch();
+        follower.up(pg)
+    }
+
+    /// The written form of the follower's map.
+    fn written(&self, follower: &Follower) -> Result<Vec<u8>, Refusal>
+        requires { Follows self.now.monitor.now follower.now }
+        ensures text { Makes result None (λ text. text.items ≡ written (after self.now.monitor.now.first follower.now.history)) }
+        ensures utf8 { IfOk result (λ text. IsUtf8 text.items) }
+    {
+        let _ = follower.epoch();
+        Ok(follower.dump(self.alloc)?)
+    }
+
+    /// What the follower answers to a task.
+    fn tell(&self, follower: &mut Follower, task: Task) -> Result<Reply, Refusal>
+        requires { Follows self.now.monitor.now follower.old }
+        ensures follower { Follows self.now.monitor.now follower.new }
+        ensures tells { Tells self.now.monitor.now.first follower.old.history follower.new.history task (line_of reply_text result) }
+    {
+        let by = Speaker::Follower;
+        match task {
+            Task::CatchUp => {
+                let epoch = self.catch_up(follower)?;
+                Ok(Reply::Epoch { by, epoch })
+            }
+            Task::Up(pg) => {
+                let (epoch, set) = self.placed(follower, pg)?;
+                Ok(Reply::Up { by, epoch, pg, set })
+            }
+            Task::Dump => {
+                let map = self.written(follower)?;
+                Ok(Reply::Dump {
+                    by,
+                    map: text_of(map),
+                })
+            }
+        }
+    }
+
+    /// What the session's follower, which is made where there is none yet, answers to a task.
+    fn follow(&self, follower: &mut Option<Follower>, task: Task) -> Result<Reply, Refusal>
+        requires { IsFollowerOf self.now.monitor.now follower.old }
+        ensures follower { IsFollowerOf self.now.monitor.now follower.new }
+        ensures tells { Tells self.now.monitor.now.first (followed follower.old) (followed follower.new) task (line_of reply_text result) }
+    {
+        self.need_follower(follower)?;
+        match follower {
+            Some(follower) => self.tell(follower, task),
+            None => unreachable!(),
+        }
+    }
+}
+
+impl<'a, R: Wait> Desk<'a, R> {
+    ghost use Rattle.std.specs.Prelude.{length};
+    ghost use Rattle.std.specs.Option.{option_map};
+    ghost use Rattle.monitor.specs.Members.{IsMemberOf};
+    ghost use Rattle.session.specs.Texts.{line_of};
+    ghost use Rattle.session.specs.Commands.{shown};
+    ghost use Rattle.session.specs.Replies.{reply_text};
+    ghost use Rattle.session.specs.Answers.{Asks, Changes, Awaits, Does};
+    ghost use Rattle.session.specs.Sessions.{seen_by, IsFollowerOf};
+
+    /// What the monitor answers to a question.
+    fn ask(&self, member: &mut Member, question: Question) -> Result<Reply, Refusal>
+        requires { IsMemberOf self.now.monitor.now member.old }
+        ensures member { IsMemberOf self.now.monitor.now member.new }
+        ensures asks { Asks self.now.monitor.now.first member.old.pass.history member.new.pass.history question (line_of reply_text result) }
+    {
+        let by = Speaker::Monitor;
+        match question {
+            Question::Up(pg) => {
+                let (epoch, set) = self.monitor.up(self.rt, member, pg)?;
+                Ok(Reply::Up { by, epoch, pg, set })
+            }
+            Question::Count(osd) => {
+                let (epoch, count) = self.monitor.count(self.rt, member, osd)?;
+                Ok(Reply::Count { epoch, osd, count })
+            }
+            Question::Groups(osd) => {
+                let (epoch, groups) = self.monitor.groups(self.rt, self.alloc, member, osd)?;
+                Ok(Reply::Groups { epoch, osd, groups })
+            }
+            Question::Epoch => {
+                let epoch = self.monitor.epoch(self.rt, member)?;
+                Ok(Reply::Epoch { by, epoch })
+            }
+            Question::Dump => {
+                let map = self.monitor.dump(self.rt, self.alloc, member)?;
+                Ok(Reply::Dump {
+                    by,
+                    map: text_of(map),
+                })
+            }
+        }
+    }
+
+    /// Commits the change that a text states: the new epoch, and how many groups' placement was worked out anew.
+    fn change(&self, member: &mut Member, text: &[u8]) -> Result<(u64, usize), Refusal>
+        requires { IsMemberOf self.now.monitor.now member.old }
+        ensures member { IsMemberOf self.now.monitor.now member.new }
+        ensures changes { Changes self.now.monitor.now.first (length self.now.monitor.now.row.cells)
+            member.old.pass.history member.new.pass.history text.now result }
+    {
+        let (base, change) = read_change(self.alloc, text)?;
+        self.monitor
+            .commit(self.rt, self.alloc, member, base, change)
+    }
+
+    /// The epoch, once it is at least the one wanted: `AwaitSpent` (34) after 1,000,000 turns without it. Each turn asks
+    /// for the epoch and then lets others run.
+    fn await_epoch(&self, member: &mut Member, wanted: u64) -> Result<u64, Refusal>
+        requires { IsMemberOf self.now.monitor.now member.old }
+        ensures member { IsMemberOf self.now.monitor.now member.new }
+        ensures awaits { Awaits self.now.monitor.now.first wanted member.old.pass.history member.new.pass.history result }
+    {
+        let backoff = Backoff::new();
+        for turn in 0..MAX_TURNS {
+            let epoch = self.monitor.epoch(self.rt, member)?;
+            if epoch >= wanted {
+                return Ok(epoch);
+            }
+            backoff.snooze();
+        }
+        Err(Refusal::AwaitSpent)
+    }
+
+    /// Does a command; `None` is a line that is no command.
+    pub(crate) fn obey(
+        &self,
+        member: &mut Member,
+        follower: &mut Option<Follower>,
+        command: Option<Command<'_>>,
+    ) -> Result<Reply, Refusal>
+        requires member { IsMemberOf self.now.monitor.now member.old }
+        requires follower { IsFollowerOf self.now.monitor.now follower.old }
+        ensures member { IsMemberOf self.now.monitor.now member.new }
+        ensures follower { IsFollowerOf self.now.monitor.now follower.new }
+        ensures does { Does self.now.monitor.now.first (length self.now.monitor.now.row.cells) (seen_by member.old follower.old)
+            (option_map shown command.entry) (line_of reply_text result) (seen_by member.new follower.new) }
+    {
+        match command {
+            None => Err(Refusal::BadCommand),
+            Some(Command::Ask(question)) => self.ask(member, question),
+            Some(Command::Change(text)) => {
+                let (epoch, evals) = self.change(member, text)?;
+                Ok(Reply::Changed { epoch, evals })
+            }
+            Some(Command::Await(wanted)) => {
+                let epoch = self.await_epoch(member, wanted)?;
+                let by = Speaker::Monitor;
+                Ok(Reply::Epoch { by, epoch })
+            }
+            Some(Command::Follower(task)) => self.follow(follower, task),
+        }
+    }
+}
