@@ -16,13 +16,14 @@ use Rattle.mapjson.specs.ChangeTexts.{change_text_fault, StatesChange}
 use Rattle.mapjson.specs.Written.{written}
 use Rattle.state.specs.Answers.{FindsUp, FindsCount, FindsGroups}
 use Rattle.monitor.specs.Histories.{GoesOn, Looks, FindsEpoch, FindsText, Commits}
+use Rattle.monitor.specs.Balances.{Balances}
 use Rattle.session.specs.declared.command.Question.{Question}
 use Rattle.session.specs.declared.command.Question.TheVariants.{Up, Count, Groups, Epoch, Dump}
 use Rattle.session.specs.declared.command.Task.{Task}
 use Rattle.session.specs.declared.command.Task.TheVariants as task
-use Rattle.session.specs.Commands.{Command, ask, change, wait, follower, command_in}
+use Rattle.session.specs.Commands.{Command, ask, change, wait, balance, follower, command_in}
 use Rattle.session.specs.Transcripts.{Manner}
-use Rattle.session.specs.Texts.{set_text, count_text, groups_text, epoch_text, dump_text, ok_text, refusal_text, line_of}
+use Rattle.session.specs.Texts.{set_text, count_text, groups_text, epoch_text, dump_text, ok_text, moved_text, refusal_text, line_of}
 
 -- what a session has seen: the history of its member; and that of its follower, which is empty where there is none yet
 pub record Sight : Type 0 where
@@ -89,6 +90,8 @@ Does first most before (Some (change text)) answer now =
     IsLineOf (Changes first most before.member now.member text) (λ ok. ok_text ok.0 ok.1) answer × (now.follower ≡ before.follower)
 Does first most before (Some (wait epoch)) answer now =
     IsLineOf (Awaits first epoch before.member now.member) (epoch_text (codes "epoch")) answer × (now.follower ≡ before.follower)
+Does first most before (Some (balance pool limit)) answer now =
+    IsLineOf (Balances first most before.member now.member pool limit) (λ ok. moved_text ok.1 ok.0) answer × (now.follower ≡ before.follower)
 Does first most before (Some (follower t)) answer now =
     Tells first before.follower now.follower t answer × (now.member ≡ before.member)
 

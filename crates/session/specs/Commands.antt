@@ -1,11 +1,12 @@
 -- The lines of a script, and the command of a line.
-use Rattle.std.specs.Prelude.{ℕ, ◌==◌, ◌^◌, Bool, List, [], ◌∷◌, length, take, drop, codes, nat_lt, Option, Some, None, if◌then◌else◌}
+use Rattle.std.specs.Prelude.{ℕ, ◌==◌, ◌^◌, ◌+◌, ◌&&◌, Bool, List, [], ◌∷◌, length, take, drop, codes, nat_lt, nat_le, position, Option, Some, None, if◌then◌else◌}
 use Rattle.std.specs.List.{onto_first}
 use Rattle.std.specs.Option.{option_map, option_and_then}
 use Rattle.std.specs.Str.{bytes_eq}
 use Rattle.stated.specs.PgText.{group_in, number_in}
+use Rattle.session.specs.Plans.{max_moves}
 use Rattle.session.specs.declared.command.Command.{Command as Read}
-use Rattle.session.specs.declared.command.Command.TheVariants.{Ask, Change, Await, Follower}
+use Rattle.session.specs.declared.command.Command.TheVariants.{Ask, Change, Await, Balance, Follower}
 use Rattle.session.specs.declared.command.Question.{Question}
 use Rattle.session.specs.declared.command.Question.TheVariants.{Up, Count, Groups, Epoch, Dump}
 use Rattle.session.specs.declared.command.Task.{Task}
@@ -38,14 +39,28 @@ osd_in text = number_below (2 ^ 32) text
 abbrev pub epoch_in : List ℕ → Option ℕ
 epoch_in text = number_below (2 ^ 64) text
 
+-- the words before and behind the first space
+abbrev pub two_words : List ℕ → Option (List ℕ × List ℕ)
+two_words text = option_map (λ at. (take at text, drop (at + 1) text)) (position (λ c. c == 32) text)
+
+-- the number of a pool, of 32 bits
+abbrev pub pool_in : List ℕ → Option ℕ
+pool_in text = number_below (2 ^ 32) text
+
+-- a number of moves, from 1 to that
+abbrev pub limit_in : List ℕ → Option ℕ
+limit_in text =
+    option_and_then (λ n. if nat_le 1 n && nat_le n max_moves then Some n else None) (number_below (2 ^ 32) text)
+
 -- ---- commands
 
--- what a line asks for: a question to the monitor; a change that a JSON text states; to wait until the epoch is at least a number; or a task
--- of the session's follower
+-- what a line asks for: a question to the monitor; a change that a JSON text states; to wait until the epoch is at least a number; to
+-- balance a pool, by so many moves at most; or a task of the session's follower
 pub data Command : Type 0 where
   ask : Question → Command
   change : List ℕ → Command
   wait : ℕ → Command
+  balance : ℕ → ℕ → Command
   follower : Task → Command
 
 -- the command that was read of a line
@@ -53,6 +68,7 @@ abbrev pub shown : Read → Command
 shown (Ask question) = ask question
 shown (Change text) = change text.now
 shown (Await epoch) = wait epoch
+shown (Balance plan) = balance plan.pool plan.limit
 shown (Follower t) = follower t
 
 -- what stands behind a word and its space
@@ -79,15 +95,24 @@ task_in line =
     else if bytes_eq line (codes "fdump") then Some task.Dump
     else option_and_then (λ group. option_map task.Up (group_in group)) (behind (codes "fup ") line)
 
--- the command of a line: `change ` and a text, `await ` and an epoch, a question, or a task; none where it is none of them
+-- the plan of a text: a pool, a space and a number of moves
+unfoldable pub plan_in : List ℕ → Option Command
+plan_in text =
+    option_and_then (λ words. option_and_then (λ pool. option_map (balance pool) (limit_in words.1)) (pool_in words.0)) (two_words text)
+
+-- the command of a line: `change ` and a text, `await ` and an epoch, `balance ` and a plan, a question, or a task; none where it
+-- is none of them
 unfoldable pub command_in : List ℕ → Option Command
 command_in line = elim (behind (codes "change ") line) [
   | Some text ↦ Some (change text)
   | None ↦ elim (behind (codes "await ") line) [
     | Some epoch ↦ option_map wait (epoch_in epoch)
-    | None ↦ elim (question_in line) [
-      | Some question ↦ Some (ask question)
-      | None ↦ option_map follower (task_in line)
+    | None ↦ elim (behind (codes "balance ") line) [
+      | Some plan ↦ plan_in plan
+      | None ↦ elim (question_in line) [
+        | Some question ↦ Some (ask question)
+        | None ↦ option_map follower (task_in line)
+      ]
     ]
   ]
 ]

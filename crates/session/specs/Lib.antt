@@ -1,3 +1,4 @@
+pub mod Plans
 pub mod Sinks
 pub mod Buffers
 pub mod Commands

@@ -3,8 +3,8 @@ use Rattle.std.specs.Prelude.{ℕ, List, codes, string_bytes}
 use Rattle.session.specs.declared.reply.Speaker.{Speaker}
 use Rattle.session.specs.declared.reply.Speaker.TheVariants.{Monitor, Follower}
 use Rattle.session.specs.declared.reply.Reply.{Reply}
-use Rattle.session.specs.declared.reply.Reply.TheVariants.{Up, Count, Groups, Epoch, Dump, Changed}
-use Rattle.session.specs.Texts.{set_text, count_text, groups_text, epoch_text, dump_text, ok_text}
+use Rattle.session.specs.declared.reply.Reply.TheVariants.{Up, Count, Groups, Epoch, Dump, Changed, Moved}
+use Rattle.session.specs.Texts.{set_text, count_text, groups_text, epoch_text, dump_text, ok_text, moved_text}
 
 -- the first word of an up set, of an epoch and of a map's text, by whom it is of
 abbrev pub up_word : Speaker → List ℕ
@@ -27,3 +27,4 @@ reply_text (Groups epoch osd groups) = groups_text epoch osd groups.items
 reply_text (Epoch by epoch) = epoch_text (epoch_word by) epoch
 reply_text (Dump by text) = dump_text (dump_word by) (string_bytes text)
 reply_text (Changed epoch evals) = ok_text epoch evals
+reply_text (Moved moves epoch) = moved_text moves epoch

@@ -63,6 +63,10 @@ dump_text word text = word ++ codes " " ++ text ++ newline
 unfoldable pub ok_text : ℕ → ℕ → List ℕ
 ok_text epoch evals = codes "ok " ++ decimal epoch ++ codes " evals " ++ decimal evals ++ newline
 
+-- `moved N epoch EPOCH`
+unfoldable pub moved_text : ℕ → ℕ → List ℕ
+moved_text moves epoch = codes "moved " ++ decimal moves ++ codes " epoch " ++ decimal epoch ++ newline
+
 -- what a refusal carries beside its name: the current epoch, where the change is for another
 abbrev pub detail_of : Refusal → List ℕ
 detail_of BadJson = []

@@ -1,9 +1,11 @@
 //! The commands of a script.
-ghost use Rattle.std.specs.Prelude.{◌≡◌, ◌<◌, ◌∷◌, ◌+◌, ◌*◌, ◌^◌, length, position, IfSome};
+ghost use Rattle.std.specs.Prelude.{◌≡◌, ◌<◌, ◌≤◌, ◌==◌, ◌∷◌, ◌+◌, ◌*◌, ◌^◌, length, position, IfSome};
 ghost use Rattle.std.specs.Option.{option_map, option_and_then};
 ghost use Rattle.stated.specs.PgText.{digit_of, value_after};
-ghost use Rattle.session.specs.Commands.{is_newline, lines_in, below, osd_in, epoch_in, question_in, task_in, shown, command_in};
+ghost use Rattle.session.specs.Plans.{max_moves};
+ghost use Rattle.session.specs.Commands.{is_newline, lines_in, below, osd_in, epoch_in, two_words, limit_in, plan_in, balance, question_in, task_in, shown, command_in};
 
+use crate::plan::{MAX_MOVES, Plan};
 use osdmap::Pg;
 
 const EPOCH: &[u8] = b"epoch";
@@ -19,6 +21,8 @@ const GROUPS: &[u8] = b"groups ";
 const CHANGE: &[u8] = b"change ";
 
 const AWAIT: &[u8] = b"await ";
+
+const BALANCE: &[u8] = b"balance ";
 
 const FOLLOW: &[u8] = b"follow";
 
@@ -61,6 +65,8 @@ pub(crate) enum Command<'a> {
     Change(&'a [u8]),
     /// Waits until the epoch is at least this.
     Await(u64),
+    /// Balances the groups of a pool.
+    Balance(Plan),
     /// Has the session's follower do something.
     Follower(Task),
 }
@@ -132,6 +138,46 @@ fn read_osd(text: &[u8]) -> Option<u32>
     u32::try_from(read_epoch(text)?).ok()
 }
 
+/// The place of the first space.
+fn space(text: &[u8]) -> Option<usize>
+    ensures place { result ≡ position (λ c. c == 32) text.now }
+    ensures within { IfSome result (λ at. at < length text.now) }
+{
+    text.iter().position(|byte| *byte == b' ')
+}
+
+/// The words before and behind the first space.
+fn two_words(text: &[u8]) -> Option<(&[u8], &[u8])>
+    ensures { option_map (λ words. (words.0.now, words.1.now)) result ≡ two_words text.now }
+{
+    let at = space(text)?;
+    Some((&text[..at], &text[at + 1..]))
+}
+
+/// The number of moves that a text is, from 1 to 1,024.
+fn read_limit(text: &[u8]) -> Option<u32>
+    ensures value { result ≡ limit_in text.now }
+    ensures within { IfSome result (λ limit. (1 ≤ limit) × (limit ≤ max_moves)) }
+{
+    let limit = read_osd(text)?;
+    if 1 <= limit && limit <= MAX_MOVES {
+        Some(limit)
+    } else {
+        None
+    }
+}
+
+/// The plan that a text asks for; `None` where it asks for none.
+#[tactic(auto, unfolding(crate::specs::Commands::plan_in))]
+fn read_plan(text: &[u8]) -> Option<Plan>
+    ensures { option_map (λ plan. balance plan.pool plan.limit) result ≡ plan_in text.now }
+{
+    let (pool, limit) = two_words(text)?;
+    let pool = read_osd(pool)?;
+    let limit = read_limit(limit)?;
+    Some(Plan { pool, limit })
+}
+
 /// The question of a line; `None` where it is none.
 #[tactic(auto, unfolding(crate::specs::Commands::question_in))]
 fn read_question(line: &[u8]) -> Option<Question>
@@ -178,6 +224,9 @@ pub(crate) fn read_command(line: &[u8]) -> Option<Command<'_>>
     }
     if let Some(epoch) = line.strip_prefix(AWAIT) {
         return Some(Command::Await(read_epoch(epoch)?));
+    }
+    if let Some(plan) = line.strip_prefix(BALANCE) {
+        return Some(Command::Balance(read_plan(plan)?));
     }
     if let Some(question) = read_question(line) {
         return Some(Command::Ask(question));

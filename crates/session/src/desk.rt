@@ -2,6 +2,7 @@
 ghost use Rattle.std.specs.Prelude.{◌≡◌, string_bytes, IsUtf8};
 
 use crate::command::{Command, Question, Task};
+use crate::plan::Plan;
 use crate::reply::{Reply, Speaker};
 use crossbeam_utils::Backoff;
 use mapjson::read_change;
@@ -137,6 +138,7 @@ impl<'a, R: Wait> Desk<'a, R> {
     ghost use Rattle.std.specs.Prelude.{length};
     ghost use Rattle.std.specs.Option.{option_map};
     ghost use Rattle.monitor.specs.Members.{IsMemberOf};
+    ghost use Rattle.monitor.specs.Balances.{Balances};
     ghost use Rattle.session.specs.Texts.{line_of};
     ghost use Rattle.session.specs.Commands.{shown};
     ghost use Rattle.session.specs.Replies.{reply_text};
@@ -207,6 +209,17 @@ impl<'a, R: Wait> Desk<'a, R> {
         Err(Refusal::AwaitSpent)
     }
 
+    /// Balances the groups of a pool: the epoch then, and how many moves.
+    fn balance(&self, member: &mut Member, plan: Plan) -> Result<(u64, usize), Refusal>
+        requires { IsMemberOf self.now.monitor.now member.old }
+        ensures member { IsMemberOf self.now.monitor.now member.new }
+        ensures balances { Balances self.now.monitor.now.first (length self.now.monitor.now.row.cells)
+            member.old.pass.history member.new.pass.history plan.pool plan.limit result }
+    {
+        self.monitor
+            .balance(self.rt, self.alloc, member, plan.pool, plan.limit)
+    }
+
     /// Does a command; `None` is a line that is no command.
     pub(crate) fn obey(
         &self,
@@ -232,6 +245,10 @@ impl<'a, R: Wait> Desk<'a, R> {
                 let epoch = self.await_epoch(member, wanted)?;
                 let by = Speaker::Monitor;
                 Ok(Reply::Epoch { by, epoch })
+            }
+            Some(Command::Balance(plan)) => {
+                let (epoch, moves) = self.balance(member, plan)?;
+                Ok(Reply::Moved { moves, epoch })
             }
             Some(Command::Follower(task)) => self.follow(follower, task),
         }

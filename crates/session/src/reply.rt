@@ -55,6 +55,11 @@ pub(crate) enum Reply {
         epoch: u64,
         evals: usize,
     },
+    /// How many moves a plan had, and the epoch after it.
+    Moved {
+        moves: usize,
+        epoch: u64,
+    },
 }
 
 impl Speaker {
@@ -167,7 +172,7 @@ fn push_refusal(text: &mut String, refusal: Refusal) -> Result<(), AllocError>
 
 impl Reply {
     /// Puts the reply's line behind a text. The one error is out of memory.
-    #[tactic(auto, unfolding(crate::specs::Texts::count_text, crate::specs::Texts::epoch_text, crate::specs::Texts::dump_text, crate::specs::Texts::ok_text))]
+    #[tactic(auto, unfolding(crate::specs::Texts::count_text, crate::specs::Texts::epoch_text, crate::specs::Texts::dump_text, crate::specs::Texts::ok_text, crate::specs::Texts::moved_text))]
     fn push_to(&self, text: &mut String) -> Result<(), AllocError>
         ensures { OnOk result (string_bytes text.new ≡ string_bytes text.old ++ reply_text self.now) }
     {
@@ -178,6 +183,7 @@ impl Reply {
             Reply::Epoch { by, epoch } => writeln!(text, "{} {epoch}", by.epoch_word()),
             Reply::Dump { by, map } => writeln!(text, "{} {map}", by.dump_word()),
             Reply::Changed { epoch, evals } => writeln!(text, "ok {epoch} evals {evals}"),
+            Reply::Moved { moves, epoch } => writeln!(text, "moved {moves} epoch {epoch}"),
         }
     }
 }

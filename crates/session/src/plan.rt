@@ -1,0 +1,18 @@
+//! A plan that a script asks for.
+
+ghost use Rattle.std.specs.Prelude.{◌≤◌};
+ghost use Rattle.session.specs.Plans.{max_moves};
+
+/// How many moves a plan may have at most.
+pub(crate) const MAX_MOVES: u32 = 1_024;
+
+/// A plan that is asked for.
+#[derive(Clone, Copy, Debug)]
+pub(crate) struct Plan {
+    /// The pool whose groups are to be moved.
+    pub pool: u32,
+    /// How many moves there may be, 1 to 1,024.
+    pub limit: u32,
+    pub ghost some: { 1 ≤ limit },
+    pub ghost few: { limit ≤ max_moves },
+}
