@@ -1,4 +1,6 @@
 mod CommandLines
+mod Paired
 mod PlainWords
+mod Played
 mod Put
 mod UsualLines

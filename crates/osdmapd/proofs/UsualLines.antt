@@ -233,7 +233,8 @@ none_among kind (k ∷ ks) none among =
 gives_options : (words : List Text) (journal map_word script : Text) (n : ℕ) → Finds words journal map_word script
     → digits_value 10 (without_leading_plus journal) ≡ n → (r : Result Options LineError) → ReadsLine words r
     → GivesOptions r n map_word script
-gives_options words journal map_word script n finds number (Ok o) (none, found, few) =
+gives_options words journal map_word script n finds number (Ok o) (none, chosen) =
+    let found = chosen.0 in
     let map_same : Some (string_bytes o.map) ≡ Some map_word = sym found.map_found ∙ finds.map_is in
     let script_same : Some (map string_bytes o.scripts.items) ≡ Some (script ∷ []) = sym found.scripts_found ∙ finds.script_is in
     (journal_of (found_in words) o.journal journal finds.journal_is found.journal_found ∙ number, cc, cc)

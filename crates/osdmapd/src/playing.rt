@@ -33,20 +33,20 @@ impl<'a> Promise<Option<Buffer>> for TextOf<'a> {
 type Player<'a> = PromisedHandle<Option<Buffer>, TextOf<'a>>;
 
 /// The text of a session: its heading, and the answers of its script. `None` where memory is short.
-fn play<R: Wait>(rt: &R, alloc: Global, member: Member, session: TextOf<'_>) -> Option<Buffer>
-    requires { IsNewMemberOf session.monitor.now member }
-    ensures { IfSome result (λ t. IsTextBy session.monitor.now session.number session.script.now (buffered t)) }
+fn play<R: Wait>(rt: &R, alloc: Global, member: Member, part: TextOf<'_>) -> Option<Buffer>
+    requires { IsNewMemberOf part.monitor.now member }
+    ensures { IfSome result (λ t. IsTextBy part.entry.monitor.now part.entry.number part.entry.script.now (buffered t)) }
 {
     let mut member = member;
     let mut text = Buffer::new(alloc);
-    let heading = format!(in alloc; "session {}\n", session.number).ok()?;
+    let heading = format!(in alloc; "session {}\n", part.number).ok()?;
     write_whole(&mut text, heading.as_bytes()).ok()?;
     session::run(
         alloc,
         rt,
-        session.monitor,
+        part.monitor,
         &mut member,
-        session.script,
+        part.script,
         &mut text,
         &Open,
     )
@@ -60,17 +60,29 @@ fn start<'s, E, R: Wait + Sync>(
     rt: &'s R,
     alloc: Global,
     member: Member,
-    session: TextOf<'s>,
+    part: TextOf<'s>,
 ) -> Result<Player<'s>, AllocError>
-    requires { IsNewMemberOf session.monitor.now member }
-    ensures { IfOk result (λ player. player.promise ≡ session.entry) }
+    requires { IsNewMemberOf part.monitor.now member }
+    ensures { IfOk result (λ player. player.promise ≡ part.entry) }
 {
+    let TextOf {
+        monitor,
+        number,
+        script,
+    } = part;
     let player = scope.spawn_with(
-        session,
+        part,
         move || -> Option<Buffer>
-            requires { IsNewMemberOf session.monitor.now member }
-            ensures { IfSome result (λ t. IsTextBy session.entry.monitor.now session.entry.number session.entry.script.now (buffered t)) }
-        { play(rt, alloc, member, session) },
+            requires { IsNewMemberOf monitor.now member }
+            ensures { IfSome result (λ t. IsTextBy monitor.entry.now number script.entry.now (buffered t)) }
+        {
+            let own = TextOf {
+                monitor,
+                number,
+                script,
+            };
+            play(rt, alloc, member, own)
+        },
     )?;
     Ok(player)
 }
@@ -105,12 +117,12 @@ fn start_all<'s, E, R: Wait + Sync>(
         let Some(member) = next(monitor, &mut free) else {
             unreachable!()
         };
-        let session = TextOf {
+        let part = TextOf {
             monitor,
             number: players.len() + 1,
             script: script.as_slice(),
         };
-        players.push(start(scope, rt, alloc, member, session)?)?;
+        players.push(start(scope, rt, alloc, member, part)?)?;
     }
     Ok(players)
 }

@@ -1,0 +1,37 @@
+-- The texts of sessions.
+use Rattle.std.proofs.Common.{◌≡◌, ◌∙◌, ap, sym, subst, ℕ, List, map, length}
+use Rattle.std.specs.declared.vec.Vec.{Vec}
+use Rattle.std.specs.declared.alloc.Global.{Global}
+use Rattle.osdmap.specs.Maps.{ClusterMap}
+use Rattle.monitor.specs.Members.{Monitored}
+use Rattle.session.specs.declared.sink.Buffer.{Buffer}
+use Rattle.session.specs.Buffers.{buffered}
+use Rattle.std.specs.declared.thread.PromisedHandle.{PromisedHandle}
+use Rattle.osdmapd.specs.declared.playing.TextOf.{TextOf}
+use Rattle.osdmapd.specs.Players.{IsStartedFor}
+use Rattle.osdmapd.specs.Pairs.{Pairs}
+use Rattle.osdmapd.specs.Serving.{IsTextOf, IsTextBy}
+use Rattle.osdmapd.proofs.Paired.{pairs_made}
+
+-- a text is that of the same monitor, number and script
+pub text_for : (monitor monitor' : Monitored) (number number' : ℕ) (script script' text : List ℕ) → monitor' ≡ monitor → number' ≡ number
+    → script' ≡ script → IsTextBy monitor' number' script' text → IsTextBy monitor number script text
+text_for monitor monitor' number number' script script' text same numbered read is =
+    subst (λ m. IsTextBy m number script text) same (subst (λ n. IsTextBy monitor' n script text) numbered
+    (subst (λ s. IsTextBy monitor' number' s text) read is))
+
+-- texts of a monitor with this first map and journal
+pub texts_from : (monitor : Monitored) (m : ClusterMap) (journal : ℕ) (scripts : List (Vec ℕ Global)) (texts : List Buffer) → monitor.first ≡ m
+    → length monitor.row.cells ≡ journal
+    → Pairs (λ number (script : Vec ℕ Global) text. IsTextBy monitor number script.items (buffered text)) 1 scripts texts
+    → Pairs (λ number (script : Vec ℕ Global) text. IsTextOf m journal number script.items text) 1 scripts (map buffered texts)
+texts_from monitor m journal scripts texts first room paired =
+    subst (λ k. Pairs (λ number (script : Vec ℕ Global) text. IsTextOf m k number script.items text) 1 scripts (map buffered texts)) room
+    (subst (λ f. Pairs (λ number (script : Vec ℕ Global) text. IsTextOf f (length monitor.row.cells) number script.items text) 1 scripts (map buffered texts)) first
+    (pairs_made (λ number (script : Vec ℕ Global) text. IsTextBy monitor number script.items text) buffered 1 scripts texts paired))
+
+-- a thread with this promise is started for a script
+pub started_for : {T : Type 0} (monitor : Monitored) (number : ℕ) (player : PromisedHandle T TextOf) (script : Vec ℕ Global)
+    → player.promise.monitor.now ≡ monitor → player.promise.number ≡ number → player.promise.script.now ≡ script.items
+    → IsStartedFor monitor number player script
+started_for monitor number player script same numbered read = (same, numbered, read)

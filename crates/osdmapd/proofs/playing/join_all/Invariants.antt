@@ -1,0 +1,10 @@
+use Rattle.std.proofs.Common.{◌≡◌, ◌++◌, List}
+use Rattle.std.specs.Vec.Iter.{into_iter_items}
+use Rattle.osdmapd.specs.Pairs.{Pairs}
+use Rattle.osdmapd.specs.Players.{Keeps}
+use Rattle.osdmapd.proofs.playing.join_all.Given as goal
+
+-- the texts so far are those of the threads that have been joined
+abbrev pub invariant-loop-player : goal.invariant-loop-player
+invariant-loop-player g l =
+    (done : List _) × Pairs Keeps 1 done l.texts.items × (l.fn.players.items ≡ done ++ into_iter_items l.player-iterator)
