@@ -1,0 +1,87 @@
+//! What a plan goes by and no move changes.
+
+ghost use Rattle.std.specs.Prelude.{◌≡◌, ◌<◌, ◌^◌, Some, IfOk};
+ghost use Rattle.osdmap.specs.Maps.{pool_at};
+ghost use Rattle.osdmap.specs.Placement.{steps_of};
+ghost use Rattle.balancer.specs.Shares.{candidates, total};
+ghost use Rattle.balancer.specs.Moves.{level_chosen, levels_of};
+
+use crate::shares::{candidates, total};
+use crush::Step;
+use osdmap::{OsdMap, Pool};
+use refusal::Memory;
+use std::alloc::Global;
+
+/// The type that a step chooses.
+fn level_chosen(step: &Step) -> Option<u8>
+    ensures { result ≡ level_chosen step.now }
+{
+    match step {
+        Step::Choose(choose) => Some(choose.level),
+        _ => None,
+    }
+}
+
+/// The types that some steps choose, in order; or `Memory` (30).
+fn levels_of(alloc: Global, steps: &[Step]) -> Result<Vec<u8>, Memory>
+    ensures { IfOk result (λ levels. levels.items ≡ levels_of steps.now) }
+{
+    Ok(
+        steps
+            .iter()
+            .filter_map(|step| level_chosen(step))
+            .collect(alloc)?,
+    )
+}
+
+/// The types that the rule of a pool chooses, in order; or `Memory` (30).
+fn levels(alloc: Global, map: &OsdMap, pool: &Pool) -> Result<Vec<u8>, Memory>
+    ensures { IfOk result (λ levels. levels.items ≡ levels_of (steps_of map.now.map pool.now)) }
+{
+    match map.rule(pool.rule()) {
+        Some(rule) => levels_of(alloc, rule.steps()),
+        None => Ok(Vec::new(alloc)),
+    }
+}
+
+/// What a plan for a pool goes by and no move changes.
+#[derive(Drop)]
+pub(crate) struct Frame<'a> {
+    pub map: &'a OsdMap,
+    pub pool: Pool,
+    /// The types that the pool's rule chooses, in order.
+    pub levels: Vec<u8>,
+    /// The candidates, by number upwards.
+    pub osds: Vec<u32>,
+    /// What they weigh together.
+    pub weight: u64,
+    ghost pool_is: { pool_at map.now.map.pools pool.id ≡ Some pool },
+    ghost levels_are: { levels.items ≡ levels_of (steps_of map.now.map pool) },
+    ghost osds_are: { osds.items ≡ candidates map.now.map pool },
+    ghost weight_is: { weight ≡ total map.now.map pool },
+    ghost weight_small: { weight < 2 ^ 58 },
+}
+
+impl<'a> Frame<'a> {
+    ghost use Rattle.std.specs.Prelude.{◌≡◌, Some, IfOk};
+    ghost use Rattle.osdmap.specs.Maps.{pool_at};
+
+    /// What a plan for a pool of a map goes by; or `Memory` (30).
+    #[tactic(auto, unfolding(crate::specs::Shares::total))]
+    pub fn new(alloc: Global, map: &'a OsdMap, pool: Pool) -> Result<Frame<'a>, Memory>
+        requires { pool_at map.now.map.pools pool.id ≡ Some pool }
+        ensures map { IfOk result (λ frame. frame.map.now ≡ map.now) }
+        ensures pool { IfOk result (λ frame. frame.pool ≡ pool) }
+    {
+        let levels = levels(alloc, map, &pool)?;
+        let osds = candidates(alloc, map, &pool)?;
+        let weight = total(map, &osds);
+        Ok(Frame {
+            map,
+            pool,
+            levels,
+            osds,
+            weight,
+        })
+    }
+}
