@@ -48,7 +48,8 @@ pub(crate) fn is_candidate(map: &OsdMap, pool: &Pool, osd: u32) -> bool
 
 /// The OSDs between which groups of a pool may be moved, by number upwards; or `Memory` (30).
 pub(crate) fn candidates(alloc: Global, map: &OsdMap, pool: &Pool) -> Result<Vec<u32>, Memory>
-    ensures { IfOk result (λ osds. osds.items ≡ candidates map.now.map pool.now) }
+    ensures osds { IfOk result (λ osds. osds.items ≡ candidates map.now.map pool.now) }
+    ensures few { IfOk result (λ osds. length osds.items ≤ 1024) }
 {
     let mut osds = Vec::with_capacity(alloc, map.max_osd() as usize)?;
     for osd in 0..map.max_osd() {
@@ -86,7 +87,10 @@ fn reweight(map: &OsdMap, osd: u32) -> u32
     ensures few { result ≤ 65536 }
 {
     map.holds_together();
-    map.osd(osd).map_or(0, |state| state.weight)
+    match map.osd(osd) {
+        Some(state) => state.weight,
+        None => 0,
+    }
 }
 
 /// The weight of an OSD: that in its bucket times its reweight.
@@ -102,7 +106,7 @@ pub(crate) fn weight_of(map: &OsdMap, osd: u32) -> u64
 pub(crate) fn total(map: &OsdMap, osds: &[u32]) -> u64
     requires { length osds.now ≤ 1024 }
     ensures value { result ≡ sum_by (weight_of map.now.map) osds.now }
-    ensures small { result < 2 ^ 58 }
+    ensures small { result ≤ 2 ^ 58 }
 {
     let mut total = 0;
     for osd in osds {
