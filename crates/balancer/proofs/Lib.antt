@@ -1,3 +1,6 @@
 pub mod Stays
 pub mod Moving
 pub mod Weighing
+pub mod Counting
+pub mod Replacing
+pub mod Deviating

@@ -1,19 +1,21 @@
 -- What a plan is made with: the pool's groups and the deviations of all OSDs after the moves so far, as they are stored.
-use Rattle.std.specs.Prelude.{◌≡◌, ℕ, ◌<◌, ◌==◌, Bool, true, false, not, ◌&&◌, nat_lt, ℤ, pos, int_lt, List, [], length, map, Option, Some, None, IfSome}
+use Rattle.std.specs.Prelude.{◌≡◌, ℕ, ◌+◌, ◌*◌, ◌<◌, ◌≤◌, ◌==◌, Bool, true, false, not, ◌&&◌, nat_lt, ℤ, pos, int_lt, List, [], ◌∷◌, ◌++◌, length, map, Option, Some, None, IfSome}
 use Rattle.std.specs.List.{range_with_len, list_any, count_by}
 use Rattle.std.specs.Option.{option_map_or}
 use Rattle.stated.specs.declared.pg.Pg.{Pg}
-use Rattle.stated.specs.Exceptions.{said_of}
+use Rattle.keylist.specs.Keys.{entry_at}
+use Rattle.stated.specs.Exceptions.{place_of, key_of, said_of}
 use Rattle.stated.specs.Pools.{PoolFacts}
 use Rattle.osdmap.specs.Maps.{ClusterMap, pool_at, HoldsTogether}
-use Rattle.osdmap.specs.Mapped.{is_of, is_weightless}
+use Rattle.osdmap.specs.Mapped.{is_of, is_weightless, replaced}
 use Rattle.osdmap.specs.Placement.{group_of, mapped_set}
 use Rattle.placement_laws.specs.Standing.{stands}
 use Rattle.balancer.specs.declared.moves.Move.{Move}
 use Rattle.balancer.specs.declared.group.Group.{Group}
-use Rattle.balancer.specs.Shares.{osds_of, total, deviation}
-use Rattle.balancer.specs.Moves.{move_of, pairs_in, has_way}
-use Rattle.balancer.specs.Greedy.{gap, is_good, beats, best_move}
+use Rattle.balancer.specs.Shares.{osds_of, total, deviation, unevenness}
+use Rattle.balancer.specs.Moves.{move_of, pair_of, pairs_in, has_way}
+use Rattle.balancer.specs.Greedy.{gap, is_good, beats, best_move, after_moves}
+use Rattle.balancer.specs.Plans.{is_moved, items_at}
 
 -- whether an OSD of the explicit set of a group is out for good, so that pairs do nothing
 unfoldable pub is_fixed : ClusterMap → Pg → Bool
@@ -27,10 +29,22 @@ group_at m p n = record {
   is_fixed = is_fixed m (group_of p n);
 }
 
+-- what is kept of the groups of a pool, by number
+abbrev pub groups_of : ClusterMap → PoolFacts → List Group
+groups_of m p = map (group_at m p) (range_with_len 0 p.pg_num)
+
+-- the deviations of all OSDs, by number
+abbrev pub deviations_of : ClusterMap → PoolFacts → List ℤ
+deviations_of m p = map (deviation m p) (osds_of m)
+
 -- what is kept of each group of a pool, and the deviation of each OSD
 pub record IsBoardOf (m : ClusterMap) (p : PoolFacts) (gs : List Group) (ds : List ℤ) : Type 0 where
-  pub groups : gs ≡ map (group_at m p) (range_with_len 0 p.pg_num)
-  pub deviations : ds ≡ map (deviation m p) (osds_of m)
+  pub groups : gs ≡ groups_of m p
+  pub deviations : ds ≡ deviations_of m p
+
+-- what is kept of a group after a move of it
+abbrev pub gone : Group → Move → Group
+gone g v = record g { places = replaced (pair_of v) g.places; pairs = g.pairs ++ pair_of v ∷ [] }
 
 -- whether a group may go from one OSD to another, where both are candidates and beside one another
 unfoldable pub may_go : ClusterMap → PoolFacts → ℕ → ℕ → ℕ → Group → Bool
@@ -57,3 +71,10 @@ pub record IsBest (m : ClusterMap) (p : PoolFacts) (v : Move) : Type 0 where
 abbrev pub IsCovered : ClusterMap → PoolFacts → Option Move → Move → Type 0
 IsCovered m p None v = is_good m p v ≡ false
 IsCovered m p (Some best) v = is_good m p v ≡ true → beats m p v best ≡ false
+
+-- the map after some moves holds together, each group moved has its pairs there as an exception, and each move made the pool
+-- more even
+pub record IsReached (m : ClusterMap) (p : PoolFacts) (moves : List Move) : Type 0 where
+  pub holds : HoldsTogether (after_moves m p moves)
+  pub named : (n : ℕ) → is_moved moves n ≡ true → entry_at key_of (after_moves m p moves).items (place_of (group_of p n)) ≡ Some (items_at (after_moves m p moves) p n)
+  pub evens : unevenness (after_moves m p moves) p + 2 * total m p * length moves ≤ unevenness m p

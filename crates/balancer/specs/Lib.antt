@@ -1,5 +1,5 @@
 pub mod Shares
 pub mod Moves
 pub mod Greedy
-pub mod Boards
 pub mod Plans
+pub mod Boards

@@ -1,6 +1,6 @@
 //! What a plan goes by and no move changes.
 
-ghost use Rattle.std.specs.Prelude.{◌≡◌, ◌≤◌, ◌^◌, Some, IfOk};
+ghost use Rattle.std.specs.Prelude.{◌≡◌, ◌≤◌, ◌^◌, length, Some, IfOk};
 ghost use Rattle.osdmap.specs.Maps.{pool_at};
 ghost use Rattle.osdmap.specs.Placement.{steps_of};
 ghost use Rattle.balancer.specs.Shares.{candidates, total};
@@ -58,6 +58,7 @@ pub(crate) struct Frame<'a> {
     ghost pool_is: { pool_at map.now.map.pools pool.id ≡ Some pool },
     ghost levels_are: { levels.items ≡ levels_of (steps_of map.now.map pool) },
     ghost osds_are: { osds.items ≡ candidates map.now.map pool },
+    ghost osds_few: { length osds.items ≤ 1024 },
     ghost weight_is: { weight ≡ total map.now.map pool },
     ghost weight_small: { weight ≤ 2 ^ 58 },
 }

@@ -2,10 +2,12 @@
 //! as a change of the map.
 #![tactic(auto)]
 
+mod board;
 mod frame;
 pub mod group;
 pub mod moves;
 mod plans;
+mod search;
 mod shares;
 
 pub use moves::Move;

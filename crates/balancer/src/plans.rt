@@ -71,7 +71,9 @@ pub fn plan(
     ensures evens { IfOk result (λ plan. Evens map.now.map pool plan.0 plan.1) }
     ensures leaves_none { IfOk result (λ plan. plan.1 < limit → LeavesNone map.now.map pool plan.0) }
 {
-    let _ = (alloc, table, limit);
+    let _ = alloc;
+    let _ = table;
+    let _ = limit;
     balanced(map, pool)?;
     Err(Refusal::Memory)
 }

@@ -1,6 +1,6 @@
 //! Who is a candidate, and what OSDs weigh.
 
-ghost use Rattle.std.specs.Prelude.{◌≡◌, ◌≤◌, ◌<◌, ◌^◌, ◌&&◌, not, pos, length, slice_index, Some, IfOk};
+ghost use Rattle.std.specs.Prelude.{◌≡◌, ◌*◌, ◌≤◌, ◌<◌, ◌^◌, ◌&&◌, not, pos, length, slice_index, Some, IfOk};
 ghost use Rattle.std.specs.List.{find, sum_by};
 ghost use Rattle.std.specs.Option.{option_copied};
 ghost use Rattle.std.specs.Ordering.{int_eq};
@@ -82,7 +82,7 @@ fn item_weight(buckets: &[Bucket], osd: u32) -> u32
 }
 
 /// The reweight of an OSD: 0 to 65,536.
-fn reweight(map: &OsdMap, osd: u32) -> u32
+pub(crate) fn reweight(map: &OsdMap, osd: u32) -> u32
     ensures value { result ≡ slice_index map.now.map.weights osd }
     ensures few { result ≤ 65536 }
 {
@@ -115,6 +115,18 @@ pub(crate) fn total(map: &OsdMap, osds: &[u32]) -> u64
     total
 }
 
+/// How many groups of a pool stand on an OSD: at most 4,096.
+pub(crate) fn count(map: &OsdMap, table: &PgTable, pool: &Pool, osd: u32) -> u64
+    requires table { IsTableOf table.now map.now.map }
+    requires there { pool_at map.now.map.pools pool.now.id ≡ Some pool.now }
+    ensures value { result ≡ count_in map.now.map pool.now.id osd }
+    ensures few { result ≤ 4096 }
+{
+    map.holds_together();
+    pool.is_within_limits();
+    table.count_in(pool.id(), osd) as u64
+}
+
 /// How many places of groups of a pool some OSDs have together.
 pub(crate) fn places(map: &OsdMap, table: &PgTable, pool: &Pool, osds: &[u32]) -> u64
     requires table { IsTableOf table.now map.now.map }
@@ -125,7 +137,7 @@ pub(crate) fn places(map: &OsdMap, table: &PgTable, pool: &Pool, osds: &[u32]) -
 {
     let mut places = 0;
     for osd in osds {
-        places += table.count_in(pool.id(), *osd) as u64;
+        places += count(map, table, pool, *osd);
     }
     places
 }

@@ -1,0 +1,102 @@
+//! The state of a plan: the groups of a pool and the deviations of OSDs after the moves so far.
+
+ghost use Rattle.std.specs.Prelude.{◌≡◌, ◌*◌, ◌+◌, ◌<◌, ◌≤◌, ◌^◌, pos, ◌-ℤ◌, length, Some, IfOk};
+ghost use Rattle.osdmap.specs.Maps.{pool_at};
+ghost use Rattle.pgtable.specs.Tables.{IsTableOf};
+ghost use Rattle.balancer.specs.Shares.{deviation, places};
+ghost use Rattle.balancer.specs.Shares.{places as places_in};
+ghost use Rattle.balancer.specs.Boards.{deviations_of, IsBoardOf, IsReached};
+ghost use Rattle.balancer.specs.Greedy.{after_moves};
+
+use crate::frame::Frame;
+use crate::group::{Group, groups};
+use crate::moves::Move;
+use crate::shares::{count, places, weight_of};
+use osdmap::{OsdMap, Pool};
+use pgtable::PgTable;
+use refusal::Memory;
+use std::alloc::Global;
+
+/// How far an OSD with so many groups is above its share of the places, times the weight of all candidates.
+fn deviation(count: u64, total: u64, places: u64, weight: u64) -> i128
+    requires count { count ≤ 4096 }
+    requires total { total ≤ 2 ^ 58 }
+    requires places { places ≤ 1024 * 4096 }
+    requires weight { weight < 2 ^ 48 }
+    ensures { result ≡ pos (count * total) -ℤ pos (places * weight) }
+{
+    i128::from(count) * i128::from(total) - i128::from(places) * i128::from(weight)
+}
+
+/// How many places of groups of the pool the candidates have together.
+#[tactic(auto, unfolding(crate::specs::Shares::places))]
+fn places_of(frame: &Frame, table: &PgTable) -> u64
+    requires { IsTableOf table.now frame.now.map.now.map }
+    ensures value { result ≡ places frame.now.map.now.map frame.now.pool }
+    ensures small { result ≤ 1024 * 4096 }
+{
+    places(frame.map, table, &frame.pool, &frame.osds)
+}
+
+/// The deviation of an OSD, where the candidates have so many places.
+#[tactic(auto, unfolding(crate::specs::Shares::deviation))]
+fn deviation_of(frame: &Frame, table: &PgTable, places: u64, osd: u32) -> i128
+    requires table { IsTableOf table.now frame.now.map.now.map }
+    requires value { places ≡ places_in frame.now.map.now.map frame.now.pool }
+    requires few { places ≤ 1024 * 4096 }
+    ensures { result ≡ deviation frame.now.map.now.map frame.now.pool osd }
+{
+    let count = count(frame.map, table, &frame.pool, osd);
+    deviation(count, frame.weight, places, weight_of(frame.map, osd))
+}
+
+/// The deviations of all OSDs, by number; or `Memory` (30).
+fn deviations(alloc: Global, frame: &Frame, table: &PgTable) -> Result<Vec<i128>, Memory>
+    requires { IsTableOf table.now frame.now.map.now.map }
+    ensures { IfOk result (λ ds. ds.items ≡ deviations_of frame.now.map.now.map frame.now.pool) }
+{
+    let places = places_of(frame, table);
+    let mut deviations = Vec::with_capacity(alloc, frame.map.max_osd() as usize)?;
+    for osd in 0..frame.map.max_osd() {
+        deviations.push(deviation_of(frame, table, places, osd))?;
+    }
+    Ok(deviations)
+}
+
+/// The state of a plan for a pool.
+#[derive(Drop)]
+pub(crate) struct Board<'a> {
+    pub frame: Frame<'a>,
+    /// What is kept of the pool's groups, by number.
+    pub groups: Vec<Group>,
+    /// The deviations of all OSDs, by number.
+    pub deviations: Vec<i128>,
+    /// The moves so far.
+    pub moves: Vec<Move>,
+    ghost reached: { IsReached frame.map.now.map frame.pool moves.items },
+    ghost board: { IsBoardOf (after_moves frame.map.now.map frame.pool moves.items) frame.pool groups.items deviations.items },
+}
+
+impl<'a> Board<'a> {
+    ghost use Rattle.std.specs.Prelude.{◌≡◌, [], IfOk};
+    ghost use Rattle.pgtable.specs.Tables.{IsTableOf};
+
+    /// The state at the beginning; or `Memory` (30).
+    pub fn new(alloc: Global, frame: Frame<'a>, table: &PgTable) -> Result<Board<'a>, Memory>
+        requires { IsTableOf table.now frame.map.now.map }
+        ensures map { IfOk result (λ board. board.frame.map.now.map ≡ frame.entry.map.now.map) }
+        ensures pool { IfOk result (λ board. board.frame.pool ≡ frame.entry.pool) }
+        ensures moves { IfOk result (λ board. board.moves.items ≡ []) }
+    {
+        frame.map.holds_together();
+        let groups = groups(alloc, frame.map, &frame.pool)?;
+        let deviations = deviations(alloc, &frame, table)?;
+        let moves = Vec::new(alloc);
+        Ok(Board {
+            frame,
+            groups,
+            deviations,
+            moves,
+        })
+    }
+}
