@@ -4,3 +4,4 @@ pub mod Weighing
 pub mod Counting
 pub mod Replacing
 pub mod Deviating
+pub mod Ancestors

@@ -8,12 +8,12 @@ use Rattle.stated.specs.Exceptions.{place_of, key_of, said_of}
 use Rattle.stated.specs.Pools.{PoolFacts}
 use Rattle.osdmap.specs.Maps.{ClusterMap, pool_at, HoldsTogether}
 use Rattle.osdmap.specs.Mapped.{is_of, is_weightless, replaced}
-use Rattle.osdmap.specs.Placement.{group_of, mapped_set}
+use Rattle.osdmap.specs.Placement.{group_of, steps_of, mapped_set}
 use Rattle.placement_laws.specs.Standing.{stands}
 use Rattle.balancer.specs.declared.moves.Move.{Move}
 use Rattle.balancer.specs.declared.group.Group.{Group}
 use Rattle.balancer.specs.Shares.{osds_of, total, deviation, unevenness}
-use Rattle.balancer.specs.Moves.{move_of, pair_of, pairs_in, has_way}
+use Rattle.balancer.specs.Moves.{move_of, pair_of, pairs_in, last_level, levels_of, has_way}
 use Rattle.balancer.specs.Greedy.{gap, is_good, beats, best_move, after_moves}
 use Rattle.balancer.specs.Plans.{is_moved, items_at}
 
@@ -47,10 +47,10 @@ abbrev pub gone : Group → Move → Group
 gone g v = record g { places = replaced (pair_of v) g.places; pairs = g.pairs ++ pair_of v ∷ [] }
 
 -- whether a group may go from one OSD to another, where both are candidates and beside one another
-unfoldable pub may_go : ClusterMap → PoolFacts → ℕ → ℕ → ℕ → Group → Bool
-may_go m p level from to g =
+unfoldable pub may_go : ClusterMap → PoolFacts → ℕ → ℕ → Group → Bool
+may_go m p from to g =
     not g.is_fixed && (count_by (is_of from) g.places == 1) && not (stands to g.places) && nat_lt (length g.pairs) p.size
-    && has_way m level from to g.places
+    && has_way m (last_level (levels_of (steps_of m p))) from to g.places
 
 -- whether some move between two OSDs could be taken rather than the best one so far
 abbrev pub is_wanted : ClusterMap → PoolFacts → ℕ → ℕ → Option Move → Bool

@@ -85,14 +85,15 @@ are_under_same m some other level =
 unfoldable pub are_beside : ClusterMap → PoolFacts → ℕ → ℕ → Bool
 are_beside m p some other = list_all (are_under_same m some other) (earlier_levels (levels_of (steps_of m p)))
 
--- whether a place has an OSD, but not the one that goes, in the failure domain of the one that comes
-abbrev pub is_in_way : ClusterMap → ℕ → ℕ → ℕ → Option ℕ → Bool
-is_in_way m level from to place =
-    option_map_or (λ o. not (o == from) && option_eq int_eq (domain_of m level o) (domain_of m level to)) place false
+-- whether a place has an OSD, but not the one that goes, in a failure domain
+abbrev pub is_in_way : ClusterMap → ℕ → ℕ → Option ℤ → Option ℕ → Bool
+is_in_way m level from domain place =
+    option_map_or (λ o. not (o == from) && option_eq int_eq (domain_of m level o) domain) place false
 
--- whether the OSD that comes has a failure domain, and no place of a set is in its way
+-- whether the OSD that comes has a failure domain, and no place of a set is in its way there
 unfoldable pub has_way : ClusterMap → ℕ → ℕ → ℕ → List (Option ℕ) → Bool
-has_way m level from to set = is_some (domain_of m level to) && not (list_any (is_in_way m level from to) set)
+has_way m level from to set =
+    is_some (domain_of m level to) && not (list_any (is_in_way m level from (domain_of m level to)) set)
 
 -- whether it has a failure domain of its own in the group, by the last type that the pool's rule chooses
 unfoldable pub has_own_domain : ClusterMap → PoolFacts → Move → Bool

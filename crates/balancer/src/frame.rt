@@ -2,10 +2,13 @@
 
 ghost use Rattle.std.specs.Prelude.{◌≡◌, ◌≤◌, ◌^◌, length, Some, IfOk};
 ghost use Rattle.osdmap.specs.Maps.{pool_at};
+ghost use Rattle.std.specs.List.{list_all};
 ghost use Rattle.osdmap.specs.Placement.{steps_of};
 ghost use Rattle.balancer.specs.Shares.{candidates, total};
-ghost use Rattle.balancer.specs.Moves.{level_chosen, levels_of};
+ghost use Rattle.balancer.specs.Moves.{level_chosen, levels_of, are_under_same};
 
+use crate::domains::{are_under_same, has_way, stands, times};
+use crate::group::Group;
 use crate::shares::{candidates, total};
 use crush::Step;
 use osdmap::{OsdMap, Pool};
@@ -42,6 +45,15 @@ fn levels(alloc: Global, map: &OsdMap, pool: &Pool) -> Result<Vec<u8>, Memory>
         Some(rule) => levels_of(alloc, rule.steps()),
         None => Ok(Vec::new(alloc)),
     }
+}
+
+/// Whether two OSDs are under the same bucket of each of some types, or under none.
+fn are_under_same_all(map: &OsdMap, some: u32, other: u32, levels: &[u8]) -> bool
+    ensures { result ≡ list_all (are_under_same map.now.map some other) levels.now }
+{
+    levels
+        .iter()
+        .all(|level| are_under_same(map, some, other, *level))
 }
 
 /// What a plan for a pool goes by and no move changes.
@@ -84,5 +96,45 @@ impl<'a> Frame<'a> {
             osds,
             weight,
         })
+    }
+}
+
+impl Frame<'_> {
+    ghost use Rattle.std.specs.Prelude.{◌≡◌};
+    ghost use Rattle.std.specs.List.{list_all};
+    ghost use Rattle.osdmap.specs.Placement.{steps_of};
+    ghost use Rattle.balancer.specs.Moves.{are_under_same, are_beside, last_level, levels_of};
+    ghost use Rattle.balancer.specs.Boards.{may_go};
+
+    /// Whether two OSDs are under the same bucket of each type that the pool's rule chooses before the last, or under none.
+    #[tactic(auto, unfolding(crate::specs::Moves::are_beside))]
+    pub fn are_beside(&self, some: u32, other: u32) -> bool
+        ensures { result ≡ are_beside self.now.map.now.map self.now.pool some other }
+    {
+        let levels = self.levels.as_slice();
+        match levels.split_last() {
+            Some((_, earlier)) => are_under_same_all(self.map, some, other, earlier),
+            None => true,
+        }
+    }
+
+    /// The last type that the pool's rule chooses.
+    fn last_level(&self) -> u8
+        ensures { result ≡ last_level (levels_of (steps_of self.now.map.now.map self.now.pool)) }
+    {
+        self.levels.last().copied().unwrap_or(0)
+    }
+
+    /// Whether a group may go from one OSD to another, where both are candidates and beside one another.
+    #[tactic(auto, unfolding(crate::specs::Boards::may_go))]
+    pub fn may_go(&self, from: u32, to: u32, group: &Group) -> bool
+        ensures { result ≡ may_go self.now.map.now.map self.now.pool from to group.now }
+    {
+        let places = group.places.as_slice();
+        !group.is_fixed
+            && times(places, from) == 1
+            && !stands(places, to)
+            && group.pairs.as_slice().len() < usize::from(self.pool.size())
+            && has_way(self.map, self.last_level(), from, to, places)
     }
 }

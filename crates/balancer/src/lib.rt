@@ -3,6 +3,7 @@
 #![tactic(auto)]
 
 mod board;
+mod domains;
 mod frame;
 pub mod group;
 pub mod moves;

@@ -11,8 +11,7 @@ use crate::moves::Move;
 fn precedes(u: Move, v: Move) -> bool
     ensures { result ≡ precedes u v }
 {
-    u.from < v.from
-        || (u.from == v.from && (u.to < v.to || (u.to == v.to && u.group < v.group)))
+    u.from < v.from || (u.from == v.from && (u.to < v.to || (u.to == v.to && u.group < v.group)))
 }
 
 impl Board<'_> {
