@@ -5,3 +5,6 @@ pub mod Counting
 pub mod Replacing
 pub mod Deviating
 pub mod Ancestors
+pub mod Beating
+pub mod Allowing
+pub mod Searching

@@ -15,8 +15,8 @@ fn precedes(u: Move, v: Move) -> bool
 }
 
 impl Board<'_> {
-    ghost use Rattle.std.specs.Prelude.{◌≡◌, ◌<◌, ℕ, pos, neg_ℤ, ◌<ℤ◌, ◌^◌, ◌==◌, [], length, true, Some, IfSome, MatchOption};
-    ghost use Rattle.balancer.specs.Shares.{is_candidate, deviation};
+    ghost use Rattle.std.specs.Prelude.{◌≡◌, ◌<◌, ℕ, pos, neg_ℤ, int_lt, ◌<ℤ◌, ◌^◌, ◌==◌, [], length, position, true, Some, IfSome, MatchOption};
+    ghost use Rattle.balancer.specs.Shares.{is_candidate, total, deviation};
     ghost use Rattle.balancer.specs.Moves.{move_of, are_beside, last_level, levels_of};
     ghost use Rattle.balancer.specs.Greedy.{gap, beats, good_moves, after_moves};
     ghost use Rattle.balancer.specs.Boards.{may_go, is_wanted, IsGood, IsBest, IsCovered};
@@ -38,5 +38,50 @@ impl Board<'_> {
         ensures { result ≡ gap (after_moves self.now.frame.map.now.map self.now.frame.pool self.now.moves.items) self.now.frame.pool from to }
     {
         self.deviation(from) - self.deviation(to)
+    }
+
+    /// Whether a move between candidates is taken rather than another.
+    #[tactic(auto, unfolding(crate::specs::Greedy::beats))]
+    fn beats(&self, u: Move, v: Move) -> bool
+        requires u_from { is_candidate self.now.frame.map.now.map self.now.frame.pool u.from ≡ true }
+        requires u_to { is_candidate self.now.frame.map.now.map self.now.frame.pool u.to ≡ true }
+        requires v_from { is_candidate self.now.frame.map.now.map self.now.frame.pool v.from ≡ true }
+        requires v_to { is_candidate self.now.frame.map.now.map self.now.frame.pool v.to ≡ true }
+        ensures { result ≡ beats (after_moves self.now.frame.map.now.map self.now.frame.pool self.now.moves.items) self.now.frame.pool u v }
+    {
+        let gap = self.gap(u.from, u.to);
+        let other = self.gap(v.from, v.to);
+        gap > other || (gap == other && precedes(u, v))
+    }
+
+    /// Whether the difference of the deviations of two candidates is above the weight of all candidates.
+    fn is_wide(&self, from: u32, to: u32) -> bool
+        requires from { is_candidate self.now.frame.map.now.map self.now.frame.pool from ≡ true }
+        requires to { is_candidate self.now.frame.map.now.map self.now.frame.pool to ≡ true }
+        ensures { result ≡ int_lt (pos (total (after_moves self.now.frame.map.now.map self.now.frame.pool self.now.moves.items) self.now.frame.pool)) (gap (after_moves self.now.frame.map.now.map self.now.frame.pool self.now.moves.items) self.now.frame.pool from to) }
+    {
+        self.gap(from, to) > i128::from(self.frame.weight)
+    }
+
+    /// Whether some move between two candidates could be taken rather than the best one so far.
+    fn is_wanted(&self, from: u32, to: u32, best: Option<Move>) -> bool
+        requires from { is_candidate self.now.frame.map.now.map self.now.frame.pool from ≡ true }
+        requires to { is_candidate self.now.frame.map.now.map self.now.frame.pool to ≡ true }
+        requires best { IfSome best (λ v. IsGood (after_moves self.now.frame.map.now.map self.now.frame.pool self.now.moves.items) self.now.frame.pool v) }
+        ensures { result ≡ is_wanted (after_moves self.now.frame.map.now.map self.now.frame.pool self.now.moves.items) self.now.frame.pool from to best }
+    {
+        match best {
+            Some(best) => self.is_wide(from, to) && self.beats(Move { group: 0, from, to }, best),
+            None => self.is_wide(from, to),
+        }
+    }
+
+    /// The first group that may go from one candidate to another beside it.
+    fn first_group(&self, from: u32, to: u32) -> Option<u32>
+        ensures { result ≡ position (may_go self.now.frame.map.now.map self.now.frame.pool from to) self.now.groups.items }
+    {
+        self.frame.pool.is_within_limits();
+        let group = self.frame.first_group(&self.groups, from, to)?;
+        Some(group as u32)
     }
 }
