@@ -37,6 +37,18 @@ lex_equal false false ea eb sa sb total p q =
     let same = total refl refl in
     (same.0, rw same.0 at p, rw same.1 at q)
 
+-- what is between two equals is their equal by the one order
+lex_between : (a b ea eb sa sb : Bool) → (a ≡ true → b ≡ true → ⊥) → (a ≡ true → eb ≡ true → ⊥) → (ea ≡ true → b ≡ true → ⊥) → (a || (ea && sa)) ≡ true → (b || (eb && sb)) ≡ true
+    → (ea ≡ true) × (sa ≡ true) × (sb ≡ true)
+lex_between true true ea eb sa sb both left right p q = absurd (both refl refl)
+lex_between true false ea true sa sb both left right p q = absurd (left refl refl)
+lex_between true false ea false sa sb both left right p q = absurd (false≢true q)
+lex_between false true true eb sa sb both left right p q = absurd (right refl refl)
+lex_between false true false eb sa sb both left right p q = absurd (false≢true p)
+lex_between false false true true sa sb both left right p q = (refl, p, q)
+lex_between false false true false sa sb both left right p q = absurd (false≢true q)
+lex_between false false false eb sa sb both left right p q = absurd (false≢true p)
+
 -- none comes first of equals
 none_first : (a b c d e f h : Bool) → a ≡ false → c ≡ false → e ≡ false → h ≡ false → (a || (b && (c || (d && (e || (f && h)))))) ≡ false
 none_first a b c d e f h p q r s = rw (p, q, r, s) (none b d f)
@@ -67,7 +79,25 @@ eq_from_neither a b p q = (grind (arith, nat_tests), grind (arith, nat_tests))
 is_equal : (a b : ℕ) → eqb a b ≡ true → a ≡ b
 is_equal a b p = grind (arith, nat_tests)
 
+not_both : (a b : ℕ) → nat_lt a b ≡ true → nat_lt b a ≡ true → ⊥
+not_both a b p q = grind (arith, nat_tests)
+
+not_less : (a b : ℕ) → nat_lt a b ≡ true → eqb b a ≡ true → ⊥
+not_less a b p q = grind (arith, nat_tests)
+
+not_more : (a b : ℕ) → eqb a b ≡ true → nat_lt b a ≡ true → ⊥
+not_more a b p q = grind (arith, nat_tests)
+
 -- ---- whole numbers
+
+znot_both : (a b : ℤ) → int_lt b a ≡ true → int_lt a b ≡ true → ⊥
+znot_both a b p q = grind (arith, ints)
+
+znot_less : (a b : ℤ) → int_lt b a ≡ true → int_eq b a ≡ true → ⊥
+znot_less a b p q = grind (arith, ints)
+
+znot_more : (a b : ℤ) → int_eq a b ≡ true → int_lt a b ≡ true → ⊥
+znot_more a b p q = grind (arith, ints)
 
 zlt_trans : (a b c : ℤ) → int_lt b a ≡ true → int_lt c b ≡ true → int_lt c a ≡ true
 zlt_trans a b c p q = grind (arith, ints)
@@ -145,3 +175,13 @@ module _ (m : ClusterMap) (p : PoolFacts) where
       lower a b c d e f true false gives is = weaker a b c d e f is
       lower a b c d e f false true gives is = absurd (false≢true (gives refl))
       lower a b c d e f false false gives is = is
+
+  -- a move between two others of one pair is of that pair
+  pub between_pair : (from to g k : ℕ) (b : Move) → beats m p (move_of from to g) b ≡ true → beats m p b (move_of from to k) ≡ true → (b.from ≡ from) × (b.to ≡ to)
+  unfolding beats
+  between_pair from to g k b low high =
+      let x = of (move_of from to g) in
+      let first = lex_between (int_lt (of b) x) (int_lt x (of b)) (int_eq x (of b)) (int_eq (of b) x) (precedes (move_of from to g) b) (precedes b (move_of from to k)) (znot_both x (of b)) (znot_less x (of b)) (znot_more x (of b)) low high in
+      let second = lex_between (nat_lt from b.from) (nat_lt b.from from) (eqb from b.from) (eqb b.from from) _ _ (not_both from b.from) (not_less from b.from) (not_more from b.from) first.1 first.2 in
+      let third = lex_between (nat_lt to b.to) (nat_lt b.to to) (eqb to b.to) (eqb b.to to) _ _ (not_both to b.to) (not_less to b.to) (not_more to b.to) second.1 second.2 in
+      (sym (is_equal from b.from second.0), sym (is_equal to b.to third.0))

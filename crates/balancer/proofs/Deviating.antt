@@ -20,9 +20,10 @@ use Rattle.pgtable.specs.Index.{count_in}
 use Rattle.balancer.specs.declared.group.Group.{Group}
 use Rattle.balancer.specs.declared.moves.Move.{Move}
 use Rattle.balancer.specs.Shares.{osds_of, is_candidate, candidates, weight_of, total, places, deviation}
+use Rattle.balancer.specs.Moves.{are_beside}
 use Rattle.balancer.specs.Greedy.{after_moves}
-use Rattle.balancer.specs.Boards.{IsBoardOf, IsReached}
-use Rattle.balancer.proofs.Stays.{with_pairs, moves_stay, candidate_stays, total_stays}
+use Rattle.balancer.specs.Boards.{IsBoardOf, IsReached, may_go}
+use Rattle.balancer.proofs.Stays.{with_pairs, moves_stay, candidate_stays, total_stays, beside_stays, goes_stays}
 use Rattle.balancer.proofs.Counting.{count_small}
 use Rattle.balancer.proofs.Weighing.{few_filtered}
 
@@ -115,6 +116,12 @@ module _ (m : ClusterMap) (p : PoolFacts) (moves : List Move) where
 
   pub total_now : total now p ≡ total m p
   total_now = ap (λ n. total n p) (moves_stay m p moves) ∙ total_stays m now.items p
+
+  pub beside_now : (some other : ℕ) → are_beside now p some other ≡ are_beside m p some other
+  beside_now some other = ap (λ n. are_beside n p some other) (moves_stay m p moves) ∙ beside_stays m now.items p some other
+
+  pub goes_now : (from to : ℕ) (g : Group) → may_go now p from to g ≡ may_go m p from to g
+  goes_now from to g = ap (λ n. may_go n p from to g) (moves_stay m p moves) ∙ goes_stays m now.items p from to g
 
   pub long_now : length now.presences ≡ length m.presences
   long_now = ap (λ (n : ClusterMap). length n.presences) (moves_stay m p moves)

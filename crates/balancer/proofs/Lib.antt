@@ -8,3 +8,4 @@ pub mod Ancestors
 pub mod Beating
 pub mod Allowing
 pub mod Searching
+pub mod Choosing

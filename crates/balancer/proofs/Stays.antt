@@ -5,10 +5,11 @@ use Rattle.stated.specs.declared.exception.Pair.{Pair}
 use Rattle.stated.specs.Pools.{PoolFacts}
 use Rattle.osdmap.specs.Maps.{ClusterMap}
 use Rattle.osdmap.specs.Placement.{placed, raw_set}
+use Rattle.balancer.specs.declared.group.Group.{Group}
 use Rattle.balancer.specs.declared.moves.Move.{Move}
 use Rattle.balancer.specs.Shares.{is_candidate, weight_of, total}
 use Rattle.balancer.specs.Moves.{moved, domain_of, are_beside, has_way}
-use Rattle.balancer.specs.Boards.{is_fixed}
+use Rattle.balancer.specs.Boards.{may_go}
 use Rattle.balancer.specs.Greedy.{after_moves}
 
 -- a map with other pairs of groups
@@ -44,3 +45,7 @@ module _ (m : ClusterMap) (its : List (Exception Pair)) where
   pub raw_stays : (p : PoolFacts) (n : ℕ) → raw_set (with_pairs m its) p n ≡ raw_set m p n
   unfolding raw_set placed
   raw_stays p n = refl
+
+  pub goes_stays : (p : PoolFacts) (from to : ℕ) (g : Group) → may_go (with_pairs m its) p from to g ≡ may_go m p from to g
+  unfolding may_go has_way domain_of
+  goes_stays p from to g = refl

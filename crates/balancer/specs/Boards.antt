@@ -1,6 +1,6 @@
 -- What a plan is made with: the pool's groups and the deviations of all OSDs after the moves so far, as they are stored.
 use Rattle.std.specs.Prelude.{◌≡◌, ℕ, ◌+◌, ◌*◌, ◌<◌, ◌≤◌, ◌==◌, Bool, true, false, not, ◌&&◌, nat_lt, ℤ, pos, int_lt, List, [], ◌∷◌, ◌++◌, length, map, Option, Some, None, IfSome}
-use Rattle.std.specs.List.{range_with_len, list_any, count_by}
+use Rattle.std.specs.List.{range_with_len, list_any, count_by, All}
 use Rattle.std.specs.Option.{option_map_or}
 use Rattle.stated.specs.declared.pg.Pg.{Pg}
 use Rattle.keylist.specs.Keys.{entry_at}
@@ -78,3 +78,22 @@ pub record IsReached (m : ClusterMap) (p : PoolFacts) (moves : List Move) : Type
   pub holds : HoldsTogether (after_moves m p moves)
   pub named : (n : ℕ) → is_moved moves n ≡ true → entry_at key_of (after_moves m p moves).items (place_of (group_of p n)) ≡ Some (items_at (after_moves m p moves) p n)
   pub evens : unevenness (after_moves m p moves) p + 2 * total m p * length moves ≤ unevenness m p
+
+-- ---- the search for the best move
+
+-- the best move so far, or none, is good and covers what the one before it covered
+pub record IsBetter (m : ClusterMap) (p : PoolFacts) (old new : Option Move) : Type 0 where
+  pub good : IfSome new (λ v. IsGood m p v)
+  pub keeps : (v : Move) → IsCovered m p old v → IsCovered m p new v
+
+-- the best move so far covers those between two OSDs
+pub record CoversPair (m : ClusterMap) (p : PoolFacts) (best : Option Move) (from to : ℕ) : Type 0 where
+  pub each : (g : ℕ) → g < p.pg_num → IsCovered m p best (move_of from to g)
+
+-- it covers those from an OSD to some
+abbrev pub CoversFrom : ClusterMap → PoolFacts → Option Move → ℕ → List ℕ → Type 0
+CoversFrom m p best from tos = All (λ to. CoversPair m p best from to) tos
+
+-- it covers those from some OSDs to some
+abbrev pub CoversAll : ClusterMap → PoolFacts → Option Move → List ℕ → List ℕ → Type 0
+CoversAll m p best froms tos = All (λ from. CoversFrom m p best from tos) froms

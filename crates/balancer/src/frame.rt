@@ -143,8 +143,6 @@ impl Frame<'_> {
         ensures first { result ≡ position (may_go self.now.map.now.map self.now.pool from to) groups.now }
         ensures inside { IfSome result (λ at. at < length groups.now) }
     {
-        groups
-            .iter()
-            .position(|group| self.may_go(from, to, group))
+        groups.iter().position(|group| self.may_go(from, to, group))
     }
 }

@@ -19,7 +19,7 @@ impl Board<'_> {
     ghost use Rattle.balancer.specs.Shares.{is_candidate, total, deviation};
     ghost use Rattle.balancer.specs.Moves.{move_of, are_beside, last_level, levels_of};
     ghost use Rattle.balancer.specs.Greedy.{gap, beats, good_moves, after_moves};
-    ghost use Rattle.balancer.specs.Boards.{may_go, is_wanted, IsGood, IsBest, IsCovered};
+    ghost use Rattle.balancer.specs.Boards.{may_go, is_wanted, IsGood, IsBest, IsBetter, CoversPair, CoversFrom};
 
     /// The deviation of an OSD.
     fn deviation(&self, osd: u32) -> i128
@@ -83,5 +83,47 @@ impl Board<'_> {
         self.frame.pool.is_within_limits();
         let group = self.frame.first_group(&self.groups, from, to)?;
         Some(group as u32)
+    }
+
+    /// The best move so far, or a better one between two candidates.
+    fn better(&self, from: u32, to: u32, best: Option<Move>) -> Option<Move>
+        requires from { is_candidate self.now.frame.map.now.map self.now.frame.pool from ≡ true }
+        requires to { is_candidate self.now.frame.map.now.map self.now.frame.pool to ≡ true }
+        requires best { IfSome best (λ v. IsGood (after_moves self.now.frame.map.now.map self.now.frame.pool self.now.moves.items) self.now.frame.pool v) }
+        ensures better { IsBetter (after_moves self.now.frame.map.now.map self.now.frame.pool self.now.moves.items) self.now.frame.pool best result }
+        ensures covers { CoversPair (after_moves self.now.frame.map.now.map self.now.frame.pool self.now.moves.items) self.now.frame.pool result from to }
+    {
+        if !self.is_wanted(from, to, best) || !self.frame.are_beside(from, to) {
+            return best;
+        }
+        match self.first_group(from, to) {
+            Some(group) => Some(Move { group, from, to }),
+            None => best,
+        }
+    }
+
+    /// The best move so far, or a better one from a candidate to some.
+    fn better_from(&self, from: u32, best: Option<Move>) -> Option<Move>
+        requires from { is_candidate self.now.frame.map.now.map self.now.frame.pool from ≡ true }
+        requires best { IfSome best (λ v. IsGood (after_moves self.now.frame.map.now.map self.now.frame.pool self.now.moves.items) self.now.frame.pool v) }
+        ensures better { IsBetter (after_moves self.now.frame.map.now.map self.now.frame.pool self.now.moves.items) self.now.frame.pool best result }
+        ensures covers { CoversFrom (after_moves self.now.frame.map.now.map self.now.frame.pool self.now.moves.items) self.now.frame.pool result from self.now.frame.osds.items }
+    {
+        let mut best = best;
+        for to in &self.frame.osds {
+            best = self.better(from, *to, best);
+        }
+        best
+    }
+
+    /// The best move between candidates, or none where no move is good.
+    pub fn best(&self) -> Option<Move>
+        ensures { MatchOption result (good_moves (after_moves self.now.frame.map.now.map self.now.frame.pool self.now.moves.items) self.now.frame.pool ≡ []) (λ v. IsBest (after_moves self.now.frame.map.now.map self.now.frame.pool self.now.moves.items) self.now.frame.pool v) }
+    {
+        let mut best = None;
+        for from in &self.frame.osds {
+            best = self.better_from(*from, best);
+        }
+        best
     }
 }
