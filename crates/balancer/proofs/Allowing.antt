@@ -30,7 +30,7 @@ none_counted q (x ∷ xs) none = elim (cases_Bool (q x)) [
 ]
 
 -- what stands once stands somewhere
-once_stands : {X : Type 0} (q : X → Bool) (xs : List X) → eqb (count_by q xs) 1 ≡ true → list_any q xs ≡ true
+pub once_stands : {X : Type 0} (q : X → Bool) (xs : List X) → eqb (count_by q xs) 1 ≡ true → list_any q xs ≡ true
 once_stands q xs once = elim (cases_Bool (list_any q xs)) [
   | inl some ↦ some
   | inr none ↦ let zero_counted = none_counted q xs none in let one_counted = eqb-true (count_by q xs) 1 once in absurd (omega arith)

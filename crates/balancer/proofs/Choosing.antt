@@ -114,6 +114,9 @@ module _ (m : ClusterMap) (p : PoolFacts) where
       by_list [] good = refl
       by_list (v ∷ vs) good = absurd (none v (good 0 v (omega arith)))
 
+pub candidate_in : (m : ClusterMap) (p : PoolFacts) (osd : ℕ) → is_candidate m p osd ≡ true → Contains (candidates m p) osd
+candidate_in m p osd is = contains_filter (is_candidate m p) (osds_of m) osd (contains_range (length m.presences) osd (candidate_below m p osd is)) is
+
 -- ---- what is covered
 
 module _ (m : ClusterMap) (p : PoolFacts) (moves : List Move) (osds : List ℕ) (are : osds ≡ candidates m p) where
@@ -123,7 +126,7 @@ module _ (m : ClusterMap) (p : PoolFacts) (moves : List Move) (osds : List ℕ) 
   osd_in : (osd : ℕ) → is_candidate later p osd ≡ true → Contains osds osd
   osd_in osd is =
       let here : is_candidate m p osd ≡ true = sym (candidate_now m p moves osd) ∙ is in
-      subst (λ (xs : List ℕ). Contains xs osd) (sym are) (contains_filter (is_candidate m p) (osds_of m) osd (contains_range (length m.presences) osd (candidate_below m p osd here)) here)
+      subst (λ (xs : List ℕ). Contains xs osd) (sym are) (candidate_in m p osd here)
 
   covered : (best : Option Move) (u : Move) → CoversAll later p best osds osds → IsGood later p u → IsCovered later p best u
   covered best u covers good =

@@ -9,3 +9,5 @@ pub mod Beating
 pub mod Allowing
 pub mod Searching
 pub mod Choosing
+pub mod Stepping
+pub mod Shifting
