@@ -11,3 +11,4 @@ pub mod Searching
 pub mod Choosing
 pub mod Stepping
 pub mod Shifting
+pub mod Evening

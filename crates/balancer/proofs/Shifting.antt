@@ -219,7 +219,7 @@ module _ (m : ClusterMap) (p : PoolFacts) (v : Move) (good : IsGood m p v) (hold
   abbrev next_map : ClusterMap
   next_map = moved m p v
 
-  candidates_moved : candidates next_map p ≡ candidates m p
+  pub candidates_moved : candidates next_map p ≡ candidates m p
   unfolding is_candidate moved
   candidates_moved = refl
 
@@ -227,17 +227,17 @@ module _ (m : ClusterMap) (p : PoolFacts) (v : Move) (good : IsGood m p v) (hold
   unfolding total is_candidate weight_of moved
   total_moved = refl
 
-  weight_moved : (osd : ℕ) → weight_of next_map osd ≡ weight_of m osd
+  pub weight_moved : (osd : ℕ) → weight_of next_map osd ≡ weight_of m osd
   unfolding weight_of moved
   weight_moved osd = refl
 
-  from_in : Contains (candidates m p) v.from
+  pub from_in : Contains (candidates m p) v.from
   from_in = candidate_in m p v.from (good_candidates m p v good.good).0
 
-  to_in : Contains (candidates m p) v.to
+  pub to_in : Contains (candidates m p) v.to
   to_in = candidate_in m p v.to (good_candidates m p v good.good).1
 
-  places_moved : places next_map p ≡ places m p
+  pub places_moved : places next_map p ≡ places m p
   unfolding places
   places_moved =
       let sum = two_sum (count_in m p.id) (count_in next_map p.id) v.from v.to (candidates m p) (candidates_rise m p) from_in to_in (good_apart m p v good.good) (count_other m p v good holds there) in
