@@ -12,3 +12,4 @@ pub mod Choosing
 pub mod Stepping
 pub mod Shifting
 pub mod Evening
+pub mod Made

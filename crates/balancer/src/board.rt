@@ -9,7 +9,7 @@ ghost use Rattle.balancer.specs.Boards.{deviations_of, IsBoardOf, IsReached};
 ghost use Rattle.balancer.specs.Greedy.{after_moves};
 
 use crate::frame::Frame;
-use crate::group::{Group, groups};
+use crate::group::{Group, gone, groups};
 use crate::moves::Move;
 use crate::shares::{count, places, weight_of};
 use osdmap::{OsdMap, Pool};
@@ -78,7 +78,9 @@ pub(crate) struct Board<'a> {
 }
 
 impl<'a> Board<'a> {
-    ghost use Rattle.std.specs.Prelude.{◌≡◌, [], IfOk};
+    ghost use Rattle.std.specs.Prelude.{◌≡◌, [], ◌∷◌, ◌++◌, IfOk, OnOk};
+    ghost use Rattle.balancer.specs.Greedy.{after_moves};
+    ghost use Rattle.balancer.specs.Boards.{IsGood};
     ghost use Rattle.pgtable.specs.Tables.{IsTableOf};
 
     /// The state at the beginning; or `Memory` (30).
@@ -98,5 +100,21 @@ impl<'a> Board<'a> {
             deviations,
             moves,
         })
+    }
+
+    /// Makes a good move; or `Memory` (30).
+    pub fn make(&mut self, step: Move) -> Result<(), Memory>
+        requires { IsGood (after_moves self.old.frame.map.now.map self.old.frame.pool self.old.moves.items) self.old.frame.pool step }
+        ensures moves { OnOk result (self.new.moves.items ≡ self.old.moves.items ++ step ∷ []) }
+        ensures map { self.new.frame.map.now.map ≡ self.old.frame.map.now.map }
+        ensures pool { self.new.frame.pool ≡ self.old.frame.pool }
+    {
+        let weight = i128::from(self.frame.weight);
+        let at = step.group as usize;
+        self.moves.push(step)?;
+        self.groups[at] = gone(self.groups[at], step);
+        self.deviations[step.from as usize] -= weight;
+        self.deviations[step.to as usize] += weight;
+        Ok(())
     }
 }
