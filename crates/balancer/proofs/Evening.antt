@@ -6,6 +6,7 @@ use Rattle.std.specs.List.{list_any, sum_by, fold}
 use Rattle.std.proofs.lemmas.Bool.{cases_Bool, cases_lt, ne_eqb, eqb-true}
 use Rattle.std.proofs.lemmas.Int.{ints}
 use Rattle.std.proofs.lemmas.List.{get_or-set_same, get_or-set_other, length-set, length_push}
+use Rattle.std.proofs.lemmas.List.Elements.{All-push}
 use Rattle.std.proofs.lemmas.List.Folds.{list_any-append}
 use Rattle.std.proofs.lemmas.List.FromFn.{fill_by_all, length-map-range_with_len, get_or-map-range_with_len}
 use Rattle.std.proofs.lemmas.List.Sums.{fold-append}
@@ -178,6 +179,7 @@ module _ (m : ClusterMap) (p : PoolFacts) (moves : List Move) (v : Move) (good :
   pub reached_more : IsReached m p (moves ++ v ∷ [])
   reached_more = record {
     holds = subst HoldsTogether (sym after_more) (holds_moved now p v good reached.holds there_now);
+    there = All-push (λ (w : Move). w.group < p.pg_num) moves v reached.there good.there;
     named = subst (λ (n : ClusterMap). (k : ℕ) → is_moved (moves ++ v ∷ []) k ≡ true → entry_at key_of n.items (place_of (group_of p k)) ≡ Some (items_at n p k)) (sym after_more) named_more;
     evens = subst (λ (n : ClusterMap). unevenness n p + 2 * total m p * length (moves ++ v ∷ []) ≤ unevenness m p) (sym after_more) evens_more;
   }

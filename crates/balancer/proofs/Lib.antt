@@ -13,3 +13,5 @@ pub mod Stepping
 pub mod Shifting
 pub mod Evening
 pub mod Made
+pub mod Running
+pub mod Rising

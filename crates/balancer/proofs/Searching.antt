@@ -114,7 +114,7 @@ module _ (m : ClusterMap) (p : PoolFacts) (moves : List Move) (gs : List Group) 
   abbrev later : ClusterMap
   later = after_moves m p moves
 
-  group_kept : (g : ℕ) (d : Group) → g < p.pg_num → get_or gs g d ≡ group_at later p g
+  pub group_kept : (g : ℕ) (d : Group) → g < p.pg_num → get_or gs g d ≡ group_at later p g
   group_kept g d below = ap (λ xs. get_or xs g d) board.groups ∙ get_or-map-range_with_len (group_at later p) 0 p.pg_num g g d below (omega arith)
 
   -- the group found goes, and none before it

@@ -1,11 +1,11 @@
 -- Candidates, and what OSDs weigh.
-use Rattle.std.proofs.Common.{◌≡◌, ◌∙◌, refl, sym, ap, ℕ, ◌+◌, ◌<◌, ◌≤◌, Bool, true, false, cond, List, [], ◌∷◌, ◌++◌, length, get_or, drop, Option, Some, None, inl, inr, arith}
+use Rattle.std.proofs.Common.{◌≡◌, ◌∙◌, refl, sym, ap, ℕ, ◌+◌, ◌<◌, ◌≤◌, Bool, true, false, cond, List, [], ◌∷◌, ◌++◌, length, get_or, drop, map, Option, Some, None, inl, inr, arith}
 use Rattle.std.specs.Prelude.{slice_get, slice_index, nat_le}
 use Rattle.std.specs.List.{filter, find, flat_map, range_with_len, list_all}
 use Rattle.std.specs.Option.{option_map, option_map_or, option_or}
 use Rattle.std.proofs.lemmas.Bool.{cases_Bool, cases_lt}
 use Rattle.std.proofs.lemmas.Bool.Decides.{nat_tests}
-use Rattle.std.proofs.lemmas.List.{drop_more, drop_all, get_or_past, map-id}
+use Rattle.std.proofs.lemmas.List.{drop_more, get_or_past, map-id, map_push}
 use Rattle.std.proofs.lemmas.List.Concat.{flat_map-cons}
 use Rattle.std.proofs.lemmas.List.Elements.{filter-append}
 use Rattle.std.proofs.lemmas.List.Folds.{find-append}
@@ -61,3 +61,10 @@ reweight_small m osd holds = elim (cases_lt osd (length m.weights)) [
   | inl below ↦ grind (arith, nat_tests, list_all-at (λ w. nat_le w 65536) m.weights osd 0 below holds.weigh_little)
   | inr past ↦ rw (get_or_past m.weights osd 0 past) (omega arith)
 ]
+
+-- what is made of those that pass, one number on
+pub made_range_yes : {X : Type 0} (f : ℕ → X) (p : ℕ → Bool) (n : ℕ) → p n ≡ true → map f (filter p (range_with_len 0 (n + 1))) ≡ map f (filter p (range_with_len 0 n)) ++ f n ∷ []
+made_range_yes f p n is = ap (map f) (filter_range_yes p n is) ∙ map_push f (filter p (range_with_len 0 n)) n
+
+pub made_range_no : {X : Type 0} (f : ℕ → X) (p : ℕ → Bool) (n : ℕ) → p n ≡ false → map f (filter p (range_with_len 0 (n + 1))) ≡ map f (filter p (range_with_len 0 n))
+made_range_no f p n is = ap (map f) (filter_range_no p n is)

@@ -72,10 +72,11 @@ abbrev pub IsCovered : ClusterMap → PoolFacts → Option Move → Move → Typ
 IsCovered m p None v = is_good m p v ≡ false
 IsCovered m p (Some best) v = is_good m p v ≡ true → beats m p v best ≡ false
 
--- the map after some moves holds together, each group moved has its pairs there as an exception, and each move made the pool
+-- the map after some moves, each of a group that is there, holds together, each group moved has its pairs there as an exception, and each move made the pool
 -- more even
 pub record IsReached (m : ClusterMap) (p : PoolFacts) (moves : List Move) : Type 0 where
   pub holds : HoldsTogether (after_moves m p moves)
+  pub there : All (λ v. v.group < p.pg_num) moves
   pub named : (n : ℕ) → is_moved moves n ≡ true → entry_at key_of (after_moves m p moves).items (place_of (group_of p n)) ≡ Some (items_at (after_moves m p moves) p n)
   pub evens : unevenness (after_moves m p moves) p + 2 * total m p * length moves ≤ unevenness m p
 

@@ -7,12 +7,13 @@ ghost use Rattle.balancer.specs.Shares.{deviation, places};
 ghost use Rattle.balancer.specs.Shares.{places as places_in};
 ghost use Rattle.balancer.specs.Boards.{deviations_of, IsBoardOf, IsReached};
 ghost use Rattle.balancer.specs.Greedy.{after_moves};
+ghost use Rattle.balancer.specs.Plans.{is_moved};
 
 use crate::frame::Frame;
 use crate::group::{Group, gone, groups};
 use crate::moves::Move;
 use crate::shares::{count, places, weight_of};
-use osdmap::{OsdMap, Pool};
+use osdmap::{Exception, Items, OsdMap, Pg, Pool};
 use pgtable::PgTable;
 use refusal::Memory;
 use std::alloc::Global;
@@ -63,6 +64,13 @@ fn deviations(alloc: Global, frame: &Frame, table: &PgTable) -> Result<Vec<i128>
     Ok(deviations)
 }
 
+/// Whether some move moves a group.
+fn is_moved(moves: &[Move], number: u32) -> bool
+    ensures { result ≡ is_moved moves.now number }
+{
+    moves.iter().any(|step| step.group == number)
+}
+
 /// The state of a plan for a pool.
 #[derive(Drop)]
 pub(crate) struct Board<'a> {
@@ -78,7 +86,8 @@ pub(crate) struct Board<'a> {
 }
 
 impl<'a> Board<'a> {
-    ghost use Rattle.std.specs.Prelude.{◌≡◌, [], ◌∷◌, ◌++◌, IfOk, OnOk};
+    ghost use Rattle.std.specs.Prelude.{◌≡◌, ◌<◌, [], ◌∷◌, ◌++◌, IfOk, OnOk};
+    ghost use Rattle.balancer.specs.Plans.{items_at, items_of};
     ghost use Rattle.balancer.specs.Greedy.{after_moves};
     ghost use Rattle.balancer.specs.Boards.{IsGood};
     ghost use Rattle.pgtable.specs.Tables.{IsTableOf};
@@ -116,5 +125,35 @@ impl<'a> Board<'a> {
         self.deviations[step.from as usize] -= weight;
         self.deviations[step.to as usize] += weight;
         Ok(())
+    }
+
+    /// The pairs of a group, as an exception.
+    #[tactic(auto, unfolding(crate::specs::Boards::group_at))]
+    fn items_at(&self, number: u32) -> Items
+        requires { number < self.now.frame.pool.pg_num }
+        ensures { result ≡ items_at (after_moves self.now.frame.map.now.map self.now.frame.pool self.now.moves.items) self.now.frame.pool number }
+    {
+        let pg = Pg {
+            pool: self.frame.pool.id(),
+            number,
+        };
+        Exception {
+            pg,
+            entries: self.groups[number as usize].pairs,
+        }
+    }
+
+    /// For each group moved, by number upwards, all its pairs after the moves; or `Memory` (30).
+    #[tactic(auto, unfolding(crate::specs::Plans::items_of))]
+    pub fn items(&self, alloc: Global) -> Result<Vec<Items>, Memory>
+        ensures { IfOk result (λ items. items.items ≡ items_of self.now.frame.map.now.map self.now.frame.pool self.now.moves.items) }
+    {
+        let mut items = Vec::with_capacity(alloc, self.moves.len())?;
+        for number in 0..self.frame.pool.pg_num() {
+            if is_moved(&self.moves, number) {
+                items.push(self.items_at(number))?;
+            }
+        }
+        Ok(items)
     }
 }

@@ -6,6 +6,7 @@ ghost use Rattle.balancer.specs.Greedy.{precedes};
 use crate::board::Board;
 use crate::group::Group;
 use crate::moves::Move;
+use refusal::Memory;
 
 /// Whether a move comes first of two: by the OSD that the group leaves, then by the one that comes, then by the group.
 fn precedes(u: Move, v: Move) -> bool
@@ -15,10 +16,10 @@ fn precedes(u: Move, v: Move) -> bool
 }
 
 impl Board<'_> {
-    ghost use Rattle.std.specs.Prelude.{◌≡◌, ◌<◌, ℕ, pos, neg_ℤ, int_lt, ◌<ℤ◌, ◌^◌, ◌==◌, [], length, position, true, Some, IfSome, MatchOption};
+    ghost use Rattle.std.specs.Prelude.{◌≡◌, ◌<◌, ℕ, pos, neg_ℤ, int_lt, ◌<ℤ◌, ◌^◌, ◌==◌, [], length, position, true, Some, IfSome, MatchOption, OnOk};
     ghost use Rattle.balancer.specs.Shares.{is_candidate, total, deviation};
     ghost use Rattle.balancer.specs.Moves.{move_of, are_beside, last_level, levels_of};
-    ghost use Rattle.balancer.specs.Greedy.{gap, beats, good_moves, after_moves};
+    ghost use Rattle.balancer.specs.Greedy.{gap, beats, good_moves, greedy, after_moves};
     ghost use Rattle.balancer.specs.Boards.{may_go, is_wanted, IsGood, IsBest, IsBetter, CoversPair, CoversFrom};
 
     /// The deviation of an OSD.
@@ -125,5 +126,22 @@ impl Board<'_> {
             best = self.better_from(*from, best);
         }
         best
+    }
+
+    /// Makes the best move again and again, until no move is good or so many are made; or `Memory` (30).
+    pub fn run(&mut self, limit: u32) -> Result<(), Memory>
+        requires { self.old.moves.items ≡ [] }
+        ensures moves { OnOk result (self.new.moves.items ≡ greedy self.old.frame.map.now.map self.old.frame.pool limit) }
+        ensures done { OnOk result (length self.new.moves.items < limit → good_moves (after_moves self.old.frame.map.now.map self.old.frame.pool self.new.moves.items) self.old.frame.pool ≡ []) }
+        ensures map { self.new.frame.map.now.map ≡ self.old.frame.map.now.map }
+        ensures pool { self.new.frame.pool ≡ self.old.frame.pool }
+    {
+        for _count in 0..limit {
+            match self.best() {
+                Some(step) => self.make(step)?,
+                None => return Ok(()),
+            }
+        }
+        Ok(())
     }
 }
