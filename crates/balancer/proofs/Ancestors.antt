@@ -17,7 +17,7 @@ use Rattle.crush.proofs.Climbs.{above-far}
 use Rattle.balancer.specs.Moves.{is_ancestor, ancestor_of}
 
 -- where a search finds nothing, nothing passes
-none_passes : {X : Type 0} (p : X → Bool) (xs : List X) (k : ℕ) (x : X) → find p xs ≡ None → k < length xs → get_or xs k x ≡ x → p x ≡ false
+pub none_passes : {X : Type 0} (p : X → Bool) (xs : List X) (k : ℕ) (x : X) → find p xs ≡ None → k < length xs → get_or xs k x ≡ x → p x ≡ false
 none_passes p [] k x none inside at = absurd (omega arith)
 none_passes p (y ∷ ys) zero x none inside at = elim (cases_Bool (p y)) [
   | inl here ↦ let wrong : Some y ≡ None = rw here at none in absurd (cc)

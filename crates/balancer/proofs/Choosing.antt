@@ -38,7 +38,7 @@ find_only q (y ∷ ys) x inside passes only = elim (cases_Bool (q y)) [
 contains_later : {X : Type 0} (y : X) (ys : List X) (x : X) → Contains ys x → Contains (y ∷ ys) x
 contains_later y ys x there = (suc there.0, omega (arith, there.1), there.2)
 
-contains_filter : {X : Type 0} (q : X → Bool) (xs : List X) (x : X) → Contains xs x → q x ≡ true → Contains (filter q xs) x
+pub contains_filter : {X : Type 0} (q : X → Bool) (xs : List X) (x : X) → Contains xs x → q x ≡ true → Contains (filter q xs) x
 contains_filter q [] x inside passes = absurd (omega (arith, inside.1))
 contains_filter q (y ∷ ys) x (zero, below, at) passes = rw (at, passes) (0, omega arith, refl)
 contains_filter q (y ∷ ys) x (suc k, below, at) passes =
@@ -56,7 +56,7 @@ contains_flat f (z ∷ zs) x y (suc k, below, at) there = rw (flat_map-cons f z 
 contains_map : {X Y : Type 0} (f : X → Y) (xs : List X) (x : X) → Contains xs x → Contains (map f xs) (f x)
 contains_map f xs x (k, below, at) = (k, omega (arith, below, length-map xs f), get_or-map f xs k x (f x) below ∙ ap f at)
 
-contains_range : (n k : ℕ) → k < n → Contains (range_with_len 0 n) k
+pub contains_range : (n k : ℕ) → k < n → Contains (range_with_len 0 n) k
 contains_range n k below = (k, omega (arith, length-range_with_len 0 n), get_or-range_with_len 0 n k k below ∙ omega arith)
 
 range_below : (n : ℕ) → All (λ k. k < n) (range_with_len 0 n)

@@ -15,3 +15,4 @@ pub mod Evening
 pub mod Made
 pub mod Running
 pub mod Rising
+pub mod Changing
