@@ -16,3 +16,5 @@ pub mod Made
 pub mod Running
 pub mod Rising
 pub mod Changing
+pub mod Outcome
+pub mod Ordering

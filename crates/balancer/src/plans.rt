@@ -1,20 +1,26 @@
 //! Plans.
 
-ghost use Rattle.std.specs.Prelude.{◌≡◌, ◌≤◌, ◌<◌, ◌==◌, None, Some, IfOk};
+ghost use Rattle.std.specs.Prelude.{◌≡◌, ◌≤◌, ◌<◌, ◌==◌, [], length, None, Some, IfOk};
 ghost use Rattle.std.specs.List.{count_by};
 ghost use Rattle.crush.specs.Grammar.{is_emit};
 ghost use Rattle.refusal.specs.Outcomes.{Judges, Gives};
+ghost use Rattle.keylist.specs.Order.{IsRising};
+ghost use Rattle.stated.specs.Exceptions.{key_of};
 ghost use Rattle.osdmap.specs.Maps.{pool_at};
 ghost use Rattle.osdmap.specs.Changes.{change_fault};
 ghost use Rattle.osdmap.specs.Placement.{steps_of};
 ghost use Rattle.pgtable.specs.Tables.{IsTableOf};
 ghost use Rattle.balancer.specs.Shares.{has_one_block};
-ghost use Rattle.balancer.specs.Plans.{plan_fault, IsPlan, Evens, LeavesNone};
+ghost use Rattle.balancer.specs.Greedy.{good_moves, greedy, after_moves};
+ghost use Rattle.balancer.specs.Plans.{change_of, plan_fault, IsPlan, Evens, LeavesNone};
 
+use crate::board::Board;
+use crate::frame::Frame;
 use crush::Step;
-use osdmap::{Change, OsdMap, Pool};
+use keylist::Entries;
+use osdmap::{Change, ChangeParts, Items, OsdMap, Pool};
 use pgtable::PgTable;
-use refusal::Refusal;
+use refusal::{Memory, Refusal};
 use std::alloc::Global;
 
 /// Whether a step emits.
@@ -53,6 +59,56 @@ fn balanced(map: &OsdMap, id: u32) -> Result<Pool, Refusal>
     }
 }
 
+/// An empty part of a change.
+fn nothing<T>(alloc: Global) -> Entries<T>
+    ensures { result ≡ [] }
+{
+    Entries::new(Vec::new(alloc))
+}
+
+/// The change that gives groups their pairs, by group upwards, and does nothing else; or `Memory` (30).
+fn change_of(alloc: Global, items: Vec<Items>) -> Result<Change, Memory>
+    requires { IsRising key_of items.items }
+    ensures { IfOk result (λ change. change ≡ change_of items.items) }
+{
+    let parts = ChangeParts {
+        old_pools: nothing(alloc),
+        new_crush: None,
+        new_pools: nothing(alloc),
+        grow_pool: nothing(alloc),
+        down: nothing(alloc),
+        up: nothing(alloc),
+        weight: nothing(alloc),
+        old_upmap: nothing(alloc),
+        old_items: nothing(alloc),
+        new_upmap: nothing(alloc),
+        new_items: Entries::new(items),
+    };
+    let change = Change::new(parts)?;
+    Ok(change)
+}
+
+/// The state of a plan for a pool once its moves are made: at most `limit`; or `Memory` (30).
+fn planned<'a>(
+    alloc: Global,
+    map: &'a OsdMap,
+    table: &PgTable,
+    pool: Pool,
+    limit: u32,
+) -> Result<Board<'a>, Memory>
+    requires table { IsTableOf table.now map.now.map }
+    requires there { pool_at map.now.map.pools pool.id ≡ Some pool }
+    ensures map { IfOk result (λ board. board.frame.map.now.map ≡ map.entry.now.map) }
+    ensures pool { IfOk result (λ board. board.frame.pool ≡ pool) }
+    ensures moves { IfOk result (λ board. board.moves.items ≡ greedy map.entry.now.map pool limit) }
+    ensures done { IfOk result (λ board. length board.moves.items < limit → good_moves (after_moves map.entry.now.map pool board.moves.items) pool ≡ []) }
+{
+    let frame = Frame::new(alloc, map, pool)?;
+    let mut board = Board::new(alloc, frame, table)?;
+    board.run(limit)?;
+    Ok(board)
+}
+
 /// The change that makes the greedy plan for a pool, of at most `limit` moves, 1 to 1,024, and how many moves it is, for a map
 /// and its table. `UnknownPool` (23) where there is no such pool; else `BalanceRule` (29) where its rule has more than one
 /// block; else `Memory` (30). Nothing refuses the change at this map.
@@ -71,9 +127,10 @@ pub fn plan(
     ensures evens { IfOk result (λ plan. Evens map.now.map pool plan.0 plan.1) }
     ensures leaves_none { IfOk result (λ plan. plan.1 < limit → LeavesNone map.now.map pool plan.0) }
 {
-    let _ = alloc;
-    let _ = table;
-    let _ = limit;
-    balanced(map, pool)?;
-    Err(Refusal::Memory)
+    map.holds_together();
+    let pool = balanced(map, pool)?;
+    let board = planned(alloc, map, table, pool, limit)?;
+    let items = board.items(alloc)?;
+    let change = change_of(alloc, items)?;
+    Ok((change, board.moves.len()))
 }
