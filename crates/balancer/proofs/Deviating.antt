@@ -1,0 +1,140 @@
+-- Who is a candidate, and how great deviations are.
+use Rattle.std.proofs.Common.{◌≡◌, ◌∙◌, refl, sym, ap, subst, ℕ, zero, suc, ◌+◌, ◌*◌, ◌^◌, ◌<◌, ◌≤◌, Bool, true, false, not, ◌&&◌, cond, ℤ, pos, List, [], ◌∷◌, length, get_or, Option, Some, None, inl, inr, arith}
+use Rattle.std.specs.Prelude.{◌-ℤ◌, ◌<ℤ◌, neg_ℤ, nat_lt}
+use Rattle.std.specs.List.{filter, range_with_len, sum_by, All}
+use Rattle.std.proofs.lemmas.Bool.{cases_Bool}
+use Rattle.std.proofs.lemmas.Bool.Decides.{nat_tests}
+use Rattle.std.proofs.lemmas.Int.{ints}
+use Rattle.std.proofs.lemmas.List.FromFn.{get_or-range_with_len, length-range_with_len, get_or-map-range_with_len, length-map-range_with_len}
+use Rattle.std.proofs.lemmas.List.Sums.{sum_by-cons, sum_by-le}
+use Rattle.std.proofs.lemmas.Nat.{mul-le}
+use Rattle.keylist.proofs.Tests.{and_first, and_second, not_true}
+use Rattle.keylist.proofs.Counts.{find-place}
+use Rattle.crush.specs.Paths as paths
+use Rattle.stated.specs.Pools.{PoolFacts, IsWithinLimits}
+use Rattle.osdmap.specs.Maps.{ClusterMap, pool_at, osd_exists, osd_is_up, HoldsTogether}
+use Rattle.osdmap.specs.Mapped.{is_weightless}
+use Rattle.osdmap.specs.Placement.{steps_of}
+use Rattle.osdmap.proofs.Named.{below_max}
+use Rattle.pgtable.specs.Index.{count_in}
+use Rattle.balancer.specs.declared.group.Group.{Group}
+use Rattle.balancer.specs.declared.moves.Move.{Move}
+use Rattle.balancer.specs.Shares.{osds_of, is_candidate, candidates, weight_of, total, places, deviation}
+use Rattle.balancer.specs.Moves.{are_beside}
+use Rattle.balancer.specs.Greedy.{after_moves}
+use Rattle.balancer.specs.Boards.{IsBoardOf, IsReached, may_go}
+use Rattle.balancer.proofs.Stays.{with_pairs, moves_stay, candidate_stays, total_stays, beside_stays, goes_stays}
+use Rattle.balancer.proofs.Counting.{count_small}
+use Rattle.balancer.proofs.Weighing.{few_filtered}
+
+-- ---- candidates
+
+module _ (m : ClusterMap) (p : PoolFacts) (osd : ℕ) where
+  abbrev under : Bool
+  under = paths.reaches m.buckets (steps_of m p) (pos osd)
+
+  pub candidate_exists : is_candidate m p osd ≡ true → osd_exists m osd ≡ true
+  unfolding is_candidate
+  candidate_exists is =
+      and_second under (osd_exists m osd) (and_first (under && osd_exists m osd) (osd_is_up m osd) (and_first (under && osd_exists m osd && osd_is_up m osd) (not (is_weightless m.weights osd)) is))
+
+  pub candidate_up : is_candidate m p osd ≡ true → osd_is_up m osd ≡ true
+  unfolding is_candidate
+  candidate_up is = and_second (under && osd_exists m osd) (osd_is_up m osd) (and_first (under && osd_exists m osd && osd_is_up m osd) (not (is_weightless m.weights osd)) is)
+
+  pub candidate_weighs : is_candidate m p osd ≡ true → is_weightless m.weights osd ≡ false
+  unfolding is_candidate
+  candidate_weighs is = not_true (is_weightless m.weights osd) (and_second (under && osd_exists m osd && osd_is_up m osd) (not (is_weightless m.weights osd)) is)
+
+  pub candidate_below : is_candidate m p osd ≡ true → osd < length m.presences
+  candidate_below is = let below = below_max m osd (length m.presences) (omega arith) (candidate_exists is) in grind (arith, nat_tests)
+
+-- ---- the pool
+
+pub pool_within : (m : ClusterMap) (p : PoolFacts) (id : ℕ) → HoldsTogether m → pool_at m.pools id ≡ Some p → IsWithinLimits p
+pool_within m p id holds there =
+    let at = find-place _ m.pools p there in
+    subst IsWithinLimits at.2 (holds.pools_within at.0 p at.1)
+
+-- ---- sums
+
+-- a term whose place passes is within the sum of those that pass
+term_within : {X : Type 0} (f : X → ℕ) (c : X → Bool) (xs : List X) (k : ℕ) (d : X) → k < length xs → c (get_or xs k d) ≡ true → f (get_or xs k d) ≤ sum_by f (filter c xs)
+term_within f c [] k d inside passes = absurd (omega arith)
+term_within f c (x ∷ xs) zero d inside passes = rw (passes, sum_by-cons f x (filter c xs)) (omega arith)
+term_within f c (x ∷ xs) (suc k) d inside passes =
+    let rest = term_within f c xs k d (omega arith) passes in
+    elim (cases_Bool (c x)) [
+      | inl here ↦ rw (here, sum_by-cons f x (filter c xs)) (omega (arith, rest))
+      | inr other ↦ rw other rest
+    ]
+
+pub weight_within : (m : ClusterMap) (p : PoolFacts) (osd : ℕ) → is_candidate m p osd ≡ true → weight_of m osd ≤ total m p
+unfolding total
+weight_within m p osd is =
+    let below = candidate_below m p osd is in
+    let at : get_or (osds_of m) osd 0 ≡ osd = get_or-range_with_len 0 (length m.presences) osd 0 below ∙ (omega arith) in
+    let inside : osd < length (osds_of m) = omega (arith, length-range_with_len 0 (length m.presences)) in
+    let passes : is_candidate m p (get_or (osds_of m) osd 0) ≡ true = rw at is in
+    rw at at (term_within (weight_of m) (is_candidate m p) (osds_of m) osd 0 inside passes)
+
+pub places_few : (m : ClusterMap) (p : PoolFacts) → HoldsTogether m → pool_at m.pools p.id ≡ Some p → places m p ≤ 1024 * 4096
+unfolding places
+places_few m p holds there =
+    let within = pool_within m p p.id holds there in
+    let each : All (λ osd. count_in m p.id osd ≤ 4096) (candidates m p) = λ k d inside. omega (arith, count_small m p (get_or (candidates m p) k d) holds there, within.groups_most) in
+    let few = few_filtered (is_candidate m p) (length m.presences) 1024 holds.few in
+    omega (arith, sum_by-le (count_in m p.id) 4096 (candidates m p) each, mul-le (length (candidates m p)) 4096 1024 4096 few (omega arith))
+
+-- ---- deviations
+
+between : (a b c d t n : ℕ) → a ≤ 4096 → t ≤ 2 ^ 58 → n ≤ 1024 * 4096 → b ≤ t → c ≡ a * t → d ≡ n * b → ((pos c -ℤ pos d) <ℤ pos (2 ^ 100)) × (neg_ℤ (pos (2 ^ 100)) <ℤ (pos c -ℤ pos d))
+between a b c d t n few small most within is that =
+    let high : a * t ≤ 4096 * 2 ^ 58 = mul-le a t 4096 (2 ^ 58) few small in
+    let low : n * b ≤ 4194304 * 2 ^ 58 = mul-le n b 4194304 (2 ^ 58) most (omega arith) in
+    (omega (arith, ints), omega (arith, ints))
+
+pub deviation_small : (m : ClusterMap) (p : PoolFacts) (osd : ℕ) → HoldsTogether m → pool_at m.pools p.id ≡ Some p → total m p ≤ 2 ^ 58 → is_candidate m p osd ≡ true
+    → (deviation m p osd <ℤ pos (2 ^ 100)) × (neg_ℤ (pos (2 ^ 100)) <ℤ deviation m p osd)
+unfolding deviation
+deviation_small m p osd holds there small is =
+    let within = pool_within m p p.id holds there in
+    between (count_in m p.id osd) (weight_of m osd) (count_in m p.id osd * total m p) (places m p * weight_of m osd) (total m p) (places m p)
+    (omega (arith, count_small m p osd holds there, within.groups_most)) small (places_few m p holds there) (weight_within m p osd is) refl refl
+
+-- ---- after some moves
+
+module _ (m : ClusterMap) (p : PoolFacts) (moves : List Move) where
+  abbrev now : ClusterMap
+  now = after_moves m p moves
+
+  pub pool_now : pool_at m.pools p.id ≡ Some p → pool_at now.pools p.id ≡ Some p
+  pool_now there = ap (λ (n : ClusterMap). pool_at n.pools p.id) (moves_stay m p moves) ∙ there
+
+  pub candidate_now : (osd : ℕ) → is_candidate now p osd ≡ is_candidate m p osd
+  candidate_now osd = ap (λ n. is_candidate n p osd) (moves_stay m p moves) ∙ candidate_stays m now.items p osd
+
+  pub total_now : total now p ≡ total m p
+  total_now = ap (λ n. total n p) (moves_stay m p moves) ∙ total_stays m now.items p
+
+  pub beside_now : (some other : ℕ) → are_beside now p some other ≡ are_beside m p some other
+  beside_now some other = ap (λ n. are_beside n p some other) (moves_stay m p moves) ∙ beside_stays m now.items p some other
+
+  pub goes_now : (from to : ℕ) (g : Group) → may_go now p from to g ≡ may_go m p from to g
+  goes_now from to g = ap (λ n. may_go n p from to g) (moves_stay m p moves) ∙ goes_stays m now.items p from to g
+
+  pub long_now : length now.presences ≡ length m.presences
+  long_now = ap (λ (n : ClusterMap). length n.presences) (moves_stay m p moves)
+
+  pub small_now : (osd : ℕ) → IsReached m p moves → pool_at m.pools p.id ≡ Some p → total m p ≤ 2 ^ 58 → is_candidate m p osd ≡ true
+      → (deviation now p osd <ℤ pos (2 ^ 100)) × (neg_ℤ (pos (2 ^ 100)) <ℤ deviation now p osd)
+  small_now osd reached there small is = deviation_small now p osd reached.holds (pool_now there) (rw total_now small) (candidate_now osd ∙ is)
+
+  -- what is kept of an OSD
+  pub shown_now : (gs : List Group) (ds : List ℤ) (osd : ℕ) (z : ℤ) → IsBoardOf now p gs ds → is_candidate m p osd ≡ true → z ≡ get_or ds osd z → z ≡ deviation now p osd
+  shown_now gs ds osd z board is at =
+      let below : osd < length now.presences = omega (arith, long_now, candidate_below m p osd is) in
+      at ∙ ap (λ xs. get_or xs osd z) board.deviations ∙ get_or-map-range_with_len (deviation now p) 0 (length now.presences) osd osd z below (omega arith)
+
+  pub long_deviations : (gs : List Group) (ds : List ℤ) → IsBoardOf now p gs ds → length ds ≡ length m.presences
+  long_deviations gs ds board = ap length board.deviations ∙ length-map-range_with_len (deviation now p) 0 (length now.presences) ∙ long_now

@@ -1,0 +1,31 @@
+-- A change whose one part rises is made as it is stated.
+use Rattle.std.proofs.Common.{◌≡◌, ◌∙◌, refl, sym, ap, subst, ℕ, ◌<◌, List, [], length, Option, Some, None, arith}
+use Rattle.keylist.specs.Order.{IsRising, SortsBy}
+use Rattle.stated.specs.declared.change.ChangeParts.{ChangeParts}
+use Rattle.stated.specs.declared.exception.Exception.{Exception}
+use Rattle.stated.specs.declared.exception.Pair.{Pair}
+use Rattle.stated.specs.Exceptions.{place_of, key_of}
+use Rattle.stated.specs.Ordered.{IsOrdered}
+use Rattle.balancer.specs.Plans.{change_of}
+use Rattle.balancer.proofs.Rising.{sorted_same}
+
+none_rises : {X : Type 0} (key : X → ℕ) → IsRising key []
+none_rises key i j d below inside = absurd (omega arith)
+
+sorts_none : {X : Type 0} (key : X → ℕ) (ys : List X) → SortsBy key [] ys → ys ≡ []
+sorts_none key ys sorts = sorted_same key [] ys (none_rises key) sorts
+
+pub ordered_same : (items : List (Exception Pair)) (c : ChangeParts) → IsRising key_of items → IsOrdered (change_of items) c → c ≡ change_of items
+ordered_same items c rises ordered = λ i. record {
+  old_pools = sorts_none (λ id. id) c.old_pools ordered.old_pools i;
+  new_crush = ordered.new_crush i;
+  new_pools = sorts_none (λ p. p.id) c.new_pools ordered.new_pools i;
+  grow_pool = sorts_none (λ g. g.pool) c.grow_pool ordered.grow_pool i;
+  down = sorts_none (λ osd. osd) c.down ordered.down i;
+  up = sorts_none (λ osd. osd) c.up ordered.up i;
+  weight = sorts_none (λ w. w.osd) c.weight ordered.weight i;
+  old_upmap = sorts_none place_of c.old_upmap ordered.old_upmap i;
+  old_items = sorts_none place_of c.old_items ordered.old_items i;
+  new_upmap = sorts_none key_of c.new_upmap ordered.new_upmap i;
+  new_items = sorted_same key_of items c.new_items rises ordered.new_items i;
+}

@@ -1,0 +1,197 @@
+-- The search for the best move.
+use Rattle.std.proofs.Common.{◌≡◌, ◌∙◌, refl, sym, ap, ℕ, ◌+◌, ◌<◌, ◌≤◌, Bool, true, false, ◌&&◌, ℤ, pos, List, length, get_or, take, map, position, Option, Some, None, inl, inr, arith}
+use Rattle.std.specs.Prelude.{int_lt, IfSome, ◌≤ℤ◌, ◌<ℤ◌}
+use Rattle.std.specs.List.{range_with_len}
+use Rattle.std.proofs.lemmas.Bool.{false_from_ne_true, and_parts, cases_lt}
+use Rattle.std.proofs.lemmas.Int.{ints}
+use mathlib.Core.Bool.{false≢true}
+use Rattle.std.proofs.lemmas.List.FromFn.{length-map-range_with_len, get_or-map-range_with_len}
+use Rattle.std.proofs.lemmas.List.{take_all}
+use Rattle.std.proofs.lemmas.List.Elements.{filter_passes, All-weaker, All-more}
+use Rattle.std.proofs.lemmas.List.Quantifiers.{position-Some}
+use Rattle.std.proofs.lemmas.List.Sums.{fails_before_first}
+use Rattle.std.proofs.lemmas.Grind.{common_steps}
+use Rattle.std.proofs.lemmas.Bool.Decides.{nat_tests}
+use Rattle.stated.specs.Pools.{PoolFacts}
+use Rattle.osdmap.specs.Maps.{ClusterMap}
+use Rattle.balancer.specs.declared.group.Group.{Group}
+use Rattle.balancer.specs.declared.moves.Move.{Move}
+use Rattle.balancer.specs.Shares.{osds_of, is_candidate, candidates, total}
+use Rattle.balancer.specs.Moves.{move_of, are_beside}
+use Rattle.balancer.specs.Greedy.{gap, is_good, beats, after_moves}
+use Rattle.balancer.specs.Boards.{IsGood, IsBoardOf, IsCovered, IsBetter, CoversPair, CoversFrom, CoversAll, is_wanted, may_go, group_at}
+use Rattle.balancer.proofs.Deviating.{candidate_now, beside_now, goes_now}
+use Rattle.balancer.proofs.Allowing.{good_candidates, good_wide, good_from, good_goes}
+use Rattle.balancer.proofs.Beating.{beats_trans, beats_equal, beats_less, higher_not_better, lowest_not_better, between_pair}
+
+module _ (m : ClusterMap) (p : PoolFacts) (moves : List Move) where
+  -- a good move goes between candidates
+  pub good_ends : (v : Move) → IsGood (after_moves m p moves) p v → (is_candidate m p v.from ≡ true) × (is_candidate m p v.to ≡ true)
+  good_ends v good =
+      let both = good_candidates (after_moves m p moves) p v good.good in
+      (sym (candidate_now m p moves v.from) ∙ both.0, sym (candidate_now m p moves v.to) ∙ both.1)
+
+  -- what some good move is
+  pub best_ends : (best : Option Move) (v : Move) → IfSome best (λ b. IsGood (after_moves m p moves) p b) → best ≡ Some v → (is_candidate m p v.from ≡ true) × (is_candidate m p v.to ≡ true)
+  best_ends best v good is = good_ends v (rw is at good)
+
+pub long_groups : (m : ClusterMap) (p : PoolFacts) (gs : List Group) (ds : List ℤ) → IsBoardOf m p gs ds → length gs ≡ p.pg_num
+long_groups m p gs ds board = ap length board.groups ∙ length-map-range_with_len (group_at m p) 0 p.pg_num
+
+-- ---- one pair of OSDs
+
+module _ (m : ClusterMap) (p : PoolFacts) where
+  -- what is not good is covered
+  covered_no : (best : Option Move) (v : Move) → is_good m p v ≡ false → IsCovered m p best v
+  covered_no None v bad = bad
+  covered_no (Some b) v bad = λ yes. absurd (false≢true (sym bad ∙ yes))
+
+  pub same_best : (best : Option Move) → IfSome best (λ v. IsGood m p v) → IsBetter m p best best
+  same_best best good = record { good = good; keeps = λ v is. is }
+
+  -- what is not wanted is covered
+  pub unwanted : (from to : ℕ) (best : Option Move) → is_wanted m p from to best ≡ false → CoversPair m p best from to
+  unwanted from to None narrow = record { each = λ g below. false_from_ne_true _ (λ yes. absurd (false≢true (sym narrow ∙ good_wide m p (move_of from to g) yes))) }
+  unwanted from to (Some b) low = record {
+    each = λ g below yes.
+        let wide = good_wide m p (move_of from to g) yes in
+        let not_lowest : beats m p (move_of from to 0) b ≡ false = rw wide at low in
+        lowest_not_better m p from to g b not_lowest;
+  }
+
+  wanted_wide : (from to : ℕ) (best : Option Move) → is_wanted m p from to best ≡ true → int_lt (pos (total m p)) (gap m p from to) ≡ true
+  wanted_wide from to None wanted = wanted
+  wanted_wide from to (Some b) wanted = (and_parts (int_lt (pos (total m p)) (gap m p from to)) (beats m p (move_of from to 0) b) wanted).0
+
+  -- what does not go is covered
+  covered_none : (from to : ℕ) (best : Option Move) → ((g : ℕ) → g < p.pg_num → is_good m p (move_of from to g) ≡ false) → CoversPair m p best from to
+  covered_none from to best none = record { each = λ g below. covered_no best (move_of from to g) (none g below) }
+
+  -- the first group that goes, where some move of the pair could be taken
+  taken : (from to k : ℕ) (best : Option Move) → IfSome best (λ v. IsGood m p v) → is_wanted m p from to best ≡ true → IsGood m p (move_of from to k)
+      → ((g : ℕ) → g < k → is_good m p (move_of from to g) ≡ false) → IsBetter m p best (Some (move_of from to k))
+  taken from to k None good wanted is first = record { good = is; keeps = λ v none yes. absurd (false≢true (sym none ∙ yes)) }
+  taken from to k (Some b) good wanted is first = record { good = is; keeps = λ v covered yes. not_better v (covered yes) (beats m p (move_of from to k) b) refl (beats m p b (move_of from to k)) refl }
+    where
+      new : Move
+      new = move_of from to k
+
+      lowest : beats m p (move_of from to 0) b ≡ true
+      lowest = (and_parts (int_lt (pos (total m p)) (gap m p from to)) (beats m p (move_of from to 0) b) wanted).1
+
+      not_better : (v : Move) → beats m p v b ≡ false → (x : Bool) → beats m p (move_of from to k) b ≡ x → (y : Bool) → beats m p b (move_of from to k) ≡ y → beats m p v (move_of from to k) ≡ false
+      not_better v not_b true above y below = beats_less m p v b (move_of from to k) not_b above
+      not_better v not_b false above true below =
+          let same = between_pair m p from to 0 k b lowest below in
+          let here : move_of from to b.group ≡ b = λ i. record { group = b.group; from = sym same.0 i; to = sym same.1 i } in
+          let yes : is_good m p (move_of from to b.group) ≡ true = rw here good.good in
+          let beaten : beats m p (move_of from to b.group) (move_of from to k) ≡ true = rw here below in
+          elim (cases_lt b.group k) [
+            | inl under ↦ absurd (false≢true (sym (first b.group under) ∙ yes))
+            | inr over ↦ absurd (false≢true (sym (higher_not_better m p from to b.group k over) ∙ beaten))
+          ]
+      not_better v not_b false above false below =
+          let equal = beats_equal m p (move_of from to k) b above below in
+          rw equal not_b
+
+  -- the first group that goes covers the pair
+  covers_taken : (from to k : ℕ) → ((g : ℕ) → g < k → is_good m p (move_of from to g) ≡ false) → CoversPair m p (Some (move_of from to k)) from to
+  covers_taken from to k first = record {
+    each = λ g below yes. elim (cases_lt g k) [
+      | inl under ↦ absurd (false≢true (sym (first g under) ∙ yes))
+      | inr over ↦ higher_not_better m p from to g k over
+    ];
+  }
+
+  -- where a group does not go, its move is not good
+  stays_bad : (from to g : ℕ) → may_go m p from to (group_at m p g) ≡ false → is_good m p (move_of from to g) ≡ false
+  stays_bad from to g stays = false_from_ne_true _ (λ yes. absurd (false≢true (sym stays ∙ (good_goes m p (move_of from to g) yes).1)))
+
+  apart_bad : (from to g : ℕ) → are_beside m p from to ≡ false → is_good m p (move_of from to g) ≡ false
+  apart_bad from to g apart = false_from_ne_true _ (λ yes. absurd (false≢true (sym apart ∙ (good_goes m p (move_of from to g) yes).0)))
+
+module _ (m : ClusterMap) (p : PoolFacts) (moves : List Move) (gs : List Group) (ds : List ℤ) (board : IsBoardOf (after_moves m p moves) p gs ds) where
+  abbrev later : ClusterMap
+  later = after_moves m p moves
+
+  pub group_kept : (g : ℕ) (d : Group) → g < p.pg_num → get_or gs g d ≡ group_at later p g
+  group_kept g d below = ap (λ xs. get_or xs g d) board.groups ∙ get_or-map-range_with_len (group_at later p) 0 p.pg_num g g d below (omega arith)
+
+  -- the group found goes, and none before it
+  goes_first : (from to k : ℕ) → position (may_go m p from to) gs ≡ Some k
+      → (k < p.pg_num) × (may_go later p from to (group_at later p k) ≡ true) × ((g : ℕ) → g < k → may_go later p from to (group_at later p g) ≡ false)
+  goes_first from to k found =
+      let d = group_at later p 0 in
+      let at = position-Some (may_go m p from to) gs k d found in
+      let inside : k < p.pg_num = omega (arith, at.0, long_groups later p gs ds board) in (
+        inside,
+        goes_now m p moves from to (group_at later p k) ∙ ap (may_go m p from to) (sym (group_kept k d inside)) ∙ at.1,
+        λ g below. goes_now m p moves from to (group_at later p g) ∙ ap (may_go m p from to) (sym (group_kept g d (omega (arith, inside)))) ∙ at.2 g below,
+      )
+
+  -- where none is found, none goes
+  goes_none : (from to : ℕ) → position (may_go m p from to) gs ≡ None → (g : ℕ) → g < p.pg_num → may_go later p from to (group_at later p g) ≡ false
+  goes_none from to none g below =
+      let d = group_at later p 0 in
+      goes_now m p moves from to (group_at later p g) ∙ ap (may_go m p from to) (sym (group_kept g d below))
+      ∙ fails_before_first (may_go m p from to) gs g d (grind (arith, nat_tests, common_steps, none, long_groups later p gs ds board))
+
+  -- the tests of the search, and what it takes by them
+  found_good : (from to k : ℕ) (best : Option Move) → is_candidate m p from ≡ true → is_candidate m p to ≡ true → is_wanted later p from to best ≡ true → are_beside m p from to ≡ true
+      → position (may_go m p from to) gs ≡ Some k → IsGood later p (move_of from to k)
+  found_good from to k best from_is to_is wanted beside found =
+      let at = goes_first from to k found in
+      record {
+        good = good_from later p (move_of from to k) (candidate_now m p moves from ∙ from_is) (candidate_now m p moves to ∙ to_is) (beside_now m p moves from to ∙ beside) at.1 (wanted_wide later p from to best wanted);
+        there = at.0;
+      }
+
+  first_bad : (from to k : ℕ) → position (may_go m p from to) gs ≡ Some k → (g : ℕ) → g < k → is_good later p (move_of from to g) ≡ false
+  first_bad from to k found g below = stays_bad later p from to g ((goes_first from to k found).2 g below)
+
+  pub found_better : (from to k : ℕ) (best : Option Move) → IfSome best (λ v. IsGood later p v) → is_candidate m p from ≡ true → is_candidate m p to ≡ true → is_wanted later p from to best ≡ true
+      → are_beside m p from to ≡ true → position (may_go m p from to) gs ≡ Some k → IsBetter later p best (Some (move_of from to k))
+  found_better from to k best good from_is to_is wanted beside found =
+      taken later p from to k best good wanted (found_good from to k best from_is to_is wanted beside found) (first_bad from to k found)
+
+  pub found_covers : (from to k : ℕ) → position (may_go m p from to) gs ≡ Some k → CoversPair later p (Some (move_of from to k)) from to
+  found_covers from to k found = covers_taken later p from to k (first_bad from to k found)
+
+  pub none_covers : (from to : ℕ) (best : Option Move) → position (may_go m p from to) gs ≡ None → CoversPair later p best from to
+  none_covers from to best none = covered_none later p from to best (λ g below. stays_bad later p from to g (goes_none from to none g below))
+
+  pub apart_covers : (from to : ℕ) (best : Option Move) → are_beside m p from to ≡ false → CoversPair later p best from to
+  apart_covers from to best apart = covered_none later p from to best (λ g below. apart_bad later p from to g (beside_now m p moves from to ∙ apart))
+
+-- ---- all pairs
+
+pub candidate_at : (m : ClusterMap) (p : PoolFacts) (osds : List ℕ) (i : ℕ) → osds ≡ candidates m p → i < length osds → is_candidate m p (get_or osds i 0) ≡ true
+candidate_at m p osds i is inside = rw is (filter_passes (is_candidate m p) (osds_of m) i 0 (rw is at inside))
+
+module _ (m : ClusterMap) (p : PoolFacts) where
+  pub better_yet : (old mid new : Option Move) → IsBetter m p old mid → IsBetter m p mid new → IsBetter m p old new
+  better_yet old mid new first second = record { good = second.good; keeps = λ v is. second.keeps v (first.keeps v is) }
+
+  pair_kept : (old new : Option Move) (from to : ℕ) → IsBetter m p old new → CoversPair m p old from to → CoversPair m p new from to
+  pair_kept old new from to better covers = record { each = λ g below. better.keeps (move_of from to g) (covers.each g below) }
+
+  pub from_kept : (old new : Option Move) (from : ℕ) (tos : List ℕ) → IsBetter m p old new → CoversFrom m p old from tos → CoversFrom m p new from tos
+  from_kept old new from tos better covers = All-weaker (CoversPair m p old from) (CoversPair m p new from) (λ to is. pair_kept old new from to better is) tos covers
+
+  -- one OSD more
+  pub from_more : (old new : Option Move) (from : ℕ) (tos : List ℕ) (i : ℕ) → i < length tos → IsBetter m p old new → CoversFrom m p old from (take i tos)
+      → CoversPair m p new from (get_or tos i 0) → CoversFrom m p new from (take (i + 1) tos)
+  from_more old new from tos i inside better before here =
+      All-more (CoversPair m p new from) tos i 0 inside (from_kept old new from (take i tos) better before) here
+
+  pub all_more_from : (old new : Option Move) (froms tos : List ℕ) (i : ℕ) → i < length froms → IsBetter m p old new → CoversAll m p old (take i froms) tos
+      → CoversFrom m p new (get_or froms i 0) tos → CoversAll m p new (take (i + 1) froms) tos
+  all_more_from old new froms tos i inside better before here =
+      All-more (λ from. CoversFrom m p new from tos) froms i 0 inside
+      (All-weaker (λ from. CoversFrom m p old from tos) (λ from. CoversFrom m p new from tos) (λ from is. from_kept old new from tos better is) (take i froms) before) here
+
+  pub from_end : (best : Option Move) (from : ℕ) (tos : List ℕ) (i : ℕ) → length tos ≤ i → CoversFrom m p best from (take i tos) → CoversFrom m p best from tos
+  from_end best from tos i past covers = rw (take_all i tos past) at covers
+
+  pub all_end : (best : Option Move) (froms tos : List ℕ) (i : ℕ) → length froms ≤ i → CoversAll m p best (take i froms) tos → CoversAll m p best froms tos
+  all_end best froms tos i past covers = rw (take_all i froms past) at covers

@@ -1,0 +1,266 @@
+-- What a good move makes of the counts and the deviations.
+use Rattle.std.proofs.Common.{◌≡◌, ◌≢◌, ◌∙◌, refl, sym, ap, subst, ℕ, zero, suc, ◌+◌, ◌*◌, ◌^◌, ◌<◌, ◌≤◌, Bool, true, false, not, ◌&&◌, ◌||◌, cond, eqb, ℤ, pos, List, [], ◌∷◌, ◌++◌, length, get_or, map, set, Option, Some, None, inl, inr, arith, eq-eqb}
+use mathlib.Core.Bool.{false≢true}
+use Rattle.std.specs.Prelude.{◌+ℤ◌, ◌-ℤ◌, ◌*ℤ◌, ◌<ℤ◌, int_lt, nat_abs, if◌then◌else◌}
+use Rattle.std.specs.List.{All, Contains, filter, list_any, count_by, sum_by, range_with_len}
+use Rattle.std.specs.Option.{option_map_or}
+use Rattle.std.proofs.lemmas.Bool.{cases_Bool, ne_eqb, eqb-true}
+use Rattle.std.proofs.lemmas.Int.{ints}
+use Rattle.std.proofs.lemmas.List.{get_or-set_same, get_or-set_other, length-set}
+use Rattle.std.proofs.lemmas.List.FromFn.{fill_by_all, length-range_with_len, get_or-range_with_len, length-map-range_with_len, get_or-map-range_with_len}
+use Rattle.std.proofs.lemmas.List.Sums.{sum_by-cons, sum_by-set}
+use Rattle.keylist.specs.Order.{IsRising}
+use Rattle.keylist.proofs.KeyedOrder.{rising_head, rising_tail, rising-filter}
+use Rattle.stated.specs.declared.exception.Pair.{Pair}
+use Rattle.stated.specs.Pools.{PoolFacts}
+use Rattle.osdmap.specs.Maps.{ClusterMap, pool_at, osd_is_up, HoldsTogether}
+use Rattle.osdmap.specs.Mapped.{is_of, replaced}
+use Rattle.osdmap.specs.Placement.{mapped_set}
+use Rattle.placement_laws.specs.Standing.{stands}
+use Rattle.pgtable.specs.Index.{count_in}
+use Rattle.pgtable.specs.Tables.{sets_of}
+use Rattle.balancer.specs.declared.moves.Move.{Move}
+use Rattle.balancer.specs.Shares.{osds_of, is_candidate, candidates, weight_of, total, places, deviation, square, unevenness}
+use Rattle.balancer.specs.Moves.{pair_of, moved}
+use Rattle.balancer.specs.Boards.{IsGood, deviations_of}
+use Rattle.balancer.proofs.Counting.{count_is}
+use Rattle.balancer.proofs.Moving.{mapped_others}
+use Rattle.balancer.proofs.Deviating.{candidate_up}
+use Rattle.balancer.proofs.Choosing.{candidate_in}
+use Rattle.balancer.proofs.Allowing.{good_candidates, good_apart, once_stands}
+use Rattle.balancer.proofs.Stepping.{mapped_gone, not_there, stands_once, holds_moved}
+
+-- ---- who stands in a set where one OSD is replaced
+
+is_of_same : (o : ℕ) (place : Option ℕ) (q : ℕ) → is_of q place ≡ true → o ≢ q → is_of o place ≡ false
+is_of_same o None q is apart = refl
+is_of_same o (Some x) q is apart = ne_eqb x o (λ e. apart (sym e ∙ eqb-true x q is))
+
+replaced_other : (pair : Pair) (xs : List (Option ℕ)) (o : ℕ) → o ≢ pair.from → o ≢ pair.to → list_any (is_of o) (replaced pair xs) ≡ list_any (is_of o) xs
+unfolding replaced
+replaced_other pair [] o from to = refl
+replaced_other pair (x ∷ xs) o from to = elim (cases_Bool (is_of pair.from x)) [
+  | inl here ↦ rw (here, is_of_same o x pair.from here from, ne_eqb pair.to o (λ e. to (sym e))) refl
+  | inr other ↦ rw (other, replaced_other pair xs o from to) refl
+]
+
+replaced_to : (pair : Pair) (xs : List (Option ℕ)) → list_any (is_of pair.from) xs ≡ true → list_any (is_of pair.to) (replaced pair xs) ≡ true
+unfolding replaced
+replaced_to pair [] there = absurd (false≢true there)
+replaced_to pair (x ∷ xs) there = elim (cases_Bool (is_of pair.from x)) [
+  | inl here ↦ rw (here, eq-eqb pair.to pair.to refl) refl
+  | inr other ↦ let rest : list_any (is_of pair.from) xs ≡ true = rw other at there in rw (other, replaced_to pair xs rest) (or_true (is_of pair.to x))
+]
+  where
+    or_true : (b : Bool) → (b || true) ≡ true
+    or_true true = refl
+    or_true false = refl
+
+any_counted : {X : Type 0} (q : X → Bool) (xs : List X) → count_by q xs ≡ 0 → list_any q xs ≡ false
+any_counted q [] none = refl
+any_counted q (x ∷ xs) none = elim (cases_Bool (q x)) [
+  | inl here ↦ let counted = sum_by-cons (λ y. cond (q y) 1 0) x xs in let one : ◌≡◌ {A = ℕ} (cond (q x) 1 0) 1 = rw here refl in absurd (omega arith)
+  | inr other ↦ let counted = sum_by-cons (λ y. cond (q y) 1 0) x xs in let zero_here : ◌≡◌ {A = ℕ} (cond (q x) 1 0) 0 = rw other refl in rw (other, any_counted q xs (omega arith)) refl
+]
+
+replaced_from : (pair : Pair) (xs : List (Option ℕ)) → pair.from ≢ pair.to → count_by (is_of pair.from) xs ≡ 1 → list_any (is_of pair.from) (replaced pair xs) ≡ false
+unfolding replaced
+replaced_from pair [] apart once = absurd (omega arith)
+replaced_from pair (x ∷ xs) apart once = elim (cases_Bool (is_of pair.from x)) [
+  | inl here ↦
+      let counted = sum_by-cons (λ y. cond (is_of pair.from y) 1 0) x xs in
+      let one : ◌≡◌ {A = ℕ} (cond (is_of pair.from x) 1 0) 1 = rw here refl in
+      rw (here, ne_eqb pair.to pair.from (λ e. apart (sym e)), any_counted (is_of pair.from) xs (omega arith)) refl
+  | inr other ↦
+      let counted = sum_by-cons (λ y. cond (is_of pair.from y) 1 0) x xs in
+      let zero_here : ◌≡◌ {A = ℕ} (cond (is_of pair.from x) 1 0) 0 = rw other refl in
+      rw (other, replaced_from pair xs apart (omega arith), other) refl
+]
+
+-- ---- counts
+
+module _ (m : ClusterMap) (p : PoolFacts) (v : Move) (good : IsGood m p v) (holds : HoldsTogether m) (there : pool_at m.pools p.id ≡ Some p) where
+  abbrev old : List (Option ℕ)
+  old = mapped_set m p v.group
+
+  abbrev new : List (Option ℕ)
+  new = replaced (pair_of v) old
+
+  sets_moved : sets_of (moved m p v) p ≡ set (sets_of m p) v.group new
+  sets_moved = sym (fill_by_all (mapped_set (moved m p v) p) (set (sets_of m p) v.group new) p.pg_num [] (length-set (sets_of m p) v.group new ∙ length-map-range_with_len (mapped_set m p) 0 p.pg_num) each)
+    where
+      each : (k : ℕ) → k < p.pg_num → get_or (set (sets_of m p) v.group (replaced (pair_of v) (mapped_set m p v.group))) k [] ≡ mapped_set (moved m p v) p k
+      each k below = elim (cases_Bool (eqb k v.group)) [
+        | inl here ↦
+            let same : k ≡ v.group = eqb-true k v.group here in
+            let inside : v.group < length (sets_of m p) = omega (arith, good.there, length-map-range_with_len (mapped_set m p) 0 p.pg_num) in
+            rw same (get_or-set_same (sets_of m p) v.group new [] inside ∙ sym (mapped_gone m p v good))
+        | inr apart ↦
+            let other : k ≢ v.group = λ e. absurd (false≢true (sym apart ∙ eq-eqb k v.group e)) in
+            get_or-set_other (sets_of m p) v.group k new [] other ∙ get_or-map-range_with_len (mapped_set m p) 0 p.pg_num k k [] below (omega arith) ∙ sym (mapped_others m p v k other)
+      ]
+
+  counted_moved : (osd : ℕ) → count_by (stands osd) (sets_of (moved m p v) p) + cond (stands osd old) 1 0 ≡ count_by (stands osd) (sets_of m p) + cond (stands osd new) 1 0
+  counted_moved osd =
+      let inside : v.group < length (sets_of m p) = omega (arith, good.there, length-map-range_with_len (mapped_set m p) 0 p.pg_num) in
+      let at : get_or (sets_of m p) v.group [] ≡ old = get_or-map-range_with_len (mapped_set m p) 0 p.pg_num v.group v.group [] good.there (omega arith) in
+      let sum = sum_by-set (λ s. cond (stands osd s) 1 0) (sets_of m p) v.group new [] inside in
+      rw sets_moved (rw at at sum)
+
+  up_moved : (osd : ℕ) → osd_is_up (moved m p v) osd ≡ osd_is_up m osd
+  unfolding moved
+  up_moved osd = refl
+
+  there_moved : pool_at (moved m p v).pools p.id ≡ Some p
+  unfolding moved
+  there_moved = there
+
+  count_moved : (osd : ℕ) → osd_is_up m osd ≡ true → count_in (moved m p v) p.id osd + cond (stands osd old) 1 0 ≡ count_in m p.id osd + cond (stands osd new) 1 0
+  count_moved osd up =
+      let before : count_in m p.id osd ≡ count_by (stands osd) (sets_of m p) = count_is m p osd holds there ∙ rw up refl in
+      let after : count_in (moved m p v) p.id osd ≡ count_by (stands osd) (sets_of (moved m p v) p) = count_is (moved m p v) p osd (holds_moved m p v good holds there) there_moved ∙ rw (up_moved osd, up) refl in
+      rw (before, after) (counted_moved osd)
+
+  count_down : (osd : ℕ) → osd_is_up m osd ≡ false → count_in (moved m p v) p.id osd ≡ count_in m p.id osd
+  count_down osd down =
+      let before : count_in m p.id osd ≡ 0 = count_is m p osd holds there ∙ rw down refl in
+      let after : count_in (moved m p v) p.id osd ≡ 0 = count_is (moved m p v) p osd (holds_moved m p v good holds there) there_moved ∙ rw (up_moved osd, down) refl in
+      after ∙ sym before
+
+  pub count_from : count_in (moved m p v) p.id v.from + 1 ≡ count_in m p.id v.from
+  count_from =
+      let counted = count_moved v.from (candidate_up m p v.from (good_candidates m p v good.good).0) in
+      let was : stands v.from old ≡ true = once_stands (is_of v.from) old (eq-eqb (count_by (is_of v.from) old) 1 (stands_once m p v good)) in
+      let is : stands v.from new ≡ false = replaced_from (pair_of v) old (good_apart m p v good.good) (stands_once m p v good) in
+      omega (arith, rw (was, is) at counted)
+
+  pub count_to : count_in (moved m p v) p.id v.to ≡ count_in m p.id v.to + 1
+  count_to =
+      let counted = count_moved v.to (candidate_up m p v.to (good_candidates m p v good.good).1) in
+      let was : stands v.to old ≡ false = not_there m p v good in
+      let on : stands v.from old ≡ true = once_stands (is_of v.from) old (eq-eqb (count_by (is_of v.from) old) 1 (stands_once m p v good)) in
+      let is : stands v.to new ≡ true = replaced_to (pair_of v) old on in
+      omega (arith, rw (was, is) at counted)
+
+  pub count_other : (osd : ℕ) → osd ≢ v.from → osd ≢ v.to → count_in (moved m p v) p.id osd ≡ count_in m p.id osd
+  count_other osd from to = elim (cases_Bool (osd_is_up m osd)) [
+    | inl up ↦
+        let counted = count_moved osd up in
+        let same : stands osd new ≡ stands osd old = replaced_other (pair_of v) old osd from to in
+        omega (arith, rw same at counted)
+    | inr down ↦ count_down osd down
+  ]
+
+-- ---- sums over candidates
+
+rising_at : (x : ℕ) (xs : List ℕ) → IsRising (λ n. n) (x ∷ xs) → (y : ℕ) → Contains xs y → x < y
+rising_at x xs rises y (k, below, at) = rw at at (rising_head (λ (n : ℕ). n) x xs rises k y below)
+
+-- a sum of terms of which two, in a list of numbers without doubles, are others
+module _ (f g : ℕ → ℕ) where
+  same_sum : (xs : List ℕ) → ((x : ℕ) → Contains xs x → g x ≡ f x) → sum_by g xs ≡ sum_by f xs
+  same_sum [] same = refl
+  same_sum (x ∷ xs) same =
+      sum_by-cons g x xs ∙ ap (λ n. n + sum_by g xs) (same x (0, omega arith, refl)) ∙ ap (λ n. f x + n) (same_sum xs (λ y there. same y (suc there.0, omega (arith, there.1), there.2))) ∙ sym (sum_by-cons f x xs)
+
+  -- one other term
+  one_sum : (xs : List ℕ) (a : ℕ) → IsRising (λ n. n) xs → Contains xs a → ((x : ℕ) → x ≢ a → g x ≡ f x) → sum_by g xs + f a ≡ sum_by f xs + g a
+  one_sum [] a rises there others = absurd (omega (arith, there.1))
+  one_sum (x ∷ xs) a rises (zero, below, at) others =
+      let rest : sum_by g xs ≡ sum_by f xs = same_sum xs (λ y inside. others y (λ e. omega (arith, at, e, rising_at x xs rises y inside))) in
+      let here : ◌≡◌ {A = ℕ} x a = at in
+      omega (arith, sum_by-cons g x xs, sum_by-cons f x xs, rest, ap f here, ap g here)
+  one_sum (x ∷ xs) a rises (suc k, below, at) others =
+      let inside : Contains xs a = (k, omega (arith, below), at) in
+      let apart : x ≢ a = λ e. omega (arith, e, rising_at x xs rises a inside) in
+      omega (arith, sum_by-cons g x xs, sum_by-cons f x xs, others x apart, one_sum xs a (rising_tail (λ (n : ℕ). n) x xs rises) inside others)
+
+module _ (f g : ℕ → ℕ) (a b : ℕ) (xs : List ℕ) (rises : IsRising (λ n. n) xs) (a_in : Contains xs a) (b_in : Contains xs b) (apart : a ≢ b) (others : (x : ℕ) → x ≢ a → x ≢ b → g x ≡ f x) where
+  -- the terms with the other one at the first place alone
+  between : ℕ → ℕ
+  between x = cond (eqb x a) (g x) (f x)
+
+  between_a : between a ≡ g a
+  unfolding between
+  between_a = rw (eq-eqb a a refl) refl
+
+  between_other : (x : ℕ) → x ≢ a → between x ≡ f x
+  unfolding between
+  between_other x other = rw (ne_eqb x a other) refl
+
+  g_between : (x : ℕ) → x ≢ b → g x ≡ between x
+  unfolding between
+  g_between x other = elim (cases_Bool (eqb x a)) [
+    | inl here ↦ rw here refl
+    | inr there ↦ rw there (others x (λ e. absurd (false≢true (sym there ∙ eq-eqb x a e))) other)
+  ]
+
+  pub two_sum : sum_by g xs + (f a + f b) ≡ sum_by f xs + (g a + g b)
+  two_sum =
+      let first = one_sum f between xs a rises a_in between_other in
+      let second = one_sum between g xs b rises b_in g_between in
+      let at_b : between b ≡ f b = between_other b (λ e. apart (sym e)) in
+      omega (arith, first, second, between_a, at_b)
+
+-- the candidates rise
+range_rises : (k n : ℕ) → IsRising (λ i. i) (range_with_len k n)
+range_rises k n = λ i j d below inside.
+    let long = length-range_with_len k n in
+    let first = get_or-range_with_len k n i d (omega arith) in
+    let second = get_or-range_with_len k n j d (omega arith) in
+    omega (arith, first, second)
+
+pub candidates_rise : (m : ClusterMap) (p : PoolFacts) → IsRising (λ i. i) (candidates m p)
+candidates_rise m p = rising-filter (λ (i : ℕ). i) (is_candidate m p) (osds_of m) (range_rises 0 (length m.presences))
+
+-- ---- the same pool after a good move
+
+module _ (m : ClusterMap) (p : PoolFacts) (v : Move) (good : IsGood m p v) (holds : HoldsTogether m) (there : pool_at m.pools p.id ≡ Some p) where
+  abbrev next_map : ClusterMap
+  next_map = moved m p v
+
+  pub candidates_moved : candidates next_map p ≡ candidates m p
+  unfolding is_candidate moved
+  candidates_moved = refl
+
+  pub total_moved : total next_map p ≡ total m p
+  unfolding total is_candidate weight_of moved
+  total_moved = refl
+
+  pub weight_moved : (osd : ℕ) → weight_of next_map osd ≡ weight_of m osd
+  unfolding weight_of moved
+  weight_moved osd = refl
+
+  pub from_in : Contains (candidates m p) v.from
+  from_in = candidate_in m p v.from (good_candidates m p v good.good).0
+
+  pub to_in : Contains (candidates m p) v.to
+  to_in = candidate_in m p v.to (good_candidates m p v good.good).1
+
+  pub places_moved : places next_map p ≡ places m p
+  unfolding places
+  places_moved =
+      let sum = two_sum (count_in m p.id) (count_in next_map p.id) v.from v.to (candidates m p) (candidates_rise m p) from_in to_in (good_apart m p v good.good) (count_other m p v good holds there) in
+      ap (sum_by (count_in next_map p.id)) candidates_moved ∙ omega (arith, sum, count_from m p v good holds there, count_to m p v good holds there)
+
+  pub deviation_from : deviation next_map p v.from ≡ deviation m p v.from -ℤ pos (total m p)
+  unfolding deviation
+  deviation_from =
+      rw (total_moved, places_moved, weight_moved v.from, sym (count_from m p v good holds there))
+      (less (count_in next_map p.id v.from) (total m p) (places m p * weight_of m v.from))
+    where
+      less : (c t w : ℕ) → (pos (c * t) -ℤ pos w) ≡ ((pos ((c + 1) * t) -ℤ pos w) -ℤ pos t)
+      less c t w = omega (arith, ints)
+
+  pub deviation_to : deviation next_map p v.to ≡ deviation m p v.to +ℤ pos (total m p)
+  unfolding deviation
+  deviation_to =
+      rw (total_moved, places_moved, weight_moved v.to, count_to m p v good holds there)
+      (more (count_in m p.id v.to) (total m p) (places m p * weight_of m v.to))
+    where
+      more : (c t w : ℕ) → (pos ((c + 1) * t) -ℤ pos w) ≡ ((pos (c * t) -ℤ pos w) +ℤ pos t)
+      more c t w = omega (arith, ints)
+
+  pub deviation_other : (osd : ℕ) → osd ≢ v.from → osd ≢ v.to → deviation next_map p osd ≡ deviation m p osd
+  unfolding deviation
+  deviation_other osd from to = rw (total_moved, places_moved, weight_moved osd, count_other m p v good holds there osd from to) refl

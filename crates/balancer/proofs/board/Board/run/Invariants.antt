@@ -1,0 +1,10 @@
+use Rattle.std.proofs.Common.{◌≡◌}
+use Rattle.balancer.proofs.Running.{IsUnderWay}
+use Rattle.balancer.proofs.board.Board.run.Given as goal
+
+abbrev pub invariant-loop-count : goal.invariant-loop-count
+invariant-loop-count l = record {
+  way : IsUnderWay l.initial.self.frame.map.now.map l.initial.self.frame.pool l.limit l.self.moves.items l._count;
+  map : l.self.frame.map.now.map ≡ l.initial.self.frame.map.now.map;
+  pool : l.self.frame.pool ≡ l.initial.self.frame.pool;
+}

@@ -1,0 +1,100 @@
+-- What a plan is made with: the pool's groups and the deviations of all OSDs after the moves so far, as they are stored.
+use Rattle.std.specs.Prelude.{◌≡◌, ℕ, ◌+◌, ◌*◌, ◌<◌, ◌≤◌, ◌==◌, Bool, true, false, not, ◌&&◌, nat_lt, ℤ, pos, int_lt, List, [], ◌∷◌, ◌++◌, length, map, Option, Some, None, IfSome}
+use Rattle.std.specs.List.{range_with_len, list_any, count_by, All}
+use Rattle.std.specs.Option.{option_map_or}
+use Rattle.stated.specs.declared.pg.Pg.{Pg}
+use Rattle.keylist.specs.Keys.{entry_at}
+use Rattle.stated.specs.Exceptions.{place_of, key_of, said_of}
+use Rattle.stated.specs.Pools.{PoolFacts}
+use Rattle.osdmap.specs.Maps.{ClusterMap, pool_at, HoldsTogether}
+use Rattle.osdmap.specs.Mapped.{is_of, is_weightless, replaced}
+use Rattle.osdmap.specs.Placement.{group_of, steps_of, mapped_set}
+use Rattle.placement_laws.specs.Standing.{stands}
+use Rattle.balancer.specs.declared.moves.Move.{Move}
+use Rattle.balancer.specs.declared.group.Group.{Group}
+use Rattle.balancer.specs.Shares.{osds_of, total, deviation, unevenness}
+use Rattle.balancer.specs.Moves.{move_of, pair_of, pairs_in, last_level, levels_of, has_way}
+use Rattle.balancer.specs.Greedy.{gap, is_good, beats, best_move, after_moves}
+use Rattle.balancer.specs.Plans.{is_moved, items_at}
+
+-- whether an OSD of the explicit set of a group is out for good, so that pairs do nothing
+unfoldable pub is_fixed : ClusterMap → Pg → Bool
+is_fixed m g = option_map_or (λ osds. list_any (is_weightless m.weights) osds) (said_of m.explicit g) false
+
+-- what is kept of a group
+unfoldable pub group_at : ClusterMap → PoolFacts → ℕ → Group
+group_at m p n = record {
+  places = mapped_set m p n;
+  pairs = pairs_in m (group_of p n);
+  is_fixed = is_fixed m (group_of p n);
+}
+
+-- what is kept of the groups of a pool, by number
+abbrev pub groups_of : ClusterMap → PoolFacts → List Group
+groups_of m p = map (group_at m p) (range_with_len 0 p.pg_num)
+
+-- the deviations of all OSDs, by number
+abbrev pub deviations_of : ClusterMap → PoolFacts → List ℤ
+deviations_of m p = map (deviation m p) (osds_of m)
+
+-- what is kept of each group of a pool, and the deviation of each OSD
+pub record IsBoardOf (m : ClusterMap) (p : PoolFacts) (gs : List Group) (ds : List ℤ) : Type 0 where
+  pub groups : gs ≡ groups_of m p
+  pub deviations : ds ≡ deviations_of m p
+
+-- what is kept of a group after a move of it
+abbrev pub gone : Group → Move → Group
+gone g v = record g { places = replaced (pair_of v) g.places; pairs = g.pairs ++ pair_of v ∷ [] }
+
+-- whether a group may go from one OSD to another, where both are candidates and beside one another
+unfoldable pub may_go : ClusterMap → PoolFacts → ℕ → ℕ → Group → Bool
+may_go m p from to g =
+    not g.is_fixed && (count_by (is_of from) g.places == 1) && not (stands to g.places) && nat_lt (length g.pairs) p.size
+    && has_way m (last_level (levels_of (steps_of m p))) from to g.places
+
+-- whether some move between two OSDs could be taken rather than the best one so far
+abbrev pub is_wanted : ClusterMap → PoolFacts → ℕ → ℕ → Option Move → Bool
+is_wanted m p from to None = int_lt (pos (total m p)) (gap m p from to)
+is_wanted m p from to (Some best) = int_lt (pos (total m p)) (gap m p from to) && beats m p (move_of from to 0) best
+
+-- a good move of a group that is there
+pub record IsGood (m : ClusterMap) (p : PoolFacts) (v : Move) : Type 0 where
+  pub good : is_good m p v ≡ true
+  pub there : v.group < p.pg_num
+
+-- the best move
+pub record IsBest (m : ClusterMap) (p : PoolFacts) (v : Move) : Type 0 where
+  pub good : IsGood m p v
+  pub best : best_move m p ≡ Some v
+
+-- a good move is not better than the best one so far, which is there
+abbrev pub IsCovered : ClusterMap → PoolFacts → Option Move → Move → Type 0
+IsCovered m p None v = is_good m p v ≡ false
+IsCovered m p (Some best) v = is_good m p v ≡ true → beats m p v best ≡ false
+
+-- the map after some moves, each of a group that is there, holds together, each group moved has its pairs there as an exception, and each move made the pool
+-- more even
+pub record IsReached (m : ClusterMap) (p : PoolFacts) (moves : List Move) : Type 0 where
+  pub holds : HoldsTogether (after_moves m p moves)
+  pub there : All (λ v. v.group < p.pg_num) moves
+  pub named : (n : ℕ) → is_moved moves n ≡ true → entry_at key_of (after_moves m p moves).items (place_of (group_of p n)) ≡ Some (items_at (after_moves m p moves) p n)
+  pub evens : unevenness (after_moves m p moves) p + 2 * total m p * length moves ≤ unevenness m p
+
+-- ---- the search for the best move
+
+-- the best move so far, or none, is good and covers what the one before it covered
+pub record IsBetter (m : ClusterMap) (p : PoolFacts) (old new : Option Move) : Type 0 where
+  pub good : IfSome new (λ v. IsGood m p v)
+  pub keeps : (v : Move) → IsCovered m p old v → IsCovered m p new v
+
+-- the best move so far covers those between two OSDs
+pub record CoversPair (m : ClusterMap) (p : PoolFacts) (best : Option Move) (from to : ℕ) : Type 0 where
+  pub each : (g : ℕ) → g < p.pg_num → IsCovered m p best (move_of from to g)
+
+-- it covers those from an OSD to some
+abbrev pub CoversFrom : ClusterMap → PoolFacts → Option Move → ℕ → List ℕ → Type 0
+CoversFrom m p best from tos = All (λ to. CoversPair m p best from to) tos
+
+-- it covers those from some OSDs to some
+abbrev pub CoversAll : ClusterMap → PoolFacts → Option Move → List ℕ → List ℕ → Type 0
+CoversAll m p best froms tos = All (λ from. CoversFrom m p best from tos) froms

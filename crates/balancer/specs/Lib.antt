@@ -1,0 +1,5 @@
+pub mod Shares
+pub mod Moves
+pub mod Greedy
+pub mod Plans
+pub mod Boards

@@ -1,0 +1,82 @@
+-- Plans as changes of a map, and what a plan is worth.
+use Rattle.std.specs.Prelude.{◌≡◌, ℕ, ◌+◌, ◌*◌, ◌≤◌, ◌==◌, Bool, List, [], length, map, Option, Some, None, IfSome}
+use Rattle.std.specs.List.{filter, list_any, range_with_len}
+use Rattle.std.specs.Option.{option_map_or}
+use Rattle.refusal.specs.declared.refused.Refusal.{Refusal}
+use Rattle.refusal.specs.declared.refused.Refusal.TheVariants.{UnknownPool, BalanceRule}
+use Rattle.refusal.specs.Outcomes.{refused_unless}
+use Rattle.stated.specs.declared.change.ChangeParts.{ChangeParts}
+use Rattle.stated.specs.declared.exception.Exception.{Exception}
+use Rattle.stated.specs.declared.exception.Pair.{Pair}
+use Rattle.stated.specs.Pools.{PoolFacts}
+use Rattle.osdmap.specs.Maps.{ClusterMap, pool_at}
+use Rattle.osdmap.specs.Placement.{group_of, steps_of}
+use Rattle.pgtable.specs.Patches.{next}
+use Rattle.balancer.specs.declared.moves.Move.{Move}
+use Rattle.balancer.specs.Shares.{has_one_block, total, unevenness}
+use Rattle.balancer.specs.Moves.{pairs_in}
+use Rattle.balancer.specs.Greedy.{good_moves, greedy, after_moves}
+
+-- ---- what refuses a plan
+
+abbrev pub plan_fault_of : ClusterMap → Option PoolFacts → Option Refusal
+plan_fault_of m None = Some UnknownPool
+plan_fault_of m (Some p) = refused_unless (has_one_block (steps_of m p)) BalanceRule
+
+-- there is no such pool, else its rule has more than one block
+abbrev pub plan_fault : ClusterMap → ℕ → Option Refusal
+plan_fault m pool = plan_fault_of m (pool_at m.pools pool)
+
+-- ---- the change of a plan
+
+-- whether some move moves a group
+abbrev pub is_moved : List Move → ℕ → Bool
+is_moved moves n = list_any (λ v. v.group == n) moves
+
+-- the pairs of a group of a pool, as an exception
+abbrev pub items_at : ClusterMap → PoolFacts → ℕ → Exception Pair
+items_at m p n = record { pg = group_of p n; entries = pairs_in m (group_of p n) }
+
+-- for each group moved, by number upwards, the whole list of its pairs after the moves
+unfoldable pub items_of : ClusterMap → PoolFacts → List Move → List (Exception Pair)
+items_of m p moves = map (items_at (after_moves m p moves) p) (filter (is_moved moves) (range_with_len 0 p.pg_num))
+
+-- the change that gives these groups their pairs, and does nothing else
+abbrev pub change_of : List (Exception Pair) → ChangeParts
+change_of items = record {
+  old_pools = [];
+  new_crush = None;
+  new_pools = [];
+  grow_pool = [];
+  down = [];
+  up = [];
+  weight = [];
+  old_upmap = [];
+  old_items = [];
+  new_upmap = [];
+  new_items = items;
+}
+
+-- the moves of the plan for a pool
+unfoldable pub plan_moves : ClusterMap → ℕ → ℕ → List Move
+plan_moves m pool limit = option_map_or (λ p. greedy m p limit) (pool_at m.pools pool) []
+
+-- their change
+unfoldable pub plan_change : ClusterMap → ℕ → ℕ → ChangeParts
+plan_change m pool limit = change_of (option_map_or (λ p. items_of m p (greedy m p limit)) (pool_at m.pools pool) [])
+
+-- a change and a number of moves are those of the greedy plan
+pub record IsPlan (m : ClusterMap) (pool limit : ℕ) (change : ChangeParts) (count : ℕ) : Type 0 where
+  pub is : change ≡ plan_change m pool limit
+  pub counts : count ≡ length (plan_moves m pool limit)
+
+-- ---- what a plan is worth
+
+-- the change of so many moves lowers the sum of the squares of the deviations by twice the weight of all candidates or more
+-- for each of them
+pub record Evens (m : ClusterMap) (pool : ℕ) (change : ChangeParts) (count : ℕ) : Type 0 where
+  pub evens : IfSome (pool_at m.pools pool) (λ p. unevenness (next m change) p + 2 * total m p * count ≤ unevenness m p)
+
+-- after the change no move is good
+pub record LeavesNone (m : ClusterMap) (pool : ℕ) (change : ChangeParts) : Type 0 where
+  pub none : IfSome (pool_at m.pools pool) (λ p. good_moves (next m change) p ≡ [])

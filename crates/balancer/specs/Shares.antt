@@ -1,0 +1,65 @@
+-- The OSDs over which a pool is balanced, and how far each is above or below its share.
+use Rattle.std.specs.Prelude.{ℕ, ◌*◌, ◌==◌, Bool, not, ◌&&◌, ℤ, pos, ◌-ℤ◌, List, length, slice_index, nat_abs}
+use Rattle.std.specs.List.{filter, find, flat_map, range_with_len, sum_by, count_by}
+use Rattle.std.specs.Option.{option_map_or}
+use Rattle.std.specs.Ordering.{int_eq}
+use Rattle.crush.specs.declared.bucket.Bucket.{Bucket}
+use Rattle.crush.specs.declared.step.Step.{Step}
+use Rattle.crush.specs.Grammar.{is_emit}
+use Rattle.crush.specs.Paths as paths
+use Rattle.stated.specs.Pools.{PoolFacts}
+use Rattle.osdmap.specs.Maps.{ClusterMap, osd_exists, osd_is_up}
+use Rattle.osdmap.specs.Mapped.{is_weightless}
+use Rattle.osdmap.specs.Placement.{steps_of}
+use Rattle.pgtable.specs.Index.{count_in}
+
+-- whether a rule has one block: each ends with an emit
+abbrev pub has_one_block : List Step → Bool
+has_one_block steps = count_by is_emit steps == 1
+
+-- ---- candidates
+
+-- whether groups of a pool may be moved from or to an OSD: it is under the bucket that the pool's rule takes, exists, is up,
+-- and is not out for good
+unfoldable pub is_candidate : ClusterMap → PoolFacts → ℕ → Bool
+is_candidate m p osd =
+    paths.reaches m.buckets (steps_of m p) (pos osd) && osd_exists m osd && osd_is_up m osd && not (is_weightless m.weights osd)
+
+-- the OSDs below max_osd
+abbrev pub osds_of : ClusterMap → List ℕ
+osds_of m = range_with_len 0 (length m.presences)
+
+-- those between which groups of a pool may be moved
+abbrev pub candidates : ClusterMap → PoolFacts → List ℕ
+candidates m p = filter (is_candidate m p) (osds_of m)
+
+-- ---- shares
+
+-- the weight that an OSD has in its bucket
+unfoldable pub item_weight : List Bucket → ℕ → ℕ
+item_weight buckets osd =
+    option_map_or (λ i. i.weight) (find (λ i. int_eq i.id (pos osd)) (flat_map (λ b. b.items) buckets)) 0
+
+-- the weight of an OSD: that in its bucket times its reweight
+unfoldable pub weight_of : ClusterMap → ℕ → ℕ
+weight_of m osd = item_weight m.buckets osd * slice_index m.weights osd
+
+-- what all candidates weigh together
+unfoldable pub total : ClusterMap → PoolFacts → ℕ
+total m p = sum_by (weight_of m) (candidates m p)
+
+-- how many places of groups of the pool the candidates have together
+unfoldable pub places : ClusterMap → PoolFacts → ℕ
+places m p = sum_by (count_in m p.id) (candidates m p)
+
+-- how far an OSD is above its share of the places, times the weight of all candidates
+unfoldable pub deviation : ClusterMap → PoolFacts → ℕ → ℤ
+deviation m p osd = pos (count_in m p.id osd * total m p) -ℤ pos (places m p * weight_of m osd)
+
+-- the square of a whole number
+abbrev pub square : ℤ → ℕ
+square z = nat_abs z * nat_abs z
+
+-- how uneven the pool is: the sum of the squares of the deviations of all candidates
+unfoldable pub unevenness : ClusterMap → PoolFacts → ℕ
+unevenness m p = sum_by (λ osd. square (deviation m p osd)) (candidates m p)

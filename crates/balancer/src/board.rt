@@ -1,0 +1,159 @@
+//! The state of a plan: the groups of a pool and the deviations of OSDs after the moves so far.
+
+ghost use Rattle.std.specs.Prelude.{◌≡◌, ◌*◌, ◌+◌, ◌<◌, ◌≤◌, ◌^◌, pos, ◌-ℤ◌, length, Some, IfOk};
+ghost use Rattle.osdmap.specs.Maps.{pool_at};
+ghost use Rattle.pgtable.specs.Tables.{IsTableOf};
+ghost use Rattle.balancer.specs.Shares.{deviation, places};
+ghost use Rattle.balancer.specs.Shares.{places as places_in};
+ghost use Rattle.balancer.specs.Boards.{deviations_of, IsBoardOf, IsReached};
+ghost use Rattle.balancer.specs.Greedy.{after_moves};
+ghost use Rattle.balancer.specs.Plans.{is_moved};
+
+use crate::frame::Frame;
+use crate::group::{Group, gone, groups};
+use crate::moves::Move;
+use crate::shares::{count, places, weight_of};
+use osdmap::{Exception, Items, OsdMap, Pg, Pool};
+use pgtable::PgTable;
+use refusal::Memory;
+use std::alloc::Global;
+
+/// How far an OSD with so many groups is above its share of the places, times the weight of all candidates.
+fn deviation(count: u64, total: u64, places: u64, weight: u64) -> i128
+    requires count { count ≤ 4096 }
+    requires total { total ≤ 2 ^ 58 }
+    requires places { places ≤ 1024 * 4096 }
+    requires weight { weight < 2 ^ 48 }
+    ensures { result ≡ pos (count * total) -ℤ pos (places * weight) }
+{
+    i128::from(count) * i128::from(total) - i128::from(places) * i128::from(weight)
+}
+
+/// How many places of groups of the pool the candidates have together.
+#[tactic(auto, unfolding(crate::specs::Shares::places))]
+fn places_of(frame: &Frame, table: &PgTable) -> u64
+    requires { IsTableOf table.now frame.now.map.now.map }
+    ensures value { result ≡ places frame.now.map.now.map frame.now.pool }
+    ensures small { result ≤ 1024 * 4096 }
+{
+    places(frame.map, table, &frame.pool, &frame.osds)
+}
+
+/// The deviation of an OSD, where the candidates have so many places.
+#[tactic(auto, unfolding(crate::specs::Shares::deviation))]
+fn deviation_of(frame: &Frame, table: &PgTable, places: u64, osd: u32) -> i128
+    requires table { IsTableOf table.now frame.now.map.now.map }
+    requires value { places ≡ places_in frame.now.map.now.map frame.now.pool }
+    requires few { places ≤ 1024 * 4096 }
+    ensures { result ≡ deviation frame.now.map.now.map frame.now.pool osd }
+{
+    let count = count(frame.map, table, &frame.pool, osd);
+    deviation(count, frame.weight, places, weight_of(frame.map, osd))
+}
+
+/// The deviations of all OSDs, by number; or `Memory` (30).
+fn deviations(alloc: Global, frame: &Frame, table: &PgTable) -> Result<Vec<i128>, Memory>
+    requires { IsTableOf table.now frame.now.map.now.map }
+    ensures { IfOk result (λ ds. ds.items ≡ deviations_of frame.now.map.now.map frame.now.pool) }
+{
+    let places = places_of(frame, table);
+    let mut deviations = Vec::with_capacity(alloc, frame.map.max_osd() as usize)?;
+    for osd in 0..frame.map.max_osd() {
+        deviations.push(deviation_of(frame, table, places, osd))?;
+    }
+    Ok(deviations)
+}
+
+/// Whether some move moves a group.
+fn is_moved(moves: &[Move], number: u32) -> bool
+    ensures { result ≡ is_moved moves.now number }
+{
+    moves.iter().any(|step| step.group == number)
+}
+
+/// The state of a plan for a pool.
+#[derive(Drop)]
+pub(crate) struct Board<'a> {
+    pub frame: Frame<'a>,
+    /// What is kept of the pool's groups, by number.
+    pub groups: Vec<Group>,
+    /// The deviations of all OSDs, by number.
+    pub deviations: Vec<i128>,
+    /// The moves so far.
+    pub moves: Vec<Move>,
+    ghost reached: { IsReached frame.map.now.map frame.pool moves.items },
+    ghost board: { IsBoardOf (after_moves frame.map.now.map frame.pool moves.items) frame.pool groups.items deviations.items },
+}
+
+impl<'a> Board<'a> {
+    ghost use Rattle.std.specs.Prelude.{◌≡◌, ◌<◌, [], ◌∷◌, ◌++◌, IfOk, OnOk};
+    ghost use Rattle.balancer.specs.Plans.{items_at, items_of};
+    ghost use Rattle.balancer.specs.Greedy.{after_moves};
+    ghost use Rattle.balancer.specs.Boards.{IsGood};
+    ghost use Rattle.pgtable.specs.Tables.{IsTableOf};
+
+    /// The state at the beginning; or `Memory` (30).
+    pub fn new(alloc: Global, frame: Frame<'a>, table: &PgTable) -> Result<Board<'a>, Memory>
+        requires { IsTableOf table.now frame.map.now.map }
+        ensures map { IfOk result (λ board. board.frame.map.now.map ≡ frame.entry.map.now.map) }
+        ensures pool { IfOk result (λ board. board.frame.pool ≡ frame.entry.pool) }
+        ensures moves { IfOk result (λ board. board.moves.items ≡ []) }
+    {
+        frame.map.holds_together();
+        let groups = groups(alloc, frame.map, &frame.pool)?;
+        let deviations = deviations(alloc, &frame, table)?;
+        let moves = Vec::new(alloc);
+        Ok(Board {
+            frame,
+            groups,
+            deviations,
+            moves,
+        })
+    }
+
+    /// Makes a good move; or `Memory` (30).
+    pub fn make(&mut self, step: Move) -> Result<(), Memory>
+        requires { IsGood (after_moves self.old.frame.map.now.map self.old.frame.pool self.old.moves.items) self.old.frame.pool step }
+        ensures moves { OnOk result (self.new.moves.items ≡ self.old.moves.items ++ step ∷ []) }
+        ensures map { self.new.frame.map.now.map ≡ self.old.frame.map.now.map }
+        ensures pool { self.new.frame.pool ≡ self.old.frame.pool }
+    {
+        let weight = i128::from(self.frame.weight);
+        let at = step.group as usize;
+        self.moves.push(step)?;
+        self.groups[at] = gone(self.groups[at], step);
+        self.deviations[step.from as usize] -= weight;
+        self.deviations[step.to as usize] += weight;
+        Ok(())
+    }
+
+    /// The pairs of a group, as an exception.
+    #[tactic(auto, unfolding(crate::specs::Boards::group_at))]
+    fn items_at(&self, number: u32) -> Items
+        requires { number < self.now.frame.pool.pg_num }
+        ensures { result ≡ items_at (after_moves self.now.frame.map.now.map self.now.frame.pool self.now.moves.items) self.now.frame.pool number }
+    {
+        let pg = Pg {
+            pool: self.frame.pool.id(),
+            number,
+        };
+        Exception {
+            pg,
+            entries: self.groups[number as usize].pairs,
+        }
+    }
+
+    /// For each group moved, by number upwards, all its pairs after the moves; or `Memory` (30).
+    #[tactic(auto, unfolding(crate::specs::Plans::items_of))]
+    pub fn items(&self, alloc: Global) -> Result<Vec<Items>, Memory>
+        ensures { IfOk result (λ items. items.items ≡ items_of self.now.frame.map.now.map self.now.frame.pool self.now.moves.items) }
+    {
+        let mut items = Vec::with_capacity(alloc, self.moves.len())?;
+        for number in 0..self.frame.pool.pg_num() {
+            if is_moved(&self.moves, number) {
+                items.push(self.items_at(number))?;
+            }
+        }
+        Ok(items)
+    }
+}

@@ -1,0 +1,148 @@
+//! What a plan goes by and no move changes.
+
+ghost use Rattle.std.specs.Prelude.{◌≡◌, ◌≤◌, ◌^◌, length, Some, IfOk};
+ghost use Rattle.osdmap.specs.Maps.{pool_at};
+ghost use Rattle.std.specs.List.{list_all};
+ghost use Rattle.osdmap.specs.Placement.{steps_of};
+ghost use Rattle.balancer.specs.Shares.{candidates, total};
+ghost use Rattle.balancer.specs.Moves.{level_chosen, levels_of, are_under_same};
+
+use crate::domains::{are_under_same, has_way, stands, times};
+use crate::group::Group;
+use crate::shares::{candidates, total};
+use crush::Step;
+use osdmap::{OsdMap, Pool};
+use refusal::Memory;
+use std::alloc::Global;
+
+/// The type that a step chooses.
+fn level_chosen(step: &Step) -> Option<u8>
+    ensures { result ≡ level_chosen step.now }
+{
+    match step {
+        Step::Choose(choose) => Some(choose.level),
+        _ => None,
+    }
+}
+
+/// The types that some steps choose, in order; or `Memory` (30).
+fn levels_of(alloc: Global, steps: &[Step]) -> Result<Vec<u8>, Memory>
+    ensures { IfOk result (λ levels. levels.items ≡ levels_of steps.now) }
+{
+    Ok(
+        steps
+            .iter()
+            .filter_map(|step| level_chosen(step))
+            .collect(alloc)?,
+    )
+}
+
+/// The types that the rule of a pool chooses, in order; or `Memory` (30).
+fn levels(alloc: Global, map: &OsdMap, pool: &Pool) -> Result<Vec<u8>, Memory>
+    ensures { IfOk result (λ levels. levels.items ≡ levels_of (steps_of map.now.map pool.now)) }
+{
+    match map.rule(pool.rule()) {
+        Some(rule) => levels_of(alloc, rule.steps()),
+        None => Ok(Vec::new(alloc)),
+    }
+}
+
+/// Whether two OSDs are under the same bucket of each of some types, or under none.
+fn are_under_same_all(map: &OsdMap, some: u32, other: u32, levels: &[u8]) -> bool
+    ensures { result ≡ list_all (are_under_same map.now.map some other) levels.now }
+{
+    levels
+        .iter()
+        .all(|level| are_under_same(map, some, other, *level))
+}
+
+/// What a plan for a pool goes by and no move changes.
+#[derive(Drop)]
+pub(crate) struct Frame<'a> {
+    pub map: &'a OsdMap,
+    pub pool: Pool,
+    /// The types that the pool's rule chooses, in order.
+    pub levels: Vec<u8>,
+    /// The candidates, by number upwards.
+    pub osds: Vec<u32>,
+    /// What they weigh together.
+    pub weight: u64,
+    ghost pool_is: { pool_at map.now.map.pools pool.id ≡ Some pool },
+    ghost levels_are: { levels.items ≡ levels_of (steps_of map.now.map pool) },
+    ghost osds_are: { osds.items ≡ candidates map.now.map pool },
+    ghost osds_few: { length osds.items ≤ 1024 },
+    ghost weight_is: { weight ≡ total map.now.map pool },
+    ghost weight_small: { weight ≤ 2 ^ 58 },
+}
+
+impl<'a> Frame<'a> {
+    ghost use Rattle.std.specs.Prelude.{◌≡◌, Some, IfOk};
+    ghost use Rattle.osdmap.specs.Maps.{pool_at};
+
+    /// What a plan for a pool of a map goes by; or `Memory` (30).
+    #[tactic(auto, unfolding(crate::specs::Shares::total))]
+    pub fn new(alloc: Global, map: &'a OsdMap, pool: Pool) -> Result<Frame<'a>, Memory>
+        requires { pool_at map.now.map.pools pool.id ≡ Some pool }
+        ensures map { IfOk result (λ frame. frame.map.now ≡ map.now) }
+        ensures pool { IfOk result (λ frame. frame.pool ≡ pool) }
+    {
+        let levels = levels(alloc, map, &pool)?;
+        let osds = candidates(alloc, map, &pool)?;
+        let weight = total(map, &osds);
+        Ok(Frame {
+            map,
+            pool,
+            levels,
+            osds,
+            weight,
+        })
+    }
+}
+
+impl Frame<'_> {
+    ghost use Rattle.std.specs.Prelude.{◌≡◌, ◌<◌, length, position, IfSome};
+    ghost use Rattle.std.specs.List.{list_all};
+    ghost use Rattle.osdmap.specs.Placement.{steps_of};
+    ghost use Rattle.balancer.specs.Moves.{are_under_same, are_beside, last_level, levels_of};
+    ghost use Rattle.balancer.specs.Boards.{may_go};
+
+    /// Whether two OSDs are under the same bucket of each type that the pool's rule chooses before the last, or under none.
+    #[tactic(auto, unfolding(crate::specs::Moves::are_beside))]
+    pub fn are_beside(&self, some: u32, other: u32) -> bool
+        ensures { result ≡ are_beside self.now.map.now.map self.now.pool some other }
+    {
+        let levels = self.levels.as_slice();
+        match levels.split_last() {
+            Some((_, earlier)) => are_under_same_all(self.map, some, other, earlier),
+            None => true,
+        }
+    }
+
+    /// The last type that the pool's rule chooses.
+    fn last_level(&self) -> u8
+        ensures { result ≡ last_level (levels_of (steps_of self.now.map.now.map self.now.pool)) }
+    {
+        self.levels.last().copied().unwrap_or(0)
+    }
+
+    /// Whether a group may go from one OSD to another, where both are candidates and beside one another.
+    #[tactic(auto, unfolding(crate::specs::Boards::may_go))]
+    pub fn may_go(&self, from: u32, to: u32, group: &Group) -> bool
+        ensures { result ≡ may_go self.now.map.now.map self.now.pool from to group.now }
+    {
+        let places = group.places.as_slice();
+        !group.is_fixed
+            && times(places, from) == 1
+            && !stands(places, to)
+            && group.pairs.as_slice().len() < usize::from(self.pool.size())
+            && has_way(self.map, self.last_level(), from, to, places)
+    }
+
+    /// The first of some groups that may go from one candidate to another beside it.
+    pub fn first_group(&self, groups: &[Group], from: u32, to: u32) -> Option<usize>
+        ensures first { result ≡ position (may_go self.now.map.now.map self.now.pool from to) groups.now }
+        ensures inside { IfSome result (λ at. at < length groups.now) }
+    {
+        groups.iter().position(|group| self.may_go(from, to, group))
+    }
+}

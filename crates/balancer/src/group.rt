@@ -1,0 +1,149 @@
+//! Groups as a plan keeps them.
+
+ghost use Rattle.std.specs.Prelude.{◌≡◌, ◌<◌, ◌≤◌, length, position, Some, IfOk};
+ghost use Rattle.std.specs.List.{list_any};
+ghost use Rattle.osdmap.specs.Maps.{pool_at};
+ghost use Rattle.osdmap.specs.Mapped.{is_of, is_weightless, replaced};
+ghost use Rattle.osdmap.specs.Placement.{mapped_set};
+ghost use Rattle.balancer.specs.Moves.{pairs_in};
+ghost use Rattle.balancer.specs.Boards.{is_fixed, group_at, groups_of, gone};
+
+use crate::moves::Move;
+use crate::shares::reweight;
+use crush::Work;
+use osdmap::{OsdMap, Pair, Pg, Pool};
+use refusal::Memory;
+use stated::{Blank, Short};
+use std::alloc::Global;
+
+/// What is kept of a group.
+#[derive(Clone, Copy, Debug)]
+pub struct Group {
+    /// Its mapped set.
+    pub places: Short<Option<u32>>,
+    /// Its pairs.
+    pub pairs: Short<Pair>,
+    /// Whether an OSD of its explicit set is out for good, so that pairs do nothing.
+    pub is_fixed: bool,
+}
+
+/// A few entries, in place.
+fn short_of<T: Blank>(entries: &[T]) -> Short<T>
+    requires { length entries.now ≤ 10 }
+    ensures { result ≡ entries.now }
+{
+    let mut short = Short::new();
+    for entry in entries {
+        short.push(*entry);
+    }
+    short
+}
+
+/// The pairs of a group.
+fn pairs_in(map: &OsdMap, pg: Pg) -> Short<Pair>
+    ensures { result ≡ pairs_in map.now.map pg }
+{
+    match map.items(pg) {
+        Some(pairs) => short_of(pairs),
+        None => Short::new(),
+    }
+}
+
+/// Whether an OSD is out for good.
+fn is_weightless(map: &OsdMap, osd: u32) -> bool
+    ensures { result ≡ is_weightless map.now.map.weights osd }
+{
+    reweight(map, osd) == 0
+}
+
+/// Whether one of some OSDs is out for good.
+fn has_weightless(map: &OsdMap, osds: &[u32]) -> bool
+    ensures { result ≡ list_any (is_weightless map.now.map.weights) osds.now }
+{
+    osds.iter().any(|osd| is_weightless(map, *osd))
+}
+
+/// Whether an OSD of the explicit set of a group is out for good, so that pairs do nothing.
+#[tactic(auto, unfolding(crate::specs::Boards::is_fixed))]
+fn is_fixed(map: &OsdMap, pg: Pg) -> bool
+    ensures { result ≡ is_fixed map.now.map pg }
+{
+    match map.explicit(pg) {
+        Some(osds) => has_weightless(map, osds),
+        None => false,
+    }
+}
+
+/// The mapped set of a group of a pool, by one run of the pool's rule; or `Memory` (30).
+fn mapped(map: &OsdMap, pool: &Pool, pg: Pg, work: &mut Work) -> Result<Short<Option<u32>>, Memory>
+    requires pool { pg.pool ≡ pool.now.id }
+    requires there { pool_at map.now.map.pools pool.now.id ≡ Some pool.now }
+    ensures { IfOk result (λ set. set ≡ mapped_set map.now.map pool.now pg.number) }
+{
+    match map.mapped_of(pg, work) {
+        Ok(set) => Ok(short_of(set.places())),
+        Err(_) => Err(Memory),
+    }
+}
+
+/// What is kept of a group of a pool, by one run of the pool's rule; or `Memory` (30).
+#[tactic(auto, unfolding(crate::specs::Boards::group_at))]
+fn group_at(map: &OsdMap, pool: &Pool, number: u32, work: &mut Work) -> Result<Group, Memory>
+    requires { pool_at map.now.map.pools pool.now.id ≡ Some pool.now }
+    ensures { IfOk result (λ group. group ≡ group_at map.now.map pool.now number) }
+{
+    let pg = Pg {
+        pool: pool.id(),
+        number,
+    };
+    let places = mapped(map, pool, pg, work)?;
+    Ok(Group {
+        places,
+        pairs: pairs_in(map, pg),
+        is_fixed: is_fixed(map, pg),
+    })
+}
+
+/// What is kept of the groups of a pool, by number; or `Memory` (30).
+pub(crate) fn groups(alloc: Global, map: &OsdMap, pool: &Pool) -> Result<Vec<Group>, Memory>
+    requires { pool_at map.now.map.pools pool.now.id ≡ Some pool.now }
+    ensures { IfOk result (λ groups. groups.items ≡ groups_of map.now.map pool.now) }
+{
+    let mut work = Work::new(alloc, map.forest())?;
+    let mut groups = Vec::with_capacity(alloc, pool.pg_num() as usize)?;
+    for number in 0..pool.pg_num() {
+        groups.push(group_at(map, pool, number, &mut work)?)?;
+    }
+    Ok(groups)
+}
+
+/// The place where an OSD first stands.
+fn place_of(places: &[Option<u32>], osd: u32) -> Option<usize>
+    ensures { result ≡ position (is_of osd) places.now }
+{
+    places.iter().position(|place| *place == Some(osd))
+}
+
+/// One OSD goes to another where it first stands.
+fn replace(places: &mut Short<Option<u32>>, pair: Pair)
+    ensures { places.new ≡ replaced pair places.old }
+{
+    if let Some(place) = place_of(places.as_slice(), pair.from) {
+        places.set(place, Some(pair.to));
+    }
+}
+
+/// The group after a move of it.
+pub(crate) fn gone(group: Group, step: Move) -> Group
+    requires { length group.pairs < 10 }
+    ensures { result ≡ gone group step }
+{
+    let pair = Pair {
+        from: step.from,
+        to: step.to,
+    };
+    let mut group = group;
+    replace(&mut group.places, pair);
+    group.pairs.push(pair);
+    group
+}

@@ -1,0 +1,12 @@
+//! Moves.
+
+/// The move of a group of a pool from one OSD to another, by one more pair among its exceptions.
+#[derive(Clone, Copy, Debug, PartialEq, Eq)]
+pub struct Move {
+    /// The number of the group: 0 to 4,095.
+    pub group: u32,
+    /// The OSD that the group leaves: 0 to 1,023.
+    pub from: u32,
+    /// The OSD that comes in its place: 0 to 1,023.
+    pub to: u32,
+}

@@ -1,0 +1,147 @@
+//! The search for the best move.
+
+ghost use Rattle.std.specs.Prelude.{◌≡◌};
+ghost use Rattle.balancer.specs.Greedy.{precedes};
+
+use crate::board::Board;
+use crate::group::Group;
+use crate::moves::Move;
+use refusal::Memory;
+
+/// Whether a move comes first of two: by the OSD that the group leaves, then by the one that comes, then by the group.
+fn precedes(u: Move, v: Move) -> bool
+    ensures { result ≡ precedes u v }
+{
+    u.from < v.from || (u.from == v.from && (u.to < v.to || (u.to == v.to && u.group < v.group)))
+}
+
+impl Board<'_> {
+    ghost use Rattle.std.specs.Prelude.{◌≡◌, ◌<◌, ℕ, pos, neg_ℤ, int_lt, ◌<ℤ◌, ◌^◌, ◌==◌, [], length, position, true, Some, IfSome, MatchOption, OnOk};
+    ghost use Rattle.balancer.specs.Shares.{is_candidate, total, deviation};
+    ghost use Rattle.balancer.specs.Moves.{move_of, are_beside, last_level, levels_of};
+    ghost use Rattle.balancer.specs.Greedy.{gap, beats, good_moves, greedy, after_moves};
+    ghost use Rattle.balancer.specs.Boards.{may_go, is_wanted, IsGood, IsBest, IsBetter, CoversPair, CoversFrom};
+
+    /// The deviation of an OSD.
+    fn deviation(&self, osd: u32) -> i128
+        requires { is_candidate self.now.frame.map.now.map self.now.frame.pool osd ≡ true }
+        ensures value { result ≡ deviation (after_moves self.now.frame.map.now.map self.now.frame.pool self.now.moves.items) self.now.frame.pool osd }
+        ensures high { result <ℤ pos (2 ^ 100) }
+        ensures low { neg_ℤ (pos (2 ^ 100)) <ℤ result }
+    {
+        self.deviations[osd as usize]
+    }
+
+    /// The difference of the deviations of two OSDs.
+    fn gap(&self, from: u32, to: u32) -> i128
+        requires from { is_candidate self.now.frame.map.now.map self.now.frame.pool from ≡ true }
+        requires to { is_candidate self.now.frame.map.now.map self.now.frame.pool to ≡ true }
+        ensures { result ≡ gap (after_moves self.now.frame.map.now.map self.now.frame.pool self.now.moves.items) self.now.frame.pool from to }
+    {
+        self.deviation(from) - self.deviation(to)
+    }
+
+    /// Whether a move between candidates is taken rather than another.
+    #[tactic(auto, unfolding(crate::specs::Greedy::beats))]
+    fn beats(&self, u: Move, v: Move) -> bool
+        requires u_from { is_candidate self.now.frame.map.now.map self.now.frame.pool u.from ≡ true }
+        requires u_to { is_candidate self.now.frame.map.now.map self.now.frame.pool u.to ≡ true }
+        requires v_from { is_candidate self.now.frame.map.now.map self.now.frame.pool v.from ≡ true }
+        requires v_to { is_candidate self.now.frame.map.now.map self.now.frame.pool v.to ≡ true }
+        ensures { result ≡ beats (after_moves self.now.frame.map.now.map self.now.frame.pool self.now.moves.items) self.now.frame.pool u v }
+    {
+        let gap = self.gap(u.from, u.to);
+        let other = self.gap(v.from, v.to);
+        gap > other || (gap == other && precedes(u, v))
+    }
+
+    /// Whether the difference of the deviations of two candidates is above the weight of all candidates.
+    fn is_wide(&self, from: u32, to: u32) -> bool
+        requires from { is_candidate self.now.frame.map.now.map self.now.frame.pool from ≡ true }
+        requires to { is_candidate self.now.frame.map.now.map self.now.frame.pool to ≡ true }
+        ensures { result ≡ int_lt (pos (total (after_moves self.now.frame.map.now.map self.now.frame.pool self.now.moves.items) self.now.frame.pool)) (gap (after_moves self.now.frame.map.now.map self.now.frame.pool self.now.moves.items) self.now.frame.pool from to) }
+    {
+        self.gap(from, to) > i128::from(self.frame.weight)
+    }
+
+    /// Whether some move between two candidates could be taken rather than the best one so far.
+    fn is_wanted(&self, from: u32, to: u32, best: Option<Move>) -> bool
+        requires from { is_candidate self.now.frame.map.now.map self.now.frame.pool from ≡ true }
+        requires to { is_candidate self.now.frame.map.now.map self.now.frame.pool to ≡ true }
+        requires best { IfSome best (λ v. IsGood (after_moves self.now.frame.map.now.map self.now.frame.pool self.now.moves.items) self.now.frame.pool v) }
+        ensures { result ≡ is_wanted (after_moves self.now.frame.map.now.map self.now.frame.pool self.now.moves.items) self.now.frame.pool from to best }
+    {
+        match best {
+            Some(best) => self.is_wide(from, to) && self.beats(Move { group: 0, from, to }, best),
+            None => self.is_wide(from, to),
+        }
+    }
+
+    /// The first group that may go from one candidate to another beside it.
+    fn first_group(&self, from: u32, to: u32) -> Option<u32>
+        ensures { result ≡ position (may_go self.now.frame.map.now.map self.now.frame.pool from to) self.now.groups.items }
+    {
+        self.frame.pool.is_within_limits();
+        let group = self.frame.first_group(&self.groups, from, to)?;
+        Some(group as u32)
+    }
+
+    /// The best move so far, or a better one between two candidates.
+    fn better(&self, from: u32, to: u32, best: Option<Move>) -> Option<Move>
+        requires from { is_candidate self.now.frame.map.now.map self.now.frame.pool from ≡ true }
+        requires to { is_candidate self.now.frame.map.now.map self.now.frame.pool to ≡ true }
+        requires best { IfSome best (λ v. IsGood (after_moves self.now.frame.map.now.map self.now.frame.pool self.now.moves.items) self.now.frame.pool v) }
+        ensures better { IsBetter (after_moves self.now.frame.map.now.map self.now.frame.pool self.now.moves.items) self.now.frame.pool best result }
+        ensures covers { CoversPair (after_moves self.now.frame.map.now.map self.now.frame.pool self.now.moves.items) self.now.frame.pool result from to }
+    {
+        if !self.is_wanted(from, to, best) || !self.frame.are_beside(from, to) {
+            return best;
+        }
+        match self.first_group(from, to) {
+            Some(group) => Some(Move { group, from, to }),
+            None => best,
+        }
+    }
+
+    /// The best move so far, or a better one from a candidate to some.
+    fn better_from(&self, from: u32, best: Option<Move>) -> Option<Move>
+        requires from { is_candidate self.now.frame.map.now.map self.now.frame.pool from ≡ true }
+        requires best { IfSome best (λ v. IsGood (after_moves self.now.frame.map.now.map self.now.frame.pool self.now.moves.items) self.now.frame.pool v) }
+        ensures better { IsBetter (after_moves self.now.frame.map.now.map self.now.frame.pool self.now.moves.items) self.now.frame.pool best result }
+        ensures covers { CoversFrom (after_moves self.now.frame.map.now.map self.now.frame.pool self.now.moves.items) self.now.frame.pool result from self.now.frame.osds.items }
+    {
+        let mut best = best;
+        for to in &self.frame.osds {
+            best = self.better(from, *to, best);
+        }
+        best
+    }
+
+    /// The best move between candidates, or none where no move is good.
+    pub fn best(&self) -> Option<Move>
+        ensures { MatchOption result (good_moves (after_moves self.now.frame.map.now.map self.now.frame.pool self.now.moves.items) self.now.frame.pool ≡ []) (λ v. IsBest (after_moves self.now.frame.map.now.map self.now.frame.pool self.now.moves.items) self.now.frame.pool v) }
+    {
+        let mut best = None;
+        for from in &self.frame.osds {
+            best = self.better_from(*from, best);
+        }
+        best
+    }
+
+    /// Makes the best move again and again, until no move is good or so many are made; or `Memory` (30).
+    pub fn run(&mut self, limit: u32) -> Result<(), Memory>
+        requires { self.old.moves.items ≡ [] }
+        ensures moves { OnOk result (self.new.moves.items ≡ greedy self.old.frame.map.now.map self.old.frame.pool limit) }
+        ensures done { OnOk result (length self.new.moves.items < limit → good_moves (after_moves self.old.frame.map.now.map self.old.frame.pool self.new.moves.items) self.old.frame.pool ≡ []) }
+        ensures map { self.new.frame.map.now.map ≡ self.old.frame.map.now.map }
+        ensures pool { self.new.frame.pool ≡ self.old.frame.pool }
+    {
+        for _count in 0..limit {
+            match self.best() {
+                Some(step) => self.make(step)?,
+                None => return Ok(()),
+            }
+        }
+        Ok(())
+    }
+}

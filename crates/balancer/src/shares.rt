@@ -1,0 +1,143 @@
+//! Who is a candidate, and what OSDs weigh.
+
+ghost use Rattle.std.specs.Prelude.{◌≡◌, ◌*◌, ◌≤◌, ◌<◌, ◌^◌, ◌&&◌, not, pos, length, slice_index, Some, IfOk};
+ghost use Rattle.std.specs.List.{find, sum_by};
+ghost use Rattle.std.specs.Option.{option_copied};
+ghost use Rattle.std.specs.Ordering.{int_eq};
+ghost use Rattle.crush.specs.Paths as paths;
+ghost use Rattle.osdmap.specs.Maps.{pool_at, osd_exists, osd_is_up};
+ghost use Rattle.osdmap.specs.Mapped.{is_weightless};
+ghost use Rattle.osdmap.specs.Placement.{steps_of};
+ghost use Rattle.pgtable.specs.Index.{count_in};
+ghost use Rattle.pgtable.specs.Tables.{IsTableOf};
+ghost use Rattle.balancer.specs.Shares.{is_candidate, osds_of, candidates, item_weight, weight_of};
+
+use crush::{Bucket, Item};
+use osdmap::{OsdMap, Pool};
+use pgtable::PgTable;
+use refusal::Memory;
+use std::alloc::Global;
+
+/// Whether the rule of a pool reaches an OSD.
+fn reaches(map: &OsdMap, pool: &Pool, osd: u32) -> bool
+    ensures { result ≡ paths.reaches map.now.map.buckets (steps_of map.now.map pool.now) (pos osd) }
+{
+    match map.rule(pool.rule()) {
+        Some(rule) => rule.reaches(map.forest(), osd),
+        None => false,
+    }
+}
+
+/// Whether an OSD exists, is up, and is not out for good.
+fn is_in_use(map: &OsdMap, osd: u32) -> bool
+    ensures { result ≡ (osd_exists map.now.map osd && osd_is_up map.now.map osd && not (is_weightless map.now.map.weights osd)) }
+{
+    match map.osd(osd) {
+        Some(state) => state.exists && state.up && state.weight != 0,
+        None => false,
+    }
+}
+
+/// Whether groups of a pool may be moved from or to an OSD.
+#[tactic(auto, unfolding(crate::specs::Shares::is_candidate))]
+pub(crate) fn is_candidate(map: &OsdMap, pool: &Pool, osd: u32) -> bool
+    ensures { result ≡ is_candidate map.now.map pool.now osd }
+{
+    reaches(map, pool, osd) && is_in_use(map, osd)
+}
+
+/// The OSDs between which groups of a pool may be moved, by number upwards; or `Memory` (30).
+pub(crate) fn candidates(alloc: Global, map: &OsdMap, pool: &Pool) -> Result<Vec<u32>, Memory>
+    ensures osds { IfOk result (λ osds. osds.items ≡ candidates map.now.map pool.now) }
+    ensures few { IfOk result (λ osds. length osds.items ≤ 1024) }
+{
+    let mut osds = Vec::with_capacity(alloc, map.max_osd() as usize)?;
+    for osd in 0..map.max_osd() {
+        if is_candidate(map, pool, osd) {
+            osds.push(osd)?;
+        }
+    }
+    Ok(osds)
+}
+
+/// The item that an OSD is among some.
+fn item_of(items: &[Item], osd: u32) -> Option<&Item>
+    ensures { option_copied result ≡ find (λ i. int_eq i.id (pos osd)) items.now }
+{
+    items
+        .iter()
+        .find(|item| i64::from(item.id) == i64::from(osd))
+}
+
+/// The weight of an OSD in its bucket.
+fn item_weight(buckets: &[Bucket], osd: u32) -> u32
+    ensures { result ≡ item_weight buckets.now osd }
+{
+    for bucket in buckets {
+        if let Some(item) = item_of(&bucket.items, osd) {
+            return item.weight;
+        }
+    }
+    0
+}
+
+/// The reweight of an OSD: 0 to 65,536.
+pub(crate) fn reweight(map: &OsdMap, osd: u32) -> u32
+    ensures value { result ≡ slice_index map.now.map.weights osd }
+    ensures few { result ≤ 65536 }
+{
+    map.holds_together();
+    match map.osd(osd) {
+        Some(state) => state.weight,
+        None => 0,
+    }
+}
+
+/// The weight of an OSD: that in its bucket times its reweight.
+#[tactic(auto, unfolding(crate::specs::Shares::weight_of))]
+pub(crate) fn weight_of(map: &OsdMap, osd: u32) -> u64
+    ensures value { result ≡ weight_of map.now.map osd }
+    ensures small { result < 2 ^ 48 }
+{
+    u64::from(item_weight(map.forest().buckets(), osd)) * u64::from(reweight(map, osd))
+}
+
+/// What some OSDs weigh together.
+pub(crate) fn total(map: &OsdMap, osds: &[u32]) -> u64
+    requires { length osds.now ≤ 1024 }
+    ensures value { result ≡ sum_by (weight_of map.now.map) osds.now }
+    ensures small { result ≤ 2 ^ 58 }
+{
+    let mut total = 0;
+    for osd in osds {
+        total += weight_of(map, *osd);
+    }
+    total
+}
+
+/// How many groups of a pool stand on an OSD: at most 4,096.
+pub(crate) fn count(map: &OsdMap, table: &PgTable, pool: &Pool, osd: u32) -> u64
+    requires table { IsTableOf table.now map.now.map }
+    requires there { pool_at map.now.map.pools pool.now.id ≡ Some pool.now }
+    ensures value { result ≡ count_in map.now.map pool.now.id osd }
+    ensures few { result ≤ 4096 }
+{
+    map.holds_together();
+    pool.is_within_limits();
+    table.count_in(pool.id(), osd) as u64
+}
+
+/// How many places of groups of a pool some OSDs have together.
+pub(crate) fn places(map: &OsdMap, table: &PgTable, pool: &Pool, osds: &[u32]) -> u64
+    requires table { IsTableOf table.now map.now.map }
+    requires there { pool_at map.now.map.pools pool.now.id ≡ Some pool.now }
+    requires few { length osds.now ≤ 1024 }
+    ensures value { result ≡ sum_by (count_in map.now.map pool.now.id) osds.now }
+    ensures small { result ≤ 1024 * 4096 }
+{
+    let mut places = 0;
+    for osd in osds {
+        places += count(map, table, pool, *osd);
+    }
+    places
+}
