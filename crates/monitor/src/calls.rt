@@ -155,11 +155,11 @@ impl Monitor {
         ensures balances { Balances self.now.first (length self.now.row.cells) member.old.pass.history member.new.pass.history pool limit result }
         ensures spent { IfErr result (λ e. e ≡ SeatSpent → IsSpent self.now member.new) }
     {
-        let mut guard = self.hold(rt, member)?;
-        let answer = guard
+        let mut held = self.hold(rt, member)?;
+        let answer = held
             .value_mut()
             .balance(alloc, &self.row, &mut member.pass, pool, limit);
-        self.put_back(guard, member);
+        self.put_back(held, member);
         answer
     }
 }
