@@ -9,21 +9,22 @@ use std::alloc::Global;
 use std::sync::Wait;
 
 impl Monitor {
-    ghost use Rattle.std.specs.Prelude.{◌≡◌, length, IfOk, IfErr};
+    ghost use Rattle.std.specs.Prelude.{◌≡◌, length, Err, IfOk, IfErr};
     ghost use Rattle.std.specs.Str.{IsUtf8};
     ghost use Rattle.refusal.specs.declared.refused.Refusal.TheVariants.{SeatSpent};
     ghost use Rattle.state.specs.Answers.{FindsUp, FindsCount, FindsGroups};
     ghost use Rattle.monitor.specs.Histories.{Looks, FindsEpoch, FindsText, Commits};
     ghost use Rattle.monitor.specs.Members.{IsMemberOf, IsSpent};
 
-    /// The epoch and the up set of a group: `UnknownPool` (23), else `UnknownGroup` (25). `SeatSpent` (31) only where
-    /// the member's seat has made its draws. It takes no memory. Members share the lock.
+    /// The epoch and the up set of a group: `UnknownPool` (23), else `UnknownGroup` (25). `SeatSpent` (31) once the
+    /// member's seat has made its draws, and only then. It takes no memory. Members share the lock.
     pub fn up<R: Wait>(&self, rt: &R, member: &mut Member, pg: Pg) -> Result<(u64, UpSet), Refusal>
         requires { IsMemberOf self.now member.old }
         ensures member { IsMemberOf self.now member.new }
         ensures looks { Looks self.now.first member.old.pass.history member.new.pass.history
             (λ m. FindsUp m pg) result }
         ensures spent { IfErr result (λ e. e ≡ SeatSpent → IsSpent self.now member.new) }
+        ensures refused { IsSpent self.now member.old → result ≡ Err SeatSpent }
     {
         let guard = self.share(rt, member)?;
         let answer = self.shown(&guard, member).answer_up(pg);
@@ -31,8 +32,8 @@ impl Monitor {
         answer
     }
 
-    /// The epoch, and in how many groups' up sets an OSD stands: `UnknownOsd` (21). `SeatSpent` (31) only where the
-    /// member's seat has made its draws. It takes no memory. Members share the lock.
+    /// The epoch, and in how many groups' up sets an OSD stands: `UnknownOsd` (21). `SeatSpent` (31) once the
+    /// member's seat has made its draws, and only then. It takes no memory. Members share the lock.
     pub fn count<R: Wait>(
         &self,
         rt: &R,
@@ -44,6 +45,7 @@ impl Monitor {
         ensures looks { Looks self.now.first member.old.pass.history member.new.pass.history
             (λ m. FindsCount m osd) result }
         ensures spent { IfErr result (λ e. e ≡ SeatSpent → IsSpent self.now member.new) }
+        ensures refused { IsSpent self.now member.old → result ≡ Err SeatSpent }
     {
         let guard = self.share(rt, member)?;
         let answer = self.shown(&guard, member).answer_count(osd);
@@ -52,7 +54,8 @@ impl Monitor {
     }
 
     /// The epoch, and the groups in whose up set an OSD stands, by pool upwards, then by number: `UnknownOsd` (21),
-    /// else `Memory` (30). `SeatSpent` (31) only where the member's seat has made its draws. Members share the lock.
+    /// else `Memory` (30). `SeatSpent` (31) once the member's seat has made its draws, and only then. Members share the
+    /// lock.
     pub fn groups<R: Wait>(
         &self,
         rt: &R,
@@ -65,6 +68,7 @@ impl Monitor {
         ensures looks { Looks self.now.first member.old.pass.history member.new.pass.history
             (λ m. FindsGroups (λ groups. groups.items) m osd) result }
         ensures spent { IfErr result (λ e. e ≡ SeatSpent → IsSpent self.now member.new) }
+        ensures refused { IsSpent self.now member.old → result ≡ Err SeatSpent }
     {
         let guard = self.share(rt, member)?;
         let answer = self.shown(&guard, member).answer_groups(alloc, osd);
@@ -72,13 +76,14 @@ impl Monitor {
         answer
     }
 
-    /// The epoch. `SeatSpent` (31) only where the member's seat has made its draws. It takes no memory. Members share
-    /// the lock.
+    /// The epoch. `SeatSpent` (31) once the member's seat has made its draws, and only then. It takes no memory. Members
+    /// share the lock.
     pub fn epoch<R: Wait>(&self, rt: &R, member: &mut Member) -> Result<u64, Refusal>
         requires { IsMemberOf self.now member.old }
         ensures member { IsMemberOf self.now member.new }
         ensures looks { Looks self.now.first member.old.pass.history member.new.pass.history FindsEpoch result }
         ensures spent { IfErr result (λ e. e ≡ SeatSpent → IsSpent self.now member.new) }
+        ensures refused { IsSpent self.now member.old → result ≡ Err SeatSpent }
     {
         let guard = self.share(rt, member)?;
         let epoch = self.shown(&guard, member).map().epoch();
@@ -86,8 +91,8 @@ impl Monitor {
         Ok(epoch)
     }
 
-    /// The text of the map, as `mapjson::write_map` writes it: `Memory` (30). `SeatSpent` (31) only where the member's
-    /// seat has made its draws. Members share the lock.
+    /// The text of the map, as `mapjson::write_map` writes it: `Memory` (30). `SeatSpent` (31) once the member's
+    /// seat has made its draws, and only then. Members share the lock.
     pub fn dump<R: Wait>(
         &self,
         rt: &R,
@@ -100,6 +105,7 @@ impl Monitor {
             (FindsText (λ text. text.items)) result }
         ensures utf8 { IfOk result (λ text. IsUtf8 text.items) }
         ensures spent { IfErr result (λ e. e ≡ SeatSpent → IsSpent self.now member.new) }
+        ensures refused { IsSpent self.now member.old → result ≡ Err SeatSpent }
     {
         let guard = self.share(rt, member)?;
         let text = write_map(alloc, self.shown(&guard, member).map());
@@ -110,8 +116,8 @@ impl Monitor {
     /// Commits a change to the map of the epoch `base`: the new epoch, and for how many groups a rule was run, which are
     /// those whose placement it can alter. The member has the lock alone.
     ///
-    /// `SeatSpent` (31) only where the member's seat has made its draws; `StaleEpoch` (20) with the present epoch where
-    /// `base` is another; else what [`osdmap::OsdMap::check`] refuses (21, 22, 23, 24, 13, 15, 25, 26, 27); else
+    /// `SeatSpent` (31) once the member's seat has made its draws, and only then; else `StaleEpoch` (20) with the present
+    /// epoch where `base` is another; else what [`osdmap::OsdMap::check`] refuses (21, 22, 23, 24, 13, 15, 25, 26, 27); else
     /// `JournalFull` (28); else `Memory` (30), or `NotSealed` (32) where another sealed the epoch.
     pub fn commit<R: Wait>(
         &self,
@@ -126,6 +132,7 @@ impl Monitor {
         ensures commits { Commits self.now.first (length self.now.row.cells)
             member.old.pass.history member.new.pass.history base change result }
         ensures spent { IfErr result (λ e. e ≡ SeatSpent → IsSpent self.now member.new) }
+        ensures refused { IsSpent self.now member.old → result ≡ Err SeatSpent }
     {
         let mut guard = self.hold(rt, member)?;
         let locked = guard.value_mut();
