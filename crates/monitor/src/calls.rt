@@ -76,8 +76,8 @@ impl Monitor {
         answer
     }
 
-    /// The epoch. `SeatSpent` (31) once the member's seat has made its draws, and only then. It takes no memory. Members
-    /// share the lock.
+    /// The epoch. `SeatSpent` (31) once the member's seat has made its draws, and only then. It takes no memory.
+    /// Members share the lock.
     pub fn epoch<R: Wait>(&self, rt: &R, member: &mut Member) -> Result<u64, Refusal>
         requires { IsMemberOf self.now member.old }
         ensures member { IsMemberOf self.now member.new }
@@ -113,12 +113,12 @@ impl Monitor {
         Ok(text?)
     }
 
-    /// Commits a change to the map of the epoch `base`: the new epoch, and for how many groups a rule was run, which are
-    /// those whose placement it can alter. The member has the lock alone.
+    /// Commits a change to the map of the epoch `base`: the new epoch, and for how many groups a rule was run, which
+    /// are those whose placement it can alter. The member has the lock alone.
     ///
-    /// `SeatSpent` (31) once the member's seat has made its draws, and only then; else `StaleEpoch` (20) with the present
-    /// epoch where `base` is another; else what [`osdmap::OsdMap::check`] refuses (21, 22, 23, 24, 13, 15, 25, 26, 27); else
-    /// `JournalFull` (28); else `Memory` (30), or `NotSealed` (32) where another sealed the epoch.
+    /// `SeatSpent` (31) once the member's seat has made its draws, and only then; else `StaleEpoch` (20) with the
+    /// present epoch where `base` is another; else what [`osdmap::OsdMap::check`] refuses (21, 22, 23, 24, 13, 15, 25,
+    /// 26, 27); else `JournalFull` (28); else `Memory` (30), or `NotSealed` (32) where another sealed the epoch.
     pub fn commit<R: Wait>(
         &self,
         rt: &R,
