@@ -16,7 +16,8 @@ take_begun : {T : Type 0} (n : ℕ) (xs ys : List T) → Begins xs ys → n ≤ 
 take_begun n xs ys goes few = ap (take n) (sym goes.1) ∙ take-append-le n xs goes.0 few
 
 -- one more of the first, and what stands there
-take_one_more : {T : Type 0} (xs : List T) (n : ℕ) (x : T) → slice_get xs n ≡ Some x → take (suc n) xs ≡ take n xs ++ x ∷ []
+take_one_more : {T : Type 0} (xs : List T) (n : ℕ) (x : T) → slice_get xs n ≡ Some x
+    → take (suc n) xs ≡ take n xs ++ x ∷ []
 take_one_more [] n x is = absurd (let none : None ≡ Some x = is in cc)
 take_one_more (y ∷ xs) zero x is = let same : Some y ≡ Some x = is in ap (λ z. z ∷ []) (cc same)
 take_one_more (y ∷ xs) (suc n) x is = ap (λ zs. y ∷ zs) (take_one_more xs n x is)
@@ -83,6 +84,7 @@ module _ (first m : ClusterMap) (seen more : Seen) (is : IsFollowed (followed fi
   same_part : applied first m more.history ≡ applied first m seen.history
   same_part = take_begun (m.epoch - first.epoch) seen.history more.history goes few
 
+  -- what it stands at, once some more is applied
   stands_by : (m2 : ClusterMap) (rest : List Step) → applied first m2 more.history ≡ applied first m seen.history ++ rest
       → IsLawful first (applied first m seen.history ++ rest) → m2 ≡ after first (applied first m seen.history ++ rest)
       → m2.epoch ≡ epoch_after first (applied first m seen.history ++ rest) → Stands m2

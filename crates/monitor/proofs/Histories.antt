@@ -19,8 +19,8 @@ unfolding IsLawful
 lawful_none first = tt
 
 -- a commit to a map after a history that goes on from this one is also one from here
-pub commits_from : (first : ClusterMap) (most : ℕ) (begun before now : List Step) (base : ℕ) (change : ChangeParts) (r : Result (ℕ × ℕ) Refusal)
-    → Begins begun before → Commits first most before now base change r → Commits first most begun now base change r
+pub commits_from : (first : ClusterMap) (most : ℕ) (begun before now : List Step) (base : ℕ) (change : ChangeParts)
+    (r : Result (ℕ × ℕ) Refusal) → Begins begun before → Commits first most before now base change r → Commits first most begun now base change r
 commits_from first most begun before now base change (Ok ok) goes done = (
   record { begins = begins_on begun before now goes done.0.begins; lawful = done.0.lawful },
   record {
@@ -44,21 +44,26 @@ pub record IsLed (k : Kept) : Type 0 where
 
 -- the fault of a commit to a state, by its journal
 pub fault_is : (k : Kept) (base : ℕ) (change : ChangeParts) → k.map ≡ after k.first k.pass.history
-    → fault_in k base change ≡ commit_fault (after k.first k.pass.history) (length k.pass.history) (length k.pass.row.cells) base change
+    → fault_in k base change
+    ≡ commit_fault (after k.first k.pass.history) (length k.pass.history) (length k.pass.row.cells) base change
 fault_is k base change map = ap (λ m. commit_fault m (length k.pass.history) (length k.pass.row.cells) base change) map
 
 -- a commit to a state is one to the map after its journal
-pub committed_by : (old new : Kept) (base : ℕ) (change : ChangeParts) (r : Result (ℕ × ℕ) Refusal) → IsLed old → IsLed new
-    → TakesCommit old new base change r → Commits old.first (length old.pass.row.cells) old.pass.history new.pass.history base change r
+pub committed_by : (old new : Kept) (base : ℕ) (change : ChangeParts) (r : Result (ℕ × ℕ) Refusal) → IsLed old
+    → IsLed new → TakesCommit old new base change r
+    → Commits old.first (length old.pass.row.cells) old.pass.history new.pass.history base change r
 committed_by old new base change (Ok ok) led leads done =
     let fine = accepted old base change done.0.0 in
     let is : new ≡ committed old change = done.0.1.0 in
-    let more : new.pass.history ≡ old.pass.history ++ next_step old.map change ∷ [] = ap (λ (k : Kept). k.pass.history) is in
+    let more : new.pass.history ≡ old.pass.history ++ next_step old.map change ∷ [] =
+    ap (λ (k : Kept). k.pass.history) is in
     let first : new.first ≡ old.first = ap (λ (k : Kept). k.first) is in
     let next : ok.0 ≡ base + 1 = done.0.1.1 in
     let epoch : old.map.epoch + 1 ≡ ok.0 = ap (λ n. n + 1) (sym fine.current) ∙ sym next in
-    let step : next_step old.map change ≡ record { epoch = ok.0; change = change } = ap (λ (n : ℕ). record { epoch = n; change = change }) epoch in
-    let map : new.map ≡ after old.first new.pass.history = leads.map ∙ ap (λ m. after m new.pass.history) first in (
+    let step : next_step old.map change ≡ record { epoch = ok.0; change = change } =
+    ap (λ (n : ℕ). record { epoch = n; change = change }) epoch in
+    let map : new.map ≡ after old.first new.pass.history =
+    leads.map ∙ ap (λ m. after m new.pass.history) first in (
       record {
         begins = (next_step old.map change ∷ [], sym more);
         lawful = subst (λ m. IsLawful m new.pass.history) first leads.lawful;
@@ -75,8 +80,11 @@ committed_by old new base change (Ok ok) led leads done =
     )
 committed_by old new base change (Err e) led leads done =
     let same : old ≡ new = sym done.1 in
-    let fault : fault_in old base change ≡ commit_fault (after old.first new.pass.history) (length new.pass.history) (length old.pass.row.cells) base change =
-    fault_is old base change led.map ∙ ap (λ (k : Kept). commit_fault (after old.first k.pass.history) (length k.pass.history) (length old.pass.row.cells) base change) same in (
+    let most = length old.pass.row.cells in
+    let fault : fault_in old base change
+    ≡ commit_fault (after old.first new.pass.history) (length new.pass.history) most base change =
+    fault_is old base change led.map
+    ∙ ap (λ (k : Kept). commit_fault (after old.first k.pass.history) (length k.pass.history) most base change) same in (
       record {
         begins = subst (λ (k : Kept). Begins old.pass.history k.pass.history) same (begins_itself old.pass.history);
         lawful = subst (λ (k : Kept). IsLawful old.first k.pass.history) same led.lawful;
@@ -87,10 +95,12 @@ committed_by old new base change (Err e) led leads done =
 -- ---- no change is refused for a seat's draws
 
 -- a test with a refusal of its own, before others
-not_spent : (b : Bool) (r : Refusal) (rest : Option Refusal) → r ≢ SeatSpent → rest ≢ Some SeatSpent → (if not b then Some r else rest) ≢ Some SeatSpent
+not_spent : (b : Bool) (r : Refusal) (rest : Option Refusal) → r ≢ SeatSpent → rest ≢ Some SeatSpent
+    → (if not b then Some r else rest) ≢ Some SeatSpent
 not_spent true r rest other below e = below e
 not_spent false r rest other below e = other (let same : Some r ≡ Some SeatSpent = e in cc)
 
+-- what refuses a change
 change_unspent : (m : ClusterMap) (change : ChangeParts) → change_fault m change ≢ Some SeatSpent
 change_unspent m change =
     not_spent (names_osds m change) UnknownOsd _ (λ e. absurd (cc e))
@@ -103,20 +113,24 @@ change_unspent m change =
     (not_spent (excepts_soundly m change) BadNewException _ (λ e. absurd (cc e))
     (not_spent (names_once change) DuplicatePart None (λ e. absurd (cc e)) (λ e. absurd (cc e))))))))))
 
-full_unspent : (fault : Option Refusal) (room : Bool) → fault ≢ Some SeatSpent → unless fault (if room then None else Some JournalFull) ≢ Some SeatSpent
+-- or that the journal is full
+full_unspent : (fault : Option Refusal) (room : Bool) → fault ≢ Some SeatSpent
+    → unless fault (if room then None else Some JournalFull) ≢ Some SeatSpent
 full_unspent (Some r) room fine e = fine e
 full_unspent None true fine e = absurd (cc e)
 full_unspent None false fine e = absurd (let same : Some JournalFull ≡ Some SeatSpent = e in cc)
 
-pub commit_unspent : (m : ClusterMap) (done most base : ℕ) (change : ChangeParts) → commit_fault m done most base change ≢ Some SeatSpent
+-- the fault of a commit
+pub commit_unspent : (m : ClusterMap) (done most base : ℕ) (change : ChangeParts)
+    → commit_fault m done most base change ≢ Some SeatSpent
 unfolding commit_fault
 commit_unspent m done most base change =
     not_spent (base == m.epoch) (StaleEpoch m.epoch) _ (λ e. absurd (cc e))
     (full_unspent (change_fault m change) (nat_lt done most) (change_unspent m change))
 
 -- why a commit is refused is never that
-pub unspent : (old new : Kept) (base : ℕ) (change : ChangeParts) (r : Result (ℕ × ℕ) Refusal) → TakesCommit old new base change r
-    → IfErr r (λ e. e ≢ SeatSpent)
+pub unspent : (old new : Kept) (base : ℕ) (change : ChangeParts) (r : Result (ℕ × ℕ) Refusal)
+    → TakesCommit old new base change r → IfErr r (λ e. e ≢ SeatSpent)
 unspent old new base change (Ok ok) done = tt
 unspent old new base change (Err e) done = by_cause done.0
   where
@@ -125,4 +139,5 @@ unspent old new base change (Err e) done = by_cause done.0
       | inl memory ↦ absurd (let wrong : OutOfMemory ≡ SeatSpent = sym memory ∙ is in cc)
       | inr unsealed ↦ absurd (let wrong : NotSealed ≡ SeatSpent = sym unsealed ∙ is in cc)
     ]
-    by_cause (inr fault) is = commit_unspent old.map (length old.pass.history) (length old.pass.row.cells) base change (fault ∙ ap Some is)
+    by_cause (inr fault) is =
+        commit_unspent old.map (length old.pass.history) (length old.pass.row.cells) base change (fault ∙ ap Some is)

@@ -28,8 +28,8 @@ abbrev pub followed : ClusterMap → Seen → ClusterMap → Followed
 followed first pass now =
     record { first = first; row = pass.row; history = applied first now pass.history; map = now }
 
--- the fact of every follower: its history is lawful from the first map, after whose epoch its row begins; and its map is
--- the first map with the history applied in the order of epochs, without gaps
+-- the fact of every follower: its history is lawful from the first map, after whose epoch its row begins; and its map
+-- is the first map with the history applied in the order of epochs, without gaps
 pub record IsFollowed (f : Followed) : Type 0 where
   pub begins : f.row.first ≡ f.first.epoch
   pub lawful : IsLawful f.first f.history

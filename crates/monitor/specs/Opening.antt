@@ -19,8 +19,8 @@ can_open epoch journal seats draws =
     is_within_limits epoch journal
     && (nat_le 1 seats && nat_le seats max_seats && (nat_le 1 draws && nat_le draws max_draws))
 
--- a monitor with this first map and a journal of such a capacity, and so many members, each with so many draws, who have
--- seen nothing
+-- a monitor with this first map and a journal of such a capacity, and so many members, each with so many draws, who
+-- have seen nothing
 pub record IsOpening (map : ClusterMap) (journal seats draws : ℕ) (monitor : Monitored) (members : List Member)
     : Type 0 where
   pub first : monitor.first ≡ map

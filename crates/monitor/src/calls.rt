@@ -9,7 +9,7 @@ use std::alloc::Global;
 use std::sync::Wait;
 
 impl Monitor {
-    ghost use Rattle.std.specs.Prelude.{◌≡◌, ◌≤◌, length, IfOk, IfErr};
+    ghost use Rattle.std.specs.Prelude.{◌≡◌, ◌≤◌, length, Err, IfOk, IfErr};
     ghost use Rattle.std.specs.Str.{IsUtf8};
     ghost use Rattle.refusal.specs.declared.refused.Refusal.TheVariants.{SeatSpent};
     ghost use Rattle.state.specs.Answers.{FindsUp, FindsCount, FindsGroups};
@@ -17,14 +17,15 @@ impl Monitor {
     ghost use Rattle.monitor.specs.Balances.{Balances};
     ghost use Rattle.monitor.specs.Members.{IsMemberOf, IsSpent};
 
-    /// The epoch and the up set of a group: `UnknownPool` (23), else `UnknownGroup` (25). `SeatSpent` (31) only where
-    /// the member's seat has made its draws. It takes no memory. Members share the lock.
+    /// The epoch and the up set of a group: `UnknownPool` (23), else `UnknownGroup` (25). `SeatSpent` (31) once the
+    /// member's seat has made its draws, and only then. It takes no memory. Members share the lock.
     pub fn up<R: Wait>(&self, rt: &R, member: &mut Member, pg: Pg) -> Result<(u64, UpSet), Refusal>
         requires { IsMemberOf self.now member.old }
         ensures member { IsMemberOf self.now member.new }
         ensures looks { Looks self.now.first member.old.pass.history member.new.pass.history
             (λ m. FindsUp m pg) result }
         ensures spent { IfErr result (λ e. e ≡ SeatSpent → IsSpent self.now member.new) }
+        ensures refused { IsSpent self.now member.old → result ≡ Err SeatSpent }
     {
         let guard = self.share(rt, member)?;
         let answer = self.shown(&guard, member).answer_up(pg);
@@ -32,8 +33,8 @@ impl Monitor {
         answer
     }
 
-    /// The epoch, and in how many groups' up sets an OSD stands: `UnknownOsd` (21). `SeatSpent` (31) only where the
-    /// member's seat has made its draws. It takes no memory. Members share the lock.
+    /// The epoch, and in how many groups' up sets an OSD stands: `UnknownOsd` (21). `SeatSpent` (31) once the
+    /// member's seat has made its draws, and only then. It takes no memory. Members share the lock.
     pub fn count<R: Wait>(
         &self,
         rt: &R,
@@ -45,6 +46,7 @@ impl Monitor {
         ensures looks { Looks self.now.first member.old.pass.history member.new.pass.history
             (λ m. FindsCount m osd) result }
         ensures spent { IfErr result (λ e. e ≡ SeatSpent → IsSpent self.now member.new) }
+        ensures refused { IsSpent self.now member.old → result ≡ Err SeatSpent }
     {
         let guard = self.share(rt, member)?;
         let answer = self.shown(&guard, member).answer_count(osd);
@@ -53,7 +55,8 @@ impl Monitor {
     }
 
     /// The epoch, and the groups in whose up set an OSD stands, by pool upwards, then by number: `UnknownOsd` (21),
-    /// else `Memory` (30). `SeatSpent` (31) only where the member's seat has made its draws. Members share the lock.
+    /// else `Memory` (30). `SeatSpent` (31) once the member's seat has made its draws, and only then. Members share the
+    /// lock.
     pub fn groups<R: Wait>(
         &self,
         rt: &R,
@@ -66,6 +69,7 @@ impl Monitor {
         ensures looks { Looks self.now.first member.old.pass.history member.new.pass.history
             (λ m. FindsGroups (λ groups. groups.items) m osd) result }
         ensures spent { IfErr result (λ e. e ≡ SeatSpent → IsSpent self.now member.new) }
+        ensures refused { IsSpent self.now member.old → result ≡ Err SeatSpent }
     {
         let guard = self.share(rt, member)?;
         let answer = self.shown(&guard, member).answer_groups(alloc, osd);
@@ -73,13 +77,14 @@ impl Monitor {
         answer
     }
 
-    /// The epoch. `SeatSpent` (31) only where the member's seat has made its draws. It takes no memory. Members share
-    /// the lock.
+    /// The epoch. `SeatSpent` (31) once the member's seat has made its draws, and only then. It takes no memory.
+    /// Members share the lock.
     pub fn epoch<R: Wait>(&self, rt: &R, member: &mut Member) -> Result<u64, Refusal>
         requires { IsMemberOf self.now member.old }
         ensures member { IsMemberOf self.now member.new }
         ensures looks { Looks self.now.first member.old.pass.history member.new.pass.history FindsEpoch result }
         ensures spent { IfErr result (λ e. e ≡ SeatSpent → IsSpent self.now member.new) }
+        ensures refused { IsSpent self.now member.old → result ≡ Err SeatSpent }
     {
         let guard = self.share(rt, member)?;
         let epoch = self.shown(&guard, member).map().epoch();
@@ -87,8 +92,8 @@ impl Monitor {
         Ok(epoch)
     }
 
-    /// The text of the map, as `mapjson::write_map` writes it: `Memory` (30). `SeatSpent` (31) only where the member's
-    /// seat has made its draws. Members share the lock.
+    /// The text of the map, as `mapjson::write_map` writes it: `Memory` (30). `SeatSpent` (31) once the member's
+    /// seat has made its draws, and only then. Members share the lock.
     pub fn dump<R: Wait>(
         &self,
         rt: &R,
@@ -101,6 +106,7 @@ impl Monitor {
             (FindsText (λ text. text.items)) result }
         ensures utf8 { IfOk result (λ text. IsUtf8 text.items) }
         ensures spent { IfErr result (λ e. e ≡ SeatSpent → IsSpent self.now member.new) }
+        ensures refused { IsSpent self.now member.old → result ≡ Err SeatSpent }
     {
         let guard = self.share(rt, member)?;
         let text = write_map(alloc, self.shown(&guard, member).map());
@@ -108,12 +114,12 @@ impl Monitor {
         Ok(text?)
     }
 
-    /// Commits a change to the map of the epoch `base`: the new epoch, and for how many groups a rule was run, which are
-    /// those whose placement it can alter. The member has the lock alone.
+    /// Commits a change to the map of the epoch `base`: the new epoch, and for how many groups a rule was run, which
+    /// are those whose placement it can alter. The member has the lock alone.
     ///
-    /// `SeatSpent` (31) only where the member's seat has made its draws; `StaleEpoch` (20) with the present epoch where
-    /// `base` is another; else what [`osdmap::OsdMap::check`] refuses (21, 22, 23, 24, 13, 15, 25, 26, 27); else
-    /// `JournalFull` (28); else `Memory` (30), or `NotSealed` (32) where another sealed the epoch.
+    /// `SeatSpent` (31) once the member's seat has made its draws, and only then; else `StaleEpoch` (20) with the
+    /// present epoch where `base` is another; else what [`osdmap::OsdMap::check`] refuses (21, 22, 23, 24, 13, 15, 25,
+    /// 26, 27); else `JournalFull` (28); else `Memory` (30), or `NotSealed` (32) where another sealed the epoch.
     pub fn commit<R: Wait>(
         &self,
         rt: &R,
@@ -127,6 +133,7 @@ impl Monitor {
         ensures commits { Commits self.now.first (length self.now.row.cells)
             member.old.pass.history member.new.pass.history base change result }
         ensures spent { IfErr result (λ e. e ≡ SeatSpent → IsSpent self.now member.new) }
+        ensures refused { IsSpent self.now member.old → result ≡ Err SeatSpent }
     {
         let mut guard = self.hold(rt, member)?;
         let locked = guard.value_mut();
@@ -138,7 +145,7 @@ impl Monitor {
     /// Plans the moves that balance the groups of a pool, at most `limit`, 1 to 1,024, and commits their change, both in one hold of the
     /// lock: the epoch then, and how many moves. Where no move is good, nothing is committed, also where the journal is full.
     ///
-    /// `SeatSpent` (31) only where the member's seat has made its draws; `UnknownPool` (23), else `BalanceRule` (29) where the pool's rule
+    /// `SeatSpent` (31) once the member's seat has made its draws, and only then; `UnknownPool` (23), else `BalanceRule` (29) where the pool's rule
     /// has more than one block; else `Memory` (30), and where a move is good `JournalFull` (28) or `NotSealed` (32).
     pub fn balance<R: Wait>(
         &self,
@@ -154,6 +161,7 @@ impl Monitor {
         ensures member { IsMemberOf self.now member.new }
         ensures balances { Balances self.now.first (length self.now.row.cells) member.old.pass.history member.new.pass.history pool limit result }
         ensures spent { IfErr result (λ e. e ≡ SeatSpent → IsSpent self.now member.new) }
+        ensures refused { IsSpent self.now member.old → result ≡ Err SeatSpent }
     {
         let mut held = self.hold(rt, member)?;
         let answer = held

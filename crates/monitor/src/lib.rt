@@ -1,6 +1,6 @@
-//! The monitor: the state behind a lock, the row of sealed epochs beside it, the members who ask and commit by the lock,
-//! and followers who read the row without it. What each call answers is that of the state of one thread after one
-//! history, which goes on from all that the caller has seen.
+//! The monitor: the state behind a lock, the row of sealed epochs beside it, the members who ask and commit by the
+//! lock, and followers who read the row without it. What each call answers is that of the state of one thread after
+//! one history, which goes on from all that the caller has seen.
 #![tactic(auto)]
 
 mod calls;

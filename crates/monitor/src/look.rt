@@ -21,19 +21,20 @@ pub struct Look<'a> {
 }
 
 impl Monitor {
-    ghost use Rattle.std.specs.Prelude.{◌≡◌, IfOk, IfErr};
+    ghost use Rattle.std.specs.Prelude.{◌≡◌, IfOk, IfErr, OnOk};
     ghost use Rattle.monitor.specs.Histories.{GoesOn};
     ghost use Rattle.monitor.specs.Members.{IsMemberOf, IsSpent};
     ghost use Rattle.monitor.specs.Looking.{IsLookOf};
 
-    /// Shares the lock, to look at the state. `Err` (31, `SeatSpent`), only where the member's seat has made its draws,
-    /// is the member. It takes no memory.
+    /// Shares the lock, to look at the state. `Err` (31, `SeatSpent`), once the member's seat has made its draws and
+    /// only then, is the member. It takes no memory.
     pub fn look<R: Wait>(&self, rt: &R, member: Member) -> Result<Look<'_>, Member>
         requires { IsMemberOf self.now member }
         ensures ok { IfOk result (λ look.
             IsLookOf self.now look × GoesOn self.now.first member.pass.history look.pass.history) }
         ensures err { IfErr result (λ back.
             IsMemberOf self.now back × IsSpent self.now back × (back.pass ≡ member.pass)) }
+        ensures refused { OnOk result (¬ IsSpent self.now member) }
     {
         let mut member = member;
         match self.share(rt, &mut member) {

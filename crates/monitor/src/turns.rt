@@ -26,7 +26,7 @@ pub(crate) fn state_of<'g>(guard: &'g ReadGuard<'_, Locked>) -> &'g State
 }
 
 impl Monitor {
-    ghost use Rattle.std.specs.Prelude.{◌≡◌, IfOk, IfErr, OnErr};
+    ghost use Rattle.std.specs.Prelude.{◌≡◌, IfOk, IfErr, OnOk, OnErr};
     ghost use Rattle.osdmap.specs.Changes.{after, IsLawful};
     ghost use Rattle.refusal.specs.declared.refused.Refusal.TheVariants.{SeatSpent};
     ghost use Rattle.monitor.specs.Histories.{GoesOn};
@@ -45,6 +45,7 @@ impl Monitor {
         ensures spent { IfErr result (λ e.
             (e ≡ SeatSpent) × IsMemberOf self.now member.new × IsSpent self.now member.new) }
         ensures same { OnErr result (member.new.pass ≡ member.old.pass) }
+        ensures unspent { OnOk result (¬ IsSpent self.now member.old) }
     {
         let Some(mut seat) = member.seat.take() else {
             unreachable!()
@@ -81,6 +82,7 @@ impl Monitor {
         ensures spent { IfErr result (λ e.
             (e ≡ SeatSpent) × IsMemberOf self.now member.new × IsSpent self.now member.new) }
         ensures same { OnErr result (member.new.pass ≡ member.old.pass) }
+        ensures unspent { OnOk result (¬ IsSpent self.now member.old) }
     {
         let Some(mut seat) = member.seat.take() else {
             unreachable!()
