@@ -9,6 +9,7 @@ put at paths (`values`) and texts replaced (`texts`); or an object (`is`); or a 
 a text, or a change as an object. Where a row stands for many runs, or for many lines, a key says so: `each_values`,
 `each_text`, `each_kind` (at each of `paths`), `each_without`, `beginnings_of_map`; `lines` (each with its answer),
 `each_line` (one answer to all), `sets` (groups and what they are placed on), `beginnings_of_change`. A row with
+`sessions` has a script and the answers of each, and runs them at once. A row with
 `arguments` says all itself: files, standard output, standard error, status. Entries repeated in a list are written as
 `filled` below reads them, and texts as `text_of` does. The greatest runs are made by this file (`maxima`); the examples
 have their answers beside them. At the end each growth of the examples' runs is refused in turn (memory.py).
@@ -26,7 +27,7 @@ from concurrent.futures import ThreadPoolExecutor
 import memory
 
 HERE = pathlib.Path(__file__).resolve().parent
-TABLES = ["worked", "placements", "changes", "growth", "limits", "texts", "program", "examples", "maxima"]
+TABLES = ["worked", "placements", "changes", "growth", "limits", "texts", "sessions", "program", "examples", "maxima"]
 SECONDS = 60
 
 
@@ -124,10 +125,12 @@ def map_text(about):
 
 
 def line_text(line):
-    """A line of a script or an answer: a text or its parts, a change as an object, or the dump of a map."""
+    """A line of a script or an answer: a text or its parts, a change as an object, or the dump of a map, which may be a
+    follower's (`fdump`)."""
     if isinstance(line, dict):
-        if "dump" in line:
-            return "dump " + map_text(line["dump"])
+        for word in ("dump", "fdump"):
+            if word in line:
+                return word + " " + map_text(line[word])
         return "change " + json.dumps(filled(line), separators=(",", ":"))
     return text_of(line)
 
@@ -218,11 +221,26 @@ def one_run(row, name, about):
     return Run(name, files, arguments=journal + ["map", "script"], **wanted)
 
 
+def run_of_sessions(row):
+    """The run of a row whose sessions have a script and answers each."""
+    sessions = filled(row["sessions"])
+    files, output = {"map": map_text(row.get("map", "one device"))}, ""
+    for number, (script, answers) in enumerate(sessions, 1):
+        files[f"script-{number}"] = lines_text(script)
+        output += f"session {number}\n" + lines_text(answers)
+    journal = ["--journal", row["journal"]] if "journal" in row else []
+    scripts = [f"script-{number}" for number in range(1, len(sessions) + 1)]
+    return Run(row["name"], files, output, arguments=journal + ["map"] + scripts)
+
+
 def runs_of(row):
     """The runs of a row of a table."""
     name, about = row["name"], row.get("map", "one device")
+    if "sessions" in row:
+        return [run_of_sessions(row)]
     if "arguments" in row:
         files = {"map": map_text(about), "script": "epoch\n"}
+        row = dict(row, arguments=filled(row["arguments"]))
         for path, data in row.get("files", {}).items():
             if isinstance(data, dict):
                 data = map_text(data["map"])
@@ -345,17 +363,22 @@ def maxima():
     one, times = written(MAPS["one device"]), 150_000
     yield Run("a script of a megabyte", {"map": one, "script": "up 1.0\n" * times},
               "session 1\n" + "up 1 1.0 [0] 0\n" * times)
+    chain = {f"script-{n}": f'await {n}\nchange {{"base":{n}}}\n' for n in range(1, 65)}
+    yield Run("64 sessions, each waiting for the one before", dict(chain, map=one),
+              "".join(f"session {n}\nepoch {n}\nok {n + 1} evals 0\n" for n in range(1, 65)),
+              arguments=["map"] + list(chain))
     long_lines = f'change{" " * 1_000_000}{{"base":1}}\n{"x" * 1_000_000}\nepoch'
     yield Run("lines of a megabyte", {"map": one, "script": long_lines},
               "session 1\nok 2 evals 0\nerr 33 BadCommand\nepoch 2\n")
 
 
 def examples():
-    """Each example, answered as its answers beside it say."""
-    for script in sorted((HERE.parent / "examples").rglob("script.txt")):
-        folder = script.parent
-        files = {"map": (folder / "map.json").read_bytes(), "script": script.read_bytes()}
-        yield Run(f"example: {folder.name}", files, (folder / "answers.txt").read_text())
+    """Each example, answered as its answers beside it say. One with several scripts has them in the order of their names."""
+    for answers in sorted((HERE.parent / "examples").rglob("answers.txt")):
+        folder = answers.parent
+        files = {path.name: path.read_bytes() for path in sorted(folder.glob("script*.txt"))}
+        yield Run(f"example: {folder.name}", dict(files, map=(folder / "map.json").read_bytes()), answers.read_text(),
+                  arguments=["map"] + list(files))
 
 
 def table_of(name):
