@@ -13,8 +13,7 @@ loop-script-preserved g c =
     (ap (λ p. p.monitor.now) c.in_ok-start.ensures) (ap (λ p. p.number) c.in_ok-start.ensures ∙ numbered)
     (ap (λ p. p.script.now) c.in_ok-start.ensures ∙ c.as_slice.ensures.value) in
     let more = pairs_more (IsStartedFor c.args.monitor.now) 1 _ _ c.in_ok-start.field-0 c.script-item.result paired started in
-    let taken = take_more c.args.scripts.now c.loop-script.script-index c.script-item.result c.loop-script-test.true in
-    (
+    let taken = take_more c.args.scripts.now c.loop-script.script-index c.script-item.result c.loop-script-test.true in (
       c.next.ensures.rest,
       omega (arith, c.in-Some.ensures.next.1),
       omega (arith, c.in_ok-push.ensures.len),

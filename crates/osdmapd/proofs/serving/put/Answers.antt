@@ -15,9 +15,8 @@ returns-in_err-write_whole-clause-part g c =
 pub loop-text-preserved : goal.loop-text-preserved
 loop-text-preserved g c =
     let before = g.W.Sink.written c.loop-text.out in
-    let put = c.in_ok-write_whole.ensures.whole ∙ ap (λ bytes. before ++ bytes) c.bytes.ensures in
-    (
+    let put = c.in_ok-write_whole.ensures.whole ∙ ap (λ bytes. before ++ bytes) c.bytes.ensures in (
       put_next buffered c.args.texts.now c.loop-text.text-index c.text-item.result _ before _ c.loop-text-test.true c.text-item.is
-      c.loop-text.invariant.0 put,
+          c.loop-text.invariant.0 put,
       c.in_ok-write_whole.ensures.failed,
     )
