@@ -5,7 +5,7 @@ use Rattle.std.specs.Str.{bytes_eq}
 use Rattle.clap.specs.Lexer.{long_of, long_of_rest, short_of, short_of_rest, strip_byte}
 use Rattle.clap.specs.Faults.{bundle_fault, flag_word_fault, word_fault}
 use Rattle.clap.specs.Simple.{Shape}
-use Rattle.clap.specs.Walk.{Held, Rule, Step, Text, Walk, after_step, arg_by_index, idle, long_or_other, option, plain_word, short_or_plain, to_positional, trailing, value, walked, word_met}
+use Rattle.clap.specs.Walk.{Held, Rule, Step, Text, Walk, after_step, arg_by_index, idle, long_or_other, option, plain_word, positional, short_or_plain, to_positional, trailing, value, walked, word_met}
 use Rattle.osdmapd.specs.CommandLine.{is_plain}
 
 -- a word that is no `--`, no long option and no short one, and has no hyphen to take off
@@ -62,6 +62,22 @@ plain_option s word h plain =
 pub plain_option_behind : (s : Shape) (id word : Text) (h : Held) → is_plain word ≡ true
     → word_fault s [] false (option id) word h ≡ []
 plain_option_behind s id word h plain =
+    let word_is = no_option word plain in
+    ap (λ (t : Bool). if t then [] else flag_word_fault s.rules s.args_override_self (long_of word) word h) word_is.end
+    ∙ ap (λ o. flag_word_fault s.rules s.args_override_self o word h) word_is.long
+    ∙ ap (λ o. option_map_or (λ flags. bundle_fault s.rules s.args_override_self flags h) o []) word_is.short
+
+-- behind the values of a positional it is one more value
+pub plain_more : (rules : List Rule) (position : ℕ) (word : Text) (h : Held) → is_plain word ≡ true
+    → word_met rules [] false positional position word h ≡ (h, value)
+plain_more rules position word h plain =
+    let word_is = no_option word plain in
+    ap (λ (t : Bool). if t then (h, trailing position) else long_or_other rules positional word (long_of word) h) word_is.end
+    ∙ ap (λ o. long_or_other rules positional word o h) word_is.long ∙ ap (λ o. short_or_plain rules positional word o h) word_is.short
+
+-- which the parser has nothing against
+pub plain_option_more : (s : Shape) (word : Text) (h : Held) → is_plain word ≡ true → word_fault s [] false positional word h ≡ []
+plain_option_more s word h plain =
     let word_is = no_option word plain in
     ap (λ (t : Bool). if t then [] else flag_word_fault s.rules s.args_override_self (long_of word) word h) word_is.end
     ∙ ap (λ o. flag_word_fault s.rules s.args_override_self o word h) word_is.long

@@ -1,9 +1,9 @@
 -- What the parser finds in the words of the usual lines, and what is made of it.
-use Rattle.std.proofs.Common.{◌≡◌, ◌==◌, ◌∙◌, ◌<◌, ◌≤◌, ◌^◌, not, cond, ℕ, Bool, true, false, List, [], ◌∷◌, drop, Option, Some, None, is_some, Result, Ok, Err, refl, sym, ap, ap₂, subst, arith, codes, length, map, string_bytes, MatchResult}
+use Rattle.std.proofs.Common.{◌≡◌, ◌==◌, ◌∙◌, ◌++◌, ◌<◌, append-nil, append_assoc, nat_lt, fold, ◌≤◌, ◌^◌, not, cond, ℕ, Bool, true, false, List, [], ◌∷◌, drop, Option, Some, None, is_some, Result, Ok, Err, refl, sym, ap, ap₂, subst, arith, codes, length, map, string_bytes, MatchResult}
 use Rattle.std.specs.Fmt.{decimal}
 use Rattle.std.specs.Option.{unwrap_or}
 use Rattle.std.specs.Str.Parse.{IsNumeral, digits_value, signed_digits_value, starts_with_minus, without_leading_plus, without_leading_sign}
-use Rattle.std.proofs.lemmas.Bool.{ne_eqb}
+use Rattle.std.proofs.lemmas.Bool.{ne_eqb, le-ltb}
 use Rattle.std.proofs.lemmas.Fmt.{decimal_is_IsNumeral}
 use Rattle.std.proofs.lemmas.Int.{ints}
 use Rattle.std.proofs.lemmas.Str.Parse.{digit_from_value}
@@ -11,19 +11,21 @@ use Rattle.clap.specs.declared.builder.value_parser.ValueParser.TheVariants.{Sig
 use Rattle.clap.specs.declared.error.kind.ErrorKind.{ErrorKind}
 use Rattle.std.specs.Prelude.{neg_ℤ, pos}
 use Rattle.clap.specs.Faults.{check_fault, defaults_fault, entered_fault, settle_fault, turn_fault, walk_fault}
-use Rattle.clap.specs.Kinds.{IsAmong, Kinds, or_else}
+use Rattle.clap.specs.Kinds.{IsAmong, Kinds, or_else, range_kinds, values_kinds}
+use Rattle.clap.specs.Facts.{parser_of_value}
+use Rattle.clap.specs.Lexer.{usize_max}
 use Rattle.clap.specs.Simple.{App, Shape, built, entered}
 use Rattle.clap.specs.ValueTests.{accepts}
 use Rattle.clap.specs.Values.{Accepts}
-use Rattle.clap.specs.Walk.{Held, Row, Rule, Text, Walk, all_of, arg_by_index, finished, first_of, nothing_held, one_of, settled, to_positional, walk_from, walked}
+use Rattle.clap.specs.Walk.{Held, Row, Rule, Step, Text, Walk, all_of, arg_by_index, finished, first_of, nothing_held, one_of, positional, positional_held, settled, to_positional, walk_from, walked, word_met, after_step}
 use Rattle.clap.proofs.OnLiterals.{clap_on_literals}
 use Rattle.clap.proofs.ValueTestLemmas.{Accepts-accepts}
 use Rattle.epochlog.specs.Epochs.{max_capacity}
 use Rattle.osdmapd.specs.declared.choices.Options.{Options}
 use Rattle.osdmapd.specs.declared.choices.LineError.{LineError}
 use Rattle.osdmapd.specs.declared.choices.LineError.TheVariants.{Help, Usage, TooMany, Memory}
-use Rattle.osdmapd.specs.CommandLine.{app, found_in, faults_of, is_plain, IsJournalIn, GivesOptions, ReadsLine, ReadsUsual}
-use Rattle.osdmapd.proofs.PlainWords.{at, at_option, no_option, plain_argument, plain_given, plain_option, plain_option_behind, plain_value, plain_walked}
+use Rattle.osdmapd.specs.CommandLine.{app, found_in, faults_of, is_plain, max_scripts, ArePlain, AreUsual, IsJournalIn, GivesOptions, ReadsLine, ReadsUsual}
+use Rattle.osdmapd.proofs.PlainWords.{at, at_option, no_option, plain_argument, plain_given, plain_more, plain_option, plain_option_behind, plain_option_more, plain_value, plain_walked}
 
 -- the command as the parser builds it
 abbrev top : Shape
@@ -61,28 +63,98 @@ at_end w words =
     (or_else (defaults_fault (settled rules w.held).rows rules)
     (check_fault top (finished rules w.held) (is_some (entered (built app) w.stopped))))))
 
+-- ---- scripts
+
+-- behind the map's word and these scripts
+abbrev scripts_held : List Row → List Text → Held
+scripts_held rows scripts = record { rows = rows; pending = Some (codes "SCRIPT", scripts); skip = 0 }
+
+abbrev at_scripts : List Row → List Text → Walk
+at_scripts rows scripts =
+    record { held = scripts_held rows scripts; waiting = positional; position = 2; is_trailing = false; stopped = None }
+
+-- one script more
+next_script : (rows : List Row) (scripts : List Text) (script : Text) → is_plain script ≡ true
+    → walked rules [] (at_scripts rows scripts) script ≡ at_scripts rows (scripts ++ script ∷ [])
+unfolding walked
+next_script rows scripts script plain =
+    ap (λ (met : Held × Step). after_step rules script (at_scripts rows scripts) met.0 met.1) (plain_more rules 2 script (scripts_held rows scripts) plain)
+
+-- which the parser has nothing against
+next_turn : (rows : List Row) (scripts : List Text) (script : Text) → is_plain script ≡ true
+    → turn_fault top [] (at_scripts rows scripts) script ≡ []
+next_turn rows scripts script plain =
+    rw (plain_more rules 2 script (scripts_held rows scripts) plain, plain_option_more top script (scripts_held rows scripts) plain) refl
+
+-- all others
+all_scripts : (rows : List Row) (scripts more : List Text) → ArePlain more
+    → fold (walked rules []) (at_scripts rows scripts) more ≡ at_scripts rows (scripts ++ more)
+all_scripts rows scripts [] plain = ap (at_scripts rows) (sym (append-nil scripts))
+all_scripts rows scripts (script ∷ more) plain =
+    ap (λ w. fold (walked rules []) w more) (next_script rows scripts script plain.0)
+    ∙ all_scripts rows (scripts ++ script ∷ []) more plain.1 ∙ ap (at_scripts rows) (append_assoc scripts (script ∷ []) more)
+
+all_turns : (rows : List Row) (scripts more : List Text) → ArePlain more → walk_fault top [] (at_scripts rows scripts) more ≡ []
+all_turns rows scripts [] plain = no_words (at_scripts rows scripts)
+all_turns rows scripts (script ∷ more) plain =
+    no_fault (at_scripts rows scripts) (at_scripts rows (scripts ++ script ∷ [])) script more (next_turn rows scripts script plain.0)
+    (next_script rows scripts script plain.0) (all_turns rows (scripts ++ script ∷ []) more plain.1)
+
+-- each path is a text
+all_texts : (scripts : List Text) → values_kinds false (parser_of_value None) scripts ≡ []
+all_texts [] = refl
+all_texts (script ∷ more) = all_texts more
+
+-- so many scripts may be given
+enough : (n : ℕ) → 1 ≤ n → n ≤ max_scripts → range_kinds 1 usize_max n ≡ []
+enough n some few =
+    let none : (n == 0) ≡ false = ne_eqb n 0 (omega arith) in
+    let least : nat_lt n 1 ≡ false = le-ltb n 1 some in
+    let most : nat_lt usize_max n ≡ false = le-ltb usize_max n (omega arith) in
+    rw (none, least, most) refl
+
+settles : (rows : List Row) (scripts : List Text) → 1 ≤ length scripts → length scripts ≤ max_scripts
+    → settle_fault rules top.args_override_self (scripts_held rows scripts) ≡ []
+settles rows [] some few = absurd (omega arith)
+settles rows (script ∷ more) some few = ap₂ or_else (enough (length (script ∷ more)) some few) (all_texts (script ∷ more))
+
 -- what the options are made of
-record Finds (words : List Text) (journal map_word script : Text) : Type 0 where
+record Finds (words : List Text) (journal map_word : Text) (scripts : List Text) : Type 0 where
   journal_is : one_of (codes "journal") (found_in words) ≡ Some journal
   map_is : first_of (codes "MAP") (found_in words) ≡ Some map_word
-  script_is : all_of (codes "SCRIPT") (found_in words) ≡ Some (script ∷ [])
+  scripts_are : all_of (codes "SCRIPT") (found_in words) ≡ Some scripts
   passes : faults_of words ≡ []
 
--- ---- a map and a script
+-- what is held against the words where nothing is against the scripts
+abbrev else_at_end : Held → Kinds → Kinds
+else_at_end h kinds =
+    or_else [] (or_else (entered_fault (built app) None) (or_else kinds
+    (or_else (defaults_fault (settled rules h).rows rules) (check_fault top (finished rules h) false))))
 
-module _ (name map_word script : Text) (m : is_plain map_word ≡ true) (s : is_plain script ≡ true) where
+-- ---- a map and scripts
+
+module _ (name map_word script : Text) (more : List Text) (m : is_plain map_word ≡ true) (s : is_plain script ≡ true) (plain : ArePlain more)
+    (few : length (script ∷ more) ≤ max_scripts) where
   abbrev second : Held
   second = (with_map nothing_held map_word).held
+
+  abbrev map_rows : List Row
+  map_rows = (settled rules second).rows
 
   one_word : walked rules [] first map_word ≡ with_map nothing_held map_word
   one_word = plain_walked rules nothing_held 1 map_word m
 
-  two_words : walked rules [] (walked rules [] first map_word) script ≡ with_script second script
-  two_words = ap (λ w. walked rules [] w script) one_word ∙ plain_walked rules second 2 script s
+  one_script : walked rules [] (with_map nothing_held map_word) script ≡ at_scripts map_rows (script ∷ [])
+  one_script = plain_walked rules second 2 script s
 
-  found_two : found_in (name ∷ map_word ∷ script ∷ []) ≡ finished rules (with_script second script).held
+  all_words : fold (walked rules []) first (map_word ∷ script ∷ more) ≡ at_scripts map_rows (script ∷ more)
+  all_words =
+      ap (λ w. fold (walked rules []) (walked rules [] w script) more) one_word ∙ ap (λ w. fold (walked rules []) w more) one_script
+      ∙ all_scripts map_rows (script ∷ []) more plain
+
+  found_two : found_in (name ∷ map_word ∷ script ∷ more) ≡ finished rules (scripts_held map_rows (script ∷ more))
   unfolding found_in
-  found_two = ap (λ (w : Walk). finished rules w.held) two_words
+  found_two = ap (λ (w : Walk). finished rules w.held) all_words
 
   first_turn : turn_fault top [] first map_word ≡ []
   first_turn = rw (plain_value rules 1 map_word nothing_held m, plain_option top map_word nothing_held m) refl
@@ -90,25 +162,25 @@ module _ (name map_word script : Text) (m : is_plain map_word ≡ true) (s : is_
   second_turn : turn_fault top [] (at second 2) script ≡ []
   second_turn = rw (plain_value rules 2 script second s, plain_option top script second s) refl
 
-  no_turn : walk_fault top [] first (map_word ∷ script ∷ []) ≡ []
+  no_turn : walk_fault top [] first (map_word ∷ script ∷ more) ≡ []
   no_turn =
-      no_fault first (at second 2) map_word (script ∷ []) first_turn one_word
-      (no_fault (at second 2) (with_script second script) script [] second_turn (plain_walked rules second 2 script s)
-      (no_words (with_script second script)))
+      no_fault first (at second 2) map_word (script ∷ more) first_turn one_word
+      (no_fault (at second 2) (at_scripts map_rows (script ∷ [])) script more second_turn one_script
+      (all_turns map_rows (script ∷ []) more plain))
 
-  no_end : at_end (with_script second script) [] ≡ []
+  no_end : at_end (at_scripts map_rows (script ∷ more)) [] ≡ []
   unfolding defaults_fault
-  no_end = refl
+  no_end = ap (else_at_end (scripts_held map_rows (script ∷ more))) (settles map_rows (script ∷ more) (omega arith) few)
 
-  passes_two : faults_of (name ∷ map_word ∷ script ∷ []) ≡ []
+  passes_two : faults_of (name ∷ map_word ∷ script ∷ more) ≡ []
   unfolding faults_of
-  passes_two = ap₂ at_end two_words no_turn ∙ no_end
+  passes_two = ap₂ at_end all_words no_turn ∙ no_end
 
-  finds_two : Finds (name ∷ map_word ∷ script ∷ []) (codes "1024") map_word script
+  finds_two : Finds (name ∷ map_word ∷ script ∷ more) (codes "1024") map_word (script ∷ more)
   finds_two = record {
     journal_is = ap (one_of (codes "journal")) found_two;
     map_is = ap (first_of (codes "MAP")) found_two;
-    script_is = ap (all_of (codes "SCRIPT")) found_two;
+    scripts_are = ap (all_of (codes "SCRIPT")) found_two;
     passes = passes_two;
   }
 
@@ -128,7 +200,8 @@ opens_turn : turn_fault top [] first (codes "--journal") ≡ []
 unfolding clap_on_literals
 opens_turn = refl
 
-module _ (name number map_word script : Text) (j : is_plain number ≡ true) (m : is_plain map_word ≡ true) (s : is_plain script ≡ true)
+module _ (name number map_word script : Text) (more : List Text) (j : is_plain number ≡ true) (m : is_plain map_word ≡ true)
+    (s : is_plain script ≡ true) (plain : ArePlain more) (few : length (script ∷ more) ≤ max_scripts)
     (accepted : accepts false (Signed (pos 1) (pos max_capacity)) number ≡ true) where
   abbrev given : Held
   given = record { rows = []; pending = Some (codes "journal", number ∷ []); skip = 0 }
@@ -136,19 +209,28 @@ module _ (name number map_word script : Text) (j : is_plain number ≡ true) (m 
   abbrev fourth : Held
   fourth = (with_map given map_word).held
 
+  abbrev given_rows : List Row
+  given_rows = (settled rules fourth).rows
+
   gives : walked rules [] (at_option asked (codes "journal") 1) number ≡ at given 1
   gives = plain_given rules asked (codes "journal") 1 number j
 
-  four_words : walked rules [] (walked rules [] (walked rules [] (walked rules [] first (codes "--journal")) number) map_word) script
-      ≡ with_script fourth script
-  four_words =
-      ap (λ w. walked rules [] (walked rules [] (walked rules [] w number) map_word) script) opens
-      ∙ ap (λ w. walked rules [] (walked rules [] w map_word) script) gives
-      ∙ ap (λ w. walked rules [] w script) (plain_walked rules given 1 map_word m) ∙ plain_walked rules fourth 2 script s
+  their_map : walked rules [] (at given 1) map_word ≡ with_map given map_word
+  their_map = plain_walked rules given 1 map_word m
 
-  found_four : found_in (name ∷ codes "--journal" ∷ number ∷ map_word ∷ script ∷ []) ≡ finished rules (with_script fourth script).held
+  their_script : walked rules [] (with_map given map_word) script ≡ at_scripts given_rows (script ∷ [])
+  their_script = plain_walked rules fourth 2 script s
+
+  all_four : fold (walked rules []) first (codes "--journal" ∷ number ∷ map_word ∷ script ∷ more) ≡ at_scripts given_rows (script ∷ more)
+  all_four =
+      ap (λ w. fold (walked rules []) (walked rules [] (walked rules [] (walked rules [] w number) map_word) script) more) opens
+      ∙ ap (λ w. fold (walked rules []) (walked rules [] (walked rules [] w map_word) script) more) gives
+      ∙ ap (λ w. fold (walked rules []) (walked rules [] w script) more) their_map
+      ∙ ap (λ w. fold (walked rules []) w more) their_script ∙ all_scripts given_rows (script ∷ []) more plain
+
+  found_four : found_in (name ∷ codes "--journal" ∷ number ∷ map_word ∷ script ∷ more) ≡ finished rules (scripts_held given_rows (script ∷ more))
   unfolding found_in
-  found_four = ap (λ (w : Walk). finished rules w.held) four_words
+  found_four = ap (λ (w : Walk). finished rules w.held) all_four
 
   number_turn : turn_fault top [] (at_option asked (codes "journal") 1) number ≡ []
   number_turn =
@@ -160,27 +242,27 @@ module _ (name number map_word script : Text) (j : is_plain number ≡ true) (m 
   script_turn : turn_fault top [] (at fourth 2) script ≡ []
   script_turn = rw (plain_value rules 2 script fourth s, plain_option top script fourth s) refl
 
-  no_turn_four : walk_fault top [] first (codes "--journal" ∷ number ∷ map_word ∷ script ∷ []) ≡ []
+  no_turn_four : walk_fault top [] first (codes "--journal" ∷ number ∷ map_word ∷ script ∷ more) ≡ []
   no_turn_four =
-      no_fault first (at_option asked (codes "journal") 1) (codes "--journal") (number ∷ map_word ∷ script ∷ []) opens_turn opens
-      (no_fault (at_option asked (codes "journal") 1) (at given 1) number (map_word ∷ script ∷ []) number_turn gives
-      (no_fault (at given 1) (at fourth 2) map_word (script ∷ []) map_turn (plain_walked rules given 1 map_word m)
-      (no_fault (at fourth 2) (with_script fourth script) script [] script_turn (plain_walked rules fourth 2 script s)
-      (no_words (with_script fourth script)))))
+      no_fault first (at_option asked (codes "journal") 1) (codes "--journal") (number ∷ map_word ∷ script ∷ more) opens_turn opens
+      (no_fault (at_option asked (codes "journal") 1) (at given 1) number (map_word ∷ script ∷ more) number_turn gives
+      (no_fault (at given 1) (at fourth 2) map_word (script ∷ more) map_turn their_map
+      (no_fault (at fourth 2) (at_scripts given_rows (script ∷ [])) script more script_turn their_script
+      (all_turns given_rows (script ∷ []) more plain))))
 
-  no_end_four : at_end (with_script fourth script) [] ≡ []
+  no_end_four : at_end (at_scripts given_rows (script ∷ more)) [] ≡ []
   unfolding defaults_fault
-  no_end_four = refl
+  no_end_four = ap (else_at_end (scripts_held given_rows (script ∷ more))) (settles given_rows (script ∷ more) (omega arith) few)
 
-  passes_four : faults_of (name ∷ codes "--journal" ∷ number ∷ map_word ∷ script ∷ []) ≡ []
+  passes_four : faults_of (name ∷ codes "--journal" ∷ number ∷ map_word ∷ script ∷ more) ≡ []
   unfolding faults_of
-  passes_four = ap₂ at_end four_words no_turn_four ∙ no_end_four
+  passes_four = ap₂ at_end all_four no_turn_four ∙ no_end_four
 
-  finds_four : Finds (name ∷ codes "--journal" ∷ number ∷ map_word ∷ script ∷ []) number map_word script
+  finds_four : Finds (name ∷ codes "--journal" ∷ number ∷ map_word ∷ script ∷ more) number map_word (script ∷ more)
   finds_four = record {
     journal_is = ap (one_of (codes "journal")) found_four ∙ ap (λ (o : Option Text). Some (unwrap_or o number)) (no_option number j).bare;
     map_is = ap (first_of (codes "MAP")) found_four;
-    script_is = ap (all_of (codes "SCRIPT")) found_four;
+    scripts_are = ap (all_of (codes "SCRIPT")) found_four;
     passes = passes_four;
   }
 
@@ -230,46 +312,56 @@ none_among kind (k ∷ ks) none among =
     cc
 
 -- the options that are read, from what is found
-gives_options : (words : List Text) (journal map_word script : Text) (n : ℕ) → Finds words journal map_word script
-    → digits_value 10 (without_leading_plus journal) ≡ n → (r : Result Options LineError) → ReadsLine words r
-    → GivesOptions r n map_word script
-gives_options words journal map_word script n finds number (Ok o) (none, chosen) =
+gives_options : (words : List Text) (journal map_word : Text) (scripts : List Text) (n : ℕ) → Finds words journal map_word scripts
+    → length scripts ≤ max_scripts → digits_value 10 (without_leading_plus journal) ≡ n → (r : Result Options LineError) → ReadsLine words r
+    → GivesOptions r n map_word scripts
+gives_options words journal map_word scripts n finds few number (Ok o) (none, chosen) =
     let found = chosen.0 in
     let map_same : Some (string_bytes o.map) ≡ Some map_word = sym found.map_found ∙ finds.map_is in
-    let script_same : Some (map string_bytes o.scripts.items) ≡ Some (script ∷ []) = sym found.scripts_found ∙ finds.script_is in
+    let script_same : Some (map string_bytes o.scripts.items) ≡ Some scripts = sym found.scripts_found ∙ finds.scripts_are in
     (journal_of (found_in words) o.journal journal finds.journal_is found.journal_found ∙ number, cc, cc)
-gives_options words journal map_word script n finds number (Err (Help text)) (kind, among, is) =
+gives_options words journal map_word scripts n finds few number (Err (Help text)) (kind, among, is) =
     absurd (none_among kind (faults_of words) finds.passes among)
-gives_options words journal map_word script n finds number (Err (Usage text)) (kind, among, is) =
+gives_options words journal map_word scripts n finds few number (Err (Usage text)) (kind, among, is) =
     absurd (none_among kind (faults_of words) finds.passes among)
-gives_options words journal map_word script n finds number (Err TooMany) (none, (paths, found, many)) =
-    let one : Some paths ≡ Some (script ∷ []) = sym found ∙ finds.script_is in
-    let paths_are : paths ≡ script ∷ [] = cc in
+gives_options words journal map_word scripts n finds few number (Err TooMany) (none, (paths, found, many)) =
+    let one : Some paths ≡ Some scripts = sym found ∙ finds.scripts_are in
+    let paths_are : paths ≡ scripts = cc in
     absurd (omega (arith, ap length paths_are))
-gives_options words journal map_word script n finds number (Err Memory) reads = refl
+gives_options words journal map_word scripts n finds few number (Err Memory) reads = refl
 
 -- a line with a journal
-with_journal : (name number map_word script : Text) (r : Result Options LineError)
-    → ReadsLine (name ∷ codes "--journal" ∷ number ∷ map_word ∷ script ∷ []) r
-    → (n : ℕ) → number ≡ decimal n → 1 ≤ n → n ≤ max_capacity → is_plain map_word ≡ true → is_plain script ≡ true
-    → GivesOptions r n map_word script
-with_journal name number map_word script r reads n is least most m s =
+given_journal : (name number map_word script : Text) (more : List Text) (r : Result Options LineError)
+    → ReadsLine (name ∷ codes "--journal" ∷ number ∷ map_word ∷ script ∷ more) r
+    → (n : ℕ) → number ≡ decimal n → 1 ≤ n → n ≤ max_capacity → AreUsual map_word (script ∷ more) → GivesOptions r n map_word (script ∷ more)
+given_journal name number map_word script more r reads n is least most usual =
     let written = decimal_is_IsNumeral n (omega arith) in
     let numeral : IsNumeral 10 number = rw is written.0 in
     let value : digits_value 10 number ≡ n = rw is written.1 in
     let b = begins number numeral in
-    gives_options (name ∷ codes "--journal" ∷ number ∷ map_word ∷ script ∷ []) number map_word script n
-    (finds_four name number map_word script b.plain m s (numeral_accepted number n numeral value least most))
-    (ap (digits_value 10) b.plus ∙ value) r reads
+    gives_options (name ∷ codes "--journal" ∷ number ∷ map_word ∷ script ∷ more) number map_word (script ∷ more) n
+    (finds_four name number map_word script more b.plain usual.plain_map usual.plain_scripts.0 usual.plain_scripts.1 usual.few
+    (numeral_accepted number n numeral value least most))
+    usual.few (ap (digits_value 10) b.plus ∙ value) r reads
+
+-- no script is too few
+no_script : (map_word : Text) → AreUsual map_word [] → ⊥
+no_script map_word usual = omega (arith, usual.some)
 
 -- the usual lines, from what is made of all words
 pub usual_line : (words : List Text) (r : Result Options LineError) → ReadsLine words r → ReadsUsual words r
-usual_line [] r reads = tt
-usual_line (name ∷ []) r reads = tt
-usual_line (name ∷ a ∷ []) r reads = tt
-usual_line (name ∷ map_word ∷ script ∷ []) r reads =
-    λ m s. gives_options (name ∷ map_word ∷ script ∷ []) (codes "1024") map_word script 1024 (finds_two name map_word script m s) refl r reads
-usual_line (name ∷ a ∷ b ∷ c ∷ []) r reads = tt
-usual_line (name ∷ option ∷ number ∷ map_word ∷ script ∷ []) r reads =
-    λ n is. with_journal name number map_word script r (subst (λ o. ReadsLine (name ∷ o ∷ number ∷ map_word ∷ script ∷ []) r) is reads) n
-usual_line (name ∷ a ∷ b ∷ c ∷ d ∷ e ∷ more) r reads = tt
+usual_line words r reads = record { plain = plain_line; with_journal = journal_line }
+  where
+    plain_line : (name map_word : Text) (scripts : List Text) → words ≡ name ∷ map_word ∷ scripts → AreUsual map_word scripts
+        → GivesOptions r 1024 map_word scripts
+    plain_line name map_word [] is usual = absurd (no_script map_word usual)
+    plain_line name map_word (script ∷ more) is usual =
+        gives_options (name ∷ map_word ∷ script ∷ more) (codes "1024") map_word (script ∷ more) 1024
+        (finds_two name map_word script more usual.plain_map usual.plain_scripts.0 usual.plain_scripts.1 usual.few) usual.few refl r
+        (subst (λ w. ReadsLine w r) is reads)
+
+    journal_line : (name map_word : Text) (n : ℕ) (scripts : List Text) → words ≡ name ∷ codes "--journal" ∷ decimal n ∷ map_word ∷ scripts
+        → 1 ≤ n → n ≤ max_capacity → AreUsual map_word scripts → GivesOptions r n map_word scripts
+    journal_line name map_word n [] is least most usual = absurd (no_script map_word usual)
+    journal_line name map_word n (script ∷ more) is least most usual =
+        given_journal name (decimal n) map_word script more r (subst (λ w. ReadsLine w r) is reads) n refl least most usual

@@ -126,19 +126,29 @@ abbrev pub is_plain : Text → Bool
 is_plain [] = true
 is_plain (c ∷ cs) = not (c == 45)
 
+-- each of the words is plain
+abbrev pub ArePlain : List Text → Type 0
+ArePlain [] = Unit {0}
+ArePlain (word ∷ words) = (is_plain word ≡ true) × ArePlain words
+
+-- a map and 1 to 64 scripts, none of which the parser takes for an option
+pub record AreUsual (map_word : Text) (scripts : List Text) : Type 0 where
+  pub plain_map : is_plain map_word ≡ true
+  pub plain_scripts : ArePlain scripts
+  pub some : 1 ≤ length scripts
+  pub few : length scripts ≤ max_scripts
+
 -- these options are read; only want of memory keeps them from it
-abbrev pub GivesOptions : Result Options LineError → ℕ → Text → Text → Type 0
-GivesOptions r journal map_word script =
+abbrev pub GivesOptions : Result Options LineError → ℕ → Text → List Text → Type 0
+GivesOptions r journal map_word scripts =
     MatchResult r
-    (λ o. (o.journal ≡ journal) × (string_bytes o.map ≡ map_word) × (map string_bytes o.scripts.items ≡ script ∷ []))
+    (λ o. (o.journal ≡ journal) × (string_bytes o.map ≡ map_word) × (map string_bytes o.scripts.items ≡ scripts))
     (λ e. e ≡ Memory)
 
--- what `osdmapd MAP SCRIPT` and `osdmapd --journal N MAP SCRIPT` ask for, where neither MAP nor SCRIPT is taken for an
--- option: this map, this script, and a journal of 1,024 or N
-abbrev pub ReadsUsual : List Text → Result Options LineError → Type 0
-ReadsUsual (name ∷ map_word ∷ script ∷ []) r =
-    is_plain map_word ≡ true → is_plain script ≡ true → GivesOptions r 1024 map_word script
-ReadsUsual (name ∷ option ∷ number ∷ map_word ∷ script ∷ []) r =
-    (n : ℕ) → option ≡ codes "--journal" → number ≡ decimal n → 1 ≤ n → n ≤ max_capacity
-    → is_plain map_word ≡ true → is_plain script ≡ true → GivesOptions r n map_word script
-ReadsUsual words r = Unit {0}
+-- what `osdmapd MAP SCRIPT..` and `osdmapd --journal N MAP SCRIPT..` ask for, where none of the files is taken for an option: this map,
+-- these scripts, and a journal of 1,024 or N
+pub record ReadsUsual (words : List Text) (r : Result Options LineError) : Type 0 where
+  pub plain : (name map_word : Text) (scripts : List Text) → words ≡ name ∷ map_word ∷ scripts → AreUsual map_word scripts
+      → GivesOptions r 1024 map_word scripts
+  pub with_journal : (name map_word : Text) (n : ℕ) (scripts : List Text) → words ≡ name ∷ codes "--journal" ∷ decimal n ∷ map_word ∷ scripts
+      → 1 ≤ n → n ≤ max_capacity → AreUsual map_word scripts → GivesOptions r n map_word scripts

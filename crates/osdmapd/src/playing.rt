@@ -88,7 +88,7 @@ fn start<'s, E, R: Wait + Sync>(
 }
 
 /// The next of the members.
-fn next(monitor: &Monitor, members: &mut Vec<Member>) -> Option<Member>
+pub fn next(monitor: &Monitor, members: &mut Vec<Member>) -> Option<Member>
     requires { All (IsNewMemberOf monitor.now) members.old.items }
     ensures rest { All (IsNewMemberOf monitor.now) members.new.items }
     ensures next { MatchOption result (vec_len members.old ≡ 0)

@@ -1,14 +1,22 @@
-//! Worked runs over texts, and a sink that fails. The tables of `tests/` run the built program over many more, and over
-//! command lines.
+//! Worked runs over texts, sessions beside one another, a sink that fails and a seat that is spent. The tables of `tests/` run the
+//! built program over many more, and over command lines.
+ghost use Rattle.std.specs.Prelude.{IfOk};
+ghost use Rattle.monitor.specs.Members.{IsMemberOf, IsNewMemberOf};
 
+use crate::playing::next;
 use crate::serving::{Fault, serve};
+use crossbeam_utils::Backoff;
 use mapjson::read_map;
-use monitor::State;
+use monitor::{Member, Monitor};
 use refusal::Refusal;
-use session::{Buffer, Open, SessionError, Sink, WriteFailed};
+use session::{Buffer, Gate, Open, SessionError, Sink, WriteFailed};
 use std::alloc::{AllocError, Global};
 use std::process::Abort;
+use std::sync::Wait;
+use std::sync::atomic::{AtomicU64, Ordering};
 use std::test::Fail;
+use std::thread;
+use std::thread::Threads;
 
 /// One device, one group of one replica.
 const ONE_DEVICE: &str =
@@ -108,10 +116,14 @@ const RUNS: [Run; 10] = [
 ];
 
 /// Tests that a run puts out what is wanted, or is refused as is wanted and puts out nothing.
-fn assert_run(rt: &impl Abort, alloc: Global, run: Run) -> Result<(), AllocError> {
+fn assert_run<R: Abort + Threads + Wait + Sync>(
+    rt: &R,
+    alloc: Global,
+    run: Run,
+) -> Result<(), AllocError> {
     let scripts = [Vec::from_slice(alloc, run.script.as_bytes())?];
     let mut out = Buffer::new(alloc);
-    let served = serve(alloc, 1024, run.map.as_bytes(), &scripts, &mut out);
+    let served = serve(alloc, rt, 1024, run.map.as_bytes(), &scripts, &mut out);
     let (wanted, fault) = match run.wanted {
         Ok(text) => (text, None),
         Err(refusal) => ("", Some(Fault::Map(refusal))),
@@ -127,6 +139,34 @@ fn runs_as_worked(rt: HostRuntime) -> Result<(), Fail> {
         assert_run(&rt, rt.alloc(), run)?;
     }
     Ok(())
+}
+
+/// Each waits for the other, so neither run before the other would do.
+#[test]
+fn two_scripts_await_each_other(rt: HostRuntime) -> Result<(), Fail> {
+    let alloc = rt.alloc();
+    let scripts = [
+        Vec::from_slice(alloc, b"change {\"base\":1,\"down\":[0]}\nawait 3\n")?,
+        Vec::from_slice(alloc, b"await 2\nchange {\"base\":2,\"up\":[0]}\nup 1.0\n")?,
+    ];
+    let mut out = Buffer::new(alloc);
+    let served = serve(alloc, &rt, 1024, ONE_DEVICE.as_bytes(), &scripts, &mut out);
+    let wanted =
+        b"session 1\nok 2 evals 0\nepoch 3\nsession 2\nepoch 2\nok 3 evals 0\nup 3 1.0 [0] 0\n";
+    assert_eq!(rt; served, Ok(()));
+    assert_eq!(rt; out.bytes(), wanted.as_slice());
+    Ok(())
+}
+
+/// A monitor of four devices, and two of its members, whose seats may draw so often.
+fn opened(alloc: Global, draws: u64) -> Result<(Monitor, Member, Member), Refusal>
+    ensures { IfOk result (λ r. IsNewMemberOf r.0 r.1 × IsNewMemberOf r.0 r.2) }
+{
+    let map = read_map(alloc, FOUR_DEVICES.as_bytes())?;
+    let (monitor, mut members) = Monitor::open_limited(alloc, map, 16, 2, draws)?;
+    let one = next(&monitor, &mut members).ok_or(Refusal::Memory)?;
+    let other = next(&monitor, &mut members).ok_or(Refusal::Memory)?;
+    Ok((monitor, one, other))
 }
 
 /// A sink that takes at most 3 bytes a call, and fails once it has no calls left.
@@ -157,20 +197,26 @@ impl Sink for Slow {
     }
 }
 
-/// A change and a question over four devices, to a sink that takes some calls: how the session ends, and what is out.
-fn cut_off(alloc: Global, calls: usize) -> Result<(Result<(), SessionError>, Slow), Refusal> {
-    let mut state = State::new(alloc, read_map(alloc, FOUR_DEVICES.as_bytes())?, 1024)?;
+/// A change and a question over four devices, to a sink that takes some calls: how the session ends, what is out, and the
+/// epoch that another member then sees.
+fn cut_off<R: Wait>(
+    rt: &R,
+    alloc: Global,
+    calls: usize,
+) -> Result<(Result<(), SessionError>, Slow, u64), Refusal> {
+    let (monitor, mut member, mut other) = opened(alloc, 1024)?;
     let mut slow = Slow {
         bytes: Vec::new(alloc),
         calls,
         failed: false,
     };
     let script = b"change {\"base\":1,\"down\":[2]}\nup 1.0\n";
-    let ended = session::run(alloc, &mut state, script, &mut slow, &Open);
-    Ok((ended, slow))
+    let ended = session::run(alloc, rt, &monitor, &mut member, script, &mut slow, &Open);
+    let epoch = monitor.epoch(rt, &mut other)?;
+    Ok((ended, slow, epoch))
 }
 
-/// The first answer, of 13 bytes, takes 5 calls, and the second, of 17, takes 6.
+/// The first answer, of 13 bytes, takes 5 calls, and the second, of 17, takes 6. The change stands, whether it is told or not.
 #[test]
 fn a_session_ends_at_each_failed_write(rt: HostRuntime) -> Result<(), Fail> {
     let answers = b"ok 2 evals 0\nup 2 1.0 [0,1] 0\n";
@@ -185,13 +231,140 @@ fn a_session_ends_at_each_failed_write(rt: HostRuntime) -> Result<(), Fail> {
         } else {
             Ok(())
         };
-        match cut_off(rt.alloc(), calls) {
-            Ok((ended, slow)) => {
+        match cut_off(&rt, rt.alloc(), calls) {
+            Ok((ended, slow, epoch)) => {
                 assert_eq!(rt; ended, wanted, "{calls}");
                 assert_eq!(rt; slow.bytes.as_slice(), &answers[..out.min(30)], "{calls}");
+                assert_eq!(rt; epoch, 2, "{calls}");
             }
             Err(_) => assert!(rt; false, "{calls}"),
         }
     }
+    Ok(())
+}
+
+/// What a session answers whose seat may draw twice.
+fn spent<R: Wait>(rt: &R, alloc: Global) -> Result<Buffer, Refusal> {
+    let (monitor, mut member, _) = opened(alloc, 2)?;
+    let mut answers = Buffer::new(alloc);
+    let script = b"epoch\nepoch\nepoch\nhello\nfup 1.0\n";
+    match session::run(
+        alloc,
+        rt,
+        &monitor,
+        &mut member,
+        script,
+        &mut answers,
+        &Open,
+    ) {
+        Ok(()) => Ok(answers),
+        Err(_) => Err(Refusal::Memory),
+    }
+}
+
+/// A line that is no command and a follower take no draw.
+#[test]
+fn a_third_draw_of_two_is_refused(rt: HostRuntime) -> Result<(), Fail> {
+    let wanted = b"epoch 1\nepoch 1\nerr 31 SeatSpent\nerr 33 BadCommand\nfup 1 1.0 [2,0,1] 2\n";
+    match spent(&rt, rt.alloc()) {
+        Ok(answers) => assert_eq!(rt; answers.bytes(), wanted.as_slice()),
+        Err(_) => assert!(rt; false),
+    }
+    Ok(())
+}
+
+/// How many turns a gate waits.
+const MAX_TURNS: u32 = 1_000_000;
+
+/// The gate of one of two sessions: it holds the first line of the first until the second asks for its second line.
+#[derive(Clone, Copy)]
+struct Meeting<'a> {
+    is_first: bool,
+    asked: &'a AtomicU64,
+}
+
+impl<'a> Gate for Meeting<'a> {
+    ghost use Rattle.std.specs.Prelude.{⊤};
+
+    ghost lets = { λ _ _ _. ⊤ };
+
+    fn pass(&self, line: u64) -> bool {
+        if !self.is_first {
+            self.asked.store(line, Ordering::SeqCst);
+            return true;
+        }
+        let backoff = Backoff::new();
+        for _ in 0..MAX_TURNS {
+            if self.asked.load(Ordering::SeqCst) >= 2 {
+                return true;
+            }
+            backoff.snooze();
+        }
+        false
+    }
+}
+
+/// How a session ends behind such a gate.
+fn met<R: Wait>(
+    rt: &R,
+    alloc: Global,
+    monitor: &Monitor,
+    member: Member,
+    gate: Meeting<'_>,
+) -> Result<(), SessionError>
+    requires { IsMemberOf monitor.now member }
+{
+    let mut member = member;
+    let mut answers = Buffer::new(alloc);
+    let script: &[u8] = if gate.is_first {
+        b"epoch\n"
+    } else {
+        b"epoch\nepoch\n"
+    };
+    session::run(alloc, rt, monitor, &mut member, script, &mut answers, &gate)
+}
+
+/// How two sessions end that run at once.
+fn met_at_once<R: Wait + Threads + Sync>(rt: &R, alloc: Global) -> Result<bool, Refusal> {
+    let (monitor, one, other) = opened(alloc, 1024)?;
+    let (shared, asked) = (&monitor, &AtomicU64::new(0));
+    let (first, second) = thread::join(
+        rt,
+        move ||
+            requires { IsMemberOf shared.now one }
+        {
+            met(
+                rt,
+                alloc,
+                shared,
+                one,
+                Meeting {
+                    is_first: true,
+                    asked,
+                },
+            )
+        },
+        move ||
+            requires { IsMemberOf shared.now other }
+        {
+            met(
+                rt,
+                alloc,
+                shared,
+                other,
+                Meeting {
+                    is_first: false,
+                    asked,
+                },
+            )
+        },
+    );
+    Ok(first.is_ok() && second.is_ok())
+}
+
+/// One after the other, the first would end held.
+#[test]
+fn sessions_run_at_once(rt: HostRuntime) -> Result<(), Fail> {
+    assert!(rt; met_at_once(&rt, rt.alloc()) == Ok(true));
     Ok(())
 }
