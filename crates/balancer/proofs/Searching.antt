@@ -1,25 +1,27 @@
 -- The search for the best move.
-use Rattle.std.proofs.Common.{◌≡◌, ◌∙◌, refl, sym, ap, ℕ, ◌+◌, ◌<◌, ◌≤◌, Bool, true, false, ◌&&◌, ℤ, pos, List, length, get_or, take, map, position, Option, Some, None, inl, inr, arith}
-use Rattle.std.specs.Prelude.{int_lt, IfSome, ◌≤ℤ◌, ◌<ℤ◌}
+use Rattle.std.proofs.Common.{◌≡◌, ◌∙◌, refl, sym, ap, ℕ, ◌+◌, ◌<◌, ◌≤◌, Bool, true, false, ◌&&◌, ℤ, pos, List, length, get_or, take, map, position, Option, Some, None, inl, inr, eqb, eq-eqb, arith}
+use Rattle.std.specs.Prelude.{int_lt, nat_lt, ◌||◌, ◌-ℤ◌, IfSome, if◌then◌else◌}
+use Rattle.std.specs.Ordering.{int_eq}
 use Rattle.std.specs.List.{range_with_len}
-use Rattle.std.proofs.lemmas.Bool.{false_from_ne_true, and_parts, cases_lt}
+use Rattle.std.proofs.lemmas.Bool.{false_from_ne_true, and_parts, and_from, cases_Bool, cases_lt}
 use Rattle.std.proofs.lemmas.Int.{ints}
 use mathlib.Core.Bool.{false≢true}
 use Rattle.std.proofs.lemmas.List.FromFn.{length-map-range_with_len, get_or-map-range_with_len}
 use Rattle.std.proofs.lemmas.List.{take_all}
-use Rattle.std.proofs.lemmas.List.Elements.{filter_passes, All-weaker, All-more}
+use Rattle.std.proofs.lemmas.List.Elements.{filter_passes, All-nil, All-weaker, All-more}
 use Rattle.std.proofs.lemmas.List.Quantifiers.{position-Some}
 use Rattle.std.proofs.lemmas.List.Sums.{fails_before_first}
 use Rattle.std.proofs.lemmas.Grind.{common_steps}
 use Rattle.std.proofs.lemmas.Bool.Decides.{nat_tests}
+use Rattle.keylist.proofs.Each.{same_tests}
 use Rattle.stated.specs.Pools.{PoolFacts}
 use Rattle.osdmap.specs.Maps.{ClusterMap}
 use Rattle.balancer.specs.declared.group.Group.{Group}
 use Rattle.balancer.specs.declared.moves.Move.{Move}
-use Rattle.balancer.specs.Shares.{osds_of, is_candidate, candidates, total}
+use Rattle.balancer.specs.Shares.{osds_of, is_candidate, candidates, total, deviation}
 use Rattle.balancer.specs.Moves.{move_of, are_beside}
 use Rattle.balancer.specs.Greedy.{gap, is_good, beats, after_moves}
-use Rattle.balancer.specs.Boards.{IsGood, IsBoardOf, IsCovered, IsBetter, CoversPair, CoversFrom, CoversAll, is_wanted, may_go, group_at}
+use Rattle.balancer.specs.Boards.{IsGood, IsBoardOf, IsCovered, IsBetter, IsEmptiest, CoversPair, CoversFrom, CoversAll, is_wanted, may_go, group_at}
 use Rattle.balancer.proofs.Deviating.{candidate_now, beside_now, goes_now}
 use Rattle.balancer.proofs.Allowing.{good_candidates, good_wide, good_from, good_goes}
 use Rattle.balancer.proofs.Beating.{beats_trans, beats_equal, beats_less, higher_not_better, lowest_not_better, between_pair}
@@ -195,3 +197,88 @@ module _ (m : ClusterMap) (p : PoolFacts) where
 
   pub all_end : (best : Option Move) (froms tos : List ℕ) (i : ℕ) → length froms ≤ i → CoversAll m p best (take i froms) tos → CoversAll m p best froms tos
   all_end best froms tos i past covers = rw (take_all i froms past) at covers
+
+-- ---- the emptiest candidate
+
+shift_lt : (x y u w : ℤ) → int_lt (x -ℤ w) (x -ℤ u) ≡ true → int_lt (y -ℤ w) (y -ℤ u) ≡ true
+shift_lt x y u w e = grind (arith, ints)
+
+shift_eq : (x y u w : ℤ) → int_eq (x -ℤ u) (x -ℤ w) ≡ true → int_eq (y -ℤ u) (y -ℤ w) ≡ true
+shift_eq x y u w e = grind (arith, ints)
+
+not_below : (i : ℕ) → nat_lt i i ≡ false
+not_below i = grind (arith, nat_tests)
+
+-- which of two OSDs a move would rather go to does not hang on where it comes from
+rather_to : (m : ClusterMap) (p : PoolFacts) (f g a b : ℕ) → beats m p (move_of f a 0) (move_of f b 0) ≡ beats m p (move_of g a 0) (move_of g b 0)
+unfolding beats
+rather_to m p f g a b =
+    let x = deviation m p f in
+    let y = deviation m p g in
+    let u = deviation m p a in
+    let w = deviation m p b in
+    let lt : int_lt (x -ℤ w) (x -ℤ u) ≡ int_lt (y -ℤ w) (y -ℤ u) = same_tests _ _ (shift_lt x y u w) (shift_lt y x u w) in
+    let eq : int_eq (x -ℤ u) (x -ℤ w) ≡ int_eq (y -ℤ u) (y -ℤ w) = same_tests _ _ (shift_eq x y u w) (shift_eq y x u w) in
+    let less : nat_lt f f ≡ nat_lt g g = not_below f ∙ sym (not_below g) in
+    let level : eqb f f ≡ eqb g g = eq-eqb f f refl ∙ sym (eq-eqb g g refl) in
+    λ i. lt i || (eq i && (less i || (level i && (nat_lt a b || (eqb a b && nat_lt 0 0)))))
+
+-- a move to an OSD that is not emptier is no wider, and taken rather than another only where one to the other OSD is
+wider : (m : ClusterMap) (p : PoolFacts) (from to osd : ℕ) → beats m p (move_of from to 0) (move_of from osd 0) ≡ false → int_lt (pos (total m p)) (gap m p from to) ≡ true → int_lt (pos (total m p)) (gap m p from osd) ≡ true
+unfolding beats
+wider m p from to osd less wide =
+    let not_less = or_first (int_lt (gap m p from osd) (gap m p from to)) _ less in
+    through (pos (total m p)) (gap m p from to) (gap m p from osd) not_less wide
+  where
+    or_first : (a b : Bool) → (a || b) ≡ false → a ≡ false
+    or_first true b e = e
+    or_first false b e = refl
+
+    through : (x y z : ℤ) → int_lt z y ≡ false → int_lt x y ≡ true → int_lt x z ≡ true
+    through x y z p q = grind (arith, ints)
+
+rather_than : (m : ClusterMap) (p : PoolFacts) (from to osd : ℕ) (b : Move) → beats m p (move_of from to 0) (move_of from osd 0) ≡ false → beats m p (move_of from to 0) b ≡ true → beats m p (move_of from osd 0) b ≡ true
+rather_than m p from to osd b less taken_is = elim (cases_Bool (beats m p (move_of from osd 0) (move_of from to 0))) [
+  | inl better ↦ beats_trans m p (move_of from osd 0) (move_of from to 0) b better taken_is
+  | inr alike ↦
+      let same = beats_equal m p (move_of from osd 0) (move_of from to 0) alike less in
+      rw same taken_is
+]
+
+module _ (m n : ClusterMap) (p : PoolFacts) where
+  -- the emptier of two leaves no one emptier than both
+  pub emptier_more : (osds : List ℕ) (i some r : ℕ) → i < length osds → is_candidate m p some ≡ true → is_candidate m p (get_or osds i 0) ≡ true
+      → IsEmptiest m n p (take i osds) some → r ≡ (if beats n p (move_of some (get_or osds i 0) 0) (move_of some some 0) then get_or osds i 0 else some) → IsEmptiest m n p (take (i + 1) osds) r
+  emptier_more osds i some r inside some_is other_is before is = by_test (beats n p (move_of some (get_or osds i 0) 0) (move_of some some 0)) refl is
+    where
+      by_test : (b : Bool) → beats n p (move_of some (get_or osds i 0) 0) (move_of some some 0) ≡ b → r ≡ (if b then get_or osds i 0 else some) → IsEmptiest m n p (take (i + 1) osds) r
+      by_test true rather e = rw e (record {
+        candidate = other_is;
+        least =
+            All-more (λ to. (from : ℕ) → beats n p (move_of from to 0) (move_of from (get_or osds i 0) 0) ≡ false) osds i 0 inside
+            (All-weaker (λ to. (from : ℕ) → beats n p (move_of from to 0) (move_of from some 0) ≡ false) (λ to. (from : ℕ) → beats n p (move_of from to 0) (move_of from (get_or osds i 0) 0) ≡ false)
+            (λ to less from. beats_less n p (move_of from to 0) (move_of from some 0) (move_of from (get_or osds i 0) 0) (less from) (rather_to n p from some (get_or osds i 0) some ∙ rather)) (take i osds) before.least)
+            (λ from. higher_not_better n p from (get_or osds i 0) 0 0 (omega arith));
+      })
+      by_test false stays e = rw e (record {
+        candidate = some_is;
+        least = All-more (λ to. (from : ℕ) → beats n p (move_of from to 0) (move_of from some 0) ≡ false) osds i 0 inside before.least (λ from. rather_to n p from some (get_or osds i 0) some ∙ stays);
+      })
+
+  pub emptiest_begins : (osds : List ℕ) (osd : ℕ) → is_candidate m p osd ≡ true → IsEmptiest m n p (take 0 osds) osd
+  emptiest_begins osds osd is = record { candidate = is; least = All-nil (λ to. (from : ℕ) → beats n p (move_of from to 0) (move_of from osd 0) ≡ false) }
+
+  -- where no move to the emptiest is wanted, none is
+  less_wanted : (from to osd : ℕ) (best : Option Move) → beats n p (move_of from to 0) (move_of from osd 0) ≡ false → is_wanted n p from osd best ≡ false → is_wanted n p from to best ≡ false
+  less_wanted from to osd None less stays = false_from_ne_true _ (λ yes. absurd (false≢true (sym stays ∙ wider n p from to osd less yes)))
+  less_wanted from to osd (Some b) less stays = false_from_ne_true _ (λ yes.
+      let both = and_parts (int_lt (pos (total n p)) (gap n p from to)) (beats n p (move_of from to 0) b) yes in
+      let wide = wider n p from to osd less both.0 in
+      let rather = rather_than n p from to osd b less both.1 in
+      absurd (false≢true (sym stays ∙ and_from (int_lt (pos (total n p)) (gap n p from osd)) (beats n p (move_of from osd 0) b) wide rather)))
+
+  pub none_wanted : (osds : List ℕ) (from osd : ℕ) (best : Option Move) → IsEmptiest m n p osds osd → is_wanted n p from osd best ≡ false → CoversFrom n p best from osds
+  none_wanted osds from osd best emptiest stays = λ k d inside. unwanted n p from (get_or osds k d) best (less_wanted from (get_or osds k d) osd best (emptiest.least k d inside from) stays)
+
+pub some_osd : (osds : List ℕ) (n : ℕ) → false ≡ eqb n 0 → n ≡ length osds → 0 < length osds
+some_osd osds n none long = grind (arith, nat_tests)

@@ -12,7 +12,7 @@ use Rattle.osdmap.specs.Placement.{group_of, steps_of, mapped_set}
 use Rattle.placement_laws.specs.Standing.{stands}
 use Rattle.balancer.specs.declared.moves.Move.{Move}
 use Rattle.balancer.specs.declared.group.Group.{Group}
-use Rattle.balancer.specs.Shares.{osds_of, total, deviation, unevenness}
+use Rattle.balancer.specs.Shares.{osds_of, is_candidate, total, deviation, unevenness}
 use Rattle.balancer.specs.Moves.{move_of, pair_of, pairs_in, last_level, levels_of, has_way}
 use Rattle.balancer.specs.Greedy.{gap, is_good, beats, best_move, after_moves}
 use Rattle.balancer.specs.Plans.{is_moved, items_at}
@@ -90,6 +90,11 @@ pub record IsBetter (m : ClusterMap) (p : PoolFacts) (old new : Option Move) : T
 -- the best move so far covers those between two OSDs
 pub record CoversPair (m : ClusterMap) (p : PoolFacts) (best : Option Move) (from to : ℕ) : Type 0 where
   pub each : (g : ℕ) → g < p.pg_num → IsCovered m p best (move_of from to g)
+
+-- no move to some OSDs is taken rather than one to a candidate, whatever OSD they go from
+pub record IsEmptiest (m n : ClusterMap) (p : PoolFacts) (osds : List ℕ) (osd : ℕ) : Type 0 where
+  pub candidate : is_candidate m p osd ≡ true
+  pub least : All (λ to. (from : ℕ) → beats n p (move_of from to 0) (move_of from osd 0) ≡ false) osds
 
 -- it covers those from an OSD to some
 abbrev pub CoversFrom : ClusterMap → PoolFacts → Option Move → ℕ → List ℕ → Type 0

@@ -16,11 +16,11 @@ fn precedes(u: Move, v: Move) -> bool
 }
 
 impl Board<'_> {
-    ghost use Rattle.std.specs.Prelude.{◌≡◌, ◌<◌, ℕ, pos, neg_ℤ, int_lt, ◌<ℤ◌, ◌^◌, ◌==◌, [], length, position, true, Some, IfSome, MatchOption, OnOk};
+    ghost use Rattle.std.specs.Prelude.{◌≡◌, ◌<◌, ℕ, pos, neg_ℤ, int_lt, ◌<ℤ◌, ◌^◌, ◌==◌, [], length, position, true, false, if◌then◌else◌, Some, IfSome, MatchOption, OnOk};
     ghost use Rattle.balancer.specs.Shares.{is_candidate, total, deviation};
     ghost use Rattle.balancer.specs.Moves.{move_of, are_beside, last_level, levels_of};
     ghost use Rattle.balancer.specs.Greedy.{gap, beats, good_moves, greedy, after_moves};
-    ghost use Rattle.balancer.specs.Boards.{may_go, is_wanted, IsGood, IsBest, IsBetter, CoversPair, CoversFrom};
+    ghost use Rattle.balancer.specs.Boards.{may_go, is_wanted, IsGood, IsBest, IsBetter, IsEmptiest, CoversPair, CoversFrom};
 
     /// The deviation of an OSD.
     fn deviation(&self, osd: u32) -> i128
@@ -103,13 +103,63 @@ impl Board<'_> {
         }
     }
 
-    /// The best move so far, or a better one from a candidate to some.
-    fn better_from(&self, from: u32, best: Option<Move>) -> Option<Move>
+    /// The emptier of two candidates: that to which a move would rather go.
+    fn emptier(&self, some: u32, other: u32) -> u32
+        requires some { is_candidate self.now.frame.map.now.map self.now.frame.pool some ≡ true }
+        requires other { is_candidate self.now.frame.map.now.map self.now.frame.pool other ≡ true }
+        ensures { result ≡ (if beats (after_moves self.now.frame.map.now.map self.now.frame.pool self.now.moves.items) self.now.frame.pool (move_of some other 0) (move_of some some 0) then other else some) }
+    {
+        let there = Move {
+            group: 0,
+            from: some,
+            to: other,
+        };
+        let here = Move {
+            group: 0,
+            from: some,
+            to: some,
+        };
+        if self.beats(there, here) { other } else { some }
+    }
+
+    /// The emptiest candidate, if there is one.
+    fn emptiest(&self) -> Option<u32>
+        ensures { IfSome result (λ osd. IsEmptiest self.now.frame.map.now.map (after_moves self.now.frame.map.now.map self.now.frame.pool self.now.moves.items) self.now.frame.pool self.now.frame.osds.items osd) }
+    {
+        if self.frame.osds.is_empty() {
+            return None;
+        }
+        let mut emptiest = self.frame.osds[0];
+        for osd in &self.frame.osds {
+            emptiest = self.emptier(emptiest, *osd);
+        }
+        Some(emptiest)
+    }
+
+    /// Whether some move from a candidate could be taken rather than the best one so far, by the emptiest candidate.
+    fn may_lead(&self, from: u32, emptiest: Option<u32>, best: Option<Move>) -> bool
         requires from { is_candidate self.now.frame.map.now.map self.now.frame.pool from ≡ true }
+        requires emptiest { IfSome emptiest (λ osd. IsEmptiest self.now.frame.map.now.map (after_moves self.now.frame.map.now.map self.now.frame.pool self.now.moves.items) self.now.frame.pool self.now.frame.osds.items osd) }
+        requires best { IfSome best (λ v. IsGood (after_moves self.now.frame.map.now.map self.now.frame.pool self.now.moves.items) self.now.frame.pool v) }
+        ensures { result ≡ false → CoversFrom (after_moves self.now.frame.map.now.map self.now.frame.pool self.now.moves.items) self.now.frame.pool best from self.now.frame.osds.items }
+    {
+        match emptiest {
+            Some(osd) => self.is_wanted(from, osd, best),
+            None => true,
+        }
+    }
+
+    /// The best move so far, or a better one from a candidate to some.
+    fn better_from(&self, from: u32, emptiest: Option<u32>, best: Option<Move>) -> Option<Move>
+        requires from { is_candidate self.now.frame.map.now.map self.now.frame.pool from ≡ true }
+        requires emptiest { IfSome emptiest (λ osd. IsEmptiest self.now.frame.map.now.map (after_moves self.now.frame.map.now.map self.now.frame.pool self.now.moves.items) self.now.frame.pool self.now.frame.osds.items osd) }
         requires best { IfSome best (λ v. IsGood (after_moves self.now.frame.map.now.map self.now.frame.pool self.now.moves.items) self.now.frame.pool v) }
         ensures better { IsBetter (after_moves self.now.frame.map.now.map self.now.frame.pool self.now.moves.items) self.now.frame.pool best result }
         ensures covers { CoversFrom (after_moves self.now.frame.map.now.map self.now.frame.pool self.now.moves.items) self.now.frame.pool result from self.now.frame.osds.items }
     {
+        if !self.may_lead(from, emptiest, best) {
+            return best;
+        }
         let mut best = best;
         for to in &self.frame.osds {
             best = self.better(from, *to, best);
@@ -121,9 +171,10 @@ impl Board<'_> {
     pub fn best(&self) -> Option<Move>
         ensures { MatchOption result (good_moves (after_moves self.now.frame.map.now.map self.now.frame.pool self.now.moves.items) self.now.frame.pool ≡ []) (λ v. IsBest (after_moves self.now.frame.map.now.map self.now.frame.pool self.now.moves.items) self.now.frame.pool v) }
     {
+        let emptiest = self.emptiest();
         let mut best = None;
         for from in &self.frame.osds {
-            best = self.better_from(*from, best);
+            best = self.better_from(*from, emptiest, best);
         }
         best
     }
