@@ -25,9 +25,10 @@ import tempfile
 from concurrent.futures import ThreadPoolExecutor
 
 import memory
+from plans import cases as plan_cases
 
 HERE = pathlib.Path(__file__).resolve().parent
-TABLES = ["worked", "placements", "changes", "growth", "limits", "texts", "sessions", "program", "examples", "maxima"]
+TABLES = ["worked", "placements", "changes", "growth", "limits", "texts", "sessions", "balance", "plans", "program", "examples", "maxima"]
 SECONDS = 60
 
 
@@ -381,8 +382,16 @@ def examples():
                   arguments=["map"] + list(files))
 
 
+def plans():
+    """Greedy plans by brute force, over random maps."""
+    for name, text, lines, answers in plan_cases(300):
+        yield Run(name, {"map": text, "script": "\n".join(lines) + "\n"}, "\n".join(["session 1"] + answers) + "\n")
+
+
 def table_of(name):
     """The runs of a table."""
+    if name == "plans":
+        return plans()
     if name in ("examples", "maxima"):
         return examples() if name == "examples" else maxima()
     rows = json.loads((HERE / f"{name}.json").read_text())["runs"]

@@ -1,0 +1,109 @@
+"""Greedy plans by brute force, over small random maps.
+
+Each group has an explicit set, so that its mapped set is known without hashes. The plan is the one of the definition: as long as some allowed move
+closes a difference of deviations above the weight of all candidates, the move with the greatest difference, ties to the lowest OSD that is left, then to
+the lowest that comes, then to the lowest group.
+"""
+
+import json
+import random
+
+SEED = 20261123
+
+
+def random_map(rng):
+    """Hosts with OSDs under one root, or under two racks; some OSDs down, lighter or out; and a pool whose groups all have explicit sets."""
+    hosts = rng.randint(2, 4)
+    osds, host_of, buckets, weight_of = [], {}, [], {}
+    for host in range(hosts):
+        for _ in range(rng.randint(1, 3)):
+            osd = len(osds)
+            host_of[osd] = host
+            weight_of[osd] = 65536 * rng.choice([1, 1, 2])
+            osds.append({"exists": True, "id": osd, "up": rng.random() < 0.85, "weight": rng.choice([65536, 65536, 65536, 32768])})
+    spare = len(osds)
+    osds.append({"exists": True, "id": spare, "up": True, "weight": 65536})
+    racked = rng.random() < 0.4
+    rack_of = {host: host % 2 if racked else 0 for host in range(hosts)}
+    for host in range(hosts):
+        items = [[osd, weight_of[osd]] for osd in sorted(host_of) if host_of[osd] == host]
+        buckets.append({"id": -10 - host, "items": items, "kind": "list", "type": 1})
+    if racked:
+        for rack in range(2):
+            items = [[-10 - host, 65536] for host in range(hosts) if rack_of[host] == rack]
+            buckets.append({"id": -2 - rack, "items": items, "kind": "list", "type": 3})
+        buckets.append({"id": -1, "items": [[-2, 65536], [-3, 65536]], "kind": "list", "type": 10})
+        steps = [["take", -1], ["choose_firstn", 0, 3], ["chooseleaf_firstn", 1, 1], ["emit"]]
+    else:
+        buckets.append({"id": -1, "items": [[-10 - host, 65536] for host in range(hosts)], "kind": "list", "type": 10})
+        steps = [["take", -1], ["chooseleaf_firstn", 0, 1], ["emit"]]
+    size, groups = rng.randint(1, min(3, hosts)), rng.randint(1, 12)
+    sets = []
+    for group in range(groups):
+        chosen = rng.sample(range(hosts), size)
+        osds_of = [rng.choice([osd for osd in host_of if host_of[osd] == host]) for host in chosen]
+        sets.append([f"1.{group:x}", osds_of])
+    value = {
+        "buckets": sorted(buckets, key=lambda b: -b["id"]), "epoch": 1, "max_osd": len(osds), "osds": osds, "pg_upmap": sets,
+        "pg_upmap_items": [], "pools": [{"id": 1, "kind": "replicated", "pg_num": groups, "pgp_num": groups, "rule": 0, "size": size}],
+        "rules": [{"id": 0, "kind": "replicated", "steps": steps}], "version": 1,
+    }
+    return value, host_of, rack_of if racked else None, weight_of
+
+
+def plan(value, host_of, rack_of, weight_of, limit):
+    """The moves of the greedy plan, and the mapped sets after it."""
+    osds = {osd["id"]: osd for osd in value["osds"]}
+    size = value["pools"][0]["size"]
+    mapped = [list(places) for _, places in value["pg_upmap"]]
+    pairs = [0] * len(mapped)
+    candidates = [osd for osd in sorted(host_of) if osds[osd]["up"] and osds[osd]["weight"] > 0]
+    weight = {osd: weight_of[osd] * osds[osd]["weight"] for osd in candidates}
+    total = sum(weight.values())
+
+    def rack(osd):
+        return rack_of[host_of[osd]] if rack_of is not None and osd in host_of else None
+
+    def is_allowed(group, leaves, comes):
+        places = mapped[group]
+        if places.count(leaves) != 1 or comes in places or pairs[group] >= size or rack(leaves) != rack(comes):
+            return False
+        return all(host_of.get(osd) != host_of[comes] for osd in places if osd != leaves)
+
+    moves = 0
+    while moves < limit:
+        count = {osd: sum(osd in places for places in mapped) for osd in candidates}
+        places = sum(count.values())
+        away = {osd: count[osd] * total - places * weight[osd] for osd in candidates}
+        good = [
+            (-(away[leaves] - away[comes]), leaves, comes, group)
+            for leaves in candidates for comes in candidates if away[leaves] - away[comes] > total
+            for group in range(len(mapped)) if is_allowed(group, leaves, comes)
+        ]
+        if not good:
+            break
+        _, leaves, comes, group = min(good)
+        mapped[group][mapped[group].index(leaves)] = comes
+        pairs[group] += 1
+        moves += 1
+    return moves, mapped
+
+
+def cases(how_many):
+    """Names, maps, scripts and answers."""
+    rng = random.Random(SEED)
+    for case in range(how_many):
+        value, host_of, rack_of, weight_of = random_map(rng)
+        limit = rng.choice([1, 2, 1024])
+        moves, mapped = plan(value, host_of, rack_of, weight_of, limit)
+        epoch = 2 if moves else 1
+        up = {osd["id"] for osd in value["osds"] if osd["up"]}
+        lines, answers = [f"balance 1 {limit}"], [f"moved {moves} epoch {epoch}"]
+        for group, places in enumerate(mapped):
+            shown = [osd for osd in places if osd in up]
+            lines.append(f"up 1.{group:x}")
+            answers.append(f"up {epoch} 1.{group:x} [{','.join(map(str, shown))}] {shown[0] if shown else -1}")
+        for osd in sorted(up):
+            lines.append(f"count {osd}")
+            answers.append(f"count {epoch} {osd} {sum(osd in places for places in mapped)}")
+        yield f"plan {case}", json.dumps(value, sort_keys=True, separators=(",", ":")), lines, answers
