@@ -7,7 +7,7 @@ PROGRAM = $(CURDIR)/crates/osdmapd/out/osdmapd
 .PHONY: help try prove run test gate runs bench
 
 help:
-	@echo 'make try    the example answered before any proof (78 seconds on a fresh clone)'
+	@echo 'make try    the example answered before any proof (a few minutes on a fresh clone)'
 	@echo 'make run    the program proved and built, then the example answered by it (slow the first time: every proof below it)'
 	@echo 'make test   the gate: every proof from nothing, the edits that must not prove, the tests, then runs of the built program'
 	@echo 'make gate   the gate without the runs'
