@@ -1,4 +1,5 @@
--- What a plan is made with: the pool's groups and the deviations of all OSDs after the moves so far, as they are stored.
+-- What a plan is made with: the pool's groups and the deviations of all OSDs after the moves so far, as they are
+-- stored.
 use Rattle.std.specs.Prelude.{◌≡◌, ℕ, ◌+◌, ◌*◌, ◌<◌, ◌≤◌, ◌==◌, Bool, true, false, not, ◌&&◌, nat_lt, ℤ, pos, int_lt, List, [], ◌∷◌, ◌++◌, length, map, Option, Some, None, IfSome}
 use Rattle.std.specs.List.{range_with_len, list_any, count_by, All}
 use Rattle.std.specs.Option.{option_map_or}
@@ -72,8 +73,8 @@ abbrev pub IsCovered : ClusterMap → PoolFacts → Option Move → Move → Typ
 IsCovered m p None v = is_good m p v ≡ false
 IsCovered m p (Some best) v = is_good m p v ≡ true → beats m p v best ≡ false
 
--- the map after some moves, each of a group that is there, holds together, each group moved has its pairs there as an exception, and each move made the pool
--- more even
+-- the map after some moves, each of a group that is there, holds together, each group moved has its pairs there as an
+-- exception, and each move made the pool more even
 pub record IsReached (m : ClusterMap) (p : PoolFacts) (moves : List Move) : Type 0 where
   pub holds : HoldsTogether (after_moves m p moves)
   pub there : All (λ v. v.group < p.pg_num) moves

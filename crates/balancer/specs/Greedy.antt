@@ -15,7 +15,8 @@ use Rattle.balancer.specs.Moves.{move_of, moved, is_allowed}
 abbrev pub gap : ClusterMap → PoolFacts → ℕ → ℕ → ℤ
 gap m p from to = deviation m p from -ℤ deviation m p to
 
--- whether a move is good: it is allowed, and the difference is above the weight of all candidates, by which it closes twice
+-- whether a move is good: it is allowed, and the difference is above the weight of all candidates, by which it closes
+-- twice
 unfoldable pub is_good : ClusterMap → PoolFacts → Move → Bool
 is_good m p v = is_allowed m p v && int_lt (pos (total m p)) (gap m p v.from v.to)
 

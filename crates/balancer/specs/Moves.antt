@@ -120,9 +120,9 @@ stands_on m p v = stands v.from (up_set m p v.group) && (count_by (is_of v.from)
 unfoldable pub has_room : ClusterMap → PoolFacts → Move → Bool
 has_room m p v = nat_lt (length (pairs_in m (group_of p v.group))) p.size
 
--- whether a move is allowed: it goes between candidates, the group stands on the first, the pair takes it to the second and
--- is not one too many, the second is where the rule could have chosen it in place of the first, and in a failure domain of
--- its own
+-- whether a move is allowed: it goes between candidates, the group stands on the first, the pair takes it to the second
+-- and is not one too many, the second is where the rule could have chosen it in place of the first, and in a failure
+-- domain of its own
 unfoldable pub is_allowed : ClusterMap → PoolFacts → Move → Bool
 is_allowed m p v =
     is_candidate m p v.from && is_candidate m p v.to && stands_on m p v && does_replace m p v && has_room m p v

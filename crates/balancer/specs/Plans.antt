@@ -72,8 +72,8 @@ pub record IsPlan (m : ClusterMap) (pool limit : ℕ) (change : ChangeParts) (co
 
 -- ---- what a plan is worth
 
--- the change of so many moves lowers the sum of the squares of the deviations by twice the weight of all candidates or more
--- for each of them
+-- the change of so many moves lowers the sum of the squares of the deviations by twice the weight of all candidates or
+-- more for each of them
 pub record Evens (m : ClusterMap) (pool : ℕ) (change : ChangeParts) (count : ℕ) : Type 0 where
   pub evens : IfSome (pool_at m.pools pool) (λ p. unevenness (next m change) p + 2 * total m p * count ≤ unevenness m p)
 

@@ -106,7 +106,8 @@ impl Frame<'_> {
     ghost use Rattle.balancer.specs.Moves.{are_under_same, are_beside, last_level, levels_of};
     ghost use Rattle.balancer.specs.Boards.{may_go};
 
-    /// Whether two OSDs are under the same bucket of each type that the pool's rule chooses before the last, or under none.
+    /// Whether two OSDs are under the same bucket of each type that the pool's rule chooses before the last, or under
+    /// none.
     #[tactic(auto, unfolding(crate::specs::Moves::are_beside))]
     pub fn are_beside(&self, some: u32, other: u32) -> bool
         ensures { result ≡ are_beside self.now.map.now.map self.now.pool some other }

@@ -1,5 +1,5 @@
-//! The balancer: the greedy plan of moves by which the groups of a pool come to stand where the weights of the OSDs want them,
-//! as a change of the map.
+//! The balancer: the greedy plan of moves by which the groups of a pool come to stand where the weights of the OSDs
+//! want them, as a change of the map.
 #![tactic(auto)]
 
 mod board;

@@ -109,9 +109,9 @@ fn planned<'a>(
     Ok(board)
 }
 
-/// The change that makes the greedy plan for a pool, of at most `limit` moves, 1 to 1,024, and how many moves it is, for a map
-/// and its table. `UnknownPool` (23) where there is no such pool; else `BalanceRule` (29) where its rule has more than one
-/// block; else `Memory` (30). Nothing refuses the change at this map.
+/// The change that makes the greedy plan for a pool, of at most `limit` moves, 1 to 1,024, and how many moves it is,
+/// for a map and its table. `UnknownPool` (23) where there is no such pool; else `BalanceRule` (29) where its rule has
+/// more than one block; else `Memory` (30). Nothing refuses the change at this map.
 pub fn plan(
     alloc: Global,
     map: &OsdMap,

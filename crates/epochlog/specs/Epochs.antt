@@ -4,8 +4,8 @@ use Rattle.stated.specs.Incrementals.{Step}
 use Rattle.stated.specs.Limits.{max_first_epoch}
 pub use Rattle.sealed.specs.History.{Begins, OneBegins, longer}
 
--- which row it is: its first epoch, which is that of the map before any incremental, and the names of its cells, one for
--- each epoch after that
+-- which row it is: its first epoch, which is that of the map before any incremental, and the names of its cells, one
+-- for each epoch after that
 pub record Line : Type 0 where
   pub first : ℕ
   pub cells : List ℕ

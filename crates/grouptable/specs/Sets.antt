@@ -35,7 +35,8 @@ put sets change = slice_set sets change.0 change.1
 abbrev pub changed : List Places → List (ℕ × Places) → List Places
 changed sets changes = fold put sets changes
 
--- what an OSD's groups become where one group's set is replaced: `before` and `after` say whether it stood and stands there
+-- what an OSD's groups become where one group's set is replaced: `before` and `after` say whether it stood and stands
+-- there
 abbrev pub left : Bool → Bool → ℕ → List ℕ → List ℕ
 left before after group groups = cond before (cond after groups (without_key group groups)) groups
 

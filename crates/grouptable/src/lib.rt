@@ -1,5 +1,5 @@
-//! The sets of the groups of one pool, and for each OSD the groups in whose set it stands: built once, and then changed by
-//! patches, whose installing takes no memory.
+//! The sets of the groups of one pool, and for each OSD the groups in whose set it stands: built once, and then changed
+//! by patches, whose installing takes no memory.
 #![tactic(auto)]
 
 mod draft;

@@ -11,8 +11,8 @@ use Rattle.state.specs.States.{commit_fault, IsRefusedBy}
 use Rattle.state.specs.Balances.{moves_in}
 use Rattle.monitor.specs.Histories.{GoesOn}
 
--- a plan with moves is committed to the map after some history, which goes on from the one before; the history now is that one with the
--- incremental of the plan's change at its end
+-- a plan with moves is committed to the map after some history, which goes on from the one before; the history now is
+-- that one with the incremental of the plan's change at its end
 pub record IsPlanned (first : ClusterMap) (most : ℕ) (before now : List Step) (pool limit number moves : ℕ) : Type 0 where
   pub found : List Step
   pub goes_on : Begins before found
@@ -30,7 +30,8 @@ pub record IsEven (first : ClusterMap) (now : List Step) (pool limit number move
   pub none : moves ≡ 0
   pub counted : moves_in (after first now) pool limit ≡ 0
 
--- why there is no answer at a history: what refuses the plan; else that memory was short, or where a move is good what refuses its commit
+-- why there is no answer at a history: what refuses the plan; else that memory was short, or where a move is good what
+-- refuses its commit
 abbrev pub IsUnplanned : ClusterMap → ℕ → List Step → ℕ → ℕ → Refusal → Type 0
 IsUnplanned first most now pool limit e =
     (plan_fault (after first now) pool ≡ Some e)
@@ -39,7 +40,8 @@ IsUnplanned first most now pool limit e =
     ⊎ ((moves_in (after first now) pool limit ≢ 0)
     × IsRefusedBy (commit_fault (after first now) (length now) most (epoch_after first now) (plan_change (after first now) pool limit)) e)))
 
--- what balancing answers: that the plan is committed, or that no move is good; or why there is no answer at the history now, or that its seat has made its draws
+-- what balancing answers: that the plan is committed, or that no move is good; or why there is no answer at the history
+-- now, or that its seat has made its draws
 abbrev pub Balances : ClusterMap → ℕ → List Step → List Step → ℕ → ℕ → Result (ℕ × ℕ) Refusal → Type 0
 Balances first most before now pool limit r =
     GoesOn first before now

@@ -142,11 +142,13 @@ impl Monitor {
         answer
     }
 
-    /// Plans the moves that balance the groups of a pool, at most `limit`, 1 to 1,024, and commits their change, both in one hold of the
-    /// lock: the epoch then, and how many moves. Where no move is good, nothing is committed, also where the journal is full.
+    /// Plans the moves that balance the groups of a pool, at most `limit`, 1 to 1,024, and commits their change, both
+    /// in one hold of the lock: the epoch then, and how many moves. Where no move is good, nothing is committed, also
+    /// where the journal is full.
     ///
-    /// `SeatSpent` (31) once the member's seat has made its draws, and only then; `UnknownPool` (23), else `BalanceRule` (29) where the pool's rule
-    /// has more than one block; else `Memory` (30), and where a move is good `JournalFull` (28) or `NotSealed` (32).
+    /// `SeatSpent` (31) once the member's seat has made its draws, and only then; `UnknownPool` (23), else
+    /// `BalanceRule` (29) where the pool's rule has more than one block; else `Memory` (30), and where a move is good
+    /// `JournalFull` (28) or `NotSealed` (32).
     pub fn balance<R: Wait>(
         &self,
         rt: &R,

@@ -4,14 +4,14 @@ ghost use Rattle.osdmap_laws.specs.Laws.{JournalsKeepMaps, IsTextEpoch, StatesIt
 
 use osdmap::{Change, OsdMap};
 
-/// A lawful journal of a map that was accepted leads to a map that would be accepted itself, as long as its epoch is 1 to
-/// 2,147,483,648.
+/// A lawful journal of a map that was accepted leads to a map that would be accepted itself, as long as its epoch is 1
+/// to 2,147,483,648.
 pub fn journals_keep_maps()
     ensures { JournalsKeepMaps }
 {}
 
-/// A map of an epoch of 1 to 2,147,483,648 is the one that its own parts state, and nothing is wrong with these: what is
-/// asked of the parts of a map holds in every map.
+/// A map of an epoch of 1 to 2,147,483,648 is the one that its own parts state, and nothing is wrong with these: what
+/// is asked of the parts of a map holds in every map.
 pub fn states_itself(map: &OsdMap)
     ensures { IsTextEpoch map.now.map.epoch → StatesItself map.now.map }
 {

@@ -145,8 +145,8 @@ GivesOptions r journal map_word scripts =
     (λ o. (o.journal ≡ journal) × (string_bytes o.map ≡ map_word) × (map string_bytes o.scripts.items ≡ scripts))
     (λ e. e ≡ Memory)
 
--- what `osdmapd MAP SCRIPT..` and `osdmapd --journal N MAP SCRIPT..` ask for, where none of the files is taken for an option: this map,
--- these scripts, and a journal of 1,024 or N
+-- what `osdmapd MAP SCRIPT..` and `osdmapd --journal N MAP SCRIPT..` ask for, where none of the files is taken for an
+-- option: this map, these scripts, and a journal of 1,024 or N
 pub record ReadsUsual (words : List Text) (r : Result Options LineError) : Type 0 where
   pub plain : (name map_word : Text) (scripts : List Text) → words ≡ name ∷ map_word ∷ scripts → AreUsual map_word scripts
       → GivesOptions r 1024 map_word scripts

@@ -31,7 +31,8 @@ lets_all number passes = passes ≡ true
 abbrev pub unseen : Sight
 unseen = record { member = []; follower = [] }
 
--- the text of the session of a number: its heading, and the answers of its script, from this first map and with a journal for so many changes
+-- the text of the session of a number: its heading, and the answers of its script, from this first map and with a
+-- journal for so many changes
 abbrev pub IsTextOf : ClusterMap → ℕ → ℕ → List ℕ → List ℕ → Type 0
 IsTextOf first journal number script text =
     (answers : List ℕ) × (last : Sight) × IsTranscript (session_with first journal lets_all) 1 unseen (lines_in script) answers last
@@ -56,8 +57,8 @@ Answered journal stated scripts (Err (Map refusal)) = map_text_fault stated ≡ 
 Answered journal stated scripts (Err Output) = ⊥
 Answered journal stated scripts (Err Memory) = Unit {0}
 
--- what is out at the end: the texts of a map that is not refused, one after the other, or where the output fails a beginning of them; nothing where
--- the map is refused, or memory is short
+-- what is out at the end: the texts of a map that is not refused, one after the other, or where the output fails a
+-- beginning of them; nothing where the map is refused, or memory is short
 abbrev pub Serves : ℕ → List ℕ → List (Vec ℕ Global) → List ℕ → List ℕ → Result Unit Fault → Type 0
 Serves journal stated scripts before after (Ok done) =
     (map_text_fault stated ≡ None)

@@ -148,10 +148,10 @@ fn taken(alloc: Global, matches: &ArgMatches<'_>) -> Result<Options, LineError>
 }
 
 /// What a command line asks for, the program's name first: `[--journal N] MAP SCRIPT..`, N from 1 to 65,536 and 1,024
-/// where it is not given, and 1 to 64 scripts. The options are those that the parser finds in the words, exactly where it has
-/// nothing against them and there are no more scripts; `Help` where help was asked for, `Usage` for what else the parser has against
-/// the words, `TooMany` where there are more scripts, else `Memory`. So where MAP and the scripts begin with no hyphen, they
-/// are the map and the scripts, and the journal is N or 1,024.
+/// where it is not given, and 1 to 64 scripts. The options are those that the parser finds in the words, exactly where
+/// it has nothing against them and there are no more scripts; `Help` where help was asked for, `Usage` for what else
+/// the parser has against the words, `TooMany` where there are more scripts, else `Memory`. So where MAP and the
+/// scripts begin with no hyphen, they are the map and the scripts, and the journal is N or 1,024.
 pub fn options(alloc: Global, words: &[String]) -> Result<Options, LineError>
     ensures least { IfOk result (λ o. 1 ≤ o.journal) }
     ensures most { IfOk result (λ o. o.journal ≤ max_capacity) }

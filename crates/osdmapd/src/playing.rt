@@ -145,9 +145,9 @@ fn join_all<'s, R: Threads>(
     Ok(texts)
 }
 
-/// The texts of the sessions of these scripts, in their order, each played by a thread of its own, for which it takes one of the members, who
-/// have seen nothing. All threads are started before one is joined, and all have ended when it returns. The one error is
-/// that memory is short, or that a thread cannot be made.
+/// The texts of the sessions of these scripts, in their order, each played by a thread of its own, for which it takes
+/// one of the members, who have seen nothing. All threads are started before one is joined, and all have ended when it
+/// returns. The one error is that memory is short, or that a thread cannot be made.
 pub fn texts<R: Threads + Wait + Sync>(
     alloc: Global,
     rt: &R,

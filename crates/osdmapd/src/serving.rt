@@ -72,7 +72,8 @@ fn answered<R: Threads + Wait + Sync>(
         Ok(map) => map,
         Err(refusal) => return Err(fault_of(refusal)),
     };
-    // The epoch of a map that was read, the journal and the number of scripts are within their limits, so that only memory can be short.
+    // The epoch of a map that was read, the journal and the number of scripts are within their limits, so that only
+    // memory can be short.
     let Ok((monitor, members)) = Monitor::open(alloc, map, journal, scripts.len() as u32) else {
         return Err(Fault::Memory);
     };
@@ -93,13 +94,14 @@ fn put<W: Sink>(out: &mut W, texts: &[Buffer]) -> Result<(), WriteFailed>
     Ok(())
 }
 
-/// Runs scripts over the map that a text states, each in a session and a thread of its own, with a seat at one monitor; after all have ended
-/// it puts to a sink for each script in order the heading of its session and its answers. All threads are started before one is
-/// joined. `journal` is how many changes may be committed, 1 to 65,536; there are 1 to 64 scripts.
+/// Runs scripts over the map that a text states, each in a session and a thread of its own, with a seat at one monitor;
+/// after all have ended it puts to a sink for each script in order the heading of its session and its answers. All
+/// threads are started before one is joined. `journal` is how many changes may be committed, 1 to 65,536; there are 1
+/// to 64 scripts.
 ///
-/// Where the map is refused (10 to 17), nothing is put, nor at `Memory`: a growth was refused (30) before the sessions or for one of their
-/// texts, or a thread could not be made. `Output` comes only where the map is not refused and the sink has failed, which then has a
-/// beginning of the texts; at every other end it has not failed.
+/// Where the map is refused (10 to 17), nothing is put, nor at `Memory`: a growth was refused (30) before the sessions
+/// or for one of their texts, or a thread could not be made. `Output` comes only where the map is not refused and the
+/// sink has failed, which then has a beginning of the texts; at every other end it has not failed.
 pub fn serve<R: Threads + Wait + Sync, W: Sink>(
     alloc: Global,
     rt: &R,

@@ -1,5 +1,5 @@
-//! Worked runs over texts, sessions beside one another, a sink that fails and a seat that is spent. The tables of `tests/` run the
-//! built program over many more, and over command lines.
+//! Worked runs over texts, sessions beside one another, a sink that fails and a seat that is spent. The tables of
+//! `tests/` run the built program over many more, and over command lines.
 ghost use Rattle.std.specs.Prelude.{IfOk};
 ghost use Rattle.monitor.specs.Members.{IsMemberOf, IsNewMemberOf};
 
@@ -197,8 +197,8 @@ impl Sink for Slow {
     }
 }
 
-/// A change and a question over four devices, to a sink that takes some calls: how the session ends, what is out, and the
-/// epoch that another member then sees.
+/// A change and a question over four devices, to a sink that takes some calls: how the session ends, what is out, and
+/// the epoch that another member then sees.
 fn cut_off<R: Wait>(
     rt: &R,
     alloc: Global,
@@ -216,7 +216,8 @@ fn cut_off<R: Wait>(
     Ok((ended, slow, epoch))
 }
 
-/// The first answer, of 13 bytes, takes 5 calls, and the second, of 17, takes 6. The change stands, whether it is told or not.
+/// The first answer, of 13 bytes, takes 5 calls, and the second, of 17, takes 6. The change stands, whether it is told
+/// or not.
 #[test]
 fn a_session_ends_at_each_failed_write(rt: HostRuntime) -> Result<(), Fail> {
     let answers = b"ok 2 evals 0\nup 2 1.0 [0,1] 0\n";

@@ -21,8 +21,8 @@ abbrev pub MappedReadsNamed : Type 0
 MappedReadsNamed = (weights others : List ℕ) (explicit : Option (List ℕ)) (items : Option (List Pair)) (raw : List (Option ℕ)) →
     Agree weights others (named explicit items) → mapped weights explicit items raw ≡ mapped others explicit items raw
 
--- group i of a pool of one map and of a pool of another have the same raw set, the same exceptions, and the same reweights
--- of the OSDs that these name
+-- group i of a pool of one map and of a pool of another have the same raw set, the same exceptions, and the same
+-- reweights of the OSDs that these name
 pub record AreAlike (m n : ClusterMap) (p q : PoolFacts) (i : ℕ) : Type 0 where
   pub raw : raw_set m p i ≡ raw_set n q i
   pub explicit : said_of m.explicit (group_of p i) ≡ said_of n.explicit (group_of q i)

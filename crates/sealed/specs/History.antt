@@ -1,8 +1,8 @@
 -- What is seen of a row.
 use Rattle.std.specs.Prelude.{◌≡◌, ℕ, List, ◌++◌, ◌⊎◌, length, nat_lt, if◌then◌else◌}
 
--- what contracts see of a pass: the row that it is of, by the names of its cells, and its history, the values that it has
--- seen, in the order of the cells
+-- what contracts see of a pass: the row that it is of, by the names of its cells, and its history, the values that it
+-- has seen, in the order of the cells
 pub record Seen (T : Type 0) : Type 0 where
   pub row : List ℕ
   pub history : List T

@@ -48,15 +48,16 @@ Asks first before now Epoch answer = IsLineOf (Looks first before now FindsEpoch
 Asks first before now Dump answer =
     IsLineOf (Looks first before now (FindsText (λ (text : Vec ℕ Global). text.items))) (λ text. dump_text (codes "dump") text.items) answer
 
--- what a change answers, the new epoch and the evaluations: its text is read, where a growth may be refused in place of any answer; then
--- what it states is committed; a text that is refused changes nothing, and nothing is looked at
+-- what a change answers, the new epoch and the evaluations: its text is read, where a growth may be refused in place of
+-- any answer; then what it states is committed; a text that is refused changes nothing, and nothing is looked at
 abbrev pub Changes : ClusterMap → ℕ → List Step → List Step → List ℕ → Result (ℕ × ℕ) Refusal → Type 0
 Changes first most before now text r =
     (read : Result (ℕ × ChangeParts) Refusal) × Makes read (change_text_fault text) (StatesChange text)
     × MatchResult read (λ stated. Commits first most before now stated.0 stated.1 r) (λ e. (r ≡ Err e) × (now ≡ before))
 
--- what waiting for an epoch answers: one that is at least that, at the history that its member has seen then, which goes on from the one
--- before; or that the turns are spent, at a history whose epoch is below it; or that its seat has made its draws
+-- what waiting for an epoch answers: one that is at least that, at the history that its member has seen then, which
+-- goes on from the one before; or that the turns are spent, at a history whose epoch is below it; or that its seat has
+-- made its draws
 abbrev pub Awaits : ClusterMap → ℕ → List Step → List Step → Result ℕ Refusal → Type 0
 Awaits first wanted before now r =
     GoesOn first before now
@@ -65,8 +66,8 @@ Awaits first wanted before now r =
 
 -- ---- the follower
 
--- what a follower's task answers, where a growth may be refused in place of any answer: the epoch of its history, which goes on from the
--- one before; or what its map says, after the same history as before
+-- what a follower's task answers, where a growth may be refused in place of any answer: the epoch of its history, which
+-- goes on from the one before; or what its map says, after the same history as before
 abbrev pub Tells : ClusterMap → List Step → List Step → Task → List ℕ → Type 0
 Tells first before now task.CatchUp answer =
     IsLineOf (λ r. GoesOn first before now × Makes r None (λ epoch. epoch ≡ (after first now).epoch)) (epoch_text (codes "follow")) answer
@@ -80,8 +81,8 @@ Tells first before now task.Dump answer =
 
 -- ---- lines
 
--- what a command answers to a session of a monitor with this first map and a journal for so many changes, and what it has seen then; none
--- is a line that is no command
+-- what a command answers to a session of a monitor with this first map and a journal for so many changes, and what it
+-- has seen then; none is a line that is no command
 abbrev pub Does : ClusterMap → ℕ → Sight → Option Command → List ℕ → Sight → Type 0
 Does first most before None answer now = (answer ≡ refusal_text BadCommand) × (now ≡ before)
 Does first most before (Some (ask question)) answer now =

@@ -54,8 +54,8 @@ limit_in text =
 
 -- ---- commands
 
--- what a line asks for: a question to the monitor; a change that a JSON text states; to wait until the epoch is at least a number; to
--- balance a pool, by so many moves at most; or a task of the session's follower
+-- what a line asks for: a question to the monitor; a change that a JSON text states; to wait until the epoch is at
+-- least a number; to balance a pool, by so many moves at most; or a task of the session's follower
 pub data Command : Type 0 where
   ask : Question → Command
   change : List ℕ → Command
@@ -100,8 +100,8 @@ unfoldable pub plan_in : List ℕ → Option Command
 plan_in text =
     option_and_then (λ words. option_and_then (λ pool. option_map (balance pool) (limit_in words.1)) (pool_in words.0)) (two_words text)
 
--- the command of a line: `change ` and a text, `await ` and an epoch, `balance ` and a plan, a question, or a task; none where it
--- is none of them
+-- the command of a line: `change ` and a text, `await ` and an epoch, `balance ` and a plan, a question, or a task;
+-- none where it is none of them
 unfoldable pub command_in : List ℕ → Option Command
 command_in line = elim (behind (codes "change ") line) [
   | Some text ↦ Some (change text)

@@ -1,6 +1,7 @@
--- What a session writes, whatever it speaks with. S is what it has seen of that. `answers before line answer left`: where
--- it has seen the first, a line that is not empty is answered so, and leaves it with the last. `lets number passes`: the
--- gate may answer so where it is asked for the line of this number. Lines are numbered from 1, the empty ones too.
+-- What a session writes, whatever it speaks with. S is what it has seen of that. `answers before line answer left`:
+-- where it has seen the first, a line that is not empty is answered so, and leaves it with the last. `lets number
+-- passes`: the gate may answer so where it is asked for the line of this number. Lines are numbered from 1, the empty
+-- ones too.
 use Rattle.std.specs.Prelude.{◌≡◌, ℕ, suc, Bool, true, false, List, [], ◌∷◌, ◌++◌, ◌+◌, length}
 
 -- how a session goes
@@ -8,8 +9,8 @@ pub record Manner (S : Type 0) : Type 1 where
   pub answers : S → List ℕ → List ℕ → S → Type 0
   pub lets : ℕ → Bool → Type 0
 
--- the line of a number is taken: an empty one answers nothing, and the gate is not asked for it; any other is let through
--- and then answered
+-- the line of a number is taken: an empty one answers nothing, and the gate is not asked for it; any other is let
+-- through and then answered
 abbrev pub TakesLine : {S : Type 0} → Manner S → ℕ → S → List ℕ → List ℕ → S → Type 0
 TakesLine m number before [] answer left = (answer ≡ []) × (left ≡ before)
 TakesLine m number before (c ∷ cs) answer left = m.lets number true × m.answers before (c ∷ cs) answer left

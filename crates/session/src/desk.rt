@@ -191,8 +191,8 @@ impl<'a, R: Wait> Desk<'a, R> {
             .commit(self.rt, self.alloc, member, base, change)
     }
 
-    /// The epoch, once it is at least the one wanted: `AwaitSpent` (34) after 1,000,000 turns without it. Each turn asks
-    /// for the epoch and then lets others run.
+    /// The epoch, once it is at least the one wanted: `AwaitSpent` (34) after 1,000,000 turns without it. Each turn
+    /// asks for the epoch and then lets others run.
     fn await_epoch(&self, member: &mut Member, wanted: u64) -> Result<u64, Refusal>
         requires { IsMemberOf self.now.monitor.now member.old }
         ensures member { IsMemberOf self.now.monitor.now member.new }

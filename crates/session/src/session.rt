@@ -70,13 +70,13 @@ fn answer_line<R: Wait, W: Sink>(
     Ok(())
 }
 
-/// Runs a script for a member of a monitor: does the command of each line in order, and writes its answer whole before the
-/// next command. A line that is no command answers `BadCommand` (33), a refused one its number and name, and the session
-/// goes on. Before each line that is not empty it asks the gate, by the line's number in the script, from 1.
+/// Runs a script for a member of a monitor: does the command of each line in order, and writes its answer whole before
+/// the next command. A line that is no command answers `BadCommand` (33), a refused one its number and name, and the
+/// session goes on. Before each line that is not empty it asks the gate, by the line's number in the script, from 1.
 ///
-/// What is written is a transcript: each line is answered by one history, that of the member after it, which is lawful from the
-/// first map and goes on from the one that the line before it left; the first goes on from what the member had seen before. The
-/// lines of the session's follower are answered by the follower's history, which is empty at first.
+/// What is written is a transcript: each line is answered by one history, that of the member after it, which is lawful
+/// from the first map and goes on from the one that the line before it left; the first goes on from what the member had
+/// seen before. The lines of the session's follower are answered by the follower's history, which is empty at first.
 ///
 /// It stops with `Write` only where the sink has failed, which is not written to again; with `Memory` only where the
 /// text of an answer found no memory and the sink has not failed; and with `Held` only where the gate

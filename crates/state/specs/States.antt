@@ -19,8 +19,8 @@ pub record Kept : Type 0 where
   pub pass : Seen
   pub map : ClusterMap
 
--- the fact of every state: its journal is lawful from the first map, after whose epoch its row begins; its map is the first
--- map with the journal applied in the order of epochs, without gaps; and its table is that of its map
+-- the fact of every state: its journal is lawful from the first map, after whose epoch its row begins; its map is the
+-- first map with the journal applied in the order of epochs, without gaps; and its table is that of its map
 pub record IsKept (k : Kept) (t : TableFacts) : Type 0 where
   pub lawful : IsLawful k.first k.pass.history
   pub begins : k.pass.row.first ≡ k.first.epoch
@@ -42,8 +42,8 @@ abbrev pub unless : Option Refusal → Option Refusal → Option Refusal
 unless (Some r) other = Some r
 unless None other = other
 
--- the first refusal that applies where a map is the present one, after so many changes of at most so many: the base is not its epoch; what
--- refuses the change; the journal is full
+-- the first refusal that applies where a map is the present one, after so many changes of at most so many: the base is
+-- not its epoch; what refuses the change; the journal is full
 unfoldable pub commit_fault : ClusterMap → ℕ → ℕ → ℕ → ChangeParts → Option Refusal
 commit_fault m done most base change =
     if not (base == m.epoch) then Some (StaleEpoch m.epoch)
@@ -66,20 +66,21 @@ committed k change =
 abbrev pub IsRefusedBy : Option Refusal → Refusal → Type 0
 IsRefusedBy fault e = ((fault ≡ None) × ((e ≡ OutOfMemory) ⊎ (e ≡ NotSealed))) ⊎ (fault ≡ Some e)
 
--- of a commit: what is done exactly where there is no fault, but that a growth may be refused there, or the epoch be sealed by another
+-- of a commit: what is done exactly where there is no fault, but that a growth may be refused there, or the epoch be
+-- sealed by another
 abbrev pub Takes : {X : Type 0} → Result X Refusal → Option Refusal → (X → Type 0) → Type 0
 Takes r fault P =
     MatchResult r (λ x. (fault ≡ None) × P x) (IsRefusedBy fault)
 
--- what a commit answers and leaves: where there is no fault the new epoch and the evaluations, with the journal longer by
--- the change; else the fault; and after a refusal nothing is changed
+-- what a commit answers and leaves: where there is no fault the new epoch and the evaluations, with the journal longer
+-- by the change; else the fault; and after a refusal nothing is changed
 abbrev pub Commits : Kept → Kept → ℕ → ChangeParts → Result (ℕ × ℕ) Refusal → Type 0
 Commits old new base change r =
     Takes r (fault_in old base change) (λ ok. (new ≡ committed old change) × (ok.0 ≡ base + 1) × (ok.1 ≡ evals_of new.map change))
     × OnErr r (new ≡ old)
 
--- all that a commit needs is ready: room in the map, a patch that makes of the table that of the map after the change and whose work counts
--- the evaluations, and the incremental
+-- all that a commit needs is ready: room in the map, a patch that makes of the table that of the map after the change
+-- and whose work counts the evaluations, and the incremental
 pub record IsReady (m : StoredMap) (t : TableFacts) (number : ℕ) (change : ChangeParts) (patch : Patch) (made : Step) : Type 0 where
   pub step : made ≡ record { epoch = number; change = change }
   pub room : HasRoomFor change m

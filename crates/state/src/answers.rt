@@ -53,7 +53,8 @@ impl State {
         Ok((self.map.epoch(), self.table.count(osd)))
     }
 
-    /// The epoch, and the groups in whose up set an OSD stands, by pool upwards, then by number: `UnknownOsd` (21), else `Memory` (30).
+    /// The epoch, and the groups in whose up set an OSD stands, by pool upwards, then by number: `UnknownOsd` (21),
+    /// else `Memory` (30).
     pub fn answer_groups(&self, alloc: Global, osd: u32) -> Result<(u64, Vec<Pg>), Refusal>
         ensures { FindsGroups (λ groups. groups.items) self.now.map osd result }
     {

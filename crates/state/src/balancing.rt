@@ -10,11 +10,12 @@ impl State {
     ghost use Rattle.std.specs.Prelude.{◌≡◌, ◌≤◌};
     ghost use Rattle.state.specs.Balances.{Balances};
 
-    /// Plans the moves that balance the groups of a pool, at most `limit`, 1 to 1,024, and commits their change at the present epoch: the
-    /// epoch then, and how many moves. Where no move is good, nothing is committed and the epoch stays, also where the journal is full. `pass` is as in `commit`.
+    /// Plans the moves that balance the groups of a pool, at most `limit`, 1 to 1,024, and commits their change at the
+    /// present epoch: the epoch then, and how many moves. Where no move is good, nothing is committed and the epoch
+    /// stays, also where the journal is full. `pass` is as in `commit`.
     ///
-    /// `UnknownPool` (23), else `BalanceRule` (29) where the pool's rule has more than one block, else `Memory` (30), `JournalFull` (28) or
-    /// `NotSealed` (32) as in `commit`. After a refusal all is as before.
+    /// `UnknownPool` (23), else `BalanceRule` (29) where the pool's rule has more than one block, else `Memory` (30),
+    /// `JournalFull` (28) or `NotSealed` (32) as in `commit`. After a refusal all is as before.
     pub fn balance(
         &mut self,
         alloc: Global,

@@ -1,5 +1,5 @@
-//! The state of a monitor: the first map, the journal of sealed epochs since, the present map and its table. All calls are those of
-//! one thread; the monitor above lends a state to many.
+//! The state of a monitor: the first map, the journal of sealed epochs since, the present map and its table. All calls
+//! are those of one thread; the monitor above lends a state to many.
 #![tactic(auto)]
 
 mod answers;

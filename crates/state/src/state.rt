@@ -33,7 +33,8 @@ impl Model for State {
     ghost invariant = { λ s. IsKept (record { first = s.first.map; pass = s.pass; map = s.map.map }) s.table };
 }
 
-/// All that a commit needs memory for: room in the map, the patch of its table, and the incremental of the epoch in a box.
+/// All that a commit needs memory for: room in the map, the patch of its table, and the incremental of the epoch in a
+/// box.
 fn prepared(
     alloc: Global,
     map: &mut OsdMap,
@@ -73,7 +74,8 @@ impl State {
     ghost use Rattle.pgtable.specs.Tables.{IsTableOf};
     ghost use Rattle.state.specs.States.{opened, Commits, fault_in};
 
-    /// The state at its beginning: no change yet. It is for a row whose first epoch is the map's. The one error is `Memory` (30).
+    /// The state at its beginning: no change yet. It is for a row whose first epoch is the map's. The one error is
+    /// `Memory` (30).
     pub fn new(alloc: Global, map: OsdMap, row: &Row) -> Result<State, Memory>
         requires { row.now.first ≡ map.map.epoch }
         ensures { IfOk result (λ s. s ≡ opened map.map row.now) }
@@ -89,8 +91,8 @@ impl State {
         })
     }
 
-    /// The present map: the first map with the changes of the journal applied in the order of their epochs, which follow
-    /// on that of the first map without gaps.
+    /// The present map: the first map with the changes of the journal applied in the order of their epochs, which
+    /// follow on that of the first map without gaps.
     pub fn map(&self) -> &OsdMap
         ensures map { result.now.map ≡ self.now.map }
         ensures after { self.now.map ≡ after self.now.first self.now.pass.history }
@@ -115,13 +117,13 @@ impl State {
         &self.pass
     }
 
-    /// Applies a change to the present map, whose epoch `base` must be, and seals it in the row: the new epoch, and the number of
-    /// groups whose rules it ran, which are those whose placement it can alter. `pass` is one of the caller that has seen what
-    /// the state has; it sees the change too.
+    /// Applies a change to the present map, whose epoch `base` must be, and seals it in the row: the new epoch, and the
+    /// number of groups whose rules it ran, which are those whose placement it can alter. `pass` is one of the caller
+    /// that has seen what the state has; it sees the change too.
     ///
-    /// `StaleEpoch` (20) with the present epoch where `base` is another; else what
-    /// `OsdMap::check` refuses (21, 22, 23, 24, 13, 15, 25, 26, 27); else `JournalFull` (28); else `Memory` (30), or `NotSealed` (32)
-    /// where another sealed the epoch. After a refusal all is as before. All memory is taken before the seal; after it nothing can fail.
+    /// `StaleEpoch` (20) with the present epoch where `base` is another; else what `OsdMap::check` refuses (21, 22, 23,
+    /// 24, 13, 15, 25, 26, 27); else `JournalFull` (28); else `Memory` (30), or `NotSealed` (32) where another sealed
+    /// the epoch. After a refusal all is as before. All memory is taken before the seal; after it nothing can fail.
     pub fn commit(
         &mut self,
         alloc: Global,

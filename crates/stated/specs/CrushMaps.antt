@@ -81,7 +81,8 @@ is_lawful buckets r = rule_ok r.kind (map step_of r.steps) buckets
 abbrev pub rules_fit : List Bucket → List RulePart → Bool
 rules_fit buckets rules = is_distinct (map (λ r. nat_abs r.id) rules) && list_all (is_lawful buckets) rules
 
--- what is wrong with buckets and rules within the limits: they are no forest over max_osd devices, else no rules over it
+-- what is wrong with buckets and rules within the limits: they are no forest over max_osd devices, else no rules over
+-- it
 abbrev pub crush_fault : List BucketPart → List RulePart → ℕ → Option Refusal
 crush_fault buckets rules max_osd =
     if not (forest_ok (map bucket_of buckets) max_osd) then Some BadForest

@@ -1,5 +1,5 @@
--- What holds in every change: its parts are in ascending order of their keys, its pools and growths within their limits,
--- and its CRUSH map one.
+-- What holds in every change: its parts are in ascending order of their keys, its pools and growths within their
+-- limits, and its CRUSH map one.
 use Rattle.std.specs.Prelude.{◌≡◌, IfSome}
 use Rattle.std.specs.List.{All}
 use Rattle.std.specs.List.Sorted.{IsNonDecreasing, IsNonDecreasingBy}

@@ -1,5 +1,5 @@
--- The text of a group: the pool's id in decimal, a point, and the number in lower hexadecimal, both without leading zeros
--- (Ceph, pg_t::print).
+-- The text of a group: the pool's id in decimal, a point, and the number in lower hexadecimal, both without leading
+-- zeros (Ceph, pg_t::print).
 use Rattle.std.specs.Prelude.{◌≡◌, ℕ, ◌+◌, ◌-◌, ◌*◌, ◌^◌, ◌==◌, nat_lt, nat_le, Bool, false, ◌&&◌, List, [], ◌∷◌, ◌++◌, take, drop, position, Option, Some, None, option_and_then, if◌then◌else◌}
 use Rattle.std.specs.Option.{option_map}
 use Rattle.std.specs.Fmt.{digits, decimal}

@@ -123,8 +123,8 @@ fn are_over(rules: &[NumberedRule], forest: &Forest) -> bool
     rules.iter().all(|rule| rule.rule.is_over(forest))
 }
 
-/// Rules over a forest by id upwards: `BadRule` (14) where one of them takes a bucket that the forest has not, or has the
-/// id of another; `Memory` (30).
+/// Rules over a forest by id upwards: `BadRule` (14) where one of them takes a bucket that the forest has not, or has
+/// the id of another; `Memory` (30).
 #[tactic(auto, unfolding(crate::specs::CrushMaps::rules_over))]
 fn rules_over(rules: Vec<NumberedRule>, forest: &Forest) -> Result<Vec<NumberedRule>, Refusal>
     ensures { Makes result (refused_unless (rules_over forest.now rules.items) BadRule)
@@ -170,9 +170,9 @@ impl CrushMap {
     ghost use Rattle.stated.specs.Parts.{has_between, bucket_fits, rule_fits};
     ghost use Rattle.stated.specs.CrushMaps.{rule_at, rules_fault, crush_fault, IsCrushMap, IsCrushWith, IsCrushOf};
 
-    /// The CRUSH map over the devices below `max_osd` that parts within the limits state: `BadForest` (13) where its buckets
-    /// are no well-formed forest, else `BadRule` (14) where a rule is outside the grammar, takes a bucket that the forest has
-    /// not, or has the id of another; `Memory` (30).
+    /// The CRUSH map over the devices below `max_osd` that parts within the limits state: `BadForest` (13) where its
+    /// buckets are no well-formed forest, else `BadRule` (14) where a rule is outside the grammar, takes a bucket that
+    /// the forest has not, or has the id of another; `Memory` (30).
     pub fn stated(
         alloc: Global,
         buckets: &[BucketPart],
@@ -192,8 +192,8 @@ impl CrushMap {
         Ok(CrushMap { forest, rules })
     }
 
-    /// The CRUSH map of a forest and of rules over it: `BadLimit` (12) where there are none or more than 32, or an id is
-    /// above 255; else `BadRule` (14) where an id stands twice, or a rule takes a bucket that the forest has not;
+    /// The CRUSH map of a forest and of rules over it: `BadLimit` (12) where there are none or more than 32, or an id
+    /// is above 255; else `BadRule` (14) where an id stands twice, or a rule takes a bucket that the forest has not;
     /// `Memory` (30).
     pub fn new(forest: Forest, rules: Vec<NumberedRule>) -> Result<CrushMap, Refusal>
         ensures { Makes result (rules_fault forest rules.items) (IsCrushWith forest rules.items) }

@@ -153,8 +153,8 @@ impl Entry for Pair {
 }
 
 impl<E: Entry> Exception<E> {
-    /// Whether the exception says something, no more than the size of its pool, and that soundly: an explicit set names no
-    /// OSD twice, and the sides of a pair differ.
+    /// Whether the exception says something, no more than the size of its pool, and that soundly: an explicit set names
+    /// no OSD twice, and the sides of a pair differ.
     pub fn is_sound(&self, pool: &Pool) -> bool
         ensures { result ≡ says_soundly E.sound pool.now self.now }
     {

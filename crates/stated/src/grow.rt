@@ -56,8 +56,8 @@ impl Grow {
     ghost use Rattle.refusal.specs.declared.refused.Refusal.TheVariants.{BadPool};
     ghost use Rattle.stated.specs.Growth.{IsGrowth, grown_to, growth_fits, grows_evenly, growth_fault, growth_of};
 
-    /// What a pool grows to: `BadLimit` (12) where a number is outside its limits, else `BadPool` (15) where `pgp_num` is
-    /// above `pg_num`.
+    /// What a pool grows to: `BadLimit` (12) where a number is outside its limits, else `BadPool` (15) where `pgp_num`
+    /// is above `pg_num`.
     pub fn new(pool: i128, pg_num: i128, pgp_num: i128) -> Result<Grow, Refusal>
         ensures { Judges result (growth_fault (record { pool = pool; pg_num = pg_num; pgp_num = pgp_num }))
             (λ g. g ≡ growth_of (record { pool = pool; pg_num = pg_num; pgp_num = pgp_num })) }

@@ -1,5 +1,5 @@
-//! What maps and changes are stated with: groups and their texts, pools, exceptions, the parts of maps and changes, their
-//! limits, and the values that numbers within the limits stand for.
+//! What maps and changes are stated with: groups and their texts, pools, exceptions, the parts of maps and changes,
+//! their limits, and the values that numbers within the limits stand for.
 #![tactic(auto)]
 
 mod buckets;
