@@ -50,7 +50,8 @@ gone g v = record g { places = replaced (pair_of v) g.places; pairs = g.pairs ++
 -- whether a group may go from one OSD to another, where both are candidates and beside one another
 unfoldable pub may_go : ClusterMap → PoolFacts → ℕ → ℕ → Group → Bool
 may_go m p from to g =
-    not g.is_fixed && (count_by (is_of from) g.places == 1) && not (stands to g.places) && nat_lt (length g.pairs) p.size
+    not g.is_fixed && (count_by (is_of from) g.places == 1) && not (stands to g.places)
+      && nat_lt (length g.pairs) p.size
     && has_way m (last_level (levels_of (steps_of m p))) from to g.places
 
 -- whether some move between two OSDs could be taken rather than the best one so far
@@ -78,7 +79,9 @@ IsCovered m p (Some best) v = is_good m p v ≡ true → beats m p v best ≡ fa
 pub record IsReached (m : ClusterMap) (p : PoolFacts) (moves : List Move) : Type 0 where
   pub holds : HoldsTogether (after_moves m p moves)
   pub there : All (λ v. v.group < p.pg_num) moves
-  pub named : (n : ℕ) → is_moved moves n ≡ true → entry_at key_of (after_moves m p moves).items (place_of (group_of p n)) ≡ Some (items_at (after_moves m p moves) p n)
+  pub named : (n : ℕ) → is_moved moves n ≡ true →
+      entry_at key_of (after_moves m p moves).items (place_of (group_of p n))
+      ≡ Some (items_at (after_moves m p moves) p n)
   pub evens : unevenness (after_moves m p moves) p + 2 * total m p * length moves ≤ unevenness m p
 
 -- ---- the search for the best move

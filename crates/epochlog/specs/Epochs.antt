@@ -40,4 +40,5 @@ IsWithinLimits first capacity = (1 ≤ first) × (first ≤ max_first_epoch) × 
 
 -- the same as a test
 abbrev pub is_within_limits : ℕ → ℕ → Bool
-is_within_limits first capacity = nat_le 1 first && nat_le first max_first_epoch && (nat_le 1 capacity && nat_le capacity max_capacity)
+is_within_limits first capacity =
+    nat_le 1 first && nat_le first max_first_epoch && (nat_le 1 capacity && nat_le capacity max_capacity)

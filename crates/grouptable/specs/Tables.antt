@@ -14,10 +14,12 @@ abbrev pub IsAscending : List (ℕ × Places) → Type 0
 IsAscending changes = AllPairs (λ a b. a.0 < b.0) changes
 
 -- lists that take the place of those of a table where groups get other sets: none, or each that changes
-pub record IsRedrawing (sets : List Places) (changes : List (ℕ × Places)) (fresh : List (Option (List ℕ))) : Type 0 where
+pub record IsRedrawing (sets : List Places) (changes : List (ℕ × Places)) (fresh : List (Option (List ℕ))) :
+    Type 0 where
   pub all : 0 < length fresh → length fresh ≡ 1024
   pub some : 0 < length fresh → 0 < length sets
-  pub each : (osd : ℕ) → osd < 1024 → unwrap_or (slice_index_or fresh osd None) (groups_of osd sets) ≡ groups_of osd (changed sets changes)
+  pub each : (osd : ℕ) → osd < 1024 → unwrap_or (slice_index_or fresh osd None) (groups_of osd sets)
+      ≡ groups_of osd (changed sets changes)
 
 -- a patch gives other sets to groups that are there, with the lists that change
 pub record IsPatchFor (sets : List Places) (patch : GroupPatch) : Type 0 where

@@ -13,7 +13,8 @@ use Rattle.monitor.specs.Histories.{GoesOn}
 
 -- a plan with moves is committed to the map after some history, which goes on from the one before; the history now is
 -- that one with the incremental of the plan's change at its end
-pub record IsPlanned (first : ClusterMap) (most : ℕ) (before now : List Step) (pool limit number moves : ℕ) : Type 0 where
+pub record IsPlanned (first : ClusterMap) (most : ℕ) (before now : List Step) (pool limit number moves : ℕ) :
+    Type 0 where
   pub found : List Step
   pub goes_on : Begins before found
   pub ends : now ≡ found ++ record { epoch = number; change = plan_change (after first found) pool limit } ∷ []
@@ -21,7 +22,8 @@ pub record IsPlanned (first : ClusterMap) (most : ℕ) (before now : List Step) 
   pub sound : plan_fault (after first found) pool ≡ None
   pub some : moves ≢ 0
   pub counted : moves ≡ moves_in (after first found) pool limit
-  pub accepted : commit_fault (after first found) (length found) most (epoch_after first found) (plan_change (after first found) pool limit) ≡ None
+  pub accepted : commit_fault (after first found) (length found) most (epoch_after first found)
+      (plan_change (after first found) pool limit) ≡ None
 
 -- no move is good at the map after the history now, whose epoch is the answer
 pub record IsEven (first : ClusterMap) (now : List Step) (pool limit number moves : ℕ) : Type 0 where
@@ -38,7 +40,8 @@ IsUnplanned first most now pool limit e =
     ⊎ ((plan_fault (after first now) pool ≡ None)
     × ((e ≡ OutOfMemory)
     ⊎ ((moves_in (after first now) pool limit ≢ 0)
-    × IsRefusedBy (commit_fault (after first now) (length now) most (epoch_after first now) (plan_change (after first now) pool limit)) e)))
+    × IsRefusedBy (commit_fault (after first now) (length now) most (epoch_after first now)
+      (plan_change (after first now) pool limit)) e)))
 
 -- what balancing answers: that the plan is committed, or that no move is good; or why there is no answer at the history
 -- now, or that its seat has made its draws

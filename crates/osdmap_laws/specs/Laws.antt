@@ -15,7 +15,8 @@ use Rattle.osdmap.specs.Changes.{change_fault, apply, with_up, after, IsLawful}
 
 -- the map after what goes down and what comes up the other way round
 abbrev pub turned : ClusterMap → Step → ClusterMap
-turned m step = record m { presences = fold (with_up false) (fold (with_up true) m.presences step.change.up) step.change.down }
+turned m step =
+    record m { presences = fold (with_up false) (fold (with_up true) m.presences step.change.up) step.change.down }
 
 -- an OSD is up after a change, and down after its parts the other way round
 pub record EndsUp (m : ClusterMap) (step : Step) (osd : ℕ) : Type 0 where
@@ -48,9 +49,11 @@ AreChanges journal = All (λ step. IsChange step.change) journal
 
 -- a lawful journal of a map that was accepted leads to one that would be, where its epoch is one of a text
 abbrev pub JournalsKeepMaps : Type 0
-JournalsKeepMaps = (p : MapParts) (m : ClusterMap) (journal : List Step) → IsAccepted p m → AreChanges journal → IsLawful m journal
+JournalsKeepMaps =
+    (p : MapParts) (m : ClusterMap) (journal : List Step) → IsAccepted p m → AreChanges journal → IsLawful m journal
     → IsTextEpoch (after m journal).epoch → StatesItself (after m journal)
 
 -- a change that is not refused leads to a map that states itself, whatever epoch of a text it is given
 abbrev pub LeadsToAMap : ClusterMap → ChangeParts → Type 0
-LeadsToAMap m c = change_fault m c ≡ None → (epoch : ℕ) → IsTextEpoch epoch → StatesItself (apply m (record { epoch = epoch; change = c }))
+LeadsToAMap m c = change_fault m c ≡ None → (epoch : ℕ) → IsTextEpoch epoch →
+    StatesItself (apply m (record { epoch = epoch; change = c }))

@@ -148,7 +148,9 @@ GivesOptions r journal map_word scripts =
 -- what `osdmapd MAP SCRIPT..` and `osdmapd --journal N MAP SCRIPT..` ask for, where none of the files is taken for an
 -- option: this map, these scripts, and a journal of 1,024 or N
 pub record ReadsUsual (words : List Text) (r : Result Options LineError) : Type 0 where
-  pub plain : (name map_word : Text) (scripts : List Text) → words ≡ name ∷ map_word ∷ scripts → AreUsual map_word scripts
+  pub plain : (name map_word : Text) (scripts : List Text) → words ≡ name ∷ map_word ∷ scripts →
+      AreUsual map_word scripts
       → GivesOptions r 1024 map_word scripts
-  pub with_journal : (name map_word : Text) (n : ℕ) (scripts : List Text) → words ≡ name ∷ codes "--journal" ∷ decimal n ∷ map_word ∷ scripts
+  pub with_journal : (name map_word : Text) (n : ℕ) (scripts : List Text) →
+      words ≡ name ∷ codes "--journal" ∷ decimal n ∷ map_word ∷ scripts
       → 1 ≤ n → n ≤ max_capacity → AreUsual map_word scripts → GivesOptions r n map_word scripts

@@ -18,7 +18,8 @@ Agree weights others osds = All (λ osd. slice_index weights osd ≡ slice_index
 
 -- two lists of reweights that agree on the OSDs that the exceptions name give the same mapped set
 abbrev pub MappedReadsNamed : Type 0
-MappedReadsNamed = (weights others : List ℕ) (explicit : Option (List ℕ)) (items : Option (List Pair)) (raw : List (Option ℕ)) →
+MappedReadsNamed =
+    (weights others : List ℕ) (explicit : Option (List ℕ)) (items : Option (List Pair)) (raw : List (Option ℕ)) →
     Agree weights others (named explicit items) → mapped weights explicit items raw ≡ mapped others explicit items raw
 
 -- group i of a pool of one map and of a pool of another have the same raw set, the same exceptions, and the same

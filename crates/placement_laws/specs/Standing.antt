@@ -12,7 +12,9 @@ stands osd places = list_any (is_of osd) places
 
 -- an OSD stands in the up set of a group exactly where it stands in the mapped set and is up
 abbrev pub UpAreMappedAndUp : Type 0
-UpAreMappedAndUp = (m : ClusterMap) (p : PoolFacts) (n osd : ℕ) → stands osd (up_set m p n) ≡ (stands osd (mapped_set m p n) && osd_is_up m osd)
+UpAreMappedAndUp =
+    (m : ClusterMap) (p : PoolFacts) (n osd : ℕ) →
+    stands osd (up_set m p n) ≡ (stands osd (mapped_set m p n) && osd_is_up m osd)
 
 -- each OSD of a mapped set exists in the map
 abbrev pub MappedExist : Type 0

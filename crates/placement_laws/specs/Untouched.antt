@@ -14,6 +14,7 @@ pub record WasThere (m other : ClusterMap) (p : PoolFacts) (n : ℕ) : Type 0 wh
 
 -- so is each group of the map after a change that is not among the evaluations of the change
 abbrev pub OthersStay : Type 0
-OthersStay = (m : ClusterMap) (step : Step) (p : PoolFacts) (n : ℕ) → HoldsTogether m → change_fault m step.change ≡ None →
+OthersStay =
+    (m : ClusterMap) (step : Step) (p : PoolFacts) (n : ℕ) → HoldsTogether m → change_fault m step.change ≡ None →
     pool_at (apply m step).pools p.id ≡ Some p → n < p.pg_num →
     is_evaluated (apply m step) step.change p n ≡ false → WasThere m (apply m step) p n

@@ -22,4 +22,5 @@ FindsCount m osd r = Judges r (osd_fault m osd) (λ answer. (answer.0 ≡ m.epoc
 
 -- the epoch, and these groups, in a list of any form
 abbrev pub FindsGroups : {X : Type 0} → (X → List Pg) → ClusterMap → ℕ → Result (ℕ × X) Refusal → Type 0
-FindsGroups listed m osd r = Gives r (osd_fault m osd) (λ answer. (answer.0 ≡ m.epoch) × (listed answer.1 ≡ index_of m osd))
+FindsGroups listed m osd r =
+    Gives r (osd_fault m osd) (λ answer. (answer.0 ≡ m.epoch) × (listed answer.1 ≡ index_of m osd))

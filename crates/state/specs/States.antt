@@ -76,12 +76,14 @@ Takes r fault P =
 -- by the change; else the fault; and after a refusal nothing is changed
 abbrev pub Commits : Kept → Kept → ℕ → ChangeParts → Result (ℕ × ℕ) Refusal → Type 0
 Commits old new base change r =
-    Takes r (fault_in old base change) (λ ok. (new ≡ committed old change) × (ok.0 ≡ base + 1) × (ok.1 ≡ evals_of new.map change))
+    Takes r (fault_in old base change) (λ ok. (new ≡ committed old change) × (ok.0 ≡ base + 1)
+      × (ok.1 ≡ evals_of new.map change))
     × OnErr r (new ≡ old)
 
 -- all that a commit needs is ready: room in the map, a patch that makes of the table that of the map after the change
 -- and whose work counts the evaluations, and the incremental
-pub record IsReady (m : StoredMap) (t : TableFacts) (number : ℕ) (change : ChangeParts) (patch : Patch) (made : Step) : Type 0 where
+pub record IsReady (m : StoredMap) (t : TableFacts) (number : ℕ) (change : ChangeParts) (patch : Patch) (made : Step) :
+    Type 0 where
   pub step : made ≡ record { epoch = number; change = change }
   pub room : HasRoomFor change m
   pub leads : LeadsTo (next m.map change) t patch

@@ -32,7 +32,8 @@ rule_at rules id = option_map (λ r. r.rule) (find (λ r. r.id == id) rules)
 
 -- a rule of an id of at most 255, within the limits, and over a forest
 unfoldable pub is_rule_over : List Bucket → NumberedRule → Bool
-is_rule_over buckets r = nat_le r.id max_rule_id && rule_limits_ok r.rule.steps && rule_ok r.rule.kind r.rule.steps buckets
+is_rule_over buckets r =
+    nat_le r.id max_rule_id && rule_limits_ok r.rule.steps && rule_ok r.rule.kind r.rule.steps buckets
 
 -- what holds in every CRUSH map: a forest, and 1 to 32 rules over it by id upwards
 pub record IsCrushMap (c : CrushFacts) : Type 0 where
@@ -50,11 +51,13 @@ rule_ids_fit rules = has_between 1 max_rules rules && list_all (λ r. nat_le r.i
 
 -- no id twice, and each rule takes buckets of the forest
 unfoldable pub rules_over : List Bucket → List NumberedRule → Bool
-rules_over buckets rules = is_distinct (map (λ r. r.id) rules) && list_all (λ r. rule_ok r.rule.kind r.rule.steps buckets) rules
+rules_over buckets rules =
+    is_distinct (map (λ r. r.id) rules) && list_all (λ r. rule_ok r.rule.kind r.rule.steps buckets) rules
 
 -- what is wrong with rules for a forest: how many there are or an id, else an id twice or a bucket that is not there
 abbrev pub rules_fault : List Bucket → List NumberedRule → Option Refusal
-rules_fault buckets rules = if not (rule_ids_fit rules) then Some BadLimit else refused_unless (rules_over buckets rules) BadRule
+rules_fault buckets rules =
+    if not (rule_ids_fit rules) then Some BadLimit else refused_unless (rules_over buckets rules) BadRule
 
 -- the CRUSH map has this forest, and these rules by id upwards
 pub record IsCrushWith (buckets : List Bucket) (rules : List NumberedRule) (c : CrushFacts) : Type 0 where

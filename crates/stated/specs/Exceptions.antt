@@ -79,7 +79,8 @@ abbrev pub is_sound : {E : Type 0} → (List E → Bool) → List PoolFacts → 
 is_sound sound pools e = option_map_or (λ p. says_soundly sound p e) (entry_at (λ p. p.id) pools e.pg.pool) false
 
 -- an exception of a group that is there, naming OSDs that exist, and soundly
-abbrev pub is_exception : {E : Type 0} → (E → List ℕ) → (List E → Bool) → List PoolFacts → (ℕ → Bool) → Exception E → Bool
+abbrev pub is_exception : {E : Type 0} → (E → List ℕ) → (List E → Bool) → List PoolFacts → (ℕ → Bool) → Exception E →
+    Bool
 is_exception names sound pools exists e = has_group pools e.pg && all_named names exists e && is_sound sound pools e
 
 -- ---- changes of exceptions
@@ -89,5 +90,6 @@ abbrev pub stays : {E : Type 0} → List ℕ → List Pg → Exception E → Boo
 stays old_pools gone e = not (has_key (λ id. id) old_pools e.pg.pool) && not (is_among gone e.pg)
 
 -- the exceptions after some are taken away, and others put in
-unfoldable pub exceptions_after : {E : Type 0} → List ℕ → List Pg → List (Exception E) → List (Exception E) → List (Exception E)
+unfoldable pub exceptions_after : {E : Type 0} → List ℕ → List Pg → List (Exception E) → List (Exception E) →
+    List (Exception E)
 exceptions_after old_pools gone new es = fold (put key_of) (filter (stays old_pools gone) es) new

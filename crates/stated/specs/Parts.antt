@@ -47,7 +47,9 @@ unfoldable pub item_fits : ItemPart → Bool
 item_fits i = is_between lowest_bucket (pos max_osd_id) i.id && is_between (pos 1) (pos max_item_weight) i.weight
 
 unfoldable pub bucket_fits : BucketPart → Bool
-bucket_fits b = is_bucket_id b.id && is_between (pos 1) (pos max_level) b.level && has_between 1 max_items b.items && list_all item_fits b.items
+bucket_fits b =
+    is_bucket_id b.id && is_between (pos 1) (pos max_level) b.level && has_between 1 max_items b.items
+    && list_all item_fits b.items
 
 unfoldable pub step_fits : StepPart → Bool
 step_fits (SetChooseTries tries) = is_between (pos 1) (pos max_tries) tries
@@ -116,7 +118,8 @@ abbrev pub step_of : StepPart → Step
 step_of (SetChooseTries tries) = TryFor (nat_abs tries)
 step_of (SetChooseleafTries tries) = TryForLeaves (nat_abs tries)
 step_of (Take id) = TakeBucket id
-step_of (Chooses c) = ChooseBy (record { mode = c.mode; to_leaf = c.to_leaf; count = nat_abs c.count; level = nat_abs c.level })
+step_of (Chooses c) =
+    ChooseBy (record { mode = c.mode; to_leaf = c.to_leaf; count = nat_abs c.count; level = nat_abs c.level })
 step_of Emit = EmitAll
 
 abbrev pub recipe_of : RulePart → Recipe

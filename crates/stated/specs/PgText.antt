@@ -46,12 +46,14 @@ is_point c = c == 46
 
 -- the parts that a text states, each only where it has at most 32 bits; none where the text is that of no group
 unfoldable pub parts_in : List ℕ → Option PgParts
-parts_in text = option_and_then (λ point. option_and_then (λ pool. option_map (λ number. record { pool = pool; number = number })
+parts_in text =
+    option_and_then (λ point. option_and_then (λ pool. option_map (λ number. record { pool = pool; number = number })
     (part_in 16 (drop (point + 1) text))) (part_in 10 (take point text))) (position is_point text)
 
 -- a group of two parts
 abbrev pub group_of : PgParts → Option Pg
-group_of parts = option_and_then (λ pool. option_map (λ number. record { pool = pool; number = number }) parts.number) parts.pool
+group_of parts =
+    option_and_then (λ pool. option_map (λ number. record { pool = pool; number = number }) parts.number) parts.pool
 
 -- the group that a text names
 abbrev pub group_in : List ℕ → Option Pg
