@@ -51,7 +51,7 @@ gone g v = record g { places = replaced (pair_of v) g.places; pairs = g.pairs ++
 unfoldable pub may_go : ClusterMap → PoolFacts → ℕ → ℕ → Group → Bool
 may_go m p from to g =
     not g.is_fixed && (count_by (is_of from) g.places == 1) && not (stands to g.places)
-      && nat_lt (length g.pairs) p.size
+    && nat_lt (length g.pairs) p.size
     && has_way m (last_level (levels_of (steps_of m p))) from to g.places
 
 -- whether some move between two OSDs could be taken rather than the best one so far

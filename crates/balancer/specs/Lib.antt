@@ -3,3 +3,4 @@ pub mod Moves
 pub mod Greedy
 pub mod Plans
 pub mod Boards
+pub mod Reached

@@ -24,7 +24,7 @@ has_one_block steps = count_by is_emit steps == 1
 unfoldable pub is_candidate : ClusterMap → PoolFacts → ℕ → Bool
 is_candidate m p osd =
     paths.reaches m.buckets (steps_of m p) (pos osd) && osd_exists m osd && osd_is_up m osd
-      && not (is_weightless m.weights osd)
+    && not (is_weightless m.weights osd)
 
 -- the OSDs below max_osd
 abbrev pub osds_of : ClusterMap → List ℕ

@@ -82,7 +82,8 @@ pub(crate) struct Board<'a> {
     /// The moves so far.
     pub moves: Vec<Move>,
     ghost reached: { IsReached frame.map.now.map frame.pool moves.items },
-    ghost board: { IsBoardOf (after_moves frame.map.now.map frame.pool moves.items) frame.pool groups.items deviations.items },
+    ghost board: { IsBoardOf (after_moves frame.map.now.map frame.pool moves.items) frame.pool
+        groups.items deviations.items },
 }
 
 impl<'a> Board<'a> {
@@ -113,7 +114,8 @@ impl<'a> Board<'a> {
 
     /// Makes a good move; or `Memory` (30).
     pub fn make(&mut self, step: Move) -> Result<(), Memory>
-        requires { IsGood (after_moves self.old.frame.map.now.map self.old.frame.pool self.old.moves.items) self.old.frame.pool step }
+        requires { IsGood (after_moves self.old.frame.map.now.map self.old.frame.pool self.old.moves.items)
+            self.old.frame.pool step }
         ensures moves { OnOk result (self.new.moves.items ≡ self.old.moves.items ++ step ∷ []) }
         ensures map { self.new.frame.map.now.map ≡ self.old.frame.map.now.map }
         ensures pool { self.new.frame.pool ≡ self.old.frame.pool }
@@ -131,7 +133,8 @@ impl<'a> Board<'a> {
     #[tactic(auto, unfolding(crate::specs::Boards::group_at))]
     fn items_at(&self, number: u32) -> Items
         requires { number < self.now.frame.pool.pg_num }
-        ensures { result ≡ items_at (after_moves self.now.frame.map.now.map self.now.frame.pool self.now.moves.items) self.now.frame.pool number }
+        ensures { result ≡ items_at (after_moves self.now.frame.map.now.map self.now.frame.pool self.now.moves.items)
+            self.now.frame.pool number }
     {
         let pg = Pg {
             pool: self.frame.pool.id(),
@@ -146,7 +149,8 @@ impl<'a> Board<'a> {
     /// For each group moved, by number upwards, all its pairs after the moves; or `Memory` (30).
     #[tactic(auto, unfolding(crate::specs::Plans::items_of))]
     pub fn items(&self, alloc: Global) -> Result<Vec<Items>, Memory>
-        ensures { IfOk result (λ items. items.items ≡ items_of self.now.frame.map.now.map self.now.frame.pool self.now.moves.items) }
+        ensures { IfOk result (λ items. items.items
+            ≡ items_of self.now.frame.map.now.map self.now.frame.pool self.now.moves.items) }
     {
         let mut items = Vec::with_capacity(alloc, self.moves.len())?;
         for number in 0..self.frame.pool.pg_num() {

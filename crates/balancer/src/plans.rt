@@ -101,7 +101,8 @@ fn planned<'a>(
     ensures map { IfOk result (λ board. board.frame.map.now.map ≡ map.entry.now.map) }
     ensures pool { IfOk result (λ board. board.frame.pool ≡ pool) }
     ensures moves { IfOk result (λ board. board.moves.items ≡ greedy map.entry.now.map pool limit) }
-    ensures done { IfOk result (λ board. length board.moves.items < limit → good_moves (after_moves map.entry.now.map pool board.moves.items) pool ≡ []) }
+    ensures done { IfOk result (λ board. length board.moves.items < limit →
+        good_moves (after_moves map.entry.now.map pool board.moves.items) pool ≡ []) }
 {
     let frame = Frame::new(alloc, map, pool)?;
     let mut board = Board::new(alloc, frame, table)?;

@@ -20,12 +20,13 @@ impl Board<'_> {
     ghost use Rattle.balancer.specs.Shares.{is_candidate, total, deviation};
     ghost use Rattle.balancer.specs.Moves.{move_of, are_beside, last_level, levels_of};
     ghost use Rattle.balancer.specs.Greedy.{gap, beats, good_moves, greedy, after_moves};
-    ghost use Rattle.balancer.specs.Boards.{may_go, is_wanted, IsGood, IsBest, IsBetter, IsEmptiest, CoversPair, CoversFrom};
+    ghost use Rattle.balancer.specs.Reached.{reached, IsEmptiestOf};
+    ghost use Rattle.balancer.specs.Boards.{may_go, is_wanted, IsGood, IsBest, IsBetter, CoversPair, CoversFrom};
 
     /// The deviation of an OSD.
     fn deviation(&self, osd: u32) -> i128
         requires { is_candidate self.now.frame.map.now.map self.now.frame.pool osd ≡ true }
-        ensures value { result ≡ deviation (after_moves self.now.frame.map.now.map self.now.frame.pool self.now.moves.items) self.now.frame.pool osd }
+        ensures value { result ≡ deviation (reached self.now) self.now.frame.pool osd }
         ensures high { result <ℤ pos (2 ^ 100) }
         ensures low { neg_ℤ (pos (2 ^ 100)) <ℤ result }
     {
@@ -36,7 +37,7 @@ impl Board<'_> {
     fn gap(&self, from: u32, to: u32) -> i128
         requires from { is_candidate self.now.frame.map.now.map self.now.frame.pool from ≡ true }
         requires to { is_candidate self.now.frame.map.now.map self.now.frame.pool to ≡ true }
-        ensures { result ≡ gap (after_moves self.now.frame.map.now.map self.now.frame.pool self.now.moves.items) self.now.frame.pool from to }
+        ensures { result ≡ gap (reached self.now) self.now.frame.pool from to }
     {
         self.deviation(from) - self.deviation(to)
     }
@@ -48,7 +49,7 @@ impl Board<'_> {
         requires u_to { is_candidate self.now.frame.map.now.map self.now.frame.pool u.to ≡ true }
         requires v_from { is_candidate self.now.frame.map.now.map self.now.frame.pool v.from ≡ true }
         requires v_to { is_candidate self.now.frame.map.now.map self.now.frame.pool v.to ≡ true }
-        ensures { result ≡ beats (after_moves self.now.frame.map.now.map self.now.frame.pool self.now.moves.items) self.now.frame.pool u v }
+        ensures { result ≡ beats (reached self.now) self.now.frame.pool u v }
     {
         let gap = self.gap(u.from, u.to);
         let other = self.gap(v.from, v.to);
@@ -59,7 +60,8 @@ impl Board<'_> {
     fn is_wide(&self, from: u32, to: u32) -> bool
         requires from { is_candidate self.now.frame.map.now.map self.now.frame.pool from ≡ true }
         requires to { is_candidate self.now.frame.map.now.map self.now.frame.pool to ≡ true }
-        ensures { result ≡ int_lt (pos (total (after_moves self.now.frame.map.now.map self.now.frame.pool self.now.moves.items) self.now.frame.pool)) (gap (after_moves self.now.frame.map.now.map self.now.frame.pool self.now.moves.items) self.now.frame.pool from to) }
+        ensures { result ≡ int_lt (pos (total (reached self.now) self.now.frame.pool))
+            (gap (reached self.now) self.now.frame.pool from to) }
     {
         self.gap(from, to) > i128::from(self.frame.weight)
     }
@@ -68,8 +70,8 @@ impl Board<'_> {
     fn is_wanted(&self, from: u32, to: u32, best: Option<Move>) -> bool
         requires from { is_candidate self.now.frame.map.now.map self.now.frame.pool from ≡ true }
         requires to { is_candidate self.now.frame.map.now.map self.now.frame.pool to ≡ true }
-        requires best { IfSome best (λ v. IsGood (after_moves self.now.frame.map.now.map self.now.frame.pool self.now.moves.items) self.now.frame.pool v) }
-        ensures { result ≡ is_wanted (after_moves self.now.frame.map.now.map self.now.frame.pool self.now.moves.items) self.now.frame.pool from to best }
+        requires best { IfSome best (λ v. IsGood (reached self.now) self.now.frame.pool v) }
+        ensures { result ≡ is_wanted (reached self.now) self.now.frame.pool from to best }
     {
         match best {
             Some(best) => self.is_wide(from, to) && self.beats(Move { group: 0, from, to }, best),
@@ -90,9 +92,9 @@ impl Board<'_> {
     fn better(&self, from: u32, to: u32, best: Option<Move>) -> Option<Move>
         requires from { is_candidate self.now.frame.map.now.map self.now.frame.pool from ≡ true }
         requires to { is_candidate self.now.frame.map.now.map self.now.frame.pool to ≡ true }
-        requires best { IfSome best (λ v. IsGood (after_moves self.now.frame.map.now.map self.now.frame.pool self.now.moves.items) self.now.frame.pool v) }
-        ensures better { IsBetter (after_moves self.now.frame.map.now.map self.now.frame.pool self.now.moves.items) self.now.frame.pool best result }
-        ensures covers { CoversPair (after_moves self.now.frame.map.now.map self.now.frame.pool self.now.moves.items) self.now.frame.pool result from to }
+        requires best { IfSome best (λ v. IsGood (reached self.now) self.now.frame.pool v) }
+        ensures better { IsBetter (reached self.now) self.now.frame.pool best result }
+        ensures covers { CoversPair (reached self.now) self.now.frame.pool result from to }
     {
         if !self.is_wanted(from, to, best) || !self.frame.are_beside(from, to) {
             return best;
@@ -107,7 +109,8 @@ impl Board<'_> {
     fn emptier(&self, some: u32, other: u32) -> u32
         requires some { is_candidate self.now.frame.map.now.map self.now.frame.pool some ≡ true }
         requires other { is_candidate self.now.frame.map.now.map self.now.frame.pool other ≡ true }
-        ensures { result ≡ (if beats (after_moves self.now.frame.map.now.map self.now.frame.pool self.now.moves.items) self.now.frame.pool (move_of some other 0) (move_of some some 0) then other else some) }
+        ensures { result ≡ (if beats (reached self.now) self.now.frame.pool (move_of some other 0)
+            (move_of some some 0) then other else some) }
     {
         let there = Move {
             group: 0,
@@ -124,7 +127,7 @@ impl Board<'_> {
 
     /// The emptiest candidate, if there is one.
     fn emptiest(&self) -> Option<u32>
-        ensures { IfSome result (λ osd. IsEmptiest self.now.frame.map.now.map (after_moves self.now.frame.map.now.map self.now.frame.pool self.now.moves.items) self.now.frame.pool self.now.frame.osds.items osd) }
+        ensures { IfSome result (λ osd. IsEmptiestOf self.now osd) }
     {
         if self.frame.osds.is_empty() {
             return None;
@@ -139,9 +142,9 @@ impl Board<'_> {
     /// Whether some move from a candidate could be taken rather than the best one so far, by the emptiest candidate.
     fn may_lead(&self, from: u32, emptiest: Option<u32>, best: Option<Move>) -> bool
         requires from { is_candidate self.now.frame.map.now.map self.now.frame.pool from ≡ true }
-        requires emptiest { IfSome emptiest (λ osd. IsEmptiest self.now.frame.map.now.map (after_moves self.now.frame.map.now.map self.now.frame.pool self.now.moves.items) self.now.frame.pool self.now.frame.osds.items osd) }
-        requires best { IfSome best (λ v. IsGood (after_moves self.now.frame.map.now.map self.now.frame.pool self.now.moves.items) self.now.frame.pool v) }
-        ensures { result ≡ false → CoversFrom (after_moves self.now.frame.map.now.map self.now.frame.pool self.now.moves.items) self.now.frame.pool best from self.now.frame.osds.items }
+        requires emptiest { IfSome emptiest (λ osd. IsEmptiestOf self.now osd) }
+        requires best { IfSome best (λ v. IsGood (reached self.now) self.now.frame.pool v) }
+        ensures { result ≡ false → CoversFrom (reached self.now) self.now.frame.pool best from self.now.frame.osds.items }
     {
         match emptiest {
             Some(osd) => self.is_wanted(from, osd, best),
@@ -152,10 +155,10 @@ impl Board<'_> {
     /// The best move so far, or a better one from a candidate to some.
     fn better_from(&self, from: u32, emptiest: Option<u32>, best: Option<Move>) -> Option<Move>
         requires from { is_candidate self.now.frame.map.now.map self.now.frame.pool from ≡ true }
-        requires emptiest { IfSome emptiest (λ osd. IsEmptiest self.now.frame.map.now.map (after_moves self.now.frame.map.now.map self.now.frame.pool self.now.moves.items) self.now.frame.pool self.now.frame.osds.items osd) }
-        requires best { IfSome best (λ v. IsGood (after_moves self.now.frame.map.now.map self.now.frame.pool self.now.moves.items) self.now.frame.pool v) }
-        ensures better { IsBetter (after_moves self.now.frame.map.now.map self.now.frame.pool self.now.moves.items) self.now.frame.pool best result }
-        ensures covers { CoversFrom (after_moves self.now.frame.map.now.map self.now.frame.pool self.now.moves.items) self.now.frame.pool result from self.now.frame.osds.items }
+        requires emptiest { IfSome emptiest (λ osd. IsEmptiestOf self.now osd) }
+        requires best { IfSome best (λ v. IsGood (reached self.now) self.now.frame.pool v) }
+        ensures better { IsBetter (reached self.now) self.now.frame.pool best result }
+        ensures covers { CoversFrom (reached self.now) self.now.frame.pool result from self.now.frame.osds.items }
     {
         if !self.may_lead(from, emptiest, best) {
             return best;
@@ -169,7 +172,8 @@ impl Board<'_> {
 
     /// The best move between candidates, or none where no move is good.
     pub fn best(&self) -> Option<Move>
-        ensures { MatchOption result (good_moves (after_moves self.now.frame.map.now.map self.now.frame.pool self.now.moves.items) self.now.frame.pool ≡ []) (λ v. IsBest (after_moves self.now.frame.map.now.map self.now.frame.pool self.now.moves.items) self.now.frame.pool v) }
+        ensures { MatchOption result (good_moves (reached self.now) self.now.frame.pool ≡ [])
+            (λ v. IsBest (reached self.now) self.now.frame.pool v) }
     {
         let emptiest = self.emptiest();
         let mut best = None;
@@ -182,8 +186,11 @@ impl Board<'_> {
     /// Makes the best move again and again, until no move is good or so many are made; or `Memory` (30).
     pub fn run(&mut self, limit: u32) -> Result<(), Memory>
         requires { self.old.moves.items ≡ [] }
-        ensures moves { OnOk result (self.new.moves.items ≡ greedy self.old.frame.map.now.map self.old.frame.pool limit) }
-        ensures done { OnOk result (length self.new.moves.items < limit → good_moves (after_moves self.old.frame.map.now.map self.old.frame.pool self.new.moves.items) self.old.frame.pool ≡ []) }
+        ensures moves { OnOk result (self.new.moves.items
+            ≡ greedy self.old.frame.map.now.map self.old.frame.pool limit) }
+        ensures done { OnOk result (length self.new.moves.items < limit →
+            good_moves (after_moves self.old.frame.map.now.map self.old.frame.pool self.new.moves.items)
+            self.old.frame.pool ≡ []) }
         ensures map { self.new.frame.map.now.map ≡ self.old.frame.map.now.map }
         ensures pool { self.new.frame.pool ≡ self.old.frame.pool }
     {

@@ -38,7 +38,8 @@ fn add(
     requires within { osd < length lists.now }
     requires same { vec_len fresh.old ≡ length lists.now }
     ensures len { vec_len fresh.new ≡ vec_len fresh.old }
-    ensures lists { OnOk result (IsRedrawn (λ k groups. cond (osd == k) (with_key group groups) groups) lists.now fresh.old.items fresh.new.items) }
+    ensures lists { OnOk result (IsRedrawn (λ k groups. cond (osd == k) (with_key group groups) groups)
+        lists.now fresh.old.items fresh.new.items) }
 {
     let mut list = taken(alloc, lists, fresh, osd)?;
     list.add(group)?;
@@ -57,7 +58,8 @@ fn remove(
     requires within { osd < length lists.now }
     requires same { vec_len fresh.old ≡ length lists.now }
     ensures len { vec_len fresh.new ≡ vec_len fresh.old }
-    ensures lists { OnOk result (IsRedrawn (λ k groups. cond (osd == k) (without_key group groups) groups) lists.now fresh.old.items fresh.new.items) }
+    ensures lists { OnOk result (IsRedrawn (λ k groups. cond (osd == k) (without_key group groups) groups)
+        lists.now fresh.old.items fresh.new.items) }
 {
     let mut list = taken(alloc, lists, fresh, osd)?;
     list.remove(group);
@@ -78,7 +80,8 @@ fn leave_one(
     requires all { length lists.now ≡ 1024 }
     requires same { vec_len fresh.old ≡ length lists.now }
     ensures len { vec_len fresh.new ≡ vec_len fresh.old }
-    ensures lists { OnOk result (IsRedrawn (λ k. left (is_at k place) (stands k after.now) group) lists.now fresh.old.items fresh.new.items) }
+    ensures lists { OnOk result (IsRedrawn (λ k. left (is_at k place) (stands k after.now) group)
+        lists.now fresh.old.items fresh.new.items) }
 {
     if let Some(osd) = place {
         if !after.has(osd) {
@@ -101,7 +104,8 @@ fn join_one(
     requires all { length lists.now ≡ 1024 }
     requires same { vec_len fresh.old ≡ length lists.now }
     ensures len { vec_len fresh.new ≡ vec_len fresh.old }
-    ensures lists { OnOk result (IsRedrawn (λ k. joined (stands k before.now) (is_at k place) group) lists.now fresh.old.items fresh.new.items) }
+    ensures lists { OnOk result (IsRedrawn (λ k. joined (stands k before.now) (is_at k place) group)
+        lists.now fresh.old.items fresh.new.items) }
 {
     if let Some(osd) = place {
         if !before.has(osd) {
@@ -123,7 +127,8 @@ pub fn leave(
     requires all { length lists.now ≡ 1024 }
     requires same { vec_len fresh.old ≡ length lists.now }
     ensures len { vec_len fresh.new ≡ vec_len fresh.old }
-    ensures lists { OnOk result (IsRedrawn (λ k. left (stands k before.now) (stands k after.now) group) lists.now fresh.old.items fresh.new.items) }
+    ensures lists { OnOk result (IsRedrawn (λ k. left (stands k before.now) (stands k after.now) group)
+        lists.now fresh.old.items fresh.new.items) }
 {
     for i in 0..before.len() {
         leave_one(alloc, lists, fresh, before.at(i), after, group)?;
@@ -143,7 +148,8 @@ pub fn join(
     requires all { length lists.now ≡ 1024 }
     requires same { vec_len fresh.old ≡ length lists.now }
     ensures len { vec_len fresh.new ≡ vec_len fresh.old }
-    ensures lists { OnOk result (IsRedrawn (λ k. joined (stands k before.now) (stands k after.now) group) lists.now fresh.old.items fresh.new.items) }
+    ensures lists { OnOk result (IsRedrawn (λ k. joined (stands k before.now) (stands k after.now) group)
+        lists.now fresh.old.items fresh.new.items) }
 {
     for i in 0..after.len() {
         join_one(alloc, lists, fresh, before, after.at(i), group)?;

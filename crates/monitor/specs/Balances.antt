@@ -41,7 +41,7 @@ IsUnplanned first most now pool limit e =
     × ((e ≡ OutOfMemory)
     ⊎ ((moves_in (after first now) pool limit ≢ 0)
     × IsRefusedBy (commit_fault (after first now) (length now) most (epoch_after first now)
-      (plan_change (after first now) pool limit)) e)))
+    (plan_change (after first now) pool limit)) e)))
 
 -- what balancing answers: that the plan is committed, or that no move is good; or why there is no answer at the history
 -- now, or that its seat has made its draws

@@ -161,7 +161,8 @@ impl Monitor {
         requires some { 1 ≤ limit }
         requires few { limit ≤ 1024 }
         ensures member { IsMemberOf self.now member.new }
-        ensures balances { Balances self.now.first (length self.now.row.cells) member.old.pass.history member.new.pass.history pool limit result }
+        ensures balances { Balances self.now.first
+            (length self.now.row.cells) member.old.pass.history member.new.pass.history pool limit result }
         ensures spent { IfErr result (λ e. e ≡ SeatSpent → IsSpent self.now member.new) }
         ensures refused { IsSpent self.now member.old → result ≡ Err SeatSpent }
     {

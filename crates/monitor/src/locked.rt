@@ -88,7 +88,8 @@ impl Locked {
         requires pass { pass.old ≡ self.old.state.pass }
         requires some { 1 ≤ limit }
         requires few { limit ≤ 1024 }
-        ensures balances { Balances self.old.state.first (length row.now.cells) pass.old.history pass.new.history pool limit result }
+        ensures balances { Balances self.old.state.first
+            (length row.now.cells) pass.old.history pass.new.history pool limit result }
         ensures unspent { IfErr result (λ e. e ≢ SeatSpent) }
         ensures pass { pass.new ≡ self.new.state.pass }
         ensures first { self.new.state.first ≡ self.old.state.first }

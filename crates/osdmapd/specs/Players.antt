@@ -13,7 +13,7 @@ use Rattle.osdmapd.specs.Serving.{IsTextBy}
 abbrev pub IsStartedFor : {T : Type 0} → Monitored → ℕ → PromisedHandle T TextOf → Vec ℕ Global → Type 0
 IsStartedFor monitor number player script =
     (player.promise.monitor.now ≡ monitor) × (player.promise.number ≡ number)
-      × (player.promise.script.now ≡ script.items)
+    × (player.promise.script.now ≡ script.items)
 
 -- what it promised
 abbrev pub Keeps : {T : Type 0} → ℕ → PromisedHandle T TextOf → Buffer → Type 0

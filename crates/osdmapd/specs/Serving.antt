@@ -36,7 +36,7 @@ unseen = record { member = []; follower = [] }
 abbrev pub IsTextOf : ClusterMap → ℕ → ℕ → List ℕ → List ℕ → Type 0
 IsTextOf first journal number script text =
     (answers : List ℕ) × (last : Sight) × IsTranscript (session_with first journal lets_all) 1 unseen
-      (lines_in script) answers last
+    (lines_in script) answers last
     × (text ≡ heading number ++ answers)
 
 -- the same of a session of this monitor
@@ -49,7 +49,7 @@ IsTextBy monitor number script text = IsTextOf monitor.first (length monitor.row
 abbrev pub AreTextsOf : ℕ → List ℕ → List (Vec ℕ Global) → List (List ℕ) → Type 0
 AreTextsOf journal stated scripts texts =
     (m : ClusterMap) × StatesMap stated m
-      × Pairs (λ number (script : Vec ℕ Global) text. IsTextOf m journal number script.items text) 1 scripts texts
+    × Pairs (λ number (script : Vec ℕ Global) text. IsTextOf m journal number script.items text) 1 scripts texts
 
 -- the texts where the map is not refused, or why there are none
 abbrev pub Answered : ℕ → List ℕ → List (Vec ℕ Global) → Result (Vec Buffer Global) Fault → Type 0
@@ -70,7 +70,7 @@ Serves journal stated scripts before after (Err (Map refusal)) =
 Serves journal stated scripts before after (Err Output) =
     (map_text_fault stated ≡ None)
     × ((texts : List (List ℕ)) × (rest : List ℕ) × AreTextsOf journal stated scripts texts
-      × HasPut before (concat texts) rest after)
+    × HasPut before (concat texts) rest after)
 Serves journal stated scripts before after (Err Memory) = after ≡ before
 
 -- whether the sink has failed: where the output is told to have, and else not

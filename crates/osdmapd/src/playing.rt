@@ -35,7 +35,8 @@ type Player<'a> = PromisedHandle<Option<Buffer>, TextOf<'a>>;
 /// The text of a session: its heading, and the answers of its script. `None` where memory is short.
 fn play<R: Wait>(rt: &R, alloc: Global, member: Member, part: TextOf<'_>) -> Option<Buffer>
     requires { IsNewMemberOf part.monitor.now member }
-    ensures { IfSome result (λ t. IsTextBy part.entry.monitor.now part.entry.number part.entry.script.now (buffered t)) }
+    ensures { IfSome result (λ t. IsTextBy part.entry.monitor.now part.entry.number part.entry.script.now
+        (buffered t)) }
 {
     let mut member = member;
     let mut text = Buffer::new(alloc);
@@ -157,7 +158,8 @@ pub fn texts<R: Threads + Wait + Sync>(
 ) -> Result<Vec<Buffer>, AllocError>
     requires members { All (IsNewMemberOf monitor.now) members.items }
     requires count { vec_len members ≡ length scripts.now }
-    ensures { IfOk result (λ texts. Pairs (λ number script text. IsTextBy monitor.now number script.items (buffered text))
+    ensures { IfOk result (λ texts. Pairs (λ number script text. IsTextBy monitor.now number script.items
+        (buffered text))
         1 scripts.now texts.items) }
 {
     thread::scope(
@@ -165,7 +167,8 @@ pub fn texts<R: Threads + Wait + Sync>(
         rt,
         move |scope| -> Result<Vec<Buffer>, AllocError>
             requires { All (IsNewMemberOf monitor.now) members.items × (vec_len members ≡ length scripts.now) }
-            ensures { IfOk result (λ texts. Pairs (λ number script text. IsTextBy monitor.entry.now number script.items (buffered text))
+            ensures { IfOk result (λ texts. Pairs (λ number script text. IsTextBy monitor.entry.now number script.items
+                (buffered text))
                 1 scripts.entry.now texts.items) }
         {
             let players = start_all(scope, rt, monitor, members, scripts)?;

@@ -44,11 +44,11 @@ Asks first before now (Count osd) answer =
     IsLineOf (Looks first before now (λ m. FindsCount m osd)) (λ found. count_text found.0 osd found.1) answer
 Asks first before now (Groups osd) answer =
     IsLineOf (Looks first before now (λ m. FindsGroups (λ (groups : Vec Pg Global). groups.items) m osd))
-      (λ found. groups_text found.0 osd found.1.items) answer
+    (λ found. groups_text found.0 osd found.1.items) answer
 Asks first before now Epoch answer = IsLineOf (Looks first before now FindsEpoch) (epoch_text (codes "epoch")) answer
 Asks first before now Dump answer =
     IsLineOf (Looks first before now (FindsText (λ (text : Vec ℕ Global). text.items)))
-      (λ text. dump_text (codes "dump") text.items) answer
+    (λ text. dump_text (codes "dump") text.items) answer
 
 -- what a change answers, the new epoch and the evaluations: its text is read, where a growth may be refused in place of
 -- any answer; then what it states is committed; a text that is refused changes nothing, and nothing is looked at
@@ -73,7 +73,7 @@ Awaits first wanted before now r =
 abbrev pub Tells : ClusterMap → List Step → List Step → Task → List ℕ → Type 0
 Tells first before now task.CatchUp answer =
     IsLineOf (λ r. GoesOn first before now × Makes r None (λ epoch. epoch ≡ (after first now).epoch))
-      (epoch_text (codes "follow")) answer
+    (epoch_text (codes "follow")) answer
 Tells first before now (task.Up pg) answer =
     IsLineOf (λ r. (now ≡ before) × Makes r (group_fault (after first now) pg) (λ (found : ℕ × List (Option ℕ)).
     (found.0 ≡ (after first now).epoch) × (Some found.1 ≡ up_at (after first now) pg)))
@@ -92,13 +92,13 @@ Does first most before (Some (ask question)) answer now =
     Asks first before.member now.member question answer × (now.follower ≡ before.follower)
 Does first most before (Some (change text)) answer now =
     IsLineOf (Changes first most before.member now.member text) (λ ok. ok_text ok.0 ok.1) answer
-      × (now.follower ≡ before.follower)
+    × (now.follower ≡ before.follower)
 Does first most before (Some (wait epoch)) answer now =
     IsLineOf (Awaits first epoch before.member now.member) (epoch_text (codes "epoch")) answer
-      × (now.follower ≡ before.follower)
+    × (now.follower ≡ before.follower)
 Does first most before (Some (balance pool limit)) answer now =
     IsLineOf (Balances first most before.member now.member pool limit) (λ ok. moved_text ok.1 ok.0) answer
-      × (now.follower ≡ before.follower)
+    × (now.follower ≡ before.follower)
 Does first most before (Some (follower t)) answer now =
     Tells first before.follower now.follower t answer × (now.member ≡ before.member)
 

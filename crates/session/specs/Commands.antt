@@ -99,7 +99,7 @@ task_in line =
 unfoldable pub plan_in : List ℕ → Option Command
 plan_in text =
     option_and_then (λ words. option_and_then (λ pool. option_map (balance pool) (limit_in words.1)) (pool_in words.0))
-      (two_words text)
+    (two_words text)
 
 -- the command of a line: `change ` and a text, `await ` and an epoch, `balance ` and a plan, a question, or a task;
 -- none where it is none of them

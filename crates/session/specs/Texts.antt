@@ -39,7 +39,7 @@ primary_text primary = osd_text (codes "-1") primary
 unfoldable pub set_text : List ℕ → ℕ → Pg → List (Option ℕ) → List ℕ
 set_text word epoch pg places =
     word ++ codes " " ++ decimal epoch ++ codes " " ++ group_text pg
-      ++ codes " [" ++ list_text place_text places ++ codes "] "
+    ++ codes " [" ++ list_text place_text places ++ codes "] "
     ++ primary_text (primary_of places) ++ newline
 
 -- `count EPOCH OSD N`
@@ -51,7 +51,7 @@ count_text epoch osd count =
 unfoldable pub groups_text : ℕ → ℕ → List Pg → List ℕ
 groups_text epoch osd groups =
     codes "groups " ++ decimal epoch ++ codes " " ++ decimal osd
-      ++ codes " [" ++ list_text group_text groups ++ codes "]" ++ newline
+    ++ codes " [" ++ list_text group_text groups ++ codes "]" ++ newline
 
 -- `WORD EPOCH`
 unfoldable pub epoch_text : List ℕ → ℕ → List ℕ

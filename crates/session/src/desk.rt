@@ -51,7 +51,8 @@ impl<'a, R> Desk<'a, R> {
     /// Makes the follower, where there is none yet.
     fn need_follower(&self, follower: &mut Option<Follower>) -> Result<(), Memory>
         requires { IsFollowerOf self.now.monitor.now follower.old }
-        ensures there { OnOk result (IsSomeAnd follower.new (Follows self.now.monitor.now) × (followed follower.new ≡ followed follower.old)) }
+        ensures there { OnOk result (IsSomeAnd follower.new (Follows self.now.monitor.now)
+            × (followed follower.new ≡ followed follower.old)) }
         ensures none { OnErr result ((follower.old ≡ None) × (follower.new ≡ None)) }
     {
         if follower.is_none() {
@@ -65,7 +66,8 @@ impl<'a, R> Desk<'a, R> {
         requires { Follows self.now.monitor.now follower.old }
         ensures follower { Follows self.now.monitor.now follower.new }
         ensures goes_on { GoesOn self.now.monitor.now.first follower.old.history follower.new.history }
-        ensures epoch { Makes result None (λ epoch. epoch ≡ (after self.now.monitor.now.first follower.new.history).epoch) }
+        ensures epoch { Makes result None (λ epoch. epoch
+            ≡ (after self.now.monitor.now.first follower.new.history).epoch) }
     {
         let reached = follower.catch_up(self.alloc, self.monitor);
         let _ = follower.epoch();
@@ -87,7 +89,8 @@ impl<'a, R> Desk<'a, R> {
     /// The written form of the follower's map.
     fn written(&self, follower: &Follower) -> Result<Vec<u8>, Refusal>
         requires { Follows self.now.monitor.now follower.now }
-        ensures text { Makes result None (λ text. text.items ≡ written (after self.now.monitor.now.first follower.now.history)) }
+        ensures text { Makes result None (λ text. text.items
+            ≡ written (after self.now.monitor.now.first follower.now.history)) }
         ensures utf8 { IfOk result (λ text. IsUtf8 text.items) }
     {
         let _ = follower.epoch();
@@ -98,7 +101,8 @@ impl<'a, R> Desk<'a, R> {
     fn tell(&self, follower: &mut Follower, task: Task) -> Result<Reply, Refusal>
         requires { Follows self.now.monitor.now follower.old }
         ensures follower { Follows self.now.monitor.now follower.new }
-        ensures tells { Tells self.now.monitor.now.first follower.old.history follower.new.history task (line_of reply_text result) }
+        ensures tells { Tells self.now.monitor.now.first follower.old.history follower.new.history task
+            (line_of reply_text result) }
     {
         let by = Speaker::Follower;
         match task {
@@ -124,7 +128,8 @@ impl<'a, R> Desk<'a, R> {
     fn follow(&self, follower: &mut Option<Follower>, task: Task) -> Result<Reply, Refusal>
         requires { IsFollowerOf self.now.monitor.now follower.old }
         ensures follower { IsFollowerOf self.now.monitor.now follower.new }
-        ensures tells { Tells self.now.monitor.now.first (followed follower.old) (followed follower.new) task (line_of reply_text result) }
+        ensures tells { Tells self.now.monitor.now.first (followed follower.old) (followed follower.new) task
+            (line_of reply_text result) }
     {
         self.need_follower(follower)?;
         match follower {
@@ -149,7 +154,8 @@ impl<'a, R: Wait> Desk<'a, R> {
     fn ask(&self, member: &mut Member, question: Question) -> Result<Reply, Refusal>
         requires { IsMemberOf self.now.monitor.now member.old }
         ensures member { IsMemberOf self.now.monitor.now member.new }
-        ensures asks { Asks self.now.monitor.now.first member.old.pass.history member.new.pass.history question (line_of reply_text result) }
+        ensures asks { Asks self.now.monitor.now.first member.old.pass.history member.new.pass.history question
+            (line_of reply_text result) }
     {
         let by = Speaker::Monitor;
         match question {
@@ -231,7 +237,8 @@ impl<'a, R: Wait> Desk<'a, R> {
         requires follower { IsFollowerOf self.now.monitor.now follower.old }
         ensures member { IsMemberOf self.now.monitor.now member.new }
         ensures follower { IsFollowerOf self.now.monitor.now follower.new }
-        ensures does { Does self.now.monitor.now.first (length self.now.monitor.now.row.cells) (seen_by member.old follower.old)
+        ensures does { Does self.now.monitor.now.first (length self.now.monitor.now.row.cells)
+            (seen_by member.old follower.old)
             (option_map shown command.entry) (line_of reply_text result) (seen_by member.new follower.new) }
     {
         match command {

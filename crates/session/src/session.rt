@@ -57,7 +57,8 @@ fn answer_line<R: Wait, W: Sink>(
     ensures member { IsMemberOf desk.now.monitor.now member.new }
     ensures follower { IsFollowerOf desk.now.monitor.now room.new.follower }
     ensures out { Ends
-        (IsAnswered desk.now.monitor.now.first (length desk.now.monitor.now.row.cells) (seen_by member.old room.old.follower) line.now)
+        (IsAnswered desk.now.monitor.now.first (length desk.now.monitor.now.row.cells)
+        (seen_by member.old room.old.follower) line.now)
         (seen_by member.new room.new.follower) (W.written sink.old) (W.written sink.new) result }
     ensures failed { W.has_failed sink.new ≡ has_sink_failed result }
 {

@@ -15,7 +15,7 @@ abbrev pub IsBalanced : Kept → Kept → ℕ → ℕ → ℕ → Type 0
 IsBalanced old new pool limit epoch =
     ((moves_in old.map pool limit ≡ 0) × (epoch ≡ old.map.epoch) × (new ≡ old))
     ⊎ ((moves_in old.map pool limit ≢ 0) × (fault_in old old.map.epoch (plan_change old.map pool limit) ≡ None)
-      × (epoch ≡ old.map.epoch + 1)
+    × (epoch ≡ old.map.epoch + 1)
     × (new ≡ committed old (plan_change old.map pool limit)))
 
 -- why there is no answer: what refuses the plan; else that memory was short, or where a move is good what refuses its
@@ -26,13 +26,13 @@ IsUnbalanced old pool limit e =
     ⊎ ((plan_fault old.map pool ≡ None)
     × ((e ≡ OutOfMemory)
     ⊎ ((moves_in old.map pool limit ≢ 0)
-      × IsRefusedBy (fault_in old old.map.epoch (plan_change old.map pool limit)) e)))
+    × IsRefusedBy (fault_in old old.map.epoch (plan_change old.map pool limit)) e)))
 
 -- what balancing answers and leaves: the epoch then and the moves; or why there is no answer, and then nothing is
 -- changed
 abbrev pub Balances : Kept → Kept → ℕ → ℕ → Result (ℕ × ℕ) Refusal → Type 0
 Balances old new pool limit r =
     MatchResult r (λ ok. (plan_fault old.map pool ≡ None) × (ok.1 ≡ moves_in old.map pool limit)
-      × IsBalanced old new pool limit ok.0)
+    × IsBalanced old new pool limit ok.0)
     (IsUnbalanced old pool limit)
     × OnErr r (new ≡ old)

@@ -77,7 +77,7 @@ Takes r fault P =
 abbrev pub Commits : Kept → Kept → ℕ → ChangeParts → Result (ℕ × ℕ) Refusal → Type 0
 Commits old new base change r =
     Takes r (fault_in old base change) (λ ok. (new ≡ committed old change) × (ok.0 ≡ base + 1)
-      × (ok.1 ≡ evals_of new.map change))
+    × (ok.1 ≡ evals_of new.map change))
     × OnErr r (new ≡ old)
 
 -- all that a commit needs is ready: room in the map, a patch that makes of the table that of the map after the change

@@ -29,11 +29,32 @@ impl Model for Pool {
 
     ghost Value = { PoolFacts };
 
-    ghost view = { λ p. record { id = p.id; kind = p.kind; pg_num = p.pg_num; pgp_num = p.pgp_num; rule = p.rule; size = p.size } };
+    ghost view = { λ p. record {
+      id = p.id;
+      kind = p.kind;
+      pg_num = p.pg_num;
+      pgp_num = p.pgp_num;
+      rule = p.rule;
+      size = p.size;
+    } };
 
-    ghost invariant = { λ p. IsWithinLimits (record { id = p.id; kind = p.kind; pg_num = p.pg_num; pgp_num = p.pgp_num; rule = p.rule; size = p.size }) };
+    ghost invariant = { λ p. IsWithinLimits (record {
+      id = p.id;
+      kind = p.kind;
+      pg_num = p.pg_num;
+      pgp_num = p.pgp_num;
+      rule = p.rule;
+      size = p.size;
+    }) };
 
-    ghost inverse = { λ p. record { id = p.id; kind = p.kind; pg_num = p.pg_num; pgp_num = p.pgp_num; rule = p.rule; size = p.size } };
+    ghost inverse = { λ p. record {
+      id = p.id;
+      kind = p.kind;
+      pg_num = p.pg_num;
+      pgp_num = p.pgp_num;
+      rule = p.rule;
+      size = p.size;
+    } };
 }
 
 /// Whether each number of a pool is within its limits.
