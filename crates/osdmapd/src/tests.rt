@@ -1,172 +1,47 @@
-//! Worked runs over texts, sessions beside one another, a sink that fails and a seat that is spent. The tables of
-//! `tests/` run the built program over many more, and over command lines.
-ghost use Rattle.std.specs.Prelude.{IfOk};
+//! What no run of the program shows: a sink that fails, a seat that is spent, a gate and a look that are held while
+//! another asks, and members who try again. The tables of `tests/` run the built program over many scripts and command
+//! lines.
+ghost use Rattle.std.specs.Prelude.{IfOk, All};
 ghost use Rattle.monitor.specs.Members.{IsMemberOf, IsNewMemberOf};
 
 use crate::playing::next;
-use crate::serving::{Fault, serve};
 use crossbeam_utils::Backoff;
-use mapjson::read_map;
-use monitor::{Member, Monitor};
+use mapjson::{read_change, read_map};
+use monitor::{Follower, Look, Member, Monitor};
 use refusal::Refusal;
 use session::{Buffer, Gate, Open, SessionError, Sink, WriteFailed};
-use std::alloc::{AllocError, Global};
-use std::process::Abort;
+use std::alloc::Global;
 use std::sync::Wait;
 use std::sync::atomic::{AtomicU64, Ordering};
 use std::test::Fail;
 use std::thread;
 use std::thread::Threads;
 
-/// One device, one group of one replica.
-const ONE_DEVICE: &str =
-    r#"{"buckets":[{"id":-1,"items":[[0,65536]],"kind":"uniform","type":10}],"epoch":1,"max_osd":1,"osds":[{"exists":true,"id":0,"up":true,"weight":65536}],"pg_upmap":[],"pg_upmap_items":[],"pools":[{"id":1,"kind":"replicated","pg_num":1,"pgp_num":1,"rule":0,"size":1}],"rules":[{"id":0,"kind":"replicated","steps":[["take",-1],["choose_firstn",0,0],["emit"]]}],"version":1}"#;
-/// The same with two replicas.
-const TWO_REPLICAS: &str =
-    r#"{"buckets":[{"id":-1,"items":[[0,65536]],"kind":"uniform","type":10}],"epoch":1,"max_osd":1,"osds":[{"exists":true,"id":0,"up":true,"weight":65536}],"pg_upmap":[],"pg_upmap_items":[],"pools":[{"id":1,"kind":"replicated","pg_num":1,"pgp_num":1,"rule":0,"size":2}],"rules":[{"id":0,"kind":"replicated","steps":[["take",-1],["choose_firstn",0,0],["emit"]]}],"version":1}"#;
-/// What `dump` answers over one device, with the output's first line.
-const ONE_DEVICE_DUMPED: &str = r#"session 1
-dump {"buckets":[{"id":-1,"items":[[0,65536]],"kind":"uniform","type":10}],"epoch":1,"max_osd":1,"osds":[{"exists":true,"id":0,"up":true,"weight":65536}],"pg_upmap":[],"pg_upmap_items":[],"pools":[{"id":1,"kind":"replicated","pg_num":1,"pgp_num":1,"rule":0,"size":1}],"rules":[{"id":0,"kind":"replicated","steps":[["take",-1],["choose_firstn",0,0],["emit"]]}],"version":1}
-"#;
-/// The same after a change that takes the device down and its reweight away.
-const DUMPED_AFTER_A_CHANGE: &str = r#"session 1
-ok 2 evals 1
-dump {"buckets":[{"id":-1,"items":[[0,65536]],"kind":"uniform","type":10}],"epoch":2,"max_osd":1,"osds":[{"exists":true,"id":0,"up":false,"weight":0}],"pg_upmap":[],"pg_upmap_items":[],"pools":[{"id":1,"kind":"replicated","pg_num":1,"pgp_num":1,"rule":0,"size":1}],"rules":[{"id":0,"kind":"replicated","steps":[["take",-1],["choose_firstn",0,0],["emit"]]}],"version":1}
-"#;
 /// Four devices, and an explicit set for the one group.
-const FOUR_DEVICES: &str =
-    r#"{"buckets":[{"id":-1,"items":[[0,65536],[1,65536],[2,65536],[3,65536]],"kind":"uniform","type":10}],"epoch":1,"max_osd":4,"osds":[{"exists":true,"id":0,"up":true,"weight":65536},{"exists":true,"id":1,"up":true,"weight":65536},{"exists":true,"id":2,"up":true,"weight":65536},{"exists":true,"id":3,"up":true,"weight":65536}],"pg_upmap":[["1.0",[2,0,1]]],"pg_upmap_items":[],"pools":[{"id":1,"kind":"replicated","pg_num":1,"pgp_num":1,"rule":0,"size":3}],"rules":[{"id":0,"kind":"replicated","steps":[["take",-1],["choose_firstn",0,0],["emit"]]}],"version":1}"#;
-/// A map cut after its tenth byte.
-const CUT: &str = r#"{"buckets""#;
-/// An object that has none of the keys of a map.
-const NO_KEYS: &str = "{}";
+const FOUR_DEVICES: &str = concat!(
+    r#"{"buckets":[{"id":-1,"items":[[0,65536],[1,65536],[2,65536],[3,65536]],"kind":"uniform","type":10}],"#,
+    r#""epoch":1,"max_osd":4,"osds":[{"exists":true,"id":0,"up":true,"weight":65536},"#,
+    r#"{"exists":true,"id":1,"up":true,"weight":65536},{"exists":true,"id":2,"up":true,"weight":65536},"#,
+    r#"{"exists":true,"id":3,"up":true,"weight":65536}],"pg_upmap":[["1.0",[2,0,1]]],"pg_upmap_items":[],"#,
+    r#""pools":[{"id":1,"kind":"replicated","pg_num":1,"pgp_num":1,"rule":0,"size":3}],"#,
+    r#""rules":[{"id":0,"kind":"replicated","steps":[["take",-1],["choose_firstn",0,0],["emit"]]}],"version":1}"#,
+);
 
-/// A run with a journal of 1,024 changes: its map, its script, and what it writes or why the map is refused.
-#[derive(Clone, Copy)]
-struct Run {
-    name: &'static str,
-    map: &'static str,
-    script: &'static str,
-    wanted: Result<&'static str, Refusal>,
-}
-
-const RUNS: [Run; 10] = [
-    Run {
-        name: "a second replica is skipped after 51 collisions",
-        map: TWO_REPLICAS,
-        script: "up 1.0\n",
-        wanted: Ok("session 1\nup 1 1.0 [0] 0\n"),
-    },
-    Run {
-        name: "an empty script has no answers",
-        map: ONE_DEVICE,
-        script: "",
-        wanted: Ok("session 1\n"),
-    },
-    Run {
-        name: "an OSD goes down and comes up again",
-        map: ONE_DEVICE,
-        script: "change {\"base\":1,\"down\":[0]}\nup 1.0\nchange {\"base\":2,\"up\":[0]}\nup 1.0\n",
-        wanted: Ok("session 1\nok 2 evals 0\nup 2 1.0 [] -1\nok 3 evals 0\nup 3 1.0 [0] 0\n"),
-    },
-    Run {
-        name: "the written form of a map is that map's text",
-        map: ONE_DEVICE,
-        script: "dump\n",
-        wanted: Ok(ONE_DEVICE_DUMPED),
-    },
-    Run {
-        name: "the written form after a change",
-        map: ONE_DEVICE,
-        script: "change {\"base\":1,\"down\":[0],\"weight\":[[0,0]]}\ndump\n",
-        wanted: Ok(DUMPED_AFTER_A_CHANGE),
-    },
-    Run {
-        name: "a cut change, a line that is no command, a pool and a group that are not there",
-        map: ONE_DEVICE,
-        script: "change {\"base\":1\nhello\nup 9.0\nup 1.1\nepoch",
-        wanted: Ok(
-            "session 1\nerr 10 BadJson\nerr 33 BadCommand\nerr 23 UnknownPool\nerr 25 UnknownGroup\nepoch 1\n",
-        ),
-    },
-    Run {
-        name: "pairs act in order on an explicit set, so there and back leaves it",
-        map: FOUR_DEVICES,
-        script: "change {\"base\":1,\"new_items\":[[\"1.0\",[[1,3],[3,1]]]]}\nup 1.0\n",
-        wanted: Ok("session 1\nok 2 evals 1\nup 2 1.0 [2,0,1] 2\n"),
-    },
-    Run {
-        name: "the same change twice is stale the second time",
-        map: FOUR_DEVICES,
-        script: "change {\"base\":1,\"down\":[2]}\nchange {\"base\":1,\"down\":[2]}\nup 1.0\n",
-        wanted: Ok("session 1\nok 2 evals 0\nerr 20 StaleEpoch 2\nup 2 1.0 [0,1] 0\n"),
-    },
-    Run {
-        name: "a map cut after its tenth byte",
-        map: CUT,
-        script: "epoch\n",
-        wanted: Err(Refusal::BadJson),
-    },
-    Run {
-        name: "a map that is an object without keys",
-        map: NO_KEYS,
-        script: "epoch\n",
-        wanted: Err(Refusal::BadField),
-    },
-];
-
-/// Tests that a run puts out what is wanted, or is refused as is wanted and puts out nothing.
-fn assert_run<R: Abort + Threads + Wait + Sync>(
-    rt: &R,
-    alloc: Global,
-    run: Run,
-) -> Result<(), AllocError> {
-    let scripts = [Vec::from_slice(alloc, run.script.as_bytes())?];
-    let mut out = Buffer::new(alloc);
-    let served = serve(alloc, rt, 1024, run.map.as_bytes(), &scripts, &mut out);
-    let (wanted, fault) = match run.wanted {
-        Ok(text) => (text, None),
-        Err(refusal) => ("", Some(Fault::Map(refusal))),
-    };
-    assert_eq!(rt; served.err(), fault, "{}", run.name);
-    assert_eq!(rt; out.bytes(), wanted.as_bytes(), "{}", run.name);
-    Ok(())
-}
-
-#[test]
-fn runs_as_worked(rt: HostRuntime) -> Result<(), Fail> {
-    for run in RUNS {
-        assert_run(&rt, rt.alloc(), run)?;
-    }
-    Ok(())
-}
-
-/// Each waits for the other, so neither run before the other would do.
-#[test]
-fn two_scripts_await_each_other(rt: HostRuntime) -> Result<(), Fail> {
-    let alloc = rt.alloc();
-    let scripts = [
-        Vec::from_slice(alloc, b"change {\"base\":1,\"down\":[0]}\nawait 3\n")?,
-        Vec::from_slice(alloc, b"await 2\nchange {\"base\":2,\"up\":[0]}\nup 1.0\n")?,
-    ];
-    let mut out = Buffer::new(alloc);
-    let served = serve(alloc, &rt, 1024, ONE_DEVICE.as_bytes(), &scripts, &mut out);
-    let wanted =
-        b"session 1\nok 2 evals 0\nepoch 3\nsession 2\nepoch 2\nok 3 evals 0\nup 3 1.0 [0] 0\n";
-    assert_eq!(rt; served, Ok(()));
-    assert_eq!(rt; out.bytes(), wanted.as_slice());
-    Ok(())
-}
-
-/// A monitor of four devices, and two of its members, whose seats may draw so often.
-fn opened(alloc: Global, draws: u64) -> Result<(Monitor, Member, Member), Refusal>
-    ensures { IfOk result (λ r. IsNewMemberOf r.0 r.1 × IsNewMemberOf r.0 r.2) }
+/// A monitor of four devices, and four members of it, whose seats may draw so often.
+fn opened(alloc: Global, draws: u64) -> Result<(Monitor, Vec<Member>), Refusal>
+    ensures { IfOk result (λ r. All (IsNewMemberOf r.0) r.1.items) }
 {
     let map = read_map(alloc, FOUR_DEVICES.as_bytes())?;
-    let (monitor, mut members) = Monitor::open_limited(alloc, map, 16, 2, draws)?;
-    let one = next(&monitor, &mut members).ok_or(Refusal::Memory)?;
-    let other = next(&monitor, &mut members).ok_or(Refusal::Memory)?;
-    Ok((monitor, one, other))
+    Ok(Monitor::open_limited(alloc, map, 16, 4, draws)?)
+}
+
+/// One of the members.
+fn taken(monitor: &Monitor, members: &mut Vec<Member>) -> Result<Member, Refusal>
+    requires { All (IsNewMemberOf monitor.now) members.old.items }
+    ensures rest { All (IsNewMemberOf monitor.now) members.new.items }
+    ensures one { IfOk result (IsNewMemberOf monitor.now) }
+{
+    next(monitor, members).ok_or(Refusal::Memory)
 }
 
 /// A sink that takes at most 3 bytes a call, and fails once it has no calls left.
@@ -204,7 +79,9 @@ fn cut_off<R: Wait>(
     alloc: Global,
     calls: usize,
 ) -> Result<(Result<(), SessionError>, Slow, u64), Refusal> {
-    let (monitor, mut member, mut other) = opened(alloc, 1024)?;
+    let (monitor, mut members) = opened(alloc, 1024)?;
+    let mut member = taken(&monitor, &mut members)?;
+    let mut other = taken(&monitor, &mut members)?;
     let mut slow = Slow {
         bytes: Vec::new(alloc),
         calls,
@@ -246,7 +123,8 @@ fn a_session_ends_at_each_failed_write(rt: HostRuntime) -> Result<(), Fail> {
 
 /// What a session answers whose seat may draw twice.
 fn spent<R: Wait>(rt: &R, alloc: Global) -> Result<Buffer, Refusal> {
-    let (monitor, mut member, _) = opened(alloc, 2)?;
+    let (monitor, mut members) = opened(alloc, 2)?;
+    let mut member = taken(&monitor, &mut members)?;
     let mut answers = Buffer::new(alloc);
     let script = b"epoch\nepoch\nepoch\nhello\nfup 1.0\n";
     match session::run(
@@ -327,7 +205,9 @@ fn met<R: Wait>(
 
 /// How two sessions end that run at once.
 fn met_at_once<R: Wait + Threads + Sync>(rt: &R, alloc: Global) -> Result<bool, Refusal> {
-    let (monitor, one, other) = opened(alloc, 1024)?;
+    let (monitor, mut members) = opened(alloc, 1024)?;
+    let one = taken(&monitor, &mut members)?;
+    let other = taken(&monitor, &mut members)?;
     let (shared, asked) = (&monitor, &AtomicU64::new(0));
     let (first, second) = thread::join(
         rt,
@@ -367,5 +247,178 @@ fn met_at_once<R: Wait + Threads + Sync>(rt: &R, alloc: Global) -> Result<bool, 
 #[test]
 fn sessions_run_at_once(rt: HostRuntime) -> Result<(), Fail> {
     assert!(rt; met_at_once(&rt, rt.alloc()) == Ok(true));
+    Ok(())
+}
+
+/// How often a change is tried again.
+const MAX_TRIES: u32 = 1_000;
+
+/// Commits a change at the present epoch, again where another was committed meanwhile; or why it is refused.
+fn commit<R: Wait>(
+    rt: &R,
+    alloc: Global,
+    monitor: &Monitor,
+    member: &mut Member,
+    text: &str,
+) -> Result<(), Refusal>
+    requires { IsMemberOf monitor.now member.old }
+    ensures { IsMemberOf monitor.now member.new }
+{
+    for _ in 0..MAX_TRIES {
+        let base = monitor.epoch(rt, member)?;
+        let (_, change) = read_change(alloc, text.as_bytes())?;
+        match monitor.commit(rt, alloc, member, base, change) {
+            Err(Refusal::StaleEpoch(_)) => {}
+            answer => return answer.map(|_| ()),
+        }
+    }
+    Err(Refusal::StaleEpoch(0))
+}
+
+/// Commits three changes.
+fn commit_all<R: Wait>(
+    rt: &R,
+    alloc: Global,
+    monitor: &Monitor,
+    member: Member,
+    texts: [&str; 3],
+) -> Result<(), Refusal>
+    requires { IsMemberOf monitor.now member }
+{
+    let mut member = member;
+    for text in texts {
+        commit(rt, alloc, monitor, &mut member, text)?;
+    }
+    Ok(())
+}
+
+/// What three members commit, each of an OSD of its own.
+const TURNS: [[&str; 3]; 3] = [
+    [
+        r#"{"base":1,"down":[0]}"#,
+        r#"{"base":1,"up":[0]}"#,
+        r#"{"base":1,"down":[0]}"#,
+    ],
+    [
+        r#"{"base":1,"down":[1]}"#,
+        r#"{"base":1,"up":[1]}"#,
+        r#"{"base":1,"down":[1]}"#,
+    ],
+    [
+        r#"{"base":1,"down":[2]}"#,
+        r#"{"base":1,"up":[2]}"#,
+        r#"{"base":1,"down":[2]}"#,
+    ],
+];
+
+/// How two members of two threads end who commit at once.
+fn commit_two<R: Wait + Threads + Sync>(
+    rt: &R,
+    alloc: Global,
+    monitor: &Monitor,
+    one: Member,
+    other: Member,
+) -> Result<(), Refusal>
+    requires one { IsMemberOf monitor.now one }
+    requires other { IsMemberOf monitor.now other }
+{
+    let (first, second) = thread::join(
+        rt,
+        move ||
+            requires { IsMemberOf monitor.now one }
+        { commit_all(rt, alloc, monitor, one, TURNS[1]) },
+        move ||
+            requires { IsMemberOf monitor.now other }
+        { commit_all(rt, alloc, monitor, other, TURNS[2]) },
+    );
+    first?;
+    second
+}
+
+/// How three end.
+fn commit_three<R: Wait + Threads + Sync>(
+    rt: &R,
+    alloc: Global,
+    monitor: &Monitor,
+    members: &mut Vec<Member>,
+) -> Result<(), Refusal>
+    requires { All (IsNewMemberOf monitor.now) members.old.items }
+    ensures { All (IsNewMemberOf monitor.now) members.new.items }
+{
+    let one = taken(monitor, members)?;
+    let other = taken(monitor, members)?;
+    let third = taken(monitor, members)?;
+    let (first, second) = thread::join(
+        rt,
+        move ||
+            requires { IsMemberOf monitor.now one }
+        { commit_all(rt, alloc, monitor, one, TURNS[0]) },
+        move ||
+            requires { IsMemberOf monitor.now other × IsMemberOf monitor.now third }
+        { commit_two(rt, alloc, monitor, other, third) },
+    );
+    first?;
+    second
+}
+
+/// The epoch that a follower reaches after nine changes of three threads, and whether it then writes the monitor's own map.
+fn followed<R: Wait + Threads + Sync>(rt: &R, alloc: Global) -> Result<(u64, bool), Refusal> {
+    let (monitor, mut members) = opened(alloc, 100_000)?;
+    let mut follower = Follower::new(alloc, &monitor)?;
+    commit_three(rt, alloc, &monitor, &mut members)?;
+    let mut last = taken(&monitor, &mut members)?;
+    let epoch = follower.catch_up(alloc, &monitor)?;
+    let own = follower.dump(alloc)?;
+    let text = monitor.dump(rt, alloc, &mut last)?;
+    Ok((epoch, own == text))
+}
+
+/// A follower of nine changes, of three threads that try again, ends with the map of the monitor.
+#[test]
+fn three_threads_commit_nine_changes(rt: HostRuntime) -> Result<(), Fail> {
+    assert!(rt; followed(&rt, rt.alloc()) == Ok((10, true)));
+    Ok(())
+}
+
+/// The epochs that two looks show which are held at the same time.
+fn seen_together<R: Wait>(
+    rt: &R,
+    monitor: &Monitor,
+    first: &Look<'_>,
+    other: Member,
+) -> Option<(u64, u64)>
+    requires { IsMemberOf monitor.now other }
+{
+    match monitor.look(rt, other) {
+        Ok(second) => {
+            let epochs = (first.state().map().epoch(), second.state().map().epoch());
+            let _ = second.leave();
+            Some(epochs)
+        }
+        Err(_) => None,
+    }
+}
+
+/// The epochs of two looks after another member's commit.
+fn looked<R: Wait>(rt: &R, alloc: Global) -> Result<Option<(u64, u64)>, Refusal> {
+    let (monitor, mut members) = opened(alloc, 1024)?;
+    let mut writer = taken(&monitor, &mut members)?;
+    let one = taken(&monitor, &mut members)?;
+    let other = taken(&monitor, &mut members)?;
+    commit(rt, alloc, &monitor, &mut writer, TURNS[0][0])?;
+    match monitor.look(rt, one) {
+        Ok(first) => {
+            let epochs = seen_together(rt, &monitor, &first, other);
+            let _ = first.leave();
+            Ok(epochs)
+        }
+        Err(_) => Ok(None),
+    }
+}
+
+/// Where readers did not share, the second would wait for good.
+#[test]
+fn two_looks_are_held_at_once_after_a_commit(rt: HostRuntime) -> Result<(), Fail> {
+    assert!(rt; looked(&rt, rt.alloc()) == Ok(Some((2, 2))));
     Ok(())
 }
