@@ -40,6 +40,7 @@ once_stands q xs once = elim (cases_Bool (list_any q xs)) [
 tests_turn : (fixed there room beside way : Bool) → (true && true && (true && true) && (not fixed && not there) && room && beside && way) ≡ (beside && (not fixed && true && not there && room && way))
 tests_turn fixed there room beside way = grind arith
 
+-- where an OSD does not stand on the group's set, neither list of tests passes
 tests_fail : (on replaces room beside way fixed there : Bool) → (true && true && (on && false) && replaces && room && beside && way) ≡ (beside && (not fixed && false && not there && room && way))
 tests_fail on replaces room beside way fixed there = grind arith
 

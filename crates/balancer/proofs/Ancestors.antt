@@ -60,6 +60,7 @@ module _ (buckets : List Bucket) (item : ℤ) (level : ℕ) where
       by_found None found None e = e
       by_found None found (Some a) e = absurd (none_is a found ((is a).0 e))
 
+-- a device past the greatest has no ancestor
 pub ancestor_far : (buckets : List Bucket) (n level : ℕ) → IsForest buckets → 1024 ≤ n → ancestor_of buckets (pos n) level ≡ None
 unfolding ancestor_of
 ancestor_far buckets n level forest far =

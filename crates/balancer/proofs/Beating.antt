@@ -56,71 +56,91 @@ none_first a b c d e f h p q r s = rw (p, q, r, s) (none b d f)
     none : (x y z : Bool) → (false || (x && (false || (y && (false || (z && false)))))) ≡ false
     none x y z = grind arith
 
+-- a list of tests that fails with its last test true fails with it false
 weaker : (a b c d e f : Bool) → (a || (b && (c || (d && (e || (f && true)))))) ≡ false → (a || (b && (c || (d && (e || (f && false)))))) ≡ false
 weaker a b c d e f is = grind arith
 
 -- ---- numbers
 
+-- less of numbers goes through
 lt_trans : (a b c : ℕ) → nat_lt a b ≡ true → nat_lt b c ≡ true → nat_lt a c ≡ true
 lt_trans a b c p q = grind (arith, nat_tests)
 
+-- less and then equal is less
 lt_eq : (a b c : ℕ) → nat_lt a b ≡ true → eqb b c ≡ true → nat_lt a c ≡ true
 lt_eq a b c p q = grind (arith, nat_tests)
 
+-- equal and then less is less
 eq_lt : (a b c : ℕ) → eqb a b ≡ true → nat_lt b c ≡ true → nat_lt a c ≡ true
 eq_lt a b c p q = grind (arith, nat_tests)
 
+-- equal goes through
 eq_trans : (a b c : ℕ) → eqb a b ≡ true → eqb b c ≡ true → eqb a c ≡ true
 eq_trans a b c p q = grind (arith, nat_tests)
 
+-- numbers of which neither is less are equal
 eq_from_neither : (a b : ℕ) → nat_lt a b ≡ false → nat_lt b a ≡ false → (eqb a b ≡ true) × (eqb b a ≡ true)
 eq_from_neither a b p q = (grind (arith, nat_tests), grind (arith, nat_tests))
 
+-- numbers that are tested equal are
 is_equal : (a b : ℕ) → eqb a b ≡ true → a ≡ b
 is_equal a b p = grind (arith, nat_tests)
 
+-- of two numbers not each is less
 not_both : (a b : ℕ) → nat_lt a b ≡ true → nat_lt b a ≡ true → ⊥
 not_both a b p q = grind (arith, nat_tests)
 
+-- a number that is less is not equal
 not_less : (a b : ℕ) → nat_lt a b ≡ true → eqb b a ≡ true → ⊥
 not_less a b p q = grind (arith, nat_tests)
 
+-- numbers that are equal are not less
 not_more : (a b : ℕ) → eqb a b ≡ true → nat_lt b a ≡ true → ⊥
 not_more a b p q = grind (arith, nat_tests)
 
 -- ---- whole numbers
 
+-- of two differences not each is less
 znot_both : (a b : ℤ) → int_lt b a ≡ true → int_lt a b ≡ true → ⊥
 znot_both a b p q = grind (arith, ints)
 
+-- a difference that is less is not equal
 znot_less : (a b : ℤ) → int_lt b a ≡ true → int_eq b a ≡ true → ⊥
 znot_less a b p q = grind (arith, ints)
 
+-- differences that are equal are not less
 znot_more : (a b : ℤ) → int_eq a b ≡ true → int_lt a b ≡ true → ⊥
 znot_more a b p q = grind (arith, ints)
 
+-- less of differences goes through
 zlt_trans : (a b c : ℤ) → int_lt b a ≡ true → int_lt c b ≡ true → int_lt c a ≡ true
 zlt_trans a b c p q = grind (arith, ints)
 
+-- less and then equal is less, of differences
 zlt_eq : (a b c : ℤ) → int_lt b a ≡ true → int_eq b c ≡ true → int_lt c a ≡ true
 zlt_eq a b c p q = grind (arith, ints)
 
+-- equal and then less is less, of differences
 zeq_lt : (a b c : ℤ) → int_eq a b ≡ true → int_lt c b ≡ true → int_lt c a ≡ true
 zeq_lt a b c p q = grind (arith, ints)
 
+-- equal goes through, of differences
 zeq_trans : (a b c : ℤ) → int_eq a b ≡ true → int_eq b c ≡ true → int_eq a c ≡ true
 zeq_trans a b c p q = grind (arith, ints)
 
+-- differences of which neither is less are equal
 zeq_from_neither : (a b : ℤ) → int_lt b a ≡ false → int_lt a b ≡ false → (int_eq a b ≡ true) × (int_eq b a ≡ true)
 zeq_from_neither a b p q = (grind (arith, ints), grind (arith, ints))
 
 -- ---- moves
 
+-- coming first goes through
 precedes_trans : (u v w : Move) → precedes u v ≡ true → precedes v w ≡ true → precedes u w ≡ true
 precedes_trans u v w p q =
     lex_trans _ _ _ _ _ _ _ _ _ (lt_trans u.from v.from w.from) (lt_eq u.from v.from w.from) (eq_lt u.from v.from w.from) (eq_trans u.from v.from w.from)
     (lex_trans _ _ _ _ _ _ _ _ _ (lt_trans u.to v.to w.to) (lt_eq u.to v.to w.to) (eq_lt u.to v.to w.to) (eq_trans u.to v.to w.to) (lt_trans u.group v.group w.group)) p q
 
+-- moves of which neither comes first are the same
 precedes_equal : (u v : Move) → precedes u v ≡ false → precedes v u ≡ false → u ≡ v
 precedes_equal u v p q =
     let first = lex_equal (nat_lt u.from v.from) (nat_lt v.from u.from) (eqb u.from v.from) (eqb v.from u.from) _ _ (eq_from_neither u.from v.from) p q in

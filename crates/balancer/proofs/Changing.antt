@@ -45,6 +45,7 @@ use Rattle.balancer.proofs.Rising.{rising_same}
 
 -- ---- a change that gives pairs alone
 
+-- a test that all pass leaves a list as it is
 filter_all : {X : Type 0} (q : X → Bool) → ((x : X) → q x ≡ true) → (xs : List X) → filter q xs ≡ xs
 filter_all q all [] = refl
 filter_all q all (x ∷ xs) = rw (all x, filter_all q all xs) refl
@@ -160,6 +161,7 @@ module _ (m : ClusterMap) (items : List (Exception Pair)) where
 
 -- ---- the pairs of a plan
 
+-- the groups of a pool rise by number
 range_rises : (p : PoolFacts) (n : ℕ) → IsRising (λ i. place_of (group_of p i)) (range_with_len 0 n)
 range_rises p n = λ i j d below inside.
     let long = length-range_with_len 0 n in

@@ -35,9 +35,11 @@ find_only q (y ∷ ys) x inside passes only = elim (cases_Bool (q y)) [
     later other (zero, below, at) = absurd (false≢true (sym other ∙ rw (sym at) at passes))
     later other (suc k, below, at) = (k, omega (arith, below), at)
 
+-- what a list has, it has behind another entry
 contains_later : {X : Type 0} (y : X) (ys : List X) (x : X) → Contains ys x → Contains (y ∷ ys) x
 contains_later y ys x there = (suc there.0, omega (arith, there.1), there.2)
 
+-- what a list has and passes a test stays
 pub contains_filter : {X : Type 0} (q : X → Bool) (xs : List X) (x : X) → Contains xs x → q x ≡ true → Contains (filter q xs) x
 contains_filter q [] x inside passes = absurd (omega (arith, inside.1))
 contains_filter q (y ∷ ys) x (zero, below, at) passes = rw (at, passes) (0, omega arith, refl)
@@ -48,20 +50,25 @@ contains_filter q (y ∷ ys) x (suc k, below, at) passes =
       | inr other ↦ rw other rest
     ]
 
+-- what the list of one entry has, the lists of all have
 contains_flat : {X Y : Type 0} (f : X → List Y) (xs : List X) (x : X) (y : Y) → Contains xs x → Contains (f x) y → Contains (flat_map f xs) y
 contains_flat f [] x y inside there = absurd (omega (arith, inside.1))
 contains_flat f (z ∷ zs) x y (zero, below, at) there = rw (flat_map-cons f z zs) (Contains-append_left (f z) (flat_map f zs) y (rw (sym at) at there))
 contains_flat f (z ∷ zs) x y (suc k, below, at) there = rw (flat_map-cons f z zs) (Contains-append_right (f z) (flat_map f zs) y (contains_flat f zs x y (k, omega (arith, below), at) there))
 
+-- what is made of an entry is among what is made of all
 contains_map : {X Y : Type 0} (f : X → Y) (xs : List X) (x : X) → Contains xs x → Contains (map f xs) (f x)
 contains_map f xs x (k, below, at) = (k, omega (arith, below, length-map xs f), get_or-map f xs k x (f x) below ∙ ap f at)
 
+-- each number below a bound is in the range
 pub contains_range : (n k : ℕ) → k < n → Contains (range_with_len 0 n) k
 contains_range n k below = (k, omega (arith, length-range_with_len 0 n), get_or-range_with_len 0 n k k below ∙ omega arith)
 
+-- all of a range is below its bound
 range_below : (n : ℕ) → All (λ k. k < n) (range_with_len 0 n)
 range_below n = λ k d inside. let at = get_or-range_with_len 0 n k d (omega (arith, inside, length-range_with_len 0 n)) in omega (arith, at, inside, length-range_with_len 0 n)
 
+-- what holds of each list of an entry holds of all of them together
 all_flat : {X Y : Type 0} (P : Y → Type 0) (f : X → List Y) (xs : List X) → ((x : X) → All P (f x)) → All P (flat_map f xs)
 all_flat P f [] each = All-nil P
 all_flat P f (x ∷ xs) each = subst (All P) (sym (flat_map-cons f x xs)) (All-append P (f x) (flat_map f xs) (each x) (all_flat P f xs each))
@@ -114,6 +121,7 @@ module _ (m : ClusterMap) (p : PoolFacts) where
       by_list [] good = refl
       by_list (v ∷ vs) good = absurd (none v (good 0 v (omega arith)))
 
+-- a candidate is among the candidates
 pub candidate_in : (m : ClusterMap) (p : PoolFacts) (osd : ℕ) → is_candidate m p osd ≡ true → Contains (candidates m p) osd
 candidate_in m p osd is = contains_filter (is_candidate m p) (osds_of m) osd (contains_range (length m.presences) osd (candidate_below m p osd is)) is
 

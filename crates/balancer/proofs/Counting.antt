@@ -25,9 +25,11 @@ count_numbers {X} q xs d =
     length-filter (λ n. q (f n)) (range_with_len 0 (length xs))
     ∙ sym (ap (count_by q) all ∙ fold-map (λ (a : ℕ) (x : X). a + cond (q x) 1 0) f 0 (range_with_len 0 (length xs)))
 
+-- an OSD is held as often as it stands in the sets of the pool
 held_count : (m : ClusterMap) (p : PoolFacts) (osd : ℕ) → length (held_in osd (pool_table m p)) ≡ count_by (stands osd) (sets_of m p)
 held_count m p osd = length-map (groups_of osd (sets_of m p)) (group_of p) ∙ count_numbers (stands osd) (sets_of m p) []
 
+-- the count of an OSD in a pool is in how many mapped sets it stands, where it is up
 pub count_is : (m : ClusterMap) (p : PoolFacts) (osd : ℕ) → HoldsTogether m → pool_at m.pools p.id ≡ Some p
     → count_in m p.id osd ≡ (if osd_is_up m osd then count_by (stands osd) (sets_of m p) else 0)
 count_is m p osd holds there =
@@ -36,6 +38,7 @@ count_is m p osd holds there =
     let found : find (λ (q : PoolTable). eqb q.pool.id p.id) (tables_of m) ≡ Some (pool_table m p) = find_map (λ (q : PoolTable). eqb q.pool.id p.id) (pool_table m) m.pools ∙ ap (option_map (pool_table m)) there in
     sym (count_shown t m p.id osd of) ∙ rw (up_in m osd, found, held_count m p osd) refl
 
+-- it is at most the number of groups
 pub count_small : (m : ClusterMap) (p : PoolFacts) (osd : ℕ) → HoldsTogether m → pool_at m.pools p.id ≡ Some p → count_in m p.id osd ≤ p.pg_num
 count_small m p osd holds there = rw (count_is m p osd holds there) (by_up (osd_is_up m osd))
   where

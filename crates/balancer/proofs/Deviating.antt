@@ -51,6 +51,7 @@ module _ (m : ClusterMap) (p : PoolFacts) (osd : ℕ) where
 
 -- ---- the pool
 
+-- a pool of a map is within its limits
 pub pool_within : (m : ClusterMap) (p : PoolFacts) (id : ℕ) → HoldsTogether m → pool_at m.pools id ≡ Some p → IsWithinLimits p
 pool_within m p id holds there =
     let at = find-place _ m.pools p there in
@@ -69,6 +70,7 @@ term_within f c (x ∷ xs) (suc k) d inside passes =
       | inr other ↦ rw other rest
     ]
 
+-- the weight of a candidate is at most that of all
 pub weight_within : (m : ClusterMap) (p : PoolFacts) (osd : ℕ) → is_candidate m p osd ≡ true → weight_of m osd ≤ total m p
 unfolding total
 weight_within m p osd is =
@@ -78,6 +80,7 @@ weight_within m p osd is =
     let passes : is_candidate m p (get_or (osds_of m) osd 0) ≡ true = rw at is in
     rw at at (term_within (weight_of m) (is_candidate m p) (osds_of m) osd 0 inside passes)
 
+-- the candidates have at most 1,024 times 4,096 places
 pub places_few : (m : ClusterMap) (p : PoolFacts) → HoldsTogether m → pool_at m.pools p.id ≡ Some p → places m p ≤ 1024 * 4096
 unfolding places
 places_few m p holds there =
@@ -88,12 +91,14 @@ places_few m p holds there =
 
 -- ---- deviations
 
+-- the difference of two products within the limits has at most 100 bits
 between : (a b c d t n : ℕ) → a ≤ 4096 → t ≤ 2 ^ 58 → n ≤ 1024 * 4096 → b ≤ t → c ≡ a * t → d ≡ n * b → ((pos c -ℤ pos d) <ℤ pos (2 ^ 100)) × (neg_ℤ (pos (2 ^ 100)) <ℤ (pos c -ℤ pos d))
 between a b c d t n few small most within is that =
     let high : a * t ≤ 4096 * 2 ^ 58 = mul-le a t 4096 (2 ^ 58) few small in
     let low : n * b ≤ 4194304 * 2 ^ 58 = mul-le n b 4194304 (2 ^ 58) most (omega arith) in
     (omega (arith, ints), omega (arith, ints))
 
+-- so has the deviation of a candidate
 pub deviation_small : (m : ClusterMap) (p : PoolFacts) (osd : ℕ) → HoldsTogether m → pool_at m.pools p.id ≡ Some p → total m p ≤ 2 ^ 58 → is_candidate m p osd ≡ true
     → (deviation m p osd <ℤ pos (2 ^ 100)) × (neg_ℤ (pos (2 ^ 100)) <ℤ deviation m p osd)
 unfolding deviation

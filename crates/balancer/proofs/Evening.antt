@@ -35,6 +35,7 @@ use Rattle.balancer.proofs.Shifting.{two_sum, candidates_rise, candidates_moved,
 
 -- ---- squares
 
+-- the square of a difference of two numbers
 square_is : (a b : ℕ) → square (pos a -ℤ pos b) + 2 * (a * b) ≡ a * a + b * b
 square_is a b = elim (cases_lt a b) [
   | inl less ↦
@@ -67,6 +68,7 @@ closer a b c d t apart =
         → r + 2 * ((a + t) * b) ≡ (a + t) * (a + t) + b * b → s + 2 * (c * d) ≡ c * c + d * d → t * (b + c + 1) ≤ t * (a + d) → (p + q) + 2 * t ≤ r + s
     by_squares p q r s one two three four more = omega arith
 
+-- a difference of deviations above the weight of all, written as a sum
 apart_by : (t x w y u : ℕ) → int_lt (pos t) ((pos x -ℤ pos w) -ℤ (pos y -ℤ pos u)) ≡ true → t + w + y < x + u
 apart_by t x w y u wide = grind (arith, ints)
 

@@ -21,19 +21,24 @@ use Rattle.balancer.proofs.Evening.{board_more}
 
 -- ---- numbers of 128 bits
 
+-- a number of at most 110 bits fits into 128
 fits_small : (z : ℤ) → z <ℤ pos (2 ^ 110) → neg_ℤ (pos (2 ^ 110)) <ℤ z → SFits w128 z
 fits_small (pos n) high low = record { sfits = omega (arith, ints) }
 fits_small (negsuc n) high low = record { sfits = omega (arith, ints) }
 
+-- what is read back of a difference of two numbers that fit
 pub read_less : (x w : ℤ) → SFits w128 x → SFits w128 w → (to_z w128 (of_z w128 x) -ℤ to_z w128 (of_z w128 w)) ≡ (x -ℤ w)
 read_less x w fx fw = rw (to_z-of_z w128 x fx, to_z-of_z w128 w fw) refl
 
+-- what is read back of their sum
 pub read_more : (x w : ℤ) → SFits w128 x → SFits w128 w → (to_z w128 (of_z w128 x) +ℤ to_z w128 (of_z w128 w)) ≡ (x +ℤ w)
 read_more x w fx fw = rw (to_z-of_z w128 x fx, to_z-of_z w128 w fw) refl
 
+-- a deviation less the weight of all fits
 less_fits : (x : ℤ) (t : ℕ) → x <ℤ pos (2 ^ 100) → neg_ℤ (pos (2 ^ 100)) <ℤ x → t ≤ 2 ^ 58 → SFits w128 (x -ℤ pos t)
 less_fits x t high low small = fits_small (x -ℤ pos t) (omega (arith, ints)) (omega (arith, ints))
 
+-- and with it more
 more_fits : (x : ℤ) (t : ℕ) → x <ℤ pos (2 ^ 100) → neg_ℤ (pos (2 ^ 100)) <ℤ x → t ≤ 2 ^ 58 → SFits w128 (x +ℤ pos t)
 more_fits x t high low small = fits_small (x +ℤ pos t) (omega (arith, ints)) (omega (arith, ints))
 

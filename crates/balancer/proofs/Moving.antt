@@ -24,15 +24,18 @@ use Rattle.balancer.specs.Boards.{is_fixed}
 
 -- ---- what is said of a group after a move
 
+-- what is said of a group once an exception is put in
 said_put : (items : List (Exception Pair)) (e : Exception Pair) (g : Pg) → said_of (put key_of items e) g ≡ option_map (λ x. x.entries) (cond (eqb (key_of e) (place_of g)) (Some e) (entry_at key_of items (place_of g)))
 said_put items e g = ap (option_map (λ x. x.entries)) (entry-put key_of items e (place_of g))
 
+-- after a move its group has its pairs with this one behind
 pub said_moved : (m : ClusterMap) (p : PoolFacts) (v : Move) → said_of (moved m p v).items (group_of p v.group) ≡ Some (pairs_in m (group_of p v.group) ++ pair_of v ∷ [])
 unfolding moved
 said_moved m p v =
     let same : eqb (place_of (group_of p v.group)) (place_of (group_of p v.group)) ≡ true = eq-eqb _ _ refl in
     said_put m.items (lengthened m p v) (group_of p v.group) ∙ rw same refl
 
+-- other groups have their pairs as before
 pub said_others : (m : ClusterMap) (p : PoolFacts) (v : Move) (n : ℕ) → n ≢ v.group → said_of (moved m p v).items (group_of p n) ≡ said_of m.items (group_of p n)
 unfolding moved
 said_others m p v n other =
@@ -45,6 +48,7 @@ said_others m p v n other =
 abbrev is_void : List ℕ → Option (List ℕ) → Bool
 is_void weights explicit = option_map_or (λ osds. list_any (is_weightless weights) osds) explicit false
 
+-- one pair more acts on what the pairs before made
 items_longer : (weights : List ℕ) (places : List (Option ℕ)) (items : Option (List Pair)) (pair : Pair)
     → with_items weights places (Some (unwrap_or items [] ++ pair ∷ [])) ≡ with_pair weights (with_items weights places items) pair
 items_longer weights places None pair = refl
@@ -60,6 +64,7 @@ mapped_longer weights (Some osds) items raw pair = elim (cases_Bool (list_any (i
   | inr acts ↦ rw acts (items_longer weights (map (λ osd. Some osd) osds) items pair)
 ]
 
+-- the mapped set of a group after a move of it
 pub mapped_moved : (m : ClusterMap) (p : PoolFacts) (v : Move)
     → mapped_set (moved m p v) p v.group ≡ (if is_fixed m (group_of p v.group) then mapped_set m p v.group else with_pair m.weights (mapped_set m p v.group) (pair_of v))
 unfolding mapped_set moved raw_set placed is_fixed
@@ -67,26 +72,31 @@ mapped_moved m p v =
     ap (λ said. mapped m.weights (said_of m.explicit (group_of p v.group)) said (raw_set m p v.group)) (said_moved m p v)
     ∙ mapped_longer m.weights (said_of m.explicit (group_of p v.group)) (said_of m.items (group_of p v.group)) (raw_set m p v.group) (pair_of v)
 
+-- that of another group is as before
 pub mapped_others : (m : ClusterMap) (p : PoolFacts) (v : Move) (n : ℕ) → n ≢ v.group → mapped_set (moved m p v) p n ≡ mapped_set m p n
 unfolding mapped_set moved raw_set placed
 mapped_others m p v n other = ap (λ said. mapped m.weights (said_of m.explicit (group_of p n)) said (raw_set m p n)) (said_others m p v n other)
 
 -- ---- what is replaced
 
+-- a place is the same as itself
 is_same_place : (place : Option ℕ) → option_eq (λ a b. eqb a b) place place ≡ true
 is_same_place None = refl
 is_same_place (Some o) = eq-eqb o o refl
 
+-- a set is the same as itself
 pub is_same_as_itself : (set : List (Option ℕ)) → is_same_set set set ≡ true
 is_same_as_itself [] = refl
 is_same_as_itself (place ∷ places) = rw (is_same_place place, is_same_as_itself places) refl
 
+-- places that are tested the same are equal
 same_places : (some other : Option ℕ) → option_eq (λ a b. eqb a b) some other ≡ true → some ≡ other
 same_places None None same = refl
 same_places None (Some o) same = cc
 same_places (Some a) None same = cc
 same_places (Some a) (Some b) same = ap (λ o. Some o) (eqb-true a b same)
 
+-- sets that are tested the same are equal
 pub is_same : (some others : List (Option ℕ)) → is_same_set some others ≡ true → some ≡ others
 is_same [] [] same = refl
 is_same [] (place ∷ places) same = cc
@@ -116,6 +126,8 @@ replaced_differs pair (place ∷ places) apart there = by_test (is_of pair.from 
 abbrev put_or_not : Bool → Bool → Pair → List (Option ℕ) → List (Option ℕ)
 put_or_not fixed there pair set = if fixed then set else (if there then set else replaced pair set)
 
+-- a pair turns a set into itself with one OSD replaced exactly where no OSD of an explicit set is out and the other is
+-- not in it
 tested : (fixed there : Bool) (pair : Pair) (set : List (Option ℕ)) → pair.from ≢ pair.to → list_any (is_of pair.from) set ≡ true
     → is_same_set (put_or_not fixed there pair set) (replaced pair set) ≡ (not fixed && not there)
 tested true there pair set apart on = replaced_differs pair set apart on

@@ -9,12 +9,15 @@ use Rattle.stated.specs.Ordered.{IsOrdered}
 use Rattle.balancer.specs.Plans.{change_of}
 use Rattle.balancer.proofs.Rising.{sorted_same}
 
+-- the empty list rises
 none_rises : {X : Type 0} (key : X → ℕ) → IsRising key []
 none_rises key i j d below inside = absurd (omega arith)
 
+-- the empty list is sorted into itself alone
 sorts_none : {X : Type 0} (key : X → ℕ) (ys : List X) → SortsBy key [] ys → ys ≡ []
 sorts_none key ys sorts = sorted_same key [] ys (none_rises key) sorts
 
+-- a change of pairs that rise is its own order
 pub ordered_same : (items : List (Exception Pair)) (c : ChangeParts) → IsRising key_of items → IsOrdered (change_of items) c → c ≡ change_of items
 ordered_same items c rises ordered = λ i. record {
   old_pools = sorts_none (λ id. id) c.old_pools ordered.old_pools i;

@@ -26,14 +26,17 @@ use Rattle.balancer.proofs.Changing.{next_is, none_refuses, items_sound, items_r
 abbrev dated : ClusterMap → ℕ → ClusterMap
 dated m e = record m { epoch = e }
 
+-- another epoch changes no unevenness
 uneven_dated : (m : ClusterMap) (p : PoolFacts) (e : ℕ) → unevenness (dated m e) p ≡ unevenness m p
 unfolding unevenness deviation places total weight_of is_candidate up_set mapped_set raw_set placed
 uneven_dated m p e = refl
 
+-- nor whether a move is good
 good_dated : (m : ClusterMap) (p : PoolFacts) (e : ℕ) (v : Move) → is_good (dated m e) p v ≡ is_good m p v
 unfolding is_good is_allowed stands_on does_replace has_room are_beside has_own_domain has_way domain_of moved deviation places total weight_of is_candidate up_set mapped_set raw_set placed
 good_dated m p e v = refl
 
+-- nor which moves are
 goods_dated : (m : ClusterMap) (p : PoolFacts) (e : ℕ) → good_moves (dated m e) p ≡ good_moves m p
 goods_dated m p e = filter_agree (is_good (dated m e) p) (is_good m p) (good_dated m p e) (all_moves m p)
 

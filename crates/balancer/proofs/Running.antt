@@ -10,15 +10,18 @@ use Rattle.balancer.specs.declared.moves.Move.{Move}
 use Rattle.balancer.specs.Moves.{moved}
 use Rattle.balancer.specs.Greedy.{good_moves, beats, best_move, greedy, after_moves}
 
+-- where no move is good, the plan is empty
 greedy_none : (m : ClusterMap) (p : PoolFacts) (k : ℕ) → good_moves m p ≡ [] → greedy m p k ≡ []
 unfolding greedy best_move
 greedy_none m p zero none = refl
 greedy_none m p (suc k) none = ap (λ goods. option_map_or (λ v. v ∷ greedy (moved m p v) p k) (find (λ v. list_all (λ u. not (beats m p u v)) goods) goods) []) none
 
+-- with no move left, the plan is empty
 greedy_zero : (m : ClusterMap) (p : PoolFacts) → greedy m p 0 ≡ []
 unfolding greedy
 greedy_zero m p = refl
 
+-- else it is the best move and the plan of the map after it
 greedy_some : (m : ClusterMap) (p : PoolFacts) (v : Move) (k : ℕ) → best_move m p ≡ Some v → greedy m p (suc k) ≡ v ∷ greedy (moved m p v) p k
 unfolding greedy
 greedy_some m p v k best = rw best refl

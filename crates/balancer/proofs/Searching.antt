@@ -37,6 +37,7 @@ module _ (m : ClusterMap) (p : PoolFacts) (moves : List Move) where
   pub best_ends : (best : Option Move) (v : Move) → IfSome best (λ b. IsGood (after_moves m p moves) p b) → best ≡ Some v → (is_candidate m p v.from ≡ true) × (is_candidate m p v.to ≡ true)
   best_ends best v good is = good_ends v (rw is at good)
 
+-- a board has each group of the pool
 pub long_groups : (m : ClusterMap) (p : PoolFacts) (gs : List Group) (ds : List ℤ) → IsBoardOf m p gs ds → length gs ≡ p.pg_num
 long_groups m p gs ds board = ap length board.groups ∙ length-map-range_with_len (group_at m p) 0 p.pg_num
 
@@ -167,6 +168,7 @@ module _ (m : ClusterMap) (p : PoolFacts) (moves : List Move) (gs : List Group) 
 
 -- ---- all pairs
 
+-- each of the candidates is one
 pub candidate_at : (m : ClusterMap) (p : PoolFacts) (osds : List ℕ) (i : ℕ) → osds ≡ candidates m p → i < length osds → is_candidate m p (get_or osds i 0) ≡ true
 candidate_at m p osds i is inside = rw is (filter_passes (is_candidate m p) (osds_of m) i 0 (rw is at inside))
 
@@ -200,12 +202,15 @@ module _ (m : ClusterMap) (p : PoolFacts) where
 
 -- ---- the emptiest candidate
 
+-- which of two OSDs is emptier does not go by where a move comes from
 shift_lt : (x y u w : ℤ) → int_lt (x -ℤ w) (x -ℤ u) ≡ true → int_lt (y -ℤ w) (y -ℤ u) ≡ true
 shift_lt x y u w e = grind (arith, ints)
 
+-- nor whether they are alike
 shift_eq : (x y u w : ℤ) → int_eq (x -ℤ u) (x -ℤ w) ≡ true → int_eq (y -ℤ u) (y -ℤ w) ≡ true
 shift_eq x y u w e = grind (arith, ints)
 
+-- no number is below itself
 not_below : (i : ℕ) → nat_lt i i ≡ false
 not_below i = grind (arith, nat_tests)
 
@@ -237,6 +242,7 @@ wider m p from to osd less wide =
     through : (x y z : ℤ) → int_lt z y ≡ false → int_lt x y ≡ true → int_lt x z ≡ true
     through x y z p q = grind (arith, ints)
 
+-- a move that is better than the best so far is so to the emptiest OSD too
 rather_than : (m : ClusterMap) (p : PoolFacts) (from to osd : ℕ) (b : Move) → beats m p (move_of from to 0) (move_of from osd 0) ≡ false → beats m p (move_of from to 0) b ≡ true → beats m p (move_of from osd 0) b ≡ true
 rather_than m p from to osd b less taken_is = elim (cases_Bool (beats m p (move_of from osd 0) (move_of from to 0))) [
   | inl better ↦ beats_trans m p (move_of from osd 0) (move_of from to 0) b better taken_is
@@ -280,5 +286,6 @@ module _ (m n : ClusterMap) (p : PoolFacts) where
   pub none_wanted : (osds : List ℕ) (from osd : ℕ) (best : Option Move) → IsEmptiest m n p osds osd → is_wanted n p from osd best ≡ false → CoversFrom n p best from osds
   none_wanted osds from osd best emptiest stays = λ k d inside. unwanted n p from (get_or osds k d) best (less_wanted from (get_or osds k d) osd best (emptiest.least k d inside from) stays)
 
+-- a list that is not empty has an entry
 pub some_osd : (osds : List ℕ) (n : ℕ) → false ≡ eqb n 0 → n ≡ length osds → 0 < length osds
 some_osd osds n none long = grind (arith, nat_tests)

@@ -32,10 +32,12 @@ use Rattle.balancer.proofs.Stepping.{mapped_gone, not_there, stands_once, holds_
 
 -- ---- who stands in a set where one OSD is replaced
 
+-- a place has one OSD at most
 is_of_same : (o : ℕ) (place : Option ℕ) (q : ℕ) → is_of q place ≡ true → o ≢ q → is_of o place ≡ false
 is_of_same o None q is apart = refl
 is_of_same o (Some x) q is apart = ne_eqb x o (λ e. apart (sym e ∙ eqb-true x q is))
 
+-- replacing one OSD by another leaves where the others stand
 replaced_other : (pair : Pair) (xs : List (Option ℕ)) (o : ℕ) → o ≢ pair.from → o ≢ pair.to → list_any (is_of o) (replaced pair xs) ≡ list_any (is_of o) xs
 unfolding replaced
 replaced_other pair [] o from to = refl
@@ -44,6 +46,7 @@ replaced_other pair (x ∷ xs) o from to = elim (cases_Bool (is_of pair.from x))
   | inr other ↦ rw (other, replaced_other pair xs o from to) refl
 ]
 
+-- the one that comes stands there then
 replaced_to : (pair : Pair) (xs : List (Option ℕ)) → list_any (is_of pair.from) xs ≡ true → list_any (is_of pair.to) (replaced pair xs) ≡ true
 unfolding replaced
 replaced_to pair [] there = absurd (false≢true there)
@@ -56,6 +59,7 @@ replaced_to pair (x ∷ xs) there = elim (cases_Bool (is_of pair.from x)) [
     or_true true = refl
     or_true false = refl
 
+-- what is counted 0 times is nowhere
 any_counted : {X : Type 0} (q : X → Bool) (xs : List X) → count_by q xs ≡ 0 → list_any q xs ≡ false
 any_counted q [] none = refl
 any_counted q (x ∷ xs) none = elim (cases_Bool (q x)) [
@@ -63,6 +67,7 @@ any_counted q (x ∷ xs) none = elim (cases_Bool (q x)) [
   | inr other ↦ let counted = sum_by-cons (λ y. cond (q y) 1 0) x xs in let zero_here : ◌≡◌ {A = ℕ} (cond (q x) 1 0) 0 = rw other refl in rw (other, any_counted q xs (omega arith)) refl
 ]
 
+-- the one that goes stands there no more, where it stood once
 replaced_from : (pair : Pair) (xs : List (Option ℕ)) → pair.from ≢ pair.to → count_by (is_of pair.from) xs ≡ 1 → list_any (is_of pair.from) (replaced pair xs) ≡ false
 unfolding replaced
 replaced_from pair [] apart once = absurd (omega arith)
@@ -153,6 +158,7 @@ module _ (m : ClusterMap) (p : PoolFacts) (v : Move) (good : IsGood m p v) (hold
 
 -- ---- sums over candidates
 
+-- the first of a rising list is below all behind it
 rising_at : (x : ℕ) (xs : List ℕ) → IsRising (λ n. n) (x ∷ xs) → (y : ℕ) → Contains xs y → x < y
 rising_at x xs rises y (k, below, at) = rw at at (rising_head (λ (n : ℕ). n) x xs rises k y below)
 
@@ -210,6 +216,7 @@ range_rises k n = λ i j d below inside.
     let second = get_or-range_with_len k n j d (omega arith) in
     omega (arith, first, second)
 
+-- the candidates rise by number
 pub candidates_rise : (m : ClusterMap) (p : PoolFacts) → IsRising (λ i. i) (candidates m p)
 candidates_rise m p = rising-filter (λ (i : ℕ). i) (is_candidate m p) (osds_of m) (range_rises 0 (length m.presences))
 

@@ -16,6 +16,7 @@ use Rattle.balancer.specs.Greedy.{after_moves}
 abbrev pub with_pairs : ClusterMap → List (Exception Pair) → ClusterMap
 with_pairs m its = record m { items = its }
 
+-- moves change the pairs of a map and nothing else
 pub moves_stay : (m : ClusterMap) (p : PoolFacts) (moves : List Move) → after_moves m p moves ≡ with_pairs m (after_moves m p moves).items
 unfolding moved
 moves_stay m p [] = refl

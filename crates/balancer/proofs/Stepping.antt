@@ -32,6 +32,7 @@ use Rattle.balancer.proofs.Moving.{said_moved, said_others, mapped_moved, mapped
 use Rattle.balancer.proofs.Deviating.{candidate_exists, candidate_weighs}
 use Rattle.balancer.proofs.Allowing.{good_candidates, good_apart, good_goes}
 
+-- a move leaves whether pairs of a group do nothing
 fixed_stays : (m : ClusterMap) (p : PoolFacts) (v : Move) (g : Pg) → is_fixed (moved m p v) g ≡ is_fixed m g
 unfolding is_fixed moved
 fixed_stays m p v g = refl

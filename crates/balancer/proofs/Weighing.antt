@@ -27,6 +27,7 @@ range_more : (n : ℕ) → range_with_len 0 (n + 1) ≡ range_with_len 0 n ++ n 
 range_more n =
     sym (map-id (range_with_len 0 (n + 1))) ∙ map-range_with_len_more (λ (k : ℕ). k) 0 n n (omega arith) ∙ ap (λ xs. xs ++ n ∷ []) (map-id (range_with_len 0 n))
 
+-- a range that is one longer is filtered with its last number behind
 filter_more_range : (p : ℕ → Bool) (n : ℕ) → filter p (range_with_len 0 (n + 1)) ≡ filter p (range_with_len 0 n) ++ cond (p n) (n ∷ []) []
 filter_more_range p n = ap (filter p) (range_more n) ∙ filter-append p (range_with_len 0 n) (n ∷ []) ∙ ap (λ xs. filter p (range_with_len 0 n) ++ xs) (one (p n) refl)
   where
@@ -34,9 +35,11 @@ filter_more_range p n = ap (filter p) (range_more n) ∙ filter-append p (range_
     one true is = rw is refl
     one false is = rw is refl
 
+-- where the last number passes
 pub filter_range_yes : (p : ℕ → Bool) (n : ℕ) → p n ≡ true → filter p (range_with_len 0 (n + 1)) ≡ filter p (range_with_len 0 n) ++ n ∷ []
 filter_range_yes p n is = filter_more_range p n ∙ rw is refl
 
+-- and where it does not
 pub filter_range_no : (p : ℕ → Bool) (n : ℕ) → p n ≡ false → filter p (range_with_len 0 (n + 1)) ≡ filter p (range_with_len 0 n)
 filter_range_no p n is = filter_more_range p n ∙ rw is (append_nil (filter p (range_with_len 0 n)))
   where
@@ -44,6 +47,7 @@ filter_range_no p n is = filter_more_range p n ∙ rw is (append_nil (filter p (
     append_nil [] = refl
     append_nil (x ∷ xs) = ap (λ ys. x ∷ ys) (append_nil xs)
 
+-- what is filtered of a range is at most as long as it
 pub few_filtered : (p : ℕ → Bool) (k n : ℕ) → k ≤ n → length (filter p (range_with_len 0 k)) ≤ n
 few_filtered p k n few = omega (arith, length-filter p (range_with_len 0 k), count_by-le-length p (range_with_len 0 k), length-range_with_len 0 k)
 
@@ -56,6 +60,7 @@ reweight_shown m osd holds = elim (cases_lt osd (length m.presences)) [
   | inr past ↦ rw (slice_get_past m.presences osd past) (sym (get_or_past m.weights osd 0 (omega (arith, holds.weighed))))
 ]
 
+-- a reweight of a map is at most 65,536
 pub reweight_small : (m : ClusterMap) (osd : ℕ) → HoldsTogether m → slice_index m.weights osd ≤ 65536
 reweight_small m osd holds = elim (cases_lt osd (length m.weights)) [
   | inl below ↦ grind (arith, nat_tests, list_all-at (λ w. nat_le w 65536) m.weights osd 0 below holds.weigh_little)
@@ -66,5 +71,6 @@ reweight_small m osd holds = elim (cases_lt osd (length m.weights)) [
 pub made_range_yes : {X : Type 0} (f : ℕ → X) (p : ℕ → Bool) (n : ℕ) → p n ≡ true → map f (filter p (range_with_len 0 (n + 1))) ≡ map f (filter p (range_with_len 0 n)) ++ f n ∷ []
 made_range_yes f p n is = ap (map f) (filter_range_yes p n is) ∙ map_push f (filter p (range_with_len 0 n)) n
 
+-- what is made of a filtered range, where the last number does not pass
 pub made_range_no : {X : Type 0} (f : ℕ → X) (p : ℕ → Bool) (n : ℕ) → p n ≡ false → map f (filter p (range_with_len 0 (n + 1))) ≡ map f (filter p (range_with_len 0 n))
 made_range_no f p n is = ap (map f) (filter_range_no p n is)

@@ -31,6 +31,8 @@ pub numbered_if : {R : Type 0} (shown : R → Step) (o : Option R) (first : ℕ)
 numbered_if shown None first old new numbered grown same next = subst (λ s. IsNumbered first s.history) (sym same) numbered
 numbered_if shown (Some r) first old new numbered grown same next = subst (IsNumbered first) (sym grown) (numbered_more first old.history (shown r) numbered next)
 
+-- a sealing that answers Ok puts the next epoch behind a history, and one that does not leaves it, so its epochs go on
+-- by one
 pub numbered_on : {A B : Type 0} (r : Result A B) (i : Step) (first : ℕ) (old new : Seen Step) → IsNumbered first old.history → OnOk r (new.history ≡ old.history ++ i ∷ []) → OnErr r (new ≡ old) → i.epoch ≡ last_epoch first old.history + 1 → IsNumbered first new.history
 numbered_on (Ok a) i first old new numbered grown same next = subst (IsNumbered first) (sym grown) (numbered_more first old.history i numbered next)
 numbered_on (Err b) i first old new numbered grown same next = subst (λ s. IsNumbered first s.history) (sym same) numbered

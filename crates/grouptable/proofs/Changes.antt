@@ -8,10 +8,12 @@ use Rattle.grouptable.specs.Sets.{Places, stands, set_of, groups_of, put, change
 use Rattle.grouptable.specs.Tables.{IsAscending}
 use Rattle.grouptable.proofs.Moves.{groups_moved}
 
+-- other sets for some groups leave the number of sets
 pub length-changed : (sets : List Places) (cs : List (ℕ × Places)) → length (changed sets cs) ≡ length sets
 length-changed sets [] = refl
 length-changed sets (c ∷ cs) = length-changed (put sets c) cs ∙ length-set sets c.0 c.1
 
+-- a group that is not among the changes keeps its set
 untouched : (g : ℕ) (sets : List Places) (cs : List (ℕ × Places)) → All (λ c. (g ≡ c.0) → ⊥) cs → set_of (changed sets cs) g ≡ set_of sets g
 untouched g sets [] other = refl
 untouched g sets (c ∷ cs) other = untouched g (put sets c) cs (λ k d h. other (suc k) d (omega arith)) ∙ get_or-set_other sets c.0 g c.1 [] (other zero c (omega arith))
@@ -25,6 +27,7 @@ earlier cs i c h e up k d r =
     let here : get_or cs i d ≡ c = get_or_default cs i d c h ∙ sym e in
     rw (get_or-take i cs k d below) (λ f. let g : (get_or cs k d).0 < c.0 = subst (λ (x : ℕ × Places). (get_or cs k d).0 < x.0) here order in omega arith)
 
+-- one change more, drafted, is the index of the sets after it
 pub drafted : (sets : List Places) (cs : List (ℕ × Places)) (i : ℕ) (c : ℕ × Places) (osd : ℕ) (before : Places) (now mid next : List ℕ) → i < length cs → c ≡ get_or cs i c → All (λ e. e.0 < length sets) cs → IsAscending cs → now ≡ groups_of osd (changed sets (take i cs)) → before ≡ get_or sets c.0 before → mid ≡ left (stands osd before) (stands osd c.1) c.0 now → next ≡ joined (stands osd before) (stands osd c.1) c.0 mid → next ≡ groups_of osd (changed sets (take (i + 1) cs))
 drafted sets cs i c osd before now mid next h e within up f w l j =
     let same : set_of (changed sets (take i cs)) c.0 ≡ set_of sets c.0 = untouched c.0 sets (take i cs) (earlier cs i c h e up) in
@@ -35,9 +38,11 @@ drafted sets cs i c osd before now mid next h e within up f w l j =
     let more : changed sets (take (i + 1) cs) ≡ put (changed sets (take i cs)) c = fold_more put sets cs i c h ∙ ap (λ x. put (changed sets (take i cs)) x) (sym e) in
     rw more (j ∙ rw (l, f, was, ← same) (sym moves))
 
+-- a draft with no fresh list shows the table's
 pub drawn_none : (lists : List (List ℕ)) (fresh : List (Option (List ℕ))) (osd : ℕ) → fresh ≡ replicate 1024 None → osd < 1024 → drawn lists fresh osd ≡ get_or lists osd []
 drawn_none lists fresh osd e h = rw (e, get_or-replicate {A = Option (List ℕ)} 1024 osd None None h) refl
 
+-- where all changes are drafted, the lists are those of the sets after them
 pub fits_all : (sets : List Places) (lists : List (List ℕ)) (fresh : List (Option (List ℕ))) (cs : List (ℕ × Places)) (i osd : ℕ) → get_or lists osd [] ≡ groups_of osd sets → drawn lists fresh osd ≡ groups_of osd (changed sets (take i cs)) → length cs ≤ i → unwrap_or (get_or fresh osd None) (groups_of osd sets) ≡ groups_of osd (changed sets cs)
 fits_all sets lists fresh cs i osd e f h = rw (e, take_all i cs h) at f
 

@@ -9,6 +9,7 @@ pub filter_same : (p q : ℕ → Bool) (a n : ℕ) → ((x : ℕ) → a ≤ x �
 filter_same p q a zero same = refl
 filter_same p q a (suc n) same = rw (same a (omega arith) (omega arith), filter_same p q (a + 1) n (λ x l h. same x (omega arith) (omega arith))) refl
 
+-- what is filtered of a range from above a number is above it
 all_above : (p : ℕ → Bool) (g a n : ℕ) → g < a → AllKeys (λ x. g < x) (filter p (range_with_len a n))
 all_above p g a zero h = tt
 all_above p g a (suc n) h =
@@ -17,13 +18,16 @@ all_above p g a (suc n) h =
       | false ↦ all_above p g (a + 1) n (omega arith)
     ]
 
+-- a key below all is put first
 with_key_first : (g : ℕ) (t : List ℕ) → AllKeys (λ x. g < x) t → with_key g t ≡ g ∷ t
 with_key_first g [] a = refl
 with_key_first g (y ∷ t) a = rw (lt-ltb g y a.0) refl
 
+-- one above the first is put behind it
 with_key_later : (g y : ℕ) (t : List ℕ) → y < g → with_key g (y ∷ t) ≡ y ∷ with_key g t
 with_key_later g y t h = rw (le-ltb g y (omega arith), lt-ltb y g h) refl
 
+-- one that comes first is there
 with_key_there : (g : ℕ) (t : List ℕ) → with_key g (g ∷ t) ≡ g ∷ t
 with_key_there g t = rw (le-ltb g g (omega arith)) refl
 
@@ -48,18 +52,22 @@ filter_with p q g a (suc n) low high here same =
       | inr (inr more) ↦ absurd (omega arith)
     ]
 
+-- and with false is false
 and_false : (b : Bool) → (b && false) ≡ false
 and_false true = refl
 and_false false = refl
 
+-- and with true is the first
 and_true : (b : Bool) → (b && true) ≡ b
 and_true true = refl
 and_true false = refl
 
+-- a test that leaves one key out takes it away
 without_cons : (b c : Bool) (g y : ℕ) (t u : List ℕ) → c ≡ (b && not (eqb y g)) → u ≡ without_key g t → cond c (y ∷ u) u ≡ without_key g (cond b (y ∷ t) t)
 without_cons true c g y t u e f = rw (e, f) refl
 without_cons false c g y t u e f = rw (e, f) refl
 
+-- a test that differs at one key, there
 test_without : (p q : ℕ → Bool) (g y : ℕ) → q g ≡ false → ((x : ℕ) → (x ≡ g → ⊥) → q x ≡ p x) → q y ≡ (p y && not (eqb y g))
 test_without p q g y here same =
     elim (cases_order y g) [

@@ -121,10 +121,12 @@ module _ (old : Kept) (pool limit : ℕ) (led : IsLed old) where
 
 -- ---- no plan is refused for a seat's draws
 
+-- a rule of more than one block is not refused as a spent seat is
 rule_unspent : (one : Bool) → refused_unless one BalanceRule ≢ Some SeatSpent
 rule_unspent true e = absurd (cc e)
 rule_unspent false e = absurd (let same : Some BalanceRule ≡ Some SeatSpent = e in cc)
 
+-- a plan is not refused as a spent seat is
 plan_unspent : (m : ClusterMap) (p : Option PoolFacts) → plan_fault_of m p ≢ Some SeatSpent
 plan_unspent m None e = absurd (let same : Some UnknownPool ≡ Some SeatSpent = e in cc)
 plan_unspent m (Some p) e = rule_unspent (has_one_block (steps_of m p)) e

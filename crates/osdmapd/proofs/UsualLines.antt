@@ -94,6 +94,7 @@ all_scripts rows scripts (script ∷ more) plain =
     ap (λ w. fold (walked rules []) w more) (next_script rows scripts script plain.0)
     ∙ all_scripts rows (scripts ++ script ∷ []) more plain.1 ∙ ap (at_scripts rows) (append_assoc scripts (script ∷ []) more)
 
+-- plain words that are left are all taken as scripts, without a fault
 all_turns : (rows : List Row) (scripts more : List Text) → ArePlain more → walk_fault top [] (at_scripts rows scripts) more ≡ []
 all_turns rows scripts [] plain = no_words (at_scripts rows scripts)
 all_turns rows scripts (script ∷ more) plain =
@@ -113,6 +114,7 @@ enough n some few =
     let most : nat_lt usize_max n ≡ false = le-ltb usize_max n (omega arith) in
     rw (none, least, most) refl
 
+-- with 1 to 64 scripts nothing is missing or too much at the end of the words
 settles : (rows : List Row) (scripts : List Text) → 1 ≤ length scripts → length scripts ≤ max_scripts
     → settle_fault rules top.args_override_self (scripts_held rows scripts) ≡ []
 settles rows [] some few = absurd (omega arith)

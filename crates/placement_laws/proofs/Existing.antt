@@ -115,6 +115,7 @@ module _ (m : ClusterMap) where
       by_test true = all
       by_test false = items_there g (said_of m.items g) (map (λ osd. Some osd) osds) holds refl (targets_there osds (said_there target is_set m.explicit g osds holds.explicit_sound said))
 
+-- the law: each OSD of a mapped set exists
 pub mapped_exist : MappedExist
 unfolding mapped_set
 mapped_exist m p n holds = mapped_there m (group_of p n) (said_of m.explicit (group_of p n)) (raw_set m p n) holds refl (raw_there m p n)

@@ -15,6 +15,7 @@ all_before : {X : Type 0} (P : X → Type 0) (xs ys : List X) → All P (xs ++ y
 all_before P [] ys all = All-nil P
 all_before P (x ∷ xs) ys all = All-cons P x xs (All-head P x (xs ++ ys) all) (all_before P xs ys (All-tail P x (xs ++ ys) all))
 
+-- what holds of all of two lists holds of all of the second
 all_behind : {X : Type 0} (P : X → Type 0) (xs ys : List X) → All P (xs ++ ys) → All P ys
 all_behind P [] ys all = all
 all_behind P (x ∷ xs) ys all = all_behind P xs ys (All-tail P x (xs ++ ys) all)
@@ -49,6 +50,7 @@ module _ (weights others : List ℕ) where
   items_alike None places agree = refl
   items_alike (Some pairs) places agree = pairs_alike pairs places agree
 
+-- the law: a mapped set reads the reweights of the OSDs that the exceptions name alone
 pub mapped_reads_named : MappedReadsNamed
 unfolding mapped
 mapped_reads_named weights others None items raw agree = items_alike weights others items raw agree
@@ -57,6 +59,7 @@ mapped_reads_named weights others (Some osds) items raw agree =
     let of_sides = all_behind (λ o. slice_index weights o ≡ slice_index others o) osds (flat_map sides (unwrap_or items [])) agree in
     rw (any_weightless_alike weights others osds of_targets, items_alike weights others items (map (λ osd. Some osd) osds) of_sides)
 
+-- the law: groups that are alike have the same mapped set
 pub alike_map_alike : AlikeMapAlike
 unfolding mapped_set
 alike_map_alike m n p q i alike =

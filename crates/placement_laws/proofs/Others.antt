@@ -47,17 +47,21 @@ use Rattle.placement_laws.proofs.MappedLemmas.{alike_map_alike}
 
 -- ---- tests
 
+-- what is not either is not the first
 or_first : (a b : Bool) → (a || b) ≡ false → a ≡ false
 or_first true b h = h
 or_first false b h = refl
 
+-- what is not either is not the second
 or_second : (a b : Bool) → (a || b) ≡ false → b ≡ false
 or_second true b h = absurd (false≢true (sym h))
 or_second false b h = h
 
+-- nothing is true and false
 not_both : (b : Bool) → b ≡ true → b ≡ false → ⊥
 not_both b h k = false≢true (sym k ∙ h)
 
+-- what is neither is not the one and not the other
 neither : (a b : Bool) → a ≡ false → b ≡ false → (not a && not b) ≡ true
 neither a b h k = rw (h, k) refl
 
@@ -89,6 +93,7 @@ module _ {X : Type 0} (key : X → ℕ) where
 
 -- ---- pools
 
+-- a pool among those kept was there, and is not among the old ones
 pool_kept : (m : ClusterMap) (c : ChangeParts) (id : ℕ) (p : PoolFacts) → entry_at (λ q. q.id) (pools_kept m c) id ≡ Some p → (has_key (λ k. k) c.old_pools id ≡ false) × (pool_at m.pools id ≡ Some p)
 unfolding pools_kept
 pool_kept m c id p found = by_test (has_key (λ k. k) c.old_pools id) refl (sym (entry-filter (λ (q : PoolFacts). q.id) (λ k. not (has_key (λ j. j) c.old_pools k)) m.pools id) ∙ found)
@@ -97,10 +102,12 @@ pool_kept m c id p found = by_test (has_key (λ k. k) c.old_pools id) refl (sym 
     by_test true is h = let wrong : None ≡ Some p = rw is at h in absurd (cc)
     by_test false is h = (is, rw is at h)
 
+-- a pool that is there and no new one was kept
 pool_put : (m : ClusterMap) (c : ChangeParts) (id : ℕ) (p : PoolFacts) → has_key (λ q. q.id) c.new_pools id ≡ false → entry_at (λ q. q.id) (pools_there m c) id ≡ Some p → (has_key (λ k. k) c.old_pools id ≡ false) × (pool_at m.pools id ≡ Some p)
 unfolding pools_there
 pool_put m c id p none found = pool_kept m c id p (sym (entry_untouched (λ (q : PoolFacts). q.id) (pools_kept m c) c.new_pools id none) ∙ found)
 
+-- where none of a list passes a test, each fails it
 all_fail : {X : Type 0} (p : X → Bool) (xs : List X) → list_any p xs ≡ false → All (λ x. p x ≡ false) xs
 all_fail p [] none = All-nil (λ x. p x ≡ false)
 all_fail p (x ∷ xs) none = All-cons (λ y. p y ≡ false) x xs (or_first (p x) (list_any p xs) none) (all_fail p xs (or_second (p x) (list_any p xs) none))
@@ -110,6 +117,7 @@ not_grown : (gs : List Growth) (p : PoolFacts) → has_key (λ g. g.pool) gs p.i
 unfolding grown
 not_grown gs p none = rw (find-none_reverse (λ (g : Growth). eqb g.pool p.id) gs (all_fail (λ g. eqb g.pool p.id) gs none)) refl
 
+-- a pool after a change that is neither new nor grown was there before, and is not among the old ones
 pool_stays : (m : ClusterMap) (c : ChangeParts) (id : ℕ) (p : PoolFacts) → has_key (λ q. q.id) c.new_pools id ≡ false → has_key (λ g. g.pool) c.grow_pool id ≡ false → pool_at (pools_after m c) id ≡ Some p → (has_key (λ k. k) c.old_pools id ≡ false) × (pool_at m.pools id ≡ Some p)
 unfolding pools_after
 pool_stays m c id p none stays found = by_pool (entry_at (λ q. q.id) (pools_there m c) id) refl (sym (entry-grown c.grow_pool (pools_there m c) id) ∙ found)
@@ -127,9 +135,11 @@ pool_stays m c id p none stays found = by_pool (entry_at (λ q. q.id) (pools_the
 
 -- ---- exceptions
 
+-- places of groups are equal only where their pools are
 same_pool : (p q a b : ℕ) → p * 2 ^ 32 + a ≡ q * 2 ^ 32 + b → a < 2 ^ 32 → b < 2 ^ 32 → p ≡ q
 same_pool p q a b e f g = omega arith
 
+-- the number of a group of a map has at most 32 bits
 few_numbers : (pools : List PoolFacts) (g : Pg) → All IsWithinLimits pools → has_group pools g ≡ true → g.number < 2 ^ 32
 few_numbers pools g within has = by_pool (entry_at (λ p. p.id) pools g.pool) refl
   where
@@ -165,6 +175,7 @@ module _ {E : Type 0} (names : E → List ℕ) (sound : List E → Bool) (m : Cl
 
 -- ---- reweights
 
+-- a reweight that no entry names stays
 weight_stays : (weights : List ℕ) (ws : List Reweight) (osd : ℕ) → has_key (λ w. w.osd) ws osd ≡ false → slice_index (fold with_weight weights ws) osd ≡ slice_index weights osd
 weight_stays weights [] osd none = refl
 weight_stays weights (w ∷ ws) osd none =
@@ -215,6 +226,7 @@ unreached reach (w ∷ ws) osd is none =
       | inr other ↦ rw (other, rest) refl
     ]
 
+-- a rule of a map is lawful
 rule_lawful : (buckets : List Bucket) (r : NumberedRule) → is_rule_over buckets r ≡ true → IsLawful r.rule.kind r.rule.steps
 unfolding is_rule_over
 rule_lawful buckets r ok =
@@ -245,31 +257,37 @@ buckets_stay : (m : ClusterMap) (step : Step) → step.change.new_crush ≡ None
 unfolding apply
 buckets_stay m step none = rw none refl
 
+-- without a new CRUSH map the rules stay
 rules_stay : (m : ClusterMap) (step : Step) → step.change.new_crush ≡ None → (apply m step).rules ≡ m.rules
 unfolding apply
 rules_stay m step none = rw none refl
 
+-- the reweights after a change are those of its entries put over the ones before
 weights_are : (m : ClusterMap) (step : Step) → (apply m step).weights ≡ fold with_weight m.weights step.change.weight
 unfolding apply
 weights_are m step = refl
 
+-- a rule that reaches no reweighted OSD after a change reached none before
 unreached_before : (m other : ClusterMap) (c : ChangeParts) (p : PoolFacts) → other.buckets ≡ m.buckets → other.rules ≡ m.rules → reaches other c p ≡ false → list_any (λ w. paths.reaches m.buckets (steps_of m p) (pos w.osd)) c.weight ≡ false
 unfolding reaches
 unreached_before m other c p buckets rules none =
     subst (λ (rs : List NumberedRule). list_any (λ w. paths.reaches m.buckets (option_map_or (λ r. r.steps) (rule_at rs p.rule) []) (pos w.osd)) c.weight ≡ false) rules
     (subst (λ (bs : List Bucket). list_any (λ w. paths.reaches bs (steps_of other p) (pos w.osd)) c.weight ≡ false) buckets none)
 
+-- a rule that reaches no reweighted OSD places a group as before
 placed_stays : (m : ClusterMap) (step : Step) (p : PoolFacts) (n : ℕ) → HoldsTogether m → has_rule m.rules p ≡ true → step.change.new_crush ≡ None → reaches (apply m step) step.change p ≡ false → placed m p n ≡ placed (apply m step) p n
 placed_stays m step p n holds has same none =
     let buckets = buckets_stay m step same in
     let rules = rules_stay m step same in
     placed_alike m (apply m step) step.change.weight p n buckets rules (weights_are m step) holds has (unreached_before m (apply m step) step.change p buckets rules none)
 
+-- who exists is the same before and after a change
 existing_stays : (m : ClusterMap) (step : Step) (x : Option ℤ) → option_and_then (existing m) x ≡ option_and_then (existing (apply m step)) x
 existing_stays m step None = refl
 existing_stays m step (Some (pos osd)) = rw (exists-after m step osd) refl
 existing_stays m step (Some (negsuc n)) = refl
 
+-- a rule that reaches no reweighted OSD gives a group the raw set as before
 raw_stays : (m : ClusterMap) (step : Step) (p : PoolFacts) (n : ℕ) → HoldsTogether m → has_rule m.rules p ≡ true → step.change.new_crush ≡ None → reaches (apply m step) step.change p ≡ false → raw_set m p n ≡ raw_set (apply m step) p n
 unfolding raw_set
 raw_stays m step p n holds has same none =
@@ -286,6 +304,7 @@ record IsUnconcerned (m : ClusterMap) (c : ChangeParts) (g : Pg) : Type 0 where
   explicit : names_reweighted target c (said_of m.explicit g) ≡ false
   items : names_reweighted sides c (said_of m.items g) ≡ false
 
+-- a group that a change does not concern is named by none of its parts, and no exception of it names a reweighted OSD
 unconcerned : (m : ClusterMap) (c : ChangeParts) (g : Pg) → concerns m c g ≡ false → IsUnconcerned m c g
 unfolding concerns is_named
 unconcerned m c g none =
@@ -302,6 +321,7 @@ unconcerned m c g none =
       items = or_second _ (names_reweighted sides c (said_of m.items g)) none;
     }
 
+-- what is not there is none
 none_there : {X : Type 0} (o : Option X) → is_some o ≡ false → o ≡ None
 none_there None h = refl
 none_there (Some x) h = absurd (false≢true (sym h))
@@ -314,6 +334,8 @@ pub record IsUntouched (m : ClusterMap) (c : ChangeParts) (p : PoolFacts) : Type
   pub grow : has_key (λ g. g.pool) c.grow_pool p.id ≡ false
   pub reach : reaches m c p ≡ false
 
+-- a pool that a change does not touch is not new, does not grow, keeps its forest and rules, and reaches no reweighted
+-- OSD
 pub untouched : (m : ClusterMap) (c : ChangeParts) (p : PoolFacts) → is_touched m c p ≡ false → IsUntouched m c p
 unfolding is_touched
 untouched m c p none =
@@ -333,14 +355,17 @@ pool_there m step p found none =
     let quiet = untouched (apply m step) step.change p none in
     pool_stays m step.change p.id p quiet.new quiet.grow found
 
+-- the explicit set of a group that a change does not concern stays
 explicit_stays : (m : ClusterMap) (step : Step) (g : Pg) → HoldsTogether m → g.number < 2 ^ 32 → has_key (λ k. k) step.change.old_pools g.pool ≡ false → IsUnconcerned (apply m step) step.change g → said_of (apply m step).explicit g ≡ said_of m.explicit g
 unfolding apply
 explicit_stays m step g holds few pool none = said_stays target _ m holds.pools_within step.change.old_pools step.change.old_upmap step.change.new_upmap m.explicit g few pool none.old_upmap none.new_upmap holds.explicit_sound
 
+-- so do its pairs
 items_stay : (m : ClusterMap) (step : Step) (g : Pg) → HoldsTogether m → g.number < 2 ^ 32 → has_key (λ k. k) step.change.old_pools g.pool ≡ false → IsUnconcerned (apply m step) step.change g → said_of (apply m step).items g ≡ said_of m.items g
 unfolding apply
 items_stay m step g holds few pool none = said_stays sides _ m holds.pools_within step.change.old_pools step.change.old_items step.change.new_items m.items g few pool none.old_items none.new_items holds.items_sound
 
+-- and the reweights of the OSDs that both name
 weights_agree : (m : ClusterMap) (step : Step) (g : Pg) → IsUnconcerned (apply m step) step.change g → said_of (apply m step).explicit g ≡ said_of m.explicit g → said_of (apply m step).items g ≡ said_of m.items g
     → Agree m.weights (apply m step).weights (unwrap_or (said_of m.explicit g) [] ++ flat_map sides (unwrap_or (said_of m.items g) []))
 unfolding apply
@@ -349,6 +374,7 @@ weights_agree m step g none explicit items =
     (explicit_agree m.weights step.change.weight step.change (said_of m.explicit g) refl (rw explicit at none.explicit))
     (items_agree m.weights step.change.weight step.change (said_of m.items g) refl (rw items at none.items))
 
+-- the law: a group that is not among the evaluations of a change was there with the same mapped set
 pub others_stay : OthersStay
 others_stay m step p n holds lawful found inside none =
     let touched = or_first (is_touched (apply m step) step.change p) (concerns (apply m step) step.change (group_of p n)) none in

@@ -12,14 +12,17 @@ use Rattle.osdmap.specs.Sets.{kept, kept_in}
 use Rattle.osdmap.specs.Placement.{upward, mapped_set, up_set}
 use Rattle.placement_laws.specs.Standing.{stands, UpAreMappedAndUp}
 
+-- or with false is the first
 or_none : (a : Bool) → (a || false) ≡ a
 or_none true = refl
 or_none false = refl
 
+-- and with false is false
 and_none : (a : Bool) → (a && false) ≡ false
 and_none true = refl
 and_none false = refl
 
+-- a condition on either of two is on both
 spread : (a b u : Bool) → ((a && u) || (b && u)) ≡ ((a || b) && u)
 spread true true true = refl
 spread true true false = refl
@@ -48,6 +51,7 @@ upward_place m osd (Some o) = by_up (osd_is_up m o) refl
       | inr other ↦ rw other refl
     ]
 
+-- an OSD stands in what is left of a list without those that are down exactly where it stands in the list and is up
 pub stands_up : (m : ClusterMap) (kind : RuleKind) (osd : ℕ) (places : List (Option ℕ)) → stands osd (kept kind (map (option_and_then (upward m)) places)) ≡ (stands osd places && osd_is_up m osd)
 stands_up m kind osd [] = refl
 stands_up m kind osd (place ∷ places) =
@@ -56,6 +60,7 @@ stands_up m kind osd (place ∷ places) =
     let split = ap (stands osd) (flat_map-cons (kept_in kind) first rest) ∙ list_any-append (is_of osd) (kept_in kind first) (kept kind rest) in
     split ∙ rw (kept_place osd kind first, upward_place m osd place, stands_up m kind osd places) (spread (is_of osd place) (stands osd places) (osd_is_up m osd))
 
+-- the law: an OSD stands in the up set exactly where it stands in the mapped set and is up
 pub up_are_mapped_and_up : UpAreMappedAndUp
 unfolding up_set
 up_are_mapped_and_up m p n osd = stands_up m p.kind osd (mapped_set m p n)

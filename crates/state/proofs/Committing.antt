@@ -14,6 +14,7 @@ pub record IsSealed (k : Kept) (base : ℕ) (change : ChangeParts) (after : Seen
   pub seen : epoch_of after ≡ base + 1
   pub shown : (step : Step) → slice_get after.history ((base + 1) - (k.pass.row.first + 1)) ≡ Some step → step ≡ next_step k.map change
 
+-- after an accepted change is sealed and joined the state's pass has seen its journal with this incremental behind
 pub sealed : (k : Kept) (t : TableFacts) (base : ℕ) (change : ChangeParts) (step : Step) (pass joined : Seen) → IsKept k t → IsAccepted k base change
     → step ≡ record { epoch = base + 1; change = change } → pass.history ≡ k.pass.history ++ step ∷ [] → joined.row ≡ k.pass.row
     → joined.history ≡ longer k.pass.history pass.history → IsSealed k base change joined

@@ -27,6 +27,7 @@ use Rattle.stated.proofs.Within.{natural_between}
 use Rattle.stated.proofs.Narrowed.{rule_id_fits, rule_limits}
 use Rattle.stated.proofs.Judged.{passed, refused}
 
+-- a step takes a bucket of the forest exactly where it takes one of the buckets given
 takes_same : (given sorted : List Bucket) → IsForestOf given sorted → (s : Step) → takes_known sorted s ≡ takes_known given s
 takes_same given sorted forest (step.Take id) = rw (forest.found id) refl
 takes_same given sorted forest (step.SetChooseTries n) = refl
@@ -34,6 +35,7 @@ takes_same given sorted forest (step.SetChooseleafTries n) = refl
 takes_same given sorted forest (step.Choose c) = refl
 takes_same given sorted forest step.Emit = refl
 
+-- a rule is lawful over the forest exactly where it is over the buckets given
 lawful_same : (given sorted : List Bucket) → IsForestOf given sorted → (r : RulePart) → is_lawful sorted r ≡ is_lawful given r
 lawful_same given sorted forest r = rw (list_all-agree (takes_known sorted) (takes_known given) (takes_same given sorted forest)) refl
 
@@ -69,12 +71,14 @@ no_fault buckets rules max_osd forest grown is lawful =
 
 -- ---- what holds
 
+-- a rule within its limits that is lawful over some buckets is a rule over them
 rule_over : (buckets : List Bucket) (r : RulePart) → rule_fits r ≡ true → is_lawful buckets r ≡ true → is_rule_over buckets (rule_of r) ≡ true
 unfolding is_rule_over
 rule_over buckets r fits lawful =
     let id = (natural_between 0 255 r.id (rule_id_fits r fits)).most in
     grind (arith, nat_tests, id, rule_limits r fits, lawful)
 
+-- so are all rules of a list, in order
 rules_over : (buckets : List Bucket) (parts : List RulePart) (rules : List NumberedRule) → list_all rule_fits parts ≡ true
     → rules_fit buckets parts ≡ true → Rises (λ r. r.id) (map rule_of parts) rules → list_all (is_rule_over buckets) rules ≡ true
 rules_over buckets parts rules fit good rises =

@@ -39,9 +39,11 @@ takes_fit : (buckets : List Bucket) (rules : List NumberedRule) → rules_over b
 unfolding rules_over
 takes_fit buckets rules h = grind arith
 
+-- a rule's id and its steps are within the limits
 numbered : (buckets : List Bucket) (r : NumberedRule) → nat_le r.id 255 ≡ true → rule_limits_ok r.rule.steps ≡ true → (nat_le r.id 255 && rule_limits_ok r.rule.steps) ≡ true
 numbered buckets r id limits = rw (id, limits) refl
 
+-- a rule within the limits that is right over some buckets is a rule over them
 over : (buckets : List Bucket) (r : NumberedRule) → (nat_le r.id 255 && rule_limits_ok r.rule.steps) ≡ true → rule_ok r.rule.kind r.rule.steps buckets ≡ true → is_rule_over buckets r ≡ true
 unfolding is_rule_over
 over buckets r fits ok = grind (arith, fits, ok)

@@ -31,10 +31,12 @@ stops r P fault part e so h err = rw (error_is r e err) (or_so h)
     or_so (inl memory) = inl memory
     or_so (inr wrong) = inr (so wrong)
 
+-- and with true is the first
 and_true : (b : Bool) → (b && true) ≡ b
 and_true true = refl
 and_true false = refl
 
+-- what is made of parts has their keys
 keys_same : {P X : Type 0} (made : P → X) (key : P → ℕ) (number : X → ℕ) → ((p : P) → number (made p) ≡ key p) → (parts : List P) → map number (map made parts) ≡ map key parts
 keys_same made key number same [] = refl
 keys_same made key number same (p ∷ parts) = rw (same p, keys_same made key number same parts) refl

@@ -30,62 +30,77 @@ unfolding is_between is_bucket_id
 bucket_is_item (pos n) h = grind (arith, nat_tests)
 bucket_is_item (negsuc n) h = grind (arith, nat_tests)
 
+-- the id of an item that fits has 32 bits
 pub item_id : (i : ItemPart) → item_fits i ≡ true → IsTrue (is_between (negsuc 65535) (pos 1023) i.id)
 unfolding item_fits
 item_id i h = grind arith
 
+-- so has its weight
 pub item_weight : (i : ItemPart) → item_fits i ≡ true → IsTrue (is_between (pos 0) (pos 4294967295) i.weight)
 unfolding item_fits
 item_weight i h = word_between 1 4294967295 i.weight (omega arith) (grind arith)
 
+-- the weight of an item that fits is above 0
 item_weight_fits : (i : ItemPart) → item_fits i ≡ true → is_between (pos 1) (pos 4294967295) i.weight ≡ true
 unfolding item_fits
 item_weight_fits i h = grind arith
 
+-- the id of a bucket that fits has 32 bits
 pub bucket_id : (b : BucketPart) → bucket_fits b ≡ true → IsTrue (is_between (negsuc 65535) (pos 1023) b.id)
 unfolding bucket_fits
 bucket_id b h = bucket_is_item b.id (grind arith)
 
+-- its type has 16 bits
 pub bucket_level : (b : BucketPart) → bucket_fits b ≡ true → IsTrue (is_between (pos 0) (pos 255) b.level)
 unfolding bucket_fits
 bucket_level b h = byte_between 1 15 b.level (omega arith) (grind arith)
 
+-- the tries of a step that fits have 8 bits
 pub some_tries : (n : ℤ) → step_fits (SetChooseTries n) ≡ true → IsTrue (is_between (pos 0) (pos 255) n)
 unfolding step_fits
 some_tries n h = byte_between 1 200 n (omega arith) h
 
+-- so have those for a leaf
 pub leaf_tries : (n : ℤ) → step_fits (SetChooseleafTries n) ≡ true → IsTrue (is_between (pos 0) (pos 255) n)
 unfolding step_fits
 leaf_tries n h = byte_between 1 200 n (omega arith) h
 
+-- what a step that fits takes has 32 bits
 pub take_id : (id : ℤ) → step_fits (Take id) ≡ true → IsTrue (is_between (negsuc 65535) (pos 1023) id)
 unfolding step_fits
 take_id id h = bucket_is_item id h
 
+-- how many it chooses has 8 bits
 pub choose_count : (c : ChoosePart) → step_fits (Chooses c) ≡ true → IsTrue (is_between (pos 0) (pos 255) c.count)
 unfolding step_fits
 choose_count c h = byte_between 0 10 c.count (omega arith) (grind arith)
 
+-- so has the type that it chooses
 pub choose_level : (c : ChoosePart) → step_fits (Chooses c) ≡ true → IsTrue (is_between (pos 0) (pos 255) c.level)
 unfolding step_fits
 choose_level c h = byte_between 0 15 c.level (omega arith) (grind arith)
 
+-- the id of a rule that fits is at most 255
 pub rule_id_fits : (r : RulePart) → rule_fits r ≡ true → is_between (pos 0) (pos 255) r.id ≡ true
 unfolding rule_fits
 rule_id_fits r h = grind arith
 
+-- the reweight of an OSD that fits is at most 65,536
 pub osd_weight_fits : (o : OsdPart) → osd_fits o ≡ true → is_between (pos 0) (pos 65536) o.weight ≡ true
 unfolding osd_fits
 osd_weight_fits o h = grind arith
 
+-- the id of a rule that fits has 32 bits
 pub rule_id : (r : RulePart) → rule_fits r ≡ true → IsTrue (is_between (pos 0) (pos 4294967295) r.id)
 unfolding rule_fits
 rule_id r h = word_between 0 255 r.id (omega arith) (grind arith)
 
+-- so has the id of an OSD
 pub osd_id : (o : OsdPart) → osd_fits o ≡ true → IsTrue (is_between (pos 0) (pos 4294967295) o.id)
 unfolding osd_fits
 osd_id o h = word_between 0 1023 o.id (omega arith) (grind arith)
 
+-- and its reweight
 pub osd_weight : (o : OsdPart) → osd_fits o ≡ true → IsTrue (is_between (pos 0) (pos 4294967295) o.weight)
 unfolding osd_fits
 osd_weight o h = word_between 0 65536 o.weight (omega arith) (grind arith)
@@ -95,35 +110,42 @@ pub bucket_items : (b : BucketPart) → bucket_fits b ≡ true → list_all item
 unfolding bucket_fits
 bucket_items b h = grind arith
 
+-- each step of a rule that fits does
 pub rule_steps : (r : RulePart) → rule_fits r ≡ true → list_all step_fits r.steps ≡ true
 unfolding rule_fits
 rule_steps r h = grind arith
 
 -- ---- values within the limits
 
+-- an item that fits is within the limits of the forest
 item_within : (i : ItemPart) → item_fits i ≡ true → item_limits_ok (item_of i) ≡ true
 unfolding item_fits is_between
 item_within i h =
     let weight = (natural_between 1 4294967295 i.weight (item_weight_fits i h)).least in
     grind (arith, nat_tests, weight)
 
+-- an id that a text may give a bucket is one that a bucket may have
 bucket_id_within : (z : ℤ) → is_bucket_id z ≡ true → may_be_bucket z ≡ true
 unfolding is_bucket_id is_between
 bucket_id_within (pos n) h = grind (arith, nat_tests)
 bucket_id_within (negsuc n) h = grind (arith, nat_tests)
 
+-- a number between two limits is, without its sign, within them
 level_within : (low high : ℕ) (z : ℤ) → is_between (pos low) (pos high) z ≡ true → is_within low high (nat_abs z) ≡ true
 level_within low high z h =
     let number = natural_between low high z h in
     grind (arith, nat_tests, number.least, number.most)
 
+-- items that fit are within the limits
 items_within : (items : List ItemPart) → list_all item_fits items ≡ true → list_all item_limits_ok (map item_of items) ≡ true
 items_within items h = rw (list_all-map item_limits_ok item_of items) (all_more item_fits (λ i. item_limits_ok (item_of i)) items item_within h)
 
+-- a list of so many has as many when each is made into something
 count_within : {X Y : Type 0} (f : X → Y) (low high : ℕ) (xs : List X) → has_between low high xs ≡ true → is_within low high (length (map f xs)) ≡ true
 unfolding has_between
 count_within f low high xs h = rw (length-map xs f) h
 
+-- a bucket that fits is within the limits of the forest
 bucket_within : (b : BucketPart) → bucket_fits b ≡ true → bucket_limits_ok (bucket_of b) ≡ true
 unfolding bucket_fits
 bucket_within b h =
@@ -133,6 +155,7 @@ bucket_within b h =
     let items = items_within b.items (grind arith) in
     grind (arith, id, level, count, items)
 
+-- buckets that fit are, together, within the limits of a forest
 pub forest_limits : (buckets : List BucketPart) (max_osd : ℕ) → list_all bucket_fits buckets ≡ true → has_between 1 512 buckets ≡ true → 1 ≤ max_osd → max_osd ≤ 1024
     → forest_limits_ok (map bucket_of buckets) max_osd ≡ true
 forest_limits buckets max_osd fits count some few =
@@ -140,6 +163,7 @@ forest_limits buckets max_osd fits count some few =
     let each : list_all bucket_limits_ok (map bucket_of buckets) ≡ true = rw (list_all-map bucket_limits_ok bucket_of buckets) (all_more bucket_fits (λ b. bucket_limits_ok (bucket_of b)) buckets bucket_within fits) in
     grind (arith, nat_tests, counted, each)
 
+-- a step that fits is within the limits of a rule
 step_within : (s : StepPart) → step_fits s ≡ true → step_limits_ok (step_of s) ≡ true
 unfolding step_fits
 step_within (SetChooseTries n) h = level_within 1 200 n h
@@ -151,6 +175,7 @@ step_within (Chooses c) h =
     grind (arith, nat_tests, count, level)
 step_within Emit h = refl
 
+-- the steps of a rule that fits are within them
 pub rule_limits : (r : RulePart) → rule_fits r ≡ true → rule_limits_ok (map step_of r.steps) ≡ true
 unfolding rule_fits
 rule_limits r h =

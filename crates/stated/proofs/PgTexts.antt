@@ -23,16 +23,19 @@ pub value_after-min : (base n : ℕ) (cs : List ℕ) → 0 < base
     → option_map within (value_after base (min n (2 ^ 32)) cs) ≡ option_map within (value_after base n cs)
 value_after-min base n cs some = grind (arith, value_after-great)
 
+-- a text whose next byte is no digit is that of no number
 pub left-none : (base n i : ℕ) (text : List ℕ) → i < length text → digit_of base (get_or text i 0) ≡ None
     → option_map within (value_after base n (drop i text)) ≡ None
 unfolding value_after
 left-none base n i text within_text e = rw (drop-cons text i 0 within_text, e) refl
 
+-- a text whose next byte is a digit is read on behind it
 pub left-some : (base n d i : ℕ) (text : List ℕ) → 0 < base → i < length text → digit_of base (get_or text i 0) ≡ Some d
     → option_map within (value_after base (min (n * base + d) (2 ^ 32)) (drop (i + 1) text)) ≡ option_map within (value_after base n (drop i text))
 unfolding value_after
 left-some base n d i text some within_text e = rw (add-one i, drop-cons text i 0 within_text, e) (value_after-min base (n * base + d) (drop (suc i) text) some)
 
+-- a text that is read to its end is the number so far
 pub left-end : (base n i : ℕ) (text : List ℕ) → length text ≤ i
     → option_map within (value_after base n (drop i text)) ≡ Some (within n)
 unfolding value_after

@@ -18,6 +18,7 @@ pub record IsNatural (low high : ℕ) (z : ℤ) : Type 0 where
   pub least : low ≤ nat_abs z
   pub most : nat_abs z ≤ high
 
+-- a number between two natural ones is one
 pub natural_between : (low high : ℕ) (z : ℤ) → is_between (pos low) (pos high) z ≡ true → IsNatural low high z
 unfolding is_between
 natural_between low high (pos n) h = record { is = refl; least = grind (arith, nat_tests); most = grind (arith, nat_tests) }
@@ -37,6 +38,7 @@ pub record PoolFits (p : PoolPart) : Type 0 where
   pub rule : is_between (pos 0) (pos 255) p.rule ≡ true
   pub size : is_between (pos 1) (pos 10) p.size ≡ true
 
+-- each number of a pool that fits is within its limits
 pub pool_fits_each : (p : PoolPart) → pool_fits p ≡ true → PoolFits p
 unfolding pool_fits
 pool_fits_each p h = record {
@@ -73,6 +75,7 @@ pub record GrowthFits (g : GrowPart) : Type 0 where
   pub pg_num : is_between (pos 1) (pos 4096) g.pg_num ≡ true
   pub pgp_num : is_between (pos 1) (pos 4096) g.pgp_num ≡ true
 
+-- so is each of a growth
 pub growth_fits_each : (g : GrowPart) → growth_fits g ≡ true → GrowthFits g
 unfolding growth_fits
 growth_fits_each g h = record { pool = grind arith; pg_num = grind arith; pgp_num = grind arith }
@@ -102,6 +105,7 @@ pub pair_from : (p : PairPart) → pair_fits p ≡ true → is_osd_id p.from ≡
 unfolding pair_fits
 pair_from p h = grind arith
 
+-- the second OSD of a pair that fits may be one
 pub pair_to : (p : PairPart) → pair_fits p ≡ true → is_osd_id p.to ≡ true
 unfolding pair_fits
 pair_to p h = grind arith
@@ -111,10 +115,12 @@ pub few_entries : {P : Type 0} (fits : P → Bool) (e : ExceptionPart P) → exc
 unfolding exception_fits has_between
 few_entries fits e h = grind (arith, nat_tests)
 
+-- each entry of an exception that fits does
 pub entries_fit : {P : Type 0} (fits : P → Bool) (e : ExceptionPart P) → exception_fits fits e ≡ true → list_all fits e.entries ≡ true
 unfolding exception_fits
 entries_fit fits e h = grind arith
 
+-- each exception of a list that fits does
 pub each_fits : {P : Type 0} (fits : P → Bool) (es : List (ExceptionPart P)) → exceptions_fit fits es ≡ true → list_all (exception_fits fits) es ≡ true
 unfolding exceptions_fit
 each_fits fits es h = grind arith

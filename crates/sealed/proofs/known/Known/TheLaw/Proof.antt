@@ -14,6 +14,7 @@ use Rattle.sealed.specs.contracts.known.Known as C
 use Rattle.sealed.proofs.Twice.{lends_twice}
 use Rattle.sealed.proofs.known.Known.TheLaw.Statement.{statement}
 
+-- what is known of a cell may be shared
 pub shares : (T : RattleType) (L : Laws T) → statement T L
 shares T L =
     of_Lends (C.struct T) (C.the_codes T.Denot T.coded (marker.the_row T).coded) (C.the_heap T) (C.the_lent T)

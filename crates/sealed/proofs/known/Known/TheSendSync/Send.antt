@@ -7,9 +7,11 @@ use Rattle.std.specs.declared.option.Option.TheVariants.{None, Some}
 use Rattle.once_cell.specs.Once.{noted}
 use Rattle.sealed.specs.contracts.known.Known.{the_row}
 
+-- a note of a cell asks for no key
 noted_keyless : (R : RattleType) (γ : ℕ) (k : Option R.Denot) → Keyless (noted R γ k)
 noted_keyless R γ None = tt
 noted_keyless R γ (Some x) = tt
 
+-- what is known of a cell may go to another thread
 pub send : (T : RattleType) → IsSend (the_row T)
 send T = record { owned = λ n vs. ((λ vss. (tt, ((λ uss. (tt, tt)), tt))), noted_keyless T n.cell n.known); leaving = λ k d w. tt }

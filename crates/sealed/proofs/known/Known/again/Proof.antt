@@ -29,6 +29,7 @@ use Rattle.sealed.specs.contracts.known.Known.again.Key.{name as #self}
 use Rattle.sealed.proofs.known.Known.again.Statement.{statement}
 use Rattle.sealed.proofs.known.Known.again.Code as code
 
+-- what is known of a cell may be had twice
 pub again_spec : {M : Type 1} → statement M
 again_spec 𝓤 𝓛 𝓜 𝓡 wired T L =
     let H = 𝓛.H in let 𝓣 = tables 𝓤 H 𝓜 𝓡 𝓡.env in let R : RattleType = param 0 T in let En = ended T in let S : RattleType = C.the_row R in

@@ -28,6 +28,7 @@ use Rattle.sealed.specs.contracts.known.Known.agrees.Key.{name as #self}
 use Rattle.sealed.proofs.known.Known.agrees.Statement.{statement}
 use Rattle.sealed.proofs.known.Known.agrees.Code as code
 
+-- two who know a value of one cell know the same
 pub agrees_spec : {M : Type 1} → statement M
 agrees_spec 𝓤 𝓛 𝓜 𝓡 wired T L =
     let H = 𝓛.H in let 𝓣 = tables 𝓤 H 𝓜 𝓡 𝓡.env in let R : RattleType = param 0 T in let En = ended T in let S : RattleType = C.the_row R in

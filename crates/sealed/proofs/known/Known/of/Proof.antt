@@ -29,6 +29,7 @@ use Rattle.sealed.proofs.known.Known.of.Statement.{statement}
 use Rattle.sealed.proofs.known.Known.of.Code as code
 use Rattle.sealed.proofs.Twice.{Data, known_made}
 
+-- what a note of a cell says is known
 pub of_spec : {M : Type 1} → statement M
 of_spec 𝓤 𝓛 𝓜 𝓡 wired T L =
     let H = 𝓛.H in let 𝓣 = tables 𝓤 H 𝓜 𝓡 𝓡.env in let R : RattleType = param 0 T in let LR = param_laws 0 T L in let En = ended T in let c = clauses T 𝓛 𝓜.mem 𝓡.returns in

@@ -34,6 +34,7 @@ use Rattle.sealed.specs.contracts.known.Known.tell.Key.{name as #self}
 use Rattle.sealed.proofs.known.Known.tell.Statement.{statement}
 use Rattle.sealed.proofs.known.Known.tell.Code as code
 
+-- who knows the value of a cell can tell it to one who has the cell's token
 pub tell_spec : {M : Type 1} → statement M
 tell_spec 𝓤 𝓛 𝓜 𝓡 wired T L =
     let H = 𝓛.H in let 𝓣 = tables 𝓤 H 𝓜 𝓡 𝓡.env in let R : RattleType = param 0 T in let En = ended T in let c = clauses T 𝓛 𝓜.mem 𝓡.returns in
