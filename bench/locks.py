@@ -1,5 +1,6 @@
 #!/usr/bin/env python3
-"""Measures the lock of `ticketlock` beside a read-write lock of the C library: holds in a second, in 1, 2 and 4 threads.
+"""Measures the lock of `ticketlock` beside a read-write lock of the C library, and beside its own steps in plain C: holds in a
+second, in 1, 2 and 4 threads.
 
     locks.py [FOLDER]
 
@@ -22,7 +23,7 @@ HOLDS = 2000000
 
 
 def made(folder):
-    """The two programs, built in the folder."""
+    """The three programs, built in the folder: ours, the C library's lock, and our steps in plain C."""
     crates = os.path.join(folder, "crates")
     bench = os.path.join(crates, "lockbench", "src")
     os.makedirs(bench, exist_ok=True)
@@ -42,9 +43,10 @@ def made(folder):
     ours = os.path.join(crates, "lockbench", "out", "lockbench")
     subprocess.run(["rt", "run", "--", "1", "0", "1"], cwd=os.path.join(crates, "lockbench"), check=False,
                    stdout=subprocess.DEVNULL)
-    theirs = os.path.join(folder, "lockbench-c")
-    subprocess.run(["cc", "-O2", "-pthread", "-o", theirs, os.path.join(HERE, "lockbench.c")], check=True)
-    return ours, theirs
+    theirs, steps = (os.path.join(folder, name) for name in ("lockbench-c", "lockbench-steps"))
+    for program, words in ((theirs, []), (steps, ["-DSTEPS"])):
+        subprocess.run(["cc", "-O2", "-pthread"] + words + ["-o", program, os.path.join(HERE, "lockbench.c")], check=True)
+    return ours, theirs, steps
 
 
 def nanoseconds(program, threads, every):
@@ -59,12 +61,14 @@ def nanoseconds(program, threads, every):
 def main():
     folder = sys.argv[1] if len(sys.argv) > 1 else tempfile.mkdtemp()
     os.makedirs(folder, exist_ok=True)
-    ours, theirs = made(folder)
-    print(f"{'holds':22}{'threads':>8}{'ours, million/s':>18}{'C library':>12}{'ours/C':>8}{'ours, ns a hold':>18}")
+    programs = made(folder)
+    print(f"{'holds':22}{'threads':>8}{'ours, million/s':>18}{'C library':>12}{'our steps in C':>16}{'ours/C':>8}"
+          f"{'ours/steps':>12}{'ours, ns a hold':>18}")
     for name, every in ROWS:
         for threads in THREADS:
-            one, other = nanoseconds(ours, threads, every), nanoseconds(theirs, threads, every)
-            print(f"{name:22}{threads:8}{1000 / one:18.2f}{1000 / other:12.2f}{other / one:8.2f}{one:18.1f}", flush=True)
+            ours, theirs, steps = (nanoseconds(program, threads, every) for program in programs)
+            print(f"{name:22}{threads:8}{1000 / ours:18.2f}{1000 / theirs:12.2f}{1000 / steps:16.2f}{theirs / ours:8.2f}"
+                  f"{steps / ours:12.2f}{ours:18.1f}", flush=True)
 
 
 if __name__ == "__main__":
