@@ -1,0 +1,166 @@
+"""The table that patches lead to, beside the table built anew.
+
+    anew.py PROGRAM
+
+Each history is a small random map and a dozen random changes of all parts. After each change a script asks for every group's up set and for the
+count and the groups of every OSD, and writes the map. A second run opens the map that was written, whose table is built anew, and asks the same:
+the answers must be the same. So what a patch made is compared with what the map alone defines.
+"""
+
+import json
+import pathlib
+import random
+import subprocess
+import sys
+import tempfile
+
+SEED = 20261123
+HISTORIES = 30
+CHANGES = 12
+KINDS = ("uniform", "list", "tree")
+
+
+def random_forest(rng, osds):
+    """Hosts of two or three OSDs under one root, and rules of both kinds over hosts and over OSDs."""
+    hosts, buckets = [], []
+    free = rng.sample(range(osds), osds)
+    while free:
+        took = [free.pop() for _ in range(min(len(free), rng.randint(2, 3)))]
+        weight = 65536 * rng.randint(1, 2)
+        items = [[osd, weight] for osd in sorted(took)]
+        buckets.append({"id": -2 - len(hosts), "items": items, "kind": rng.choice(KINDS), "type": 1})
+        hosts.append(-2 - len(hosts))
+    root = {"id": -1, "items": [[host, 65536] for host in hosts], "kind": rng.choice(KINDS), "type": 10}
+    rules = [{"id": 0, "kind": "replicated", "steps": [["take", -1], ["chooseleaf_firstn", 0, 1], ["emit"]]},
+             {"id": 1, "kind": "erasure", "steps": [["take", -1], ["chooseleaf_indep", 0, 1], ["emit"]]},
+             {"id": 2, "kind": "replicated", "steps": [["take", rng.choice(hosts)], ["choose_firstn", 0, 0], ["emit"]]}]
+    return [root] + buckets, rules
+
+
+def random_pool(rng, number):
+    rule = rng.choice([0, 1, 2])
+    groups = rng.randint(1, 12)
+    return {"id": number, "kind": "erasure" if rule == 1 else "replicated", "pg_num": groups, "pgp_num": rng.randint(1, groups),
+            "rule": rule, "size": rng.randint(1, 4)}
+
+
+def random_map(rng):
+    osds = rng.randint(4, 12)
+    buckets, rules = random_forest(rng, osds)
+    pools = [random_pool(rng, number) for number in rng.sample(range(1, 9), rng.randint(1, 3))]
+    states = [{"exists": True, "id": osd, "up": rng.random() < 0.8, "weight": rng.choice([65536, 65536, 32768, 0])} for osd in range(osds)]
+    return {"buckets": buckets, "epoch": 1, "max_osd": osds, "osds": states, "pools": sorted(pools, key=lambda p: p["id"]),
+            "rules": rules, "version": 1}
+
+
+def some(rng, values, most):
+    values = list(values)
+    return rng.sample(values, min(len(values), rng.randint(1, most)))
+
+
+def groups_of(pools):
+    return [(pool, number) for pool in pools for number in range(pools[pool]["pg_num"])]
+
+
+def random_change(rng, osds, pools):
+    """A change that is not refused, of one to three parts; the pools are then those after it."""
+    change = {}
+    for part in rng.sample(["down", "up", "weight", "pools", "grow", "crush", "upmap", "items", "clear"], rng.randint(1, 3)):
+        if part in ("down", "up"):
+            change[part] = [osd for osd in some(rng, range(osds), 3) if osd not in change.get("up", []) + change.get("down", [])]
+        elif part == "weight":
+            change["weight"] = [[osd, rng.choice([0, 32768, 65536])] for osd in some(rng, range(osds), 2)]
+        elif part == "pools":
+            if len(pools) > 1 and rng.random() < 0.5:
+                gone = rng.choice([number for number in pools if [number] != [entry[0] for entry in change.get("grow_pool", [])]])
+                change["old_pools"] = [gone]
+                del pools[gone]
+            else:
+                new = random_pool(rng, rng.choice([n for n in range(1, 10) if n not in pools]))
+                change["new_pools"] = [new]
+                pools[new["id"]] = new
+        elif part == "grow":
+            there = [number for number in pools if number not in [new["id"] for new in change.get("new_pools", [])]]
+            if not there:
+                continue
+            pool = pools[rng.choice(there)]
+            pool = dict(pool, pg_num=pool["pg_num"] + rng.randint(0, 3))
+            pool["pgp_num"] = rng.randint(pool["pgp_num"], pool["pg_num"])
+            pools[pool["id"]] = pool
+            change["grow_pool"] = [[pool["id"], pool["pg_num"], pool["pgp_num"]]]
+        elif part == "crush":
+            buckets, rules = random_forest(rng, osds)
+            change["new_crush"] = {"buckets": buckets, "rules": rules}
+    exceptions(rng, osds, pools, change)
+    return change
+
+
+def exceptions(rng, osds, pools, change):
+    """Explicit sets and pairs that come or go, of groups of the pools after the change."""
+    for pool, number in some(rng, groups_of(pools), 3) if rng.random() < 0.6 else []:
+        name, size = f"{pool}.{number:x}", pools[pool]["size"]
+        explicit, items = rng.choice(["old_upmap", "new_upmap", None]), rng.choice(["old_items", "new_items", None])
+        come = {"new_upmap": [name, rng.sample(range(osds), rng.randint(1, min(osds, size)))],
+                "new_items": [name, [rng.sample(range(osds), 2) for _ in range(rng.randint(1, size))]]}
+        for key in filter(None, (explicit, items)):
+            change.setdefault(key, []).append(come.get(key, name))
+
+
+def questions(osds, pools):
+    """Every group's up set, every OSD's count and groups, and the map."""
+    lines = [f"up {pool}.{number:x}" for pool, number in groups_of(pools)]
+    return lines + [f"{word} {osd}" for word in ("count", "groups") for osd in range(osds)] + ["dump"]
+
+
+def answers(program, folder, text, lines):
+    """What a run answers to these lines."""
+    (folder / "map").write_text(text)
+    (folder / "script").write_text("".join(line + "\n" for line in lines))
+    done = subprocess.run([program, str(folder / "map"), str(folder / "script")], capture_output=True, text=True, check=True, timeout=60)
+    return done.stdout.splitlines()[1:]
+
+
+def history(program, folder, seed):
+    """What differs of one history, in words; none is the empty list."""
+    rng = random.Random(seed)
+    first = random_map(rng)
+    osds, pools = first["max_osd"], {pool["id"]: pool for pool in first["pools"]}
+    lines, asked = [], []
+    for epoch in range(1, CHANGES + 1):
+        change = random_change(rng, osds, pools)
+        lines.append("change " + json.dumps(dict(change, base=epoch)))
+        asked.append((len(lines), questions(osds, pools)))
+        lines += asked[-1][1]
+    patched = answers(program, folder, json.dumps(first), lines)
+    wrong = []
+    for epoch, (at, wanted) in enumerate(asked, 2):
+        if not patched[at - 1].startswith(f"ok {epoch} "):
+            return [f"history {seed}, epoch {epoch}: {lines[at - 1]}: {patched[at - 1]}"]
+        mine = patched[at:at + len(wanted)]
+        anew = answers(program, folder, mine[-1].removeprefix("dump "), wanted)
+        wrong += [f"history {seed}, epoch {epoch}: {line}: {one}, built anew {other}"
+                  for line, one, other in zip(wanted, mine, anew) if one != other]
+    return wrong
+
+
+def compared(program, pool):
+    """How many tables were compared, and what differs."""
+    def one(number):
+        with tempfile.TemporaryDirectory() as folder:
+            return history(program, pathlib.Path(folder), SEED + number)
+
+    wrong = [text for texts in pool.map(one, range(HISTORIES)) for text in texts]
+    return HISTORIES * CHANGES, wrong
+
+
+def main():
+    from concurrent.futures import ThreadPoolExecutor
+    with ThreadPoolExecutor(4) as pool:
+        count, wrong = compared(sys.argv[1], pool)
+    print("\n".join(wrong[:10]))
+    print(f"{count} tables that patches led to beside tables built anew: {len(wrong)} answers differ")
+    sys.exit(1 if wrong else 0)
+
+
+if __name__ == "__main__":
+    main()
