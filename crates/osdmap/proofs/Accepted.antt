@@ -17,10 +17,12 @@ pub record Accepted (m : ClusterMap) (c : ChangeParts) : Type 0 where
   pub sound : excepts_soundly m c ≡ true
   pub once : names_once c ≡ true
 
+-- where a list of tests refuses nothing, its first test passes and the rest refuse nothing
 pub passes : (b : Bool) (r : Refusal) (rest : Option Refusal) → (if not b then Some r else rest) ≡ None → (b ≡ true) × (rest ≡ None)
 passes true r rest h = (refl, h)
 passes false r rest h = absurd (cc)
 
+-- a change that is not refused passes each test
 pub accepted : (m : ClusterMap) (c : ChangeParts) → change_fault m c ≡ None → Accepted m c
 accepted m c h =
     let osds = passes (names_osds m c) _ _ h in

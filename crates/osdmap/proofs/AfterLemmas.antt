@@ -18,6 +18,7 @@ pub length-with_up : (up : Bool) (presences : List Presence) (osds : List ℕ) �
 length-with_up up presences [] = refl
 length-with_up up presences (osd ∷ osds) = length-with_up up (with_up up presences osd) osds ∙ length-set presences osd _
 
+-- reweights that are put in leave the number of OSDs
 pub length-with_weight : (weights : List ℕ) (ws : List Reweight) → length (fold with_weight weights ws) ≡ length weights
 length-with_weight weights [] = refl
 length-with_weight weights (w ∷ ws) = length-with_weight (with_weight weights w) ws ∙ length-set weights w.osd _

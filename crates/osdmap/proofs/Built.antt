@@ -57,6 +57,7 @@ pub record PartsFit (p : MapParts) : Type 0 where
   pub explicit : exceptions_fit is_osd_id p.pg_upmap ≡ true
   pub items : exceptions_fit pair_fits p.pg_upmap_items ≡ true
 
+-- each part of a map that fits is within its limits
 pub parts_fit_each : (p : MapParts) → parts_fit p ≡ true → PartsFit p
 unfolding parts_fit head_fits lists_fit
 parts_fit_each p h = record {
@@ -73,9 +74,11 @@ parts_fit_each p h = record {
   items = grind arith;
 }
 
+-- a map has an OSD
 pub some_osds : (p : MapParts) → PartsFit p → 1 ≤ nat_abs p.max_osd
 some_osds p fits = (natural_between 1 1024 p.max_osd fits.max_osd).least
 
+-- and at most 1,024
 pub few_osds : (p : MapParts) → PartsFit p → nat_abs p.max_osd ≤ 1024
 few_osds p fits = (natural_between 1 1024 p.max_osd fits.max_osd).most
 
@@ -88,14 +91,17 @@ has_same given sorted rises q =
     let found = find-moved (λ (r : NumberedRule). r.id) given sorted rises.same own q.rule in
     ap (λ r. option_map_or (λ k. is_kind k.kind q.kind) (option_map (λ (n : NumberedRule). n.rule) r) false) found
 
+-- a pool's rule is found in the rules in order as in those given
 pool_same : (given sorted : List NumberedRule) → Rises (λ r. r.id) given sorted → (q : PoolPart) → pool_ok sorted q ≡ pool_ok given q
 unfolding pool_ok
 pool_same given sorted rises q = rw (has_same given sorted rises (pool_of q)) refl
 
+-- so it is for all pools
 pub pools_same : (p : MapParts) (sorted : List NumberedRule) → Rises (λ r. r.id) (map rule_of p.rules) sorted → pools_fit sorted p.pools ≡ pools_ok p
 unfolding pools_ok
 pools_same p sorted rises = rw (list_all-agree (pool_ok sorted) (pool_ok (map rule_of p.rules)) (pool_same (map rule_of p.rules) sorted rises)) refl
 
+-- the OSDs are tested by the number of a map's OSDs
 pub osds_same : (p : MapParts) → osds_fit (nat_abs p.max_osd) p.osds ≡ osds_ok p
 unfolding osds_ok
 osds_same p = refl
@@ -114,12 +120,14 @@ first_of true true rest e h = absurd (cc)
 first_of true false rest e h = h
 first_of false r rest e h = h
 
+-- where forest and rules are refused nothing, the tests behind them decide
 rest_of : (f r : Bool) (rest : Option Refusal) → cond (not f) (Some BadForest) (cond (not r) (Some BadRule) None) ≡ None
     → cond (not f) (Some BadForest) (cond (not r) (Some BadRule) rest) ≡ rest
 rest_of true true rest h = refl
 rest_of true false rest h = absurd (cc)
 rest_of false r rest h = absurd (cc)
 
+-- and the forest is right
 forest_fine : (f r : Bool) → cond (not f) (Some BadForest) (cond (not r) (Some BadRule) None) ≡ None → f ≡ true
 forest_fine true r h = refl
 forest_fine false r h = absurd (cc)
@@ -172,12 +180,14 @@ pub record IsBuilt (p : MapParts) (m : ClusterMap) : Type 0 where
   pub explicit : m.explicit ≡ []
   pub items : m.items ≡ []
 
+-- a map that is built, with right exceptions, has no fault
 pub no_fault : (p : MapParts) (m : ClusterMap) → IsBuilt p m → all_exceptions_ok p ≡ true → map_fault p ≡ None
 no_fault p m built excepted =
     let served = sym (pools_same p m.rules built.stated.rules) ∙ passed _ _ built.served in
     let entered = sym (osds_same p) ∙ passed _ _ built.entered in
     past_crush p None built.limits built.grown (rw (served, entered, excepted) refl)
 
+-- a row tells the presence that the parts state
 presence_same : (osds : List OsdPart) (n : ℕ) → row_presence (option_map state_of (listed osds n)) ≡ presence_in osds n
 presence_same osds n = by_listed (listed osds n)
   where
@@ -185,6 +195,7 @@ presence_same osds n = by_listed (listed osds n)
     by_listed None = refl
     by_listed (Some o) = refl
 
+-- and the reweight
 weight_same : (osds : List OsdPart) (n : ℕ) → row_weight (option_map state_of (listed osds n)) ≡ weight_in osds n
 weight_same osds n = by_listed (listed osds n)
   where
@@ -192,12 +203,15 @@ weight_same osds n = by_listed (listed osds n)
     by_listed None = refl
     by_listed (Some o) = refl
 
+-- the rows tell all presences that the parts state
 pub presences_same : (osds : List OsdPart) (max_osd : ℕ) → map row_presence (rows_of osds max_osd) ≡ map (presence_in osds) (range_with_len 0 max_osd)
 presences_same osds max_osd = map_twice row_presence _ (range_with_len 0 max_osd) ∙ map-agree _ _ (presence_same osds) (range_with_len 0 max_osd)
 
+-- and all reweights
 pub weights_same : (osds : List OsdPart) (max_osd : ℕ) → map row_weight (rows_of osds max_osd) ≡ map (weight_in osds) (range_with_len 0 max_osd)
 weights_same osds max_osd = map_twice row_weight _ (range_with_len 0 max_osd) ∙ map-agree _ _ (weight_same osds) (range_with_len 0 max_osd)
 
+-- a map that is built of parts without exceptions is the one that they state
 pub is_stated : (p : MapParts) (m : ClusterMap) → IsBuilt p m → explicit_of p ≡ [] → items_of p ≡ [] → IsStated p m
 is_stated p m built no_explicit no_items = record {
   epoch = built.epoch;
@@ -215,6 +229,7 @@ is_stated p m built no_explicit no_items = record {
   items_rise = rw built.items (λ i j d below inside. absurd (omega arith));
 }
 
+-- each pool of a map that is built has its rule
 ruled : (p : MapParts) (m : ClusterMap) → IsBuilt p m → list_all (has_rule m.rules) m.pools ≡ true
 unfolding pool_ok
 ruled p m built =
@@ -222,18 +237,21 @@ ruled p m built =
     let each = all_more (pool_ok m.rules) (λ q. has_rule m.rules (pool_of q)) p.pools (λ q h. and_second _ (has_rule m.rules (pool_of q)) h) all in
     list_all-moved (has_rule m.rules) (map pool_of p.pools) m.pools built.pools.same ∙ list_all-map (has_rule m.rules) pool_of p.pools ∙ each
 
+-- a pool that fits and has its rule is within the limits
 one_within : (rules : List NumberedRule) (q : PoolPart) → pool_fits q ≡ true → pool_ok rules q ≡ true → IsWithinLimits (pool_of q)
 unfolding pool_ok
 one_within rules q fits ok =
     let few : int_le q.pgp_num q.pg_num ≡ true = and_first (int_le q.pgp_num q.pg_num) (has_rule rules (pool_of q)) ok in
     pool_within q (pool_fits_each q fits) (grind (arith, ints, few))
 
+-- so is each of a list
 each_within : (rules : List NumberedRule) (qs : List PoolPart) → list_all pool_fits qs ≡ true → list_all (pool_ok rules) qs ≡ true → All IsWithinLimits (map pool_of qs)
 each_within rules [] fit ok = All-nil IsWithinLimits
 each_within rules (q ∷ qs) fit ok =
     All-cons IsWithinLimits (pool_of q) (map pool_of qs) (one_within rules q (and_first (pool_fits q) (list_all pool_fits qs) fit) (and_first (pool_ok rules q) (list_all (pool_ok rules) qs) ok))
     (each_within rules qs (and_second (pool_fits q) (list_all pool_fits qs) fit) (and_second (pool_ok rules q) (list_all (pool_ok rules) qs) ok))
 
+-- and each of a map that is built
 pools_within : (p : MapParts) (m : ClusterMap) → IsBuilt p m → list_all pool_fits p.pools ≡ true → All IsWithinLimits m.pools
 pools_within p m built fit =
     let ok = and_second (is_distinct (map (λ (q : PoolPart). nat_abs q.id) p.pools)) (list_all (pool_ok m.rules) p.pools) (passed _ _ built.served) in
@@ -241,10 +259,12 @@ pools_within p m built fit =
 
 -- ---- OSDs
 
+-- an OSD that is up exists
 up_fine : (max_osd : ℕ) (o : OsdPart) → osd_ok max_osd o ≡ true → (not o.up || o.exists) ≡ true
 unfolding osd_ok
 up_fine max_osd o h = and_second (nat_lt (nat_abs o.id) max_osd) (not o.up || o.exists) h
 
+-- no row says up of an OSD that does not exist
 row_present : (max_osd : ℕ) (osds : List OsdPart) → list_all (osd_ok max_osd) osds ≡ true → (n : ℕ) → is_presence (row_presence (option_map state_of (listed osds n))) ≡ true
 row_present max_osd osds fit n = by_listed (listed osds n) refl
   where
@@ -252,6 +272,7 @@ row_present max_osd osds fit n = by_listed (listed osds n) refl
     by_listed None is = refl
     by_listed (Some o) is = up_fine max_osd o (found_passes (λ (p : OsdPart). nat_abs p.id == n) (osd_ok max_osd) osds o is fit)
 
+-- no row has a reweight above 65,536
 row_little : (osds : List OsdPart) → list_all osd_fits osds ≡ true → (n : ℕ) → nat_le (row_weight (option_map state_of (listed osds n))) 65536 ≡ true
 row_little osds fit n = by_listed (listed osds n) refl
   where
@@ -261,6 +282,7 @@ row_little osds fit n = by_listed (listed osds n) refl
         let little = (natural_between 0 65536 o.weight (osd_weight_fits o (found_passes (λ (p : OsdPart). nat_abs p.id == n) osd_fits osds o is fit))).most in
         grind (arith, nat_tests, little)
 
+-- in a map that is built no OSD is up that does not exist
 present : (p : MapParts) (m : ClusterMap) → IsBuilt p m → list_all is_presence m.presences ≡ true
 present p m built =
     let fit = and_second (is_distinct (map (λ (o : OsdPart). nat_abs o.id) p.osds)) (list_all (osd_ok (nat_abs p.max_osd)) p.osds) (passed _ _ built.entered) in
@@ -269,6 +291,7 @@ present p m built =
     ∙ list_all-map (λ r. is_presence (row_presence r)) (λ n. option_map state_of (listed p.osds n)) (range_with_len 0 (nat_abs p.max_osd))
     ∙ all_so _ (row_present (nat_abs p.max_osd) p.osds fit) (range_with_len 0 (nat_abs p.max_osd))
 
+-- and no reweight is above 65,536
 weigh_little : (p : MapParts) (m : ClusterMap) → IsBuilt p m → list_all osd_fits p.osds ≡ true → list_all (λ w. nat_le w 65536) m.weights ≡ true
 weigh_little p m built fit =
     let rows = rows_of p.osds (nat_abs p.max_osd) in
@@ -278,12 +301,14 @@ weigh_little p m built fit =
 
 -- ---- all of it
 
+-- and there are at most 32 pools
 few_pools : (p : MapParts) (m : ClusterMap) → IsBuilt p m → has_between 0 32 p.pools ≡ true → length m.pools ≤ 32
 unfolding has_between
 few_pools p m built few =
     let made = length_permutation _ _ built.pools.same ∙ length-map p.pools pool_of in
     grind (arith, nat_tests, made)
 
+-- a map that is built holds together
 pub holds : (p : MapParts) (m : ClusterMap) → IsBuilt p m → HoldsTogether m
 holds p m built =
     let rows = rows_of p.osds (nat_abs p.max_osd) in

@@ -15,18 +15,22 @@ use Rattle.keylist.proofs.Tests.{and_first, and_second, not_true}
 use Rattle.keylist.proofs.KeyedOrder.{rising-filter}
 use Rattle.keylist.proofs.KeyedMaps.{entry-puts, entry-without, has-put, length-put, rising-put}
 
+-- an old pool is not among those kept
 pub kept-gone : (m : ClusterMap) (c : ChangeParts) (id : ℕ) → has_key (λ k. k) c.old_pools id ≡ true → entry_at (λ p. p.id) (pools_kept m c) id ≡ None
 unfolding pools_kept
 kept-gone m c id gone = entry-without (λ (q : PoolFacts). q.id) (λ (k : ℕ). k) c.old_pools m.pools id ∙ rw gone refl
 
+-- another is, as it was
 pub kept-stays : (m : ClusterMap) (c : ChangeParts) (id : ℕ) → has_key (λ k. k) c.old_pools id ≡ false → entry_at (λ p. p.id) (pools_kept m c) id ≡ entry_at (λ p. p.id) m.pools id
 unfolding pools_kept
 kept-stays m c id stays = entry-without (λ (q : PoolFacts). q.id) (λ (k : ℕ). k) c.old_pools m.pools id ∙ rw stays refl
 
+-- of new pools of one id the last is there
 pub after-new : (m : ClusterMap) (c : ChangeParts) (id : ℕ) (p : PoolFacts) → entry_at (λ p. p.id) (reverse c.new_pools) id ≡ Some p → entry_at (λ p. p.id) (pools_there m c) id ≡ Some p
 unfolding pools_there
 after-new m c id p new = entry-puts (λ (q : PoolFacts). q.id) (pools_kept m c) c.new_pools id ∙ rw new refl
 
+-- an id that no new pool has is there as it was kept
 pub after-old : (m : ClusterMap) (c : ChangeParts) (id : ℕ) → entry_at (λ p. p.id) (reverse c.new_pools) id ≡ None → entry_at (λ p. p.id) (pools_there m c) id ≡ entry_at (λ p. p.id) (pools_kept m c) id
 unfolding pools_there
 after-old m c id new = entry-puts (λ (q : PoolFacts). q.id) (pools_kept m c) c.new_pools id ∙ rw new refl
@@ -50,6 +54,7 @@ module _ {X : Type 0} (key : X → ℕ) where
       turn : (a b c : Bool) → (a || (b || c)) ≡ (b || (a || c))
       turn a b c = grind arith
 
+-- new pools that are not there yet are as many more
 pub length-after : (m : ClusterMap) (c : ChangeParts) → IsRising (λ p. p.id) m.pools → brings_new m c ≡ true
     → length (pools_there m c) ≡ length (pools_kept m c) + length (fold (put (λ p. p.id)) [] c.new_pools)
 unfolding pools_there brings_new pools_kept
@@ -61,10 +66,12 @@ length-after m c rises new =
 
 -- ---- the pools that stay, as they are counted
 
+-- the pools kept are those that no old one names
 pub kept-is : (m : ClusterMap) (c : ChangeParts) → pools_kept m c ≡ filter (λ q. not (has_key (λ k. k) c.old_pools q.id)) m.pools
 unfolding pools_kept
 kept-is m c = refl
 
+-- they are not more than before
 pub kept-few : (m : ClusterMap) (c : ChangeParts) → length (pools_kept m c) ≤ length m.pools
 unfolding pools_kept
 kept-few m c =

@@ -12,6 +12,7 @@ use Rattle.osdmap.proofs.Accepted.{Accepted}
 use Rattle.keylist.proofs.KeyedDistinct.{distinct-append}
 use Rattle.keylist.proofs.KeyedOrder.{distinct_rises}
 
+-- of distinct keys in two lists those of the second are
 second_distinct : (ks js : List ℕ) → is_distinct (ks ++ js) ≡ true → is_distinct js ≡ true
 second_distinct ks js h = let parts = distinct-append ks js in grind (arith, parts, h)
 
@@ -20,6 +21,7 @@ pub record Comes (c : ChangeParts) : Type 0 where
   pub upmap : IsRising key_of c.new_upmap
   pub items : IsRising key_of c.new_items
 
+-- what a change that is accepted brings can come in place
 pub comes : (m : ClusterMap) (c : ChangeParts) → Accepted m c → IsInOrder c → Comes c
 unfolding names_once
 comes m c ok ordered = record {

@@ -34,11 +34,13 @@ use Rattle.keylist.proofs.Each.{list_all-agree}
 
 -- ---- OSDs that exist
 
+-- behind the end of a list is nothing
 none_past : {X : Type 0} (xs : List X) (n : ℕ) → length xs ≤ n → slice_get xs n ≡ None
 none_past [] n past = refl
 none_past (x ∷ xs) zero past = absurd (omega arith)
 none_past (x ∷ xs) (suc n) past = none_past xs n (omega arith)
 
+-- no OSD is listed at or past the number of OSDs
 unlisted : (max_osd : ℕ) (osds : List OsdPart) → list_all (osd_ok max_osd) osds ≡ true → (n : ℕ) → max_osd ≤ n → is_listed osds n ≡ false
 unlisted max_osd osds fit n far = by_listed (listed osds n) refl
   where
@@ -49,6 +51,7 @@ unlisted max_osd osds fit n far = by_listed (listed osds n) refl
         let test = rw at.2 at (list_all-at (λ (p : OsdPart). nat_lt (nat_abs p.id) max_osd) osds at.0 o at.1 (osds_below max_osd osds fit)) in
         absurd (grind (arith, nat_tests, test, at.3))
 
+-- an OSD exists where it is listed
 exists_in : (osds : List OsdPart) (n : ℕ) → (presence_in osds n).exists ≡ is_listed osds n
 exists_in osds n = by_listed (listed osds n)
   where
@@ -56,6 +59,7 @@ exists_in osds n = by_listed (listed osds n)
     by_listed None = refl
     by_listed (Some o) = refl
 
+-- in a map of these presences too
 pub exists_same : (osds : List OsdPart) (max_osd : ℕ) (m : ClusterMap) → m.presences ≡ map (presence_in osds) (range_with_len 0 max_osd)
     → list_all (osd_ok max_osd) osds ≡ true → (n : ℕ) → osd_exists m n ≡ is_listed osds n
 exists_same osds max_osd m presences fit n =
@@ -71,6 +75,7 @@ exists_same osds max_osd m presences fit n =
 
 -- ---- the same tests in the map as in its parts
 
+-- a pool is found among the pools in order as among those given
 entry_same : (given sorted : List PoolFacts) → IsPermutation given sorted → IsRising (λ (p : PoolFacts). p.id) sorted → (k : ℕ)
     → entry_at (λ (p : PoolFacts). p.id) sorted k ≡ entry_at (λ (p : PoolFacts). p.id) given k
 entry_same given sorted moved rises k =
@@ -90,14 +95,17 @@ module _ {E : Type 0} (names : E → List ℕ) (sound : List E → Bool) (pools 
 
 -- ---- parts without their exceptions
 
+-- parts without their exceptions are within the limits where the parts are
 pub bare_fits : (p : MapParts) → parts_fit p ≡ true → parts_fit (without_exceptions p) ≡ true
 unfolding parts_fit head_fits lists_fit exceptions_fit has_between
 bare_fits p h = grind arith
 
+-- and have no wrong exception
 pub bare_exceptions : (p : MapParts) → all_exceptions_ok (without_exceptions p) ≡ true
 unfolding all_exceptions_ok is_distinct
 bare_exceptions p = refl
 
+-- the last test stands behind the others
 by_tests : (f r q o x : Bool) → cond (not f) (Some BadForest) (cond (not r) (Some BadRule) (cond (not q) (Some BadPool) (cond (not o) (Some BadOsd) (cond (not x) (Some BadException) None))))
     ≡ option_or (cond (not f) (Some BadForest) (cond (not r) (Some BadRule) (cond (not q) (Some BadPool) (cond (not o) (Some BadOsd) None)))) (refused_unless x BadException)
 by_tests false r q o x = refl
@@ -111,6 +119,7 @@ fault_after : (p : MapParts) → parts_fit p ≡ true → map_fault p ≡ option
 unfolding map_fault rules_ok pools_ok osds_ok
 fault_after p limits = rw (limits, bare_fits p limits, bare_exceptions p) (by_tests _ _ _ _ _)
 
+-- where nothing is refused, the OSDs are right
 fits_at_last : (l f r q o x : Bool) → cond (not l) (Some BadLimit) (cond (not f) (Some BadForest) (cond (not r) (Some BadRule) (cond (not q) (Some BadPool) (cond (not o) (Some BadOsd) (cond (not x) (Some BadException) None))))) ≡ None → o ≡ true
 fits_at_last false f r q o x h = cc
 fits_at_last true false r q o x h = cc
@@ -119,25 +128,30 @@ fits_at_last true true true false o x h = cc
 fits_at_last true true true true false x h = cc
 fits_at_last true true true true true x h = refl
 
+-- parts without a fault have right OSDs
 osds_fine : (p : MapParts) → map_fault p ≡ None → osds_ok p ≡ true
 unfolding map_fault
 osds_fine p h = fits_at_last (parts_fit p) (forest_ok (buckets_of p) (nat_abs p.max_osd)) (rules_ok p) (pools_ok p) (osds_ok p) (all_exceptions_ok p) h
 
+-- right OSDs are right one by one
 each_osd : (p : MapParts) → osds_ok p ≡ true → list_all (osd_ok (nat_abs p.max_osd)) p.osds ≡ true
 unfolding osds_ok
 each_osd p h = and_second (is_distinct (map (λ (o : OsdPart). nat_abs o.id) p.osds)) (list_all (osd_ok (nat_abs p.max_osd)) p.osds) h
 
 -- ---- two tests of which each refuses by itself
 
+-- what refuses alone refuses before another test
 first_refuses : (a b : Bool) (refusal e : Refusal) → refused_unless a refusal ≡ Some e → refused_unless (a && b) refusal ≡ Some e
 first_refuses true b refusal e h = cc
 first_refuses false b refusal e h = h
 
+-- and behind one that passes
 second_refuses : (a b : Bool) (refusal e : Refusal) → refused_unless b refusal ≡ Some e → refused_unless (a && b) refusal ≡ Some e
 second_refuses true b refusal e h = h
 second_refuses false true refusal e h = cc
 second_refuses false false refusal e h = h
 
+-- where neither refuses, both together do not
 neither_refuses : (a b : Bool) (refusal : Refusal) → refused_unless a refusal ≡ None → refused_unless b refusal ≡ None → refused_unless (a && b) refusal ≡ None
 neither_refuses true b refusal h k = k
 neither_refuses false b refusal h k = cc

@@ -35,17 +35,21 @@ by_growth gs P p stays grows = by_entry (entry_at (λ g. g.pool) (reverse gs) p.
 
 -- ---- what stays
 
+-- growing keeps a pool's id
 pub grown-id : (gs : List Growth) (p : PoolFacts) → (grown gs p).id ≡ p.id
 grown-id gs p = by_growth gs (λ q. q.id ≡ p.id) p (λ none. refl) (λ g some. refl)
 
+-- and its size
 pub grown-size : (gs : List Growth) (p : PoolFacts) → (grown gs p).size ≡ p.size
 grown-size gs p = by_growth gs (λ q. q.size ≡ p.size) p (λ none. refl) (λ g some. refl)
 
+-- and its rule
 pub grown-ruled : (gs : List Growth) (rules : List NumberedRule) (p : PoolFacts) → has_rule rules (grown gs p) ≡ has_rule rules p
 grown-ruled gs rules p = by_growth gs (λ q. has_rule rules q ≡ has_rule rules p) p (λ none. refl) (λ g some. refl)
 
 -- ---- look-ups
 
+-- what keeps keys is found by them
 entry_mapped : {X : Type 0} (key : X → ℕ) (f : X → X) → ((x : X) → key (f x) ≡ key x) → (xs : List X) (k : ℕ) → entry_at key (map f xs) k ≡ option_map f (entry_at key xs k)
 entry_mapped key f same [] k = refl
 entry_mapped key f same (x ∷ xs) k = elim (cases_Bool (key x == k)) [
@@ -53,18 +57,22 @@ entry_mapped key f same (x ∷ xs) k = elim (cases_Bool (key x == k)) [
   | inr other ↦ rw (same x, other) (entry_mapped key f same xs k)
 ]
 
+-- a grown pool is found by its id
 pub entry-grown : (gs : List Growth) (ps : List PoolFacts) (id : ℕ) → entry_at (λ p. p.id) (map (grown gs) ps) id ≡ option_map (grown gs) (entry_at (λ p. p.id) ps id)
 entry-grown gs ps id = entry_mapped (λ (p : PoolFacts). p.id) (grown gs) (grown-id gs) ps id
 
+-- grown pools have their rules where the pools had
 pub list_all-grown : (gs : List Growth) (rules : List NumberedRule) (ps : List PoolFacts) → list_all (has_rule rules) (map (grown gs) ps) ≡ list_all (has_rule rules) ps
 list_all-grown gs rules [] = refl
 list_all-grown gs rules (p ∷ ps) = rw (grown-ruled gs rules p, list_all-grown gs rules ps) refl
 
+-- growing leaves the ids above a bound
 above_grown : (gs : List Growth) (k : ℕ) (ps : List PoolFacts) → All (λ p. k < p.id) ps → All (λ p. k < p.id) (map (grown gs) ps)
 above_grown gs k [] all = all
 above_grown gs k (p ∷ ps) all =
     All-cons (λ q. k < q.id) (grown gs p) (map (grown gs) ps) (rw (grown-id gs p) (All-head (λ q. k < q.id) p ps all)) (above_grown gs k ps (All-tail (λ q. k < q.id) p ps all))
 
+-- so the pools rise still
 pub rising-grown : (gs : List Growth) (ps : List PoolFacts) → IsRising (λ p. p.id) ps → IsRising (λ p. p.id) (map (grown gs) ps)
 rising-grown gs [] rises = rises
 rising-grown gs (p ∷ ps) rises =
@@ -86,6 +94,7 @@ found_lawful gs id g all found =
     let at = find-place (λ (h : Growth). eqb h.pool id) (reverse gs) g found in
     rw at.2 at (All-permutation IsGrowth gs (reverse gs) (IsPermutation-reverse gs) all at.0 g at.1)
 
+-- growths within the limits leave pools within them
 pub within-grown : (gs : List Growth) (ps : List PoolFacts) → All IsGrowth gs → All IsWithinLimits ps → All IsWithinLimits (map (grown gs) ps)
 within-grown gs [] lawful within = within
 within-grown gs (p ∷ ps) lawful within =

@@ -41,6 +41,7 @@ use Rattle.keylist.proofs.Each.{list_all-agree}
 
 -- ---- OSDs
 
+-- who is up or down exists as before
 pub exists-up : (up : Bool) (ps : List Presence) (osd n : ℕ) → option_map_or (λ p. p.exists) (slice_get (with_up up ps osd) n) false ≡ option_map_or (λ p. p.exists) (slice_get ps n) false
 exists-up up [] osd n = refl
 exists-up up (p ∷ ps) zero zero = refl
@@ -48,6 +49,7 @@ exists-up up (p ∷ ps) zero (suc n) = refl
 exists-up up (p ∷ ps) (suc osd) zero = refl
 exists-up up (p ∷ ps) (suc osd) (suc n) = exists-up up ps osd n
 
+-- so it is after a list of them
 pub exists-ups : (up : Bool) (ps : List Presence) (osds : List ℕ) (n : ℕ) → option_map_or (λ p. p.exists) (slice_get (fold (with_up up) ps osds) n) false ≡ option_map_or (λ p. p.exists) (slice_get ps n) false
 exists-ups up ps [] n = refl
 exists-ups up ps (osd ∷ osds) n = exists-ups up (with_up up ps osd) osds n ∙ exists-up up ps osd n
@@ -57,6 +59,7 @@ pub exists-after : (m : ClusterMap) (step : Step) (n : ℕ) → osd_exists (appl
 unfolding apply
 exists-after m step n = exists-ups true (fold (with_up false) m.presences step.change.down) step.change.up n ∙ exists-ups false m.presences step.change.down n
 
+-- a list whose entries all pass does so with another that passes
 list_all-set : {X : Type 0} (p : X → Bool) (xs : List X) (i : ℕ) (x : X) → p x ≡ true → list_all p xs ≡ true → list_all p (set xs i x) ≡ true
 list_all-set p xs i x here all = list_all-from_AllPass p (set xs i x) (All-set (λ y. p y ≡ true) xs i x here (AllPass-from_list_all p xs all))
 
@@ -68,6 +71,7 @@ present-downs ps (osd ∷ osds) all = present-downs (with_up false ps osd) osds 
 abbrev is_there : List Presence → ℕ → Bool
 is_there ps n = option_map_or (λ p. p.exists) (slice_get ps n) false
 
+-- bringing up OSDs that exist leaves only such up
 present-ups : (ps : List Presence) (osds : List ℕ) → list_all (is_there ps) osds ≡ true → list_all is_presence ps ≡ true
     → list_all is_presence (fold (with_up true) ps osds) ≡ true
 present-ups ps [] there all = all
@@ -75,6 +79,7 @@ present-ups ps (osd ∷ osds) there all =
     let rest = list_all-agree (is_there (with_up true ps osd)) (is_there ps) (exists-up true ps osd) osds ∙ and_second (is_there ps osd) (list_all (is_there ps) osds) there in
     present-ups (with_up true ps osd) osds rest (list_all-set is_presence ps osd _ (rw (and_first (is_there ps osd) (list_all (is_there ps) osds) there) refl) all)
 
+-- so it is after a change's down and up
 present-after : (m : ClusterMap) (step : Step) → names_osds m step.change ≡ true → list_all is_presence m.presences ≡ true
     → list_all is_presence (fold (with_up true) (fold (with_up false) m.presences step.change.down) step.change.up) ≡ true
 unfolding names_osds
@@ -85,6 +90,7 @@ present-after m step names all =
     (list_all-agree (is_there down) (osd_exists m) (exists-ups false m.presences step.change.down) step.change.up ∙ there)
     (present-downs m.presences step.change.down all)
 
+-- reweights of at most 65,536 put in leave all so
 little-weights : (weights : List ℕ) (ws : List Reweight) → list_all (λ w. nat_le w.weight 65536) ws ≡ true → list_all (λ w. nat_le w 65536) weights ≡ true
     → list_all (λ w. nat_le w 65536) (fold with_weight weights ws) ≡ true
 little-weights weights [] little all = all
@@ -92,6 +98,7 @@ little-weights weights (w ∷ ws) little all =
     little-weights (with_weight weights w) ws (and_second (nat_le w.weight 65536) (list_all (λ v. nat_le v.weight 65536) ws) little)
     (list_all-set (λ n. nat_le n 65536) weights w.osd w.weight (and_first (nat_le w.weight 65536) (list_all (λ v. nat_le v.weight 65536) ws) little) all)
 
+-- so does a change that is accepted
 little-after : (m : ClusterMap) (c : ChangeParts) → weighs_rightly c ≡ true → list_all (λ w. nat_le w 65536) m.weights ≡ true → list_all (λ w. nat_le w 65536) (fold with_weight m.weights c.weight) ≡ true
 unfolding weighs_rightly
 little-after m c rightly all = little-weights m.weights c.weight rightly all
@@ -121,6 +128,7 @@ pool-stays m c id p new there stays =
 
 -- ---- exceptions
 
+-- an exception's names pass two tests alike that agree
 all_named-agree : {E : Type 0} (names : E → List ℕ) (p q : ℕ → Bool) → ((n : ℕ) → q n ≡ p n) → (e : Exception E) → all_named names q e ≡ all_named names p e
 all_named-agree names p q same e = list_all-agree _ _ (λ entry. list_all-agree _ _ same (names entry)) e.entries
 
@@ -176,24 +184,29 @@ record Rightly (m : ClusterMap) (c : ChangeParts) : Type 0 where
   pub few : nat_le (length (pools_there m c)) 32 ≡ true
   pub grow : list_all (grows_from (pools_there m c)) c.grow_pool ≡ true
 
+-- pools that come rightly pass each test of it
 rightly-each : (m : ClusterMap) (c : ChangeParts) → brings_rightly m c ≡ true → Rightly m c
 unfolding brings_rightly
 rightly-each m c h = record { kept = grind (arith, h); new = grind (arith, h); few = grind (arith, h); grow = grind (arith, h) }
 
+-- then at most 32 are there
 few-after : (m : ClusterMap) (c : ChangeParts) → Rightly m c → length (pools_after m c) ≤ 32
 unfolding pools_after
 few-after m c rightly = rw length-map (grind (arith, nat_tests, rightly.few))
 
+-- each has its rule
 ruled-after : (m : ClusterMap) (c : ChangeParts) → Rightly m c → list_all (has_rule (rules_after m c)) (pools_after m c) ≡ true
 unfolding pools_after pools_there
 ruled-after m c rightly =
     list_all-grown c.grow_pool (rules_after m c) (pools_there m c) ∙ list_all-puts (λ (q : PoolFacts). q.id) (has_rule (rules_after m c)) _ c.new_pools rightly.kept rightly.new
 
+-- each is within its limits
 within-after : (m : ClusterMap) (c : ChangeParts) → All IsWithinLimits c.new_pools → All IsGrowth c.grow_pool → All IsWithinLimits m.pools → All IsWithinLimits (pools_after m c)
 unfolding pools_after pools_there pools_kept
 within-after m c new growths within =
     within-grown c.grow_pool _ growths (All-puts (λ (q : PoolFacts). q.id) IsWithinLimits _ c.new_pools (All-filter _ IsWithinLimits m.pools within) new)
 
+-- and they rise by id
 pools-rise : (m : ClusterMap) (c : ChangeParts) → IsRising (λ p. p.id) m.pools → IsRising (λ p. p.id) (pools_after m c)
 unfolding pools_after pools_there pools_kept
 pools-rise m c rises = rising-grown c.grow_pool _ (rising-puts (λ (q : PoolFacts). q.id) _ c.new_pools (rising-filter (λ (q : PoolFacts). q.id) _ m.pools rises))
@@ -203,6 +216,7 @@ record CrushKept (m : ClusterMap) (c : ChangeParts) : Type 0 where
   pub crush : IsCrushMap (record { buckets = buckets_after m c; rules = rules_after m c })
   pub over_osds : forest_ok (buckets_after m c) (length m.presences) ≡ true
 
+-- the forest and the rules after a change are right ones
 crush-after : (m : ClusterMap) (c : ChangeParts) → IfSome c.new_crush IsCrushMap → brings_forest m c ≡ true → HoldsTogether m → CrushKept m c
 unfolding brings_forest
 crush-after m c lawful below holds = by_crush c.new_crush lawful below
@@ -215,6 +229,7 @@ crush-after m c lawful below holds = by_crush c.new_crush lawful below
     }
     by_crush (Some k) lawful' below' = record { crush = lawful'; over_osds = over_devices k.buckets (length m.presences) lawful'.forest below' }
 
+-- exceptions that stay and come rise by group
 exceptions-rise : {E : Type 0} (old_pools : List ℕ) (gone : List Pg) (coming es : List (Exception E)) → IsRising key_of es → IsRising key_of (exceptions_after old_pools gone coming es)
 unfolding exceptions_after
 exceptions-rise old_pools gone coming es rises = rising-puts key_of _ coming (rising-filter key_of _ es rises)
@@ -231,10 +246,12 @@ unfolding names_osds names_groups all_groups excepts_soundly
 items-after m step ok holds =
     exceptions-sound sides are_pairs m step ok.new (rightly-each m step.change ok.rightly).grow step.change.old_items step.change.new_items m.items holds.items_sound (grind (arith, ok.osds)) (grind (arith, ok.groups)) (grind (arith, ok.sound))
 
+-- there is a reweight for each OSD as before
 weights-after : (m : ClusterMap) (step : Step) → length (apply m step).weights ≡ length m.weights
 unfolding apply
 weights-after m step = length-with_weight m.weights step.change.weight
 
+-- the map after a change that is not refused holds together
 pub HoldsTogether-after : (m : ClusterMap) (step : Step) → change_fault m step.change ≡ None → IsChange step.change → HoldsTogether m → HoldsTogether (apply m step)
 unfolding apply
 HoldsTogether-after m step lawful is holds =
@@ -270,6 +287,7 @@ pub buckets-ready : (ready : Option CrushFacts) (k : CrushFacts) → (unwrap_or 
 buckets-ready None k = refl
 buckets-ready (Some j) k = refl
 
+-- the rules that are ready are the new ones, or those there
 pub rules-ready : (ready : Option CrushFacts) (k : CrushFacts) → (unwrap_or ready k).rules ≡ option_map_or (λ j. j.rules) ready k.rules
 rules-ready None k = refl
 rules-ready (Some j) k = refl
@@ -285,6 +303,7 @@ pub record Changed (m : ClusterMap) (step : Step) (made : ClusterMap) : Type 0 w
   pub explicit : made.explicit ≡ exceptions_after step.change.old_pools step.change.old_upmap step.change.new_upmap m.explicit
   pub items : made.items ≡ exceptions_after step.change.old_pools step.change.old_items step.change.new_items m.items
 
+-- a map changed part by part is the one after the change
 pub assembled : (m : ClusterMap) (step : Step) (made : ClusterMap) → Changed m step made → made ≡ apply m step
 unfolding apply pools_after pools_there pools_kept
 assembled m step made is = rw (is.epoch, is.buckets, is.rules, is.pools, is.presences, is.weights, is.explicit, is.items) refl

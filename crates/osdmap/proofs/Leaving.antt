@@ -9,6 +9,7 @@ all_stay : {X : Type 0} (xs : List X) → filter (λ x. true) xs ≡ xs
 all_stay [] = refl
 all_stay (x ∷ xs) = ap (λ ys. x ∷ ys) (all_stay xs)
 
+-- where none goes, all stay
 pub none_leave : {X G : Type 0} (name : G → ℕ) (key : X → ℕ) (gone : List G) (xs : List X) → length gone ≡ 0 → xs ≡ filter (λ x. not (has_key name gone (key x))) xs
 none_leave name key [] xs none = sym (all_stay xs)
 none_leave name key (g ∷ gone) xs none = absurd (omega arith)

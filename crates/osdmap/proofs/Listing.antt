@@ -24,18 +24,21 @@ osd_number o = nat_abs o.id
 abbrev pub no_osd : OsdPart
 no_osd = record { id = pos 0; exists = false; up = false; weight = pos 0 }
 
+-- what is made of equal entries is equal
 map_replicate : {X Y : Type 0} (f : X → Y) (n : ℕ) (x : X) → map f (replicate n x) ≡ replicate n (f x)
 map_replicate f zero x = refl
 map_replicate f (suc n) x = ap (λ ys. f x ∷ ys) (map_replicate f n x)
 
 -- ---- blank rows
 
+-- in empty rows every OSD is new
 pub blank_new : (osds : List OsdPart) (rows : List (Option OsdState)) → rows ≡ replicate (length rows) None
     → list_all (λ o. nat_lt (nat_abs o.id) (length rows)) osds ≡ true → is_distinct (map osd_number osds) ≡ are_new osd_number (map is_some rows) osds
 blank_new osds rows blank below =
     let marks : map is_some rows ≡ replicate (length rows) false = ap (map is_some) blank ∙ map_replicate is_some (length rows) None in
     rw marks (sym (new_unmarked osd_number (length rows) osds below))
 
+-- an empty row has none
 pub blank_row : (rows : List (Option OsdState)) → rows ≡ replicate (length rows) None → (n : ℕ) → n < length rows → get_or rows n None ≡ None
 blank_row rows blank n inside = ap (λ r. get_or r n None) blank ∙ get_or-replicate (length rows) n None None inside
 
@@ -77,9 +80,11 @@ module _ (rows : List (Option OsdState)) (osds : List OsdPart) (i : ℕ) (o : Os
 
 -- ---- all OSDs
 
+-- once all OSDs are entered, none is left that is not new
 pub all_new : (rows : List (Option OsdState)) (osds : List OsdPart) (i : ℕ) → length osds ≤ i → are_new osd_number (map is_some rows) (drop i osds) ≡ true
 all_new rows osds i past = new_end osd_number (map is_some rows) osds i past
 
+-- the rows then tell all that is listed
 pub all_entered : (rows : List (Option OsdState)) (osds : List OsdPart) (i max_osd : ℕ) → length osds ≤ i → length rows ≡ max_osd
     → ((n : ℕ) → n < length rows → get_or rows n None ≡ option_map state_of (listed (take i osds) n)) → rows ≡ rows_of osds max_osd
 all_entered rows osds i max_osd past sized entered =
@@ -87,6 +92,7 @@ all_entered rows osds i max_osd past sized entered =
 
 -- ---- what a loop reads
 
+-- whether a row is taken, read at its place
 pub row_is : (rows : List (Option OsdState)) (k row : ℕ) (x : Option OsdState) (b : Bool) → row ≡ k → k < length rows → x ≡ get_or rows row x → b ≡ is_some x
     → is_some (get_or rows k None) ≡ b
 row_is rows k row x b at room is test =
@@ -94,6 +100,7 @@ row_is rows k row x b at room is test =
     let found : x ≡ get_or rows k None = is ∙ ap (λ n. get_or rows n x) at ∙ here in
     sym (test ∙ ap is_some found)
 
+-- an OSD's number is below the number of rows
 pub osd_below : (osds : List OsdPart) (i n m : ℕ) → list_all (λ o. nat_lt (nat_abs o.id) n) osds ≡ true → i < length osds → m ≡ n → nat_abs (get_or osds i no_osd).id < m
 osd_below osds i n m below inside sized =
     let test = list_all-at (λ (o : OsdPart). nat_lt (nat_abs o.id) n) osds i no_osd inside below in

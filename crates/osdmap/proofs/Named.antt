@@ -30,6 +30,7 @@ pub record AllBelow (n : ℕ) (c : ChangeParts) : Type 0 where
   pub up : are_below (λ osd. osd) n c.up ≡ true
   pub weight : are_below (λ w. w.osd) n c.weight ≡ true
 
+-- the OSDs that an accepted change names are below the number of OSDs
 pub all_below : (m : ClusterMap) (c : ChangeParts) (n : ℕ) → length m.presences ≤ n → names_osds m c ≡ true → AllBelow n c
 unfolding names_osds
 all_below m c n most h = record {

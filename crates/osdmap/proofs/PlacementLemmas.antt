@@ -34,10 +34,12 @@ short_step w size s (Take id) short = short
 short_step w size s (Chooses c) short = short
 short_step w size s Emit short = simp length-take (omega arith)
 
+-- the steps of a rule place at most the size of the pool
 short_steps : (w : World) (size : ℕ) (s : Progress) (steps : List Step) → length s.emitted ≤ size → length (fold (after_step w size) s steps).emitted ≤ size
 short_steps w size s [] short = short
 short_steps w size s (step ∷ steps) short = short_steps w size (after_step w size s step) steps (short_step w size s step short)
 
+-- so does its run
 pub short_run : (w : World) (steps : List Step) (size : ℕ) → length (run_of w steps size) ≤ size
 unfolding run_of
 short_run w steps size = short_steps w size no_progress steps (omega arith)
