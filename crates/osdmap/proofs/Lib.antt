@@ -4,7 +4,6 @@ pub mod Accepted
 pub mod CheckLemmas
 pub mod Coming
 pub mod AfterLemmas
-mod EvalsLemmas
 pub mod Grown
 mod Devices
 mod Leaving

@@ -7,6 +7,7 @@ use Rattle.crush.specs.declared.step.Step.{Step}
 use Rattle.crush.specs.World.{world_of}
 use Rattle.crush.specs.Run.{Ran, run_of}
 use Rattle.stated.specs.declared.pg.Pg.{Pg}
+use Rattle.stated.specs.declared.exception.Pair.{Pair}
 use Rattle.refusal.specs.declared.refused.Refusal.{Refusal}
 use Rattle.refusal.specs.declared.refused.Refusal.TheVariants.{UnknownPool, UnknownGroup}
 use Rattle.stated.specs.Pools.{PoolFacts}
@@ -61,10 +62,13 @@ upward m osd = if osd_is_up m osd then Some osd else None
 unfoldable pub raw_set : ClusterMap → PoolFacts → ℕ → List (Option ℕ)
 raw_set m p n = kept p.kind (map (option_and_then (existing m)) (placed m p n))
 
--- the mapped set: the raw set under the exceptions of the group (_apply_upmap)
+-- what an explicit set and pairs make of the raw set (_apply_upmap)
+abbrev pub mapped_with : Option (List ℕ) → Option (List Pair) → ClusterMap → PoolFacts → ℕ → List (Option ℕ)
+mapped_with explicit items m p n = mapped m.weights explicit items (raw_set m p n)
+
+-- the mapped set: the raw set under the exceptions of the group
 unfoldable pub mapped_set : ClusterMap → PoolFacts → ℕ → List (Option ℕ)
-mapped_set m p n =
-    mapped m.weights (said_of m.explicit (group_of p n)) (said_of m.items (group_of p n)) (raw_set m p n)
+mapped_set m p n = mapped_with (said_of m.explicit (group_of p n)) (said_of m.items (group_of p n)) m p n
 
 -- the up set: the mapped set without OSDs that are down (_raw_to_up_osds)
 unfoldable pub up_set : ClusterMap → PoolFacts → ℕ → List (Option ℕ)

@@ -6,7 +6,6 @@ mod apply;
 mod build;
 mod check;
 mod copy;
-mod evals;
 mod in_place;
 pub mod map;
 mod placement;

@@ -52,14 +52,14 @@ fn placement_input(pool: &Pool, number: u32) -> u32
 }
 
 impl OsdMap {
-    ghost use Rattle.std.specs.Prelude.{◌≡◌, ◌≤◌, ◌<◌, true, length, List, Option, Some, None, map, IfOk, MatchResult, option_and_then};
+    ghost use Rattle.std.specs.Prelude.{◌≡◌, ◌≤◌, ◌<◌, true, length, List, Option, Some, None, map, IfOk, IfSome, MatchResult, option_and_then};
+    ghost use Rattle.std.specs.Option.{option_copied};
     ghost use Rattle.refusal.specs.Outcomes.{Gives};
     ghost use Rattle.std.specs.List.{list_any, fold};
     ghost use Rattle.osdmap.specs.Maps.{pool_at, has_rule};
     ghost use Rattle.osdmap.specs.Mapped.{is_weightless, with_pair, mapped};
-    ghost use Rattle.stated.specs.Exceptions.{said_of};
     ghost use Rattle.osdmap.specs.Sets.{kept};
-    ghost use Rattle.osdmap.specs.Placement.{group_fault, existing, upward, placed, raw_set, mapped_set, up_set, Places, RunsOnce};
+    ghost use Rattle.osdmap.specs.Placement.{group_fault, existing, upward, placed, raw_set, mapped_with, mapped_set, up_set, Places, RunsOnce};
 
     /// The OSD of a device, where it exists.
     fn existing(&self, device: i32) -> Option<u32>
@@ -161,15 +161,16 @@ impl OsdMap {
 
     /// What exceptions make of the raw set of a group.
     #[tactic(auto, unfolding(crate::specs::Mapped::mapped))]
-    fn excepted(&self, pg: Pg, raw: UpSet) -> UpSet
-        ensures { result ≡ mapped self.now.map.weights (said_of self.now.map.explicit pg) (said_of self.now.map.items pg) raw }
+    fn excepted(&self, raw: UpSet, explicit: Option<&[u32]>, items: Option<&[Pair]>) -> UpSet
+        requires { IfSome explicit (λ osds. length osds.now ≤ 10) }
+        ensures { result ≡ mapped self.now.map.weights (option_copied explicit.entry) (option_copied items.entry) raw }
     {
-        let mut set = match self.explicit(pg) {
+        let mut set = match explicit {
             None => raw,
             Some(osds) if self.has_weightless(osds) => return raw,
             Some(osds) => UpSet::of(osds),
         };
-        if let Some(pairs) = self.items(pg) {
+        if let Some(pairs) = items {
             self.act_all(&mut set, pairs);
         }
         set
@@ -187,7 +188,7 @@ impl OsdMap {
             pool: pool.id(),
             number,
         };
-        Ok(self.excepted(pg, raw))
+        Ok(self.excepted(raw, self.explicit(pg), self.items(pg)))
     }
 
     /// The raw set of a group: the OSDs that its pool's rule places and that exist (Ceph, `_pg_to_raw_osds`). It takes
@@ -209,6 +210,25 @@ impl OsdMap {
     {
         let pool = self.pool_of(pg)?;
         Ok(self.mapped_in(&pool, pg.number, work)?)
+    }
+
+    /// The mapped set that a group would have if an explicit set and pairs were its exceptions, in place of those that the map
+    /// has. Like its own it takes one run of the rule, which `work` counts. `UnknownPool` (23), `UnknownGroup` (25), else
+    /// `Memory` (30).
+    pub fn mapped_with(
+        &self,
+        pg: Pg,
+        explicit: Option<&[u32]>,
+        items: Option<&[Pair]>,
+        work: &mut Work,
+    ) -> Result<UpSet, Refusal>
+        requires { IfSome explicit (λ osds. length osds.now ≤ 10) }
+        ensures set { Gives result (group_fault self.now.map pg) (λ set. Places (mapped_with (option_copied explicit.entry) (option_copied items.entry)) self.now.map pg set) }
+        ensures run { RunsOnce work.old work.new result }
+    {
+        let pool = self.pool_of(pg)?;
+        let raw = self.raw_in(&pool, pg.number, work)?;
+        Ok(self.excepted(raw, explicit, items))
     }
 
     /// The up set of a group: its mapped set without OSDs that are down (Ceph, `_raw_to_up_osds`). It takes one run of
