@@ -1,4 +1,5 @@
--- How the map that parts state is built: the pools and the OSDs, each with what refuses it; and the exceptions after these.
+-- How the map that parts state is built: the pools and the OSDs, each with what refuses it; and the exceptions after
+-- these.
 use Rattle.std.specs.Prelude.{ℕ, ◌&&◌, Bool, false, nat_abs, List, [], map, Option}
 use Rattle.std.specs.List.{list_all, range_with_len}
 use Rattle.std.specs.Option.{option_map, option_map_or}
@@ -33,7 +34,10 @@ rows_of osds max_osd = map (λ n. option_map state_of (listed osds n)) (range_wi
 
 -- an OSD that is not listed does not exist, is down and has reweight 0
 abbrev pub row_presence : Option OsdState → Presence
-row_presence row = option_map_or (λ s. record { exists = s.exists; up = s.up }) row (record { exists = false; up = false })
+row_presence row = option_map_or (λ s. record { exists = s.exists; up = s.up }) row (record {
+  exists = false;
+  up = false;
+})
 
 abbrev pub row_weight : Option OsdState → ℕ
 row_weight row = option_map_or (λ s. s.weight) row 0

@@ -54,10 +54,11 @@ rules_after m c = option_map_or (λ k. k.rules) c.new_crush m.rules
 -- each group that is named passes a test
 unfoldable pub all_groups : (Pg → Bool) → ChangeParts → Bool
 all_groups p c =
-    list_all p c.old_upmap && list_all p c.old_items && list_all (λ e. p e.pg) c.new_upmap && list_all (λ e. p e.pg) c.new_items
+    list_all p c.old_upmap && list_all p c.old_items && list_all (λ e. p e.pg) c.new_upmap
+    && list_all (λ e. p e.pg) c.new_items
 
--- each pool that is taken away is there; each that grows, and the pool of each group that is named, is there once the old
--- ones went and the new ones came
+-- each pool that is taken away is there; each that grows, and the pool of each group that is named, is there once the
+-- old ones went and the new ones came
 unfoldable pub names_pools : ClusterMap → ChangeParts → Bool
 names_pools m c =
     list_all (has_pool m.pools) c.old_pools && list_all (λ g. has_pool (pools_there m c) g.pool) c.grow_pool
@@ -77,7 +78,8 @@ brings_forest m c = option_map_or (λ k. has_devices_below (length m.presences) 
 
 -- a pool that is there gets no fewer groups, nor fewer for placement
 unfoldable pub grows_from : List PoolFacts → Growth → Bool
-grows_from pools g = option_map_or (λ p. nat_le p.pg_num g.pg_num && nat_le p.pgp_num g.pgp_num) (pool_at pools g.pool) false
+grows_from pools g =
+    option_map_or (λ p. nat_le p.pg_num g.pg_num && nat_le p.pgp_num g.pgp_num) (pool_at pools g.pool) false
 
 -- each pool that stays or comes has a rule of its kind then, there are at most 32 pools, and none gets fewer groups
 unfoldable pub brings_rightly : ClusterMap → ChangeParts → Bool
@@ -91,7 +93,9 @@ names_groups m c = all_groups (has_group (pools_after m c)) c
 
 -- each exception that comes says something, no more than the size of its pool, and that soundly
 unfoldable pub excepts_soundly : ClusterMap → ChangeParts → Bool
-excepts_soundly m c = list_all (is_sound is_set (pools_after m c)) c.new_upmap && list_all (is_sound are_pairs (pools_after m c)) c.new_items
+excepts_soundly m c =
+    list_all (is_sound is_set (pools_after m c)) c.new_upmap
+    && list_all (is_sound are_pairs (pools_after m c)) c.new_items
 
 -- no key stands twice in a part, nor in two of which one undoes the other
 unfoldable pub names_once : ChangeParts → Bool
@@ -128,8 +132,8 @@ with_up up presences osd =
 abbrev pub with_weight : List ℕ → Reweight → List ℕ
 with_weight weights w = slice_set weights w.osd w.weight
 
--- the parts in order: pools go, with their exceptions; the forest and the rules are replaced; pools come, and grow; OSDs go
--- down, come up, get their reweights; exceptions go, and come; and the new epoch
+-- the parts in order: pools go, with their exceptions; the forest and the rules are replaced; pools come, and grow;
+-- OSDs go down, come up, get their reweights; exceptions go, and come; and the new epoch
 unfoldable pub apply : ClusterMap → Step → ClusterMap
 apply m step = record m {
   epoch = step.epoch;
@@ -151,7 +155,8 @@ after first journal = fold apply first journal
 -- each incremental has the epoch next after that of the map before it, which refuses nothing of its change
 unfoldable pub IsLawful : ClusterMap → List Step → Type 0
 IsLawful first [] = Unit {0}
-IsLawful first (step ∷ steps) = (step.epoch ≡ first.epoch + 1) × (change_fault first step.change ≡ None) × IsLawful (apply first step) steps
+IsLawful first (step ∷ steps) =
+    (step.epoch ≡ first.epoch + 1) × (change_fault first step.change ≡ None) × IsLawful (apply first step) steps
 
 -- the epoch that a journal reaches
 abbrev pub epoch_after : ClusterMap → List Step → ℕ

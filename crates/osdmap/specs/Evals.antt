@@ -19,7 +19,8 @@ reaches m c p = list_any (λ w. paths.reaches m.buckets (steps_of m p) (pos w.os
 -- change, or its rule reaches such an OSD
 unfoldable pub is_touched : ClusterMap → ChangeParts → PoolFacts → Bool
 is_touched m c p =
-    is_some c.new_crush || has_key (λ q. q.id) c.new_pools p.id || has_key (λ g. g.pool) c.grow_pool p.id || reaches m c p
+    is_some c.new_crush || has_key (λ q. q.id) c.new_pools p.id || has_key
+    (λ g. g.pool) c.grow_pool p.id || reaches m c p
 
 -- whether exceptions of a group go or come
 unfoldable pub is_named : ChangeParts → Pg → Bool
@@ -30,7 +31,8 @@ is_named c g =
 -- whether an exception names an OSD that gets another reweight
 abbrev pub names_reweighted : {E : Type 0} → (E → List ℕ) → ChangeParts → Option (List E) → Bool
 names_reweighted names c said =
-    option_map_or (λ entries. list_any (λ entry. list_any (has_key (λ w. w.osd) c.weight) (names entry)) entries) said false
+    option_map_or (λ entries. list_any (λ entry. list_any (has_key (λ w. w.osd) c.weight)
+    (names entry)) entries) said false
 
 -- whether a change concerns the exceptions of a group: they go or come, or name an OSD that gets another reweight
 unfoldable pub concerns : ClusterMap → ChangeParts → Pg → Bool

@@ -19,7 +19,8 @@ replaced pair (place ∷ places) = if is_of pair.from place then Some pair.to �
 
 -- a pair acts only where the OSD that it brings stands nowhere, and takes a share
 unfoldable pub with_pair : List ℕ → List (Option ℕ) → Pair → List (Option ℕ)
-with_pair weights places pair = if list_any (is_of pair.to) places || is_weightless weights pair.to then places else replaced pair places
+with_pair weights places pair =
+    if list_any (is_of pair.to) places || is_weightless weights pair.to then places else replaced pair places
 
 -- the pairs act in order
 abbrev pub with_items : List ℕ → List (Option ℕ) → Option (List Pair) → List (Option ℕ)

@@ -1,4 +1,5 @@
--- The map of a cluster as callers see it, and the look-ups in it. A map is finite: rules and pools by id, OSDs by number.
+-- The map of a cluster as callers see it, and the look-ups in it. A map is finite: rules and pools by id, OSDs by
+-- number.
 use Rattle.std.specs.Prelude.{◌≡◌, length, ℕ, ◌==◌, nat_le, Bool, true, false, not, ◌&&◌, ◌||◌, List, Option, slice_get, slice_index, ◌≤◌}
 use Rattle.std.specs.List.{find, list_all, All}
 use Rattle.std.specs.Option.{option_map, option_map_or}
@@ -19,8 +20,9 @@ use Rattle.crush.specs.Limits.{full_weight}
 use Rattle.stated.specs.CrushMaps.{rule_at, is_rule_over}
 use Rattle.stated.specs.Pools.{PoolFacts, IsWithinLimits}
 
--- what callers see of a map: its epoch, the buckets of its forest by id downwards, its rules and pools by id upwards, and
--- by number whether each OSD exists and is up, and its reweight; the explicit sets and the pairs of groups, by group upwards
+-- what callers see of a map: its epoch, the buckets of its forest by id downwards, its rules and pools by id upwards,
+-- and by number whether each OSD exists and is up, and its reweight; the explicit sets and the pairs of groups, by
+-- group upwards
 pub record ClusterMap : Type 0 where
   pub epoch : ℕ
   pub buckets : List Bucket
@@ -38,7 +40,11 @@ pool_at pools id = find (λ p. p.id == id) pools
 -- an OSD below max_osd: whether it exists and is up, and its reweight
 abbrev pub osd_at : ClusterMap → ℕ → Option OsdState
 osd_at m osd =
-    option_map (λ p. record { exists = p.exists; up = p.up; weight = slice_index m.weights osd }) (slice_get m.presences osd)
+    option_map (λ p. record {
+      exists = p.exists;
+      up = p.up;
+      weight = slice_index m.weights osd;
+    }) (slice_get m.presences osd)
 
 -- whether an OSD exists
 abbrev pub osd_exists : ClusterMap → ℕ → Bool

@@ -5,7 +5,8 @@ use Rattle.std.specs.List.{list_all}
 -- whether none of the numbers that some entries name is marked, or named twice
 unfoldable pub are_new : {X : Type 0} → (X → ℕ) → List Bool → List X → Bool
 are_new named marks [] = true
-are_new named marks (e ∷ es) = not (slice_index_or marks (named e) false) && are_new named (slice_set marks (named e) true) es
+are_new named marks (e ∷ es) =
+    not (slice_index_or marks (named e) false) && are_new named (slice_set marks (named e) true) es
 
 -- whether all entries name numbers below n
 abbrev pub are_below : {X : Type 0} → (X → ℕ) → ℕ → List X → Bool

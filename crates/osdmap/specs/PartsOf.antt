@@ -35,7 +35,12 @@ abbrev pub step_part : Step → StepPart
 step_part (TryFor n) = SetChooseTries (pos n)
 step_part (TryForLeaves n) = SetChooseleafTries (pos n)
 step_part (TakeBucket id) = Take id
-step_part (ChooseBy c) = Chooses (record { mode = c.mode; to_leaf = c.to_leaf; count = pos c.count; level = pos c.level })
+step_part (ChooseBy c) = Chooses (record {
+  mode = c.mode;
+  to_leaf = c.to_leaf;
+  count = pos c.count;
+  level = pos c.level;
+})
 step_part EmitAll = Emit
 
 abbrev pub rule_part : NumberedRule → RulePart

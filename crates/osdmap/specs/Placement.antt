@@ -35,7 +35,11 @@ placement_input p n = hash2_of (stable_mod n p.pgp_num (mask_of p.pgp_num)) p.id
 
 -- what refuses a question about a group
 abbrev pub group_fault : ClusterMap → Pg → Option Refusal
-group_fault m pg = elim (pool_at m.pools pg.pool) [ None ↦ Some UnknownPool | Some p ↦ (if nat_lt pg.number p.pg_num then None else Some UnknownGroup) ]
+group_fault m pg =
+    elim (pool_at m.pools pg.pool) [
+      | None ↦ Some UnknownPool
+      | Some p ↦ (if nat_lt pg.number p.pg_num then None else Some UnknownGroup)
+    ]
 
 -- group n of a pool
 abbrev pub group_of : PoolFacts → ℕ → Pg
@@ -75,7 +79,8 @@ unfoldable pub up_set : ClusterMap → PoolFacts → ℕ → List (Option ℕ)
 up_set m p n = kept p.kind (map (option_and_then (upward m)) (mapped_set m p n))
 
 -- a set of the group is the one that a definition gives, where the group is there, and else a refusal
-pub record Places (set : ClusterMap → PoolFacts → ℕ → List (Option ℕ)) (m : ClusterMap) (pg : Pg) (places : List (Option ℕ)) : Type 0 where
+pub record Places (set : ClusterMap → PoolFacts → ℕ → List (Option ℕ)) (m : ClusterMap) (pg : Pg)
+    (places : List (Option ℕ)) : Type 0 where
   pub is : IfSome (pool_at m.pools pg.pool) (λ p. places ≡ set m p pg.number)
 
 -- a rule is run once for an answer, and no run is counted without one; the count stays at the greatest number

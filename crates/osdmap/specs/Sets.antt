@@ -4,7 +4,8 @@ use Rattle.std.specs.List.{flat_map}
 use Rattle.crush.specs.declared.step.RuleKind.{RuleKind}
 use Rattle.crush.specs.declared.step.RuleKind.TheVariants.{Replicated, Erasure}
 
--- what is kept of a place: copies may change their places, so that one without an OSD is left out; coded parts keep theirs
+-- what is kept of a place: copies may change their places, so that one without an OSD is left out; coded parts keep
+-- theirs
 abbrev pub kept_in : RuleKind → Option ℕ → List (Option ℕ)
 kept_in Replicated None = []
 kept_in Replicated (Some osd) = Some osd ∷ []

@@ -32,7 +32,9 @@ buckets_of p = map bucket_of p.buckets
 
 -- no id twice, and each rule is one of the grammar that takes buckets of the forest
 unfoldable pub rules_ok : MapParts → Bool
-rules_ok p = is_distinct (map (λ r. nat_abs r.id) p.rules) && list_all (λ r. rule_ok r.kind (map step_of r.steps) (buckets_of p)) p.rules
+rules_ok p =
+    is_distinct (map (λ r. nat_abs r.id) p.rules)
+    && list_all (λ r. rule_ok r.kind (map step_of r.steps) (buckets_of p)) p.rules
 
 -- no more groups for placement than groups, and a rule of the pool's kind
 unfoldable pub pool_ok : List NumberedRule → PoolPart → Bool
@@ -55,8 +57,10 @@ abbrev pub is_listed : List OsdPart → ℕ → Bool
 is_listed osds n = option_map_or (λ o. o.exists) (find (λ o. nat_abs o.id == n) osds) false
 
 -- no group twice, and each exception by itself
-abbrev pub exceptions_ok : {E : Type 0} → (E → List ℕ) → (List E → Bool) → List PoolFacts → (ℕ → Bool) → List (Exception E) → Bool
-exceptions_ok names sound pools exists es = is_distinct (map key_of es) && list_all (is_exception names sound pools exists) es
+abbrev pub exceptions_ok : {E : Type 0} → (E → List ℕ) → (List E → Bool) → List PoolFacts → (ℕ → Bool) →
+    List (Exception E) → Bool
+exceptions_ok names sound pools exists es =
+    is_distinct (map key_of es) && list_all (is_exception names sound pools exists) es
 
 -- the explicit sets and the pairs that parts state, in the order of the text
 abbrev pub explicit_of : MapParts → List (Exception ℕ)
@@ -90,13 +94,16 @@ listed osds n = find (λ o. nat_abs o.id == n) osds
 
 -- an OSD that is not listed does not exist, is down and has reweight 0
 abbrev pub presence_in : List OsdPart → ℕ → Presence
-presence_in osds n = option_map_or (λ o. record { exists = o.exists; up = o.up }) (listed osds n) (record { exists = false; up = false })
+presence_in osds n = option_map_or (λ o. record { exists = o.exists; up = o.up }) (listed osds n) (record {
+  exists = false;
+  up = false;
+})
 
 abbrev pub weight_in : List OsdPart → ℕ → ℕ
 weight_in osds n = option_map_or (λ o. nat_abs o.weight) (listed osds n) 0
 
--- the map has what the parts state: the buckets by id downwards, rules and pools by id upwards, each OSD by number, and the
--- exceptions by group upwards
+-- the map has what the parts state: the buckets by id downwards, rules and pools by id upwards, each OSD by number, and
+-- the exceptions by group upwards
 pub record IsStated (p : MapParts) (m : ClusterMap) : Type 0 where
   pub epoch : m.epoch ≡ nat_abs p.epoch
   pub buckets : IsPermutation (buckets_of p) m.buckets

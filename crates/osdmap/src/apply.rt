@@ -32,8 +32,8 @@ impl OsdMap {
     ghost use Rattle.osdmap.specs.Changes.{apply, change_fault};
     ghost use Rattle.osdmap.specs.Stored.{HasRoomFor};
 
-    /// Makes room for a change, so that it can be made without memory, and lays a copy of its forest and rules ready; or
-    /// `Memory` (30). What the map says stays.
+    /// Makes room for a change, so that it can be made without memory, and lays a copy of its forest and rules ready;
+    /// or `Memory` (30). What the map says stays.
     pub fn reserve_for(&mut self, alloc: Global, change: &Change) -> Result<(), Memory>
         ensures same { self.new.map ≡ self.old.map }
         ensures room { OnOk result (HasRoomFor change.now self.new) }
@@ -78,8 +78,8 @@ impl OsdMap {
         );
     }
 
-    /// Makes the map the one after an incremental of the next epoch, whose change it does not refuse and for which it has
-    /// room. It takes no memory and cannot fail.
+    /// Makes the map the one after an incremental of the next epoch, whose change it does not refuse and for which it
+    /// has room. It takes no memory and cannot fail.
     pub fn apply(&mut self, incremental: &Incremental)
         requires next { incremental.now.epoch ≡ self.old.map.epoch + 1 }
         requires lawful { change_fault self.old.map incremental.now.change ≡ None }
@@ -93,7 +93,10 @@ impl OsdMap {
     pub fn after(&self, alloc: Global, change: &Change) -> Result<OsdMap, Memory>
         requires lawful { change_fault self.now.map change.now ≡ None }
         requires epoch { self.now.map.epoch + 1 < 2 ^ 64 }
-        ensures { IfOk result (λ m. m.map ≡ apply self.now.map (record { epoch = self.now.map.epoch + 1; change = change.now })) }
+        ensures { IfOk result (λ m. m.map ≡ apply self.now.map (record {
+          epoch = self.now.map.epoch + 1;
+          change = change.now;
+        })) }
     {
         let mut next = self.copy(alloc)?;
         next.reserve_for(alloc, change)?;

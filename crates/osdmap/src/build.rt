@@ -25,7 +25,8 @@ impl OsdMap {
     /// The map that parts within the limits state beside their exceptions.
     fn without_exceptions(alloc: Global, parts: &MapParts) -> Result<OsdMap, Refusal>
         requires { parts_fit parts.now ≡ true }
-        ensures { Makes result (map_fault (without_exceptions parts.now)) (λ m. IsStated (without_exceptions parts.now) m.map) }
+        ensures { Makes result (map_fault (without_exceptions parts.now))
+            (λ m. IsStated (without_exceptions parts.now) m.map) }
     {
         let max_osd = word(parts.max_osd);
         let crush = CrushMap::stated(alloc, &parts.buckets, &parts.rules, max_osd)?;

@@ -217,8 +217,8 @@ impl OsdMap {
         )
     }
 
-    /// Whether each pool that a change takes away is there, and once the new ones came each that grows and the pool of each
-    /// group that it names.
+    /// Whether each pool that a change takes away is there, and once the new ones came each that grows and the pool of
+    /// each group that it names.
     #[tactic(auto, unfolding(crate::specs::Changes::names_pools, crate::specs::Changes::all_groups))]
     fn names_pools(&self, change: &Change) -> bool
         ensures { result ≡ names_pools self.now.map change.now }
@@ -302,8 +302,8 @@ impl OsdMap {
         put_count(&[], new) <= MAX_POOLS - self.count_kept(change)
     }
 
-    /// Whether each pool that stays or comes has a rule of its kind, there are at most 32 pools then, and none gets fewer
-    /// groups.
+    /// Whether each pool that stays or comes has a rule of its kind, there are at most 32 pools then, and none gets
+    /// fewer groups.
     #[tactic(auto, unfolding(crate::specs::Changes::brings_rightly))]
     fn brings_rightly(&self, change: &Change) -> bool
         requires { brings_new self.now.map change.now ≡ true }
@@ -390,14 +390,14 @@ impl OsdMap {
     }
 
     /// Whether the map refuses a change: the first of these over all its parts. `UnknownOsd` (21): an OSD of down, up,
-    /// weight, an explicit set or a pair does not exist. `BadWeight` (22): a reweight is above 65,536. `UnknownPool` (23):
-    /// an old pool is not there, or once the old pools went and the new ones came a pool that grows or that of a group that
-    /// is named. `PoolExists` (24): a new pool's id stays. `BadForest` (13): a device of the forest that comes is not below
-    /// `max_osd`. `BadPool` (15): a pool that stays or comes has no rule of its kind then, there are more than 32 pools, or
-    /// one gets fewer groups than it has.
-    /// `UnknownGroup` (25): a group that is named is not there then. `BadNewException` (26): an explicit set or a list of
-    /// pairs is empty, longer than its pool's size, has an OSD twice or a pair with equal sides. `DuplicatePart` (27): a key
-    /// twice in a part, or in both parts of a couple. It takes no memory.
+    /// weight, an explicit set or a pair does not exist. `BadWeight` (22): a reweight is above 65,536. `UnknownPool`
+    /// (23): an old pool is not there, or once the old pools went and the new ones came a pool that grows or that of a
+    /// group that is named. `PoolExists` (24): a new pool's id stays. `BadForest` (13): a device of the forest that
+    /// comes is not below `max_osd`. `BadPool` (15): a pool that stays or comes has no rule of its kind then, there are
+    /// more than 32 pools, or one gets fewer groups than it has. `UnknownGroup` (25): a group that is named is not
+    /// there then. `BadNewException` (26): an explicit set or a list of pairs is empty, longer than its pool's size,
+    /// has an OSD twice or a pair with equal sides. `DuplicatePart` (27): a key twice in a part, or in both parts of a
+    /// couple. It takes no memory.
     pub fn check(&self, change: &Change) -> Result<(), Refusal>
         ensures { result_err result ≡ change_fault self.now.map change.now }
     {

@@ -65,7 +65,8 @@ pub(crate) fn change_pools(pools: &mut Vec<Pool>, old: &[u32], new: &[Pool], gro
     requires new { IsRising (λ p. p.id) new.now }
     requires growths { IsNonDecreasingBy (λ g. g.pool) growths.now }
     requires room { vec_len pools.old + length new.now ≤ vec_capacity pools.old }
-    ensures { pools.new.items ≡ map (grown growths.now) (fold (put (λ p. p.id)) (filter (λ p. not (has_key (λ id. id) old.now p.id)) pools.old.items) new.now) }
+    ensures { pools.new.items ≡ map (grown growths.now)
+        (fold (put (λ p. p.id)) (filter (λ p. not (has_key (λ id. id) old.now p.id)) pools.old.items) new.now) }
 {
     take_away(pools, old);
     put_all(pools, new);
@@ -75,7 +76,8 @@ pub(crate) fn change_pools(pools: &mut Vec<Pool>, old: &[u32], new: &[Pool], gro
 /// The exceptions of the groups of some pools go.
 fn leave_pools<E: Entry>(exceptions: &mut Vec<Exception<E>>, old_pools: &[u32])
     requires { IsNonDecreasingBy (λ id. id) old_pools.now }
-    ensures items { exceptions.new.items ≡ filter (λ e. not (has_key (λ id. id) old_pools.now e.pg.pool)) exceptions.old.items }
+    ensures items { exceptions.new.items ≡
+        filter (λ e. not (has_key (λ id. id) old_pools.now e.pg.pool)) exceptions.old.items }
     ensures fewer { vec_len exceptions.new ≤ vec_len exceptions.old }
     ensures room { vec_capacity exceptions.new ≡ vec_capacity exceptions.old }
 {
@@ -94,7 +96,8 @@ fn leave_pools<E: Entry>(exceptions: &mut Vec<Exception<E>>, old_pools: &[u32])
 fn leave_groups<E: Entry>(exceptions: &mut Vec<Exception<E>>, gone: &[Pg])
     requires rising { IsRising key_of exceptions.old.items }
     requires gone { IsNonDecreasingBy place_of gone.now }
-    ensures items { exceptions.new.items ≡ filter (λ e. not (has_key place_of gone.now (key_of e))) exceptions.old.items }
+    ensures items { exceptions.new.items ≡
+        filter (λ e. not (has_key place_of gone.now (key_of e))) exceptions.old.items }
     ensures fewer { vec_len exceptions.new ≤ vec_len exceptions.old }
     ensures room { vec_capacity exceptions.new ≡ vec_capacity exceptions.old }
 {
@@ -103,8 +106,8 @@ fn leave_groups<E: Entry>(exceptions: &mut Vec<Exception<E>>, gone: &[Pg])
     }
 }
 
-/// Exceptions go with their pools, or by their groups, and come, each list in ascending order. Where none is named and no
-/// pool goes, the list is not looked at.
+/// Exceptions go with their pools, or by their groups, and come, each list in ascending order. Where none is named and
+/// no pool goes, the list is not looked at.
 pub(crate) fn change_exceptions<E: Entry>(
     exceptions: &mut Vec<Exception<E>>,
     old_pools: &[u32],

@@ -1,5 +1,5 @@
-//! The map of a cluster: its forest, rules, pools and OSDs, the changes that make the next map of it, and where it places
-//! the groups of its pools.
+//! The map of a cluster: its forest, rules, pools and OSDs, the changes that make the next map of it, and where it
+//! places the groups of its pools.
 #![tactic(auto)]
 
 mod apply;

@@ -5,8 +5,8 @@ use keylist::{Entries, entry_of};
 use stated::{CrushMap, Explicit, Items, NumberedRule, OsdState, Pair, Pg, Pool, Presence};
 use std::marker::Model;
 
-/// The map of a cluster at an epoch: a forest of buckets, rules, pools, and for each OSD whether it exists, whether it is
-/// up, and its reweight (Ceph, OSDMap.h).
+/// The map of a cluster at an epoch: a forest of buckets, rules, pools, and for each OSD whether it exists, whether it
+/// is up, and its reweight (Ceph, OSDMap.h).
 #[derive(Drop)]
 pub struct OsdMap {
     pub(crate) epoch: u64,
@@ -32,7 +32,16 @@ impl Model for OsdMap {
       room = record { pools = vec_capacity m.pools; explicit = vec_capacity m.explicit; items = vec_capacity m.items; crush = m.ready };
     } };
 
-    ghost invariant = { λ m. HoldsTogether (record { epoch = m.epoch; buckets = m.crush.buckets; rules = m.crush.rules; pools = m.pools.items; presences = m.presences; weights = m.weights; explicit = m.explicit.items; items = m.items.items }) };
+    ghost invariant = { λ m. HoldsTogether (record {
+      epoch = m.epoch;
+      buckets = m.crush.buckets;
+      rules = m.crush.rules;
+      pools = m.pools.items;
+      presences = m.presences;
+      weights = m.weights;
+      explicit = m.explicit.items;
+      items = m.items.items;
+    }) };
 }
 
 impl OsdMap {

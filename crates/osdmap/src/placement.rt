@@ -79,7 +79,9 @@ impl OsdMap {
 
     /// The pool of a group that is there: else `UnknownPool` (23), `UnknownGroup` (25).
     fn pool_of(&self, pg: Pg) -> Result<Pool, Refusal>
-        ensures { MatchResult result (λ pool. (group_fault self.now.map pg ≡ None) × (pool_at self.now.map.pools pg.pool ≡ Some pool) × (has_rule self.now.map.rules pool ≡ true)) (λ e. group_fault self.now.map pg ≡ Some e) }
+        ensures { MatchResult result (λ pool. (group_fault self.now.map pg ≡ None)
+            × (pool_at self.now.map.pools pg.pool ≡ Some pool) × (has_rule self.now.map.rules pool ≡ true))
+            (λ e. group_fault self.now.map pg ≡ Some e) }
     {
         let _ = &self.pools;
         let pool = self.pool(pg.pool).ok_or(Refusal::UnknownPool)?;
@@ -202,8 +204,8 @@ impl OsdMap {
     }
 
     /// The mapped set of a group: its raw set under its exceptions (Ceph, `_apply_upmap`). Where one of the OSDs of its
-    /// explicit set has reweight 0, neither that set nor its pairs act. It takes one run of the rule, which `work` counts.
-    /// `UnknownPool` (23), `UnknownGroup` (25), else `Memory` (30).
+    /// explicit set has reweight 0, neither that set nor its pairs act. It takes one run of the rule, which `work`
+    /// counts. `UnknownPool` (23), `UnknownGroup` (25), else `Memory` (30).
     pub fn mapped_of(&self, pg: Pg, work: &mut Work) -> Result<UpSet, Refusal>
         ensures set { Gives result (group_fault self.now.map pg) (λ set. Places mapped_set self.now.map pg set) }
         ensures run { RunsOnce work.old work.new result }
@@ -212,9 +214,9 @@ impl OsdMap {
         Ok(self.mapped_in(&pool, pg.number, work)?)
     }
 
-    /// The mapped set that a group would have if an explicit set and pairs were its exceptions, in place of those that the map
-    /// has. Like its own it takes one run of the rule, which `work` counts. `UnknownPool` (23), `UnknownGroup` (25), else
-    /// `Memory` (30).
+    /// The mapped set that a group would have if an explicit set and pairs were its exceptions, in place of those that
+    /// the map has. Like its own it takes one run of the rule, which `work` counts. `UnknownPool` (23), `UnknownGroup`
+    /// (25), else `Memory` (30).
     pub fn mapped_with(
         &self,
         pg: Pg,
@@ -223,7 +225,9 @@ impl OsdMap {
         work: &mut Work,
     ) -> Result<UpSet, Refusal>
         requires { IfSome explicit (λ osds. length osds.now ≤ 10) }
-        ensures set { Gives result (group_fault self.now.map pg) (λ set. Places (mapped_with (option_copied explicit.entry) (option_copied items.entry)) self.now.map pg set) }
+        ensures set { Gives result (group_fault self.now.map pg)
+            (λ set. Places (mapped_with (option_copied explicit.entry)
+            (option_copied items.entry)) self.now.map pg set) }
         ensures run { RunsOnce work.old work.new result }
     {
         let pool = self.pool_of(pg)?;

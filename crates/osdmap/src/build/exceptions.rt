@@ -34,24 +34,28 @@ impl OsdMap {
 
     /// Whether each of some exceptions is one of the map.
     fn are_exceptions<E: Entry>(&self, exceptions: &[Exception<E>]) -> bool
-        ensures { result ≡ list_all (is_exception E.names E.sound self.now.map.pools (osd_exists self.now.map)) exceptions.now }
+        ensures { result ≡ list_all (is_exception E.names E.sound self.now.map.pools
+            (osd_exists self.now.map)) exceptions.now }
     {
         exceptions.iter().all(
             |exception| -> bool
-                ensures { result ≡ is_exception E.names E.sound self.entry.now.map.pools (osd_exists self.entry.now.map) exception.now }
+                ensures { result ≡ is_exception E.names E.sound self.entry.now.map.pools
+                    (osd_exists self.entry.now.map) exception.now }
             { self.is_exception(exception) },
         )
     }
 
-    /// The exceptions of the map that parts within the limits state, by group upwards: `BadException` (17) where one of them
-    /// is none, or has the group of another.
+    /// The exceptions of the map that parts within the limits state, by group upwards: `BadException` (17) where one of
+    /// them is none, or has the group of another.
     pub(crate) fn exceptions_in<E: Entry, P: EntryPart<E>>(
         &self,
         alloc: Global,
         parts: &[ExceptionPart<P>],
     ) -> Result<Vec<Exception<E>>, Refusal>
         requires { exceptions_fit P.within parts.now ≡ true }
-        ensures { Makes result (refused_unless (exceptions_ok E.names E.sound self.now.map.pools (osd_exists self.now.map) (map (exception_of P.entry_of) parts.now)) BadException) (λ es. Rises key_of (map (exception_of P.entry_of) parts.now) es.items) }
+        ensures { Makes result (refused_unless (exceptions_ok E.names E.sound self.now.map.pools
+            (osd_exists self.now.map) (map (exception_of P.entry_of) parts.now)) BadException)
+            (λ es. Rises key_of (map (exception_of P.entry_of) parts.now) es.items) }
     {
         let exceptions = exceptions_of(alloc, parts)?;
         if !self.are_exceptions(&exceptions) {

@@ -68,7 +68,8 @@ pub(crate) fn rows_of(
     max_osd: u32,
 ) -> Result<Vec<Option<OsdState>>, Refusal>
     requires { list_all osd_fits osds.now ≡ true }
-    ensures { Makes result (refused_unless (osds_fit max_osd osds.now) BadOsd) (λ rows. rows.items ≡ rows_of osds.now max_osd) }
+    ensures { Makes result (refused_unless (osds_fit max_osd osds.now) BadOsd)
+        (λ rows. rows.items ≡ rows_of osds.now max_osd) }
 {
     if !are_osds(max_osd, osds) {
         return Err(Refusal::BadOsd);

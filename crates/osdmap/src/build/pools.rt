@@ -63,7 +63,8 @@ fn pools_made(
     rules: &[NumberedRule],
 ) -> Result<Vec<Pool>, Refusal>
     requires { list_all pool_fits parts.now ≡ true }
-    ensures { Makes result (refused_unless (list_all (pool_ok rules.now) parts.now) BadPool) (λ pools. pools.items ≡ map pool_of parts.now) }
+    ensures { Makes result (refused_unless (list_all (pool_ok rules.now) parts.now) BadPool)
+        (λ pools. pools.items ≡ map pool_of parts.now) }
 {
     let mut pools = Vec::with_capacity(alloc, parts.len())?;
     for part in parts {
@@ -81,7 +82,8 @@ pub(crate) fn pools_of(
     rules: &[NumberedRule],
 ) -> Result<Vec<Pool>, Refusal>
     requires { list_all pool_fits parts.now ≡ true }
-    ensures { Makes result (refused_unless (pools_fit rules.now parts.now) BadPool) (λ pools. Rises (λ p. p.id) (map pool_of parts.now) pools.items) }
+    ensures { Makes result (refused_unless (pools_fit rules.now parts.now) BadPool)
+        (λ pools. Rises (λ p. p.id) (map pool_of parts.now) pools.items) }
 {
     let pools = pools_made(alloc, parts, rules)?;
     in_order(pools, Refusal::BadPool)
