@@ -31,6 +31,7 @@ group_here p ps g same there =
     let test : nat_lt g.number p.pg_num ≡ true = rw same at there in
     grind (arith, nat_tests, test)
 
+-- a group that is there and not of the first pool is of one of the others
 group_there : (p : PoolFacts) (ps : List PoolFacts) (g : Pg) → eqb p.id g.pool ≡ false → has_group (p ∷ ps) g ≡ true → has_group ps g ≡ true
 group_there p ps g other there = rw other at there
 

@@ -44,6 +44,7 @@ record IsFaultless (p : MapParts) : Type 0 where
   osds : osds_ok p ≡ true
   exceptions : all_exceptions_ok p ≡ true
 
+-- parts without a fault pass each test
 faultless_each : (p : MapParts) → map_fault p ≡ None → IsFaultless p
 unfolding map_fault
 faultless_each p h =
@@ -67,6 +68,7 @@ rules_fine : (p : MapParts) → rules_ok p ≡ true → rules_fit (buckets_of p)
 unfolding rules_ok
 rules_fine p h = h
 
+-- a right forest with right rules is no fault of a CRUSH map
 crush_fine : (p : MapParts) → forest_ok (buckets_of p) (nat_abs p.max_osd) ≡ true → rules_ok p ≡ true → crush_fault p.buckets p.rules (nat_abs p.max_osd) ≡ None
 unfolding rules_ok
 crush_fine p forest rules = rw (forest, rules) refl
@@ -76,15 +78,18 @@ bare_pools : (p : MapParts) → pools_ok p ≡ true → pools_ok (without_except
 unfolding pools_ok
 bare_pools p h = h
 
+-- parts without their exceptions have the same OSDs
 bare_osds : (p : MapParts) → osds_ok p ≡ true → osds_ok (without_exceptions p) ≡ true
 unfolding osds_ok
 bare_osds p h = h
 
 -- ---- the map that they state
 
+-- the limits of a forest do not go by the order of its buckets
 limits-moved : (xs ys : List Bucket) → IsPermutation xs ys → (n : ℕ) → forest_limits_ok xs n ≡ true → forest_limits_ok ys n ≡ true
 limits-moved xs ys moved n h = rw (length_permutation xs ys moved, list_all-moved bucket_limits_ok xs ys moved) h
 
+-- buckets by id downwards do not ascend
 not_ascending : (buckets : List Bucket) → IsDescending buckets → IsNotAscending buckets
 not_ascending buckets falls i j d below inside = let less = falls i j d below inside in omega (arith, ints, less)
 
@@ -143,6 +148,7 @@ module _ (p : MapParts) (m : ClusterMap) (faultless : map_fault p ≡ None) (sta
 
 -- ---- journals
 
+-- a lawful journal leads to a map that holds together
 holds_after : (m : ClusterMap) (journal : List Step) → HoldsTogether m → AreChanges journal → IsLawful m journal → HoldsTogether (after m journal)
 unfolding IsLawful
 holds_after m [] holds brings lawful = holds
@@ -151,6 +157,7 @@ holds_after m (step ∷ steps) holds brings lawful =
     let rest = All-tail (λ (s : Step). IsChange s.change) step steps brings in
     holds_after (apply m step) steps (HoldsTogether-after m step lawful.1 here holds) rest lawful.2
 
+-- the law: a lawful journal of a map that was accepted leads to one that would be
 pub journals_keep_maps : JournalsKeepMaps
 journals_keep_maps p m journal accepted brings lawful epoch =
     states_itself (after m journal) (holds_after m journal (accepted_holds p m accepted.faultless accepted.stated) brings lawful) epoch

@@ -31,10 +31,12 @@ up-stays up (p ∷ ps) zero (suc n) h = h
 up-stays up (p ∷ ps) (suc osd) zero h = h
 up-stays up (p ∷ ps) (suc osd) (suc n) h = up-stays up ps osd n h
 
+-- an OSD that is turned so stays so when others are
 ups-stay : (up : Bool) (ps : List Presence) (osds : List ℕ) (n : ℕ) → is_up ps n ≡ up → is_up (fold (with_up up) ps osds) n ≡ up
 ups-stay up ps [] n h = h
 ups-stay up ps (osd ∷ osds) n h = ups-stay up (with_up up ps osd) osds n (up-stays up ps osd n h)
 
+-- each of the OSDs that are named is turned
 all-up : (up : Bool) (ps : List Presence) (osds : List ℕ) (n : ℕ) → exists ps n ≡ true → has_key (λ k. k) osds n ≡ true → is_up (fold (with_up up) ps osds) n ≡ up
 all-up up ps [] n there named = absurd (false≢true named)
 all-up up ps (osd ∷ osds) n there named = elim (cases_Bool (eqb osd n)) [
@@ -42,6 +44,7 @@ all-up up ps (osd ∷ osds) n there named = elim (cases_Bool (eqb osd n)) [
   | inr other ↦ all-up up (with_up up ps osd) osds n (rw (exists-up up ps osd n) there) (rw other at named)
 ]
 
+-- the law: who is named in both parts is as the later part says
 pub up_after_down : UpAfterDown
 unfolding apply
 up_after_down m step osd there down up = record {

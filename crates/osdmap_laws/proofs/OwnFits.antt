@@ -26,20 +26,25 @@ use Rattle.keylist.proofs.Each.{all_more}
 
 -- ---- numbers and counts
 
+-- a natural number between two limits is, as a stated one
 pub natural_fits : (low high n : ℕ) → low ≤ n → n ≤ high → is_between (pos low) (pos high) (pos n) ≡ true
 unfolding is_between
 natural_fits low high n least most = grind (arith, nat_tests, least, most)
 
+-- so is one that is tested
 within_fits : (low high n : ℕ) → is_within low high n ≡ true → is_between (pos low) (pos high) (pos n) ≡ true
 within_fits low high n h = natural_fits low high n (grind (arith, nat_tests, h)) (grind (arith, nat_tests, h))
 
+-- a list of so many has as many when each is made into something
 pub count_fits : {X Y : Type 0} (f : X → Y) (low high : ℕ) (xs : List X) → low ≤ length xs → length xs ≤ high → has_between low high (map f xs) ≡ true
 unfolding has_between
 count_fits f low high xs least most = rw (length-map xs f) (grind (arith, nat_tests, least, most))
 
+-- so it is where the number is tested
 within_counts : {X Y : Type 0} (f : X → Y) (low high : ℕ) (xs : List X) → is_within low high (length xs) ≡ true → has_between low high (map f xs) ≡ true
 within_counts f low high xs h = count_fits f low high xs (grind (arith, nat_tests, h)) (grind (arith, nat_tests, h))
 
+-- an id that a bucket may have is one that a text may give
 bucket_id_fits : (z : ℤ) → may_be_bucket z ≡ true → is_bucket_id z ≡ true
 unfolding is_bucket_id is_between
 bucket_id_fits (pos n) h = grind (arith, nat_tests, h)
@@ -47,18 +52,22 @@ bucket_id_fits (negsuc n) h = grind (arith, nat_tests, h)
 
 -- ---- the forest
 
+-- weights that add up have at most 32 bits
 weights_light : (kind : BucketKind) (items : List Item) → weights_ok kind items ≡ true → nat_lt (weight_of items) (2 ^ 32) ≡ true
 weights_light Uniform items h = and_first (nat_lt (weight_of items) (2 ^ 32)) (is_even items) h
 weights_light InList items h = h
 weights_light Tree items h = h
 
+-- an item for where there is none
 no_item : Item
 no_item = record { id = pos 0; weight = 0 }
 
+-- an item within the limits fits a text
 item_fine : (i : Item) → item_limits_ok i ≡ true → i.weight ≤ 4294967295 → item_fits (item_part i) ≡ true
 unfolding item_fits is_between
 item_fine i limits light = grind (arith, nat_tests, limits, light)
 
+-- so do all of a bucket
 items_fine : (items : List Item) → list_all item_limits_ok items ≡ true → nat_lt (weight_of items) (2 ^ 32) ≡ true → list_all item_fits (map item_part items) ≡ true
 items_fine items limits light =
     list_all-map item_fits item_part items
@@ -67,6 +76,7 @@ items_fine items limits light =
     let few : (get_or items k no_item).weight ≤ 4294967295 = grind (arith, nat_tests, light, most) in
     item_fine (get_or items k no_item) (list_all-at item_limits_ok items k no_item inside limits) few)
 
+-- a bucket within the limits fits
 bucket_fine : (b : Bucket) → bucket_limits_ok b ≡ true → weights_ok b.kind b.items ≡ true → bucket_fits (bucket_part b) ≡ true
 unfolding bucket_fits
 bucket_fine b limits weights =
@@ -76,6 +86,7 @@ bucket_fine b limits weights =
     let items = items_fine b.items (grind (arith, limits)) (weights_light b.kind b.items weights) in
     rw (id, level, count, items) refl
 
+-- so do all of a forest
 pub buckets_fine : (buckets : List Bucket) → list_all bucket_limits_ok buckets ≡ true → list_all (λ b. weights_ok b.kind b.items) buckets ≡ true → list_all bucket_fits (map bucket_part buckets) ≡ true
 buckets_fine [] limits weights = refl
 buckets_fine (b ∷ bs) limits weights =
@@ -86,6 +97,7 @@ buckets_fine (b ∷ bs) limits weights =
 
 -- ---- rules
 
+-- a step within the limits fits
 step_fine : (s : Step) → step_limits_ok s ≡ true → step_fits (step_part s) ≡ true
 unfolding step_fits
 step_fine (step.SetChooseTries n) h = natural_fits 1 200 n (grind (arith, nat_tests, h)) (grind (arith, nat_tests, h))
@@ -97,6 +109,7 @@ step_fine (step.Choose c) h =
     rw (count, level) refl
 step_fine step.Emit h = refl
 
+-- a rule over some buckets fits
 rule_fine : (buckets : List Bucket) (r : NumberedRule) → is_rule_over buckets r ≡ true → rule_fits (rule_part r) ≡ true
 unfolding is_rule_over rule_fits
 rule_fine buckets r h =
@@ -105,11 +118,13 @@ rule_fine buckets r h =
     let steps = list_all-map step_fits step_part r.rule.steps ∙ all_more step_limits_ok (λ s. step_fits (step_part s)) r.rule.steps step_fine (grind (arith, h)) in
     rw (id, count, steps) refl
 
+-- so do all rules
 pub rules_fine : (buckets : List Bucket) (rules : List NumberedRule) → list_all (is_rule_over buckets) rules ≡ true → list_all rule_fits (map rule_part rules) ≡ true
 rules_fine buckets rules all = list_all-map rule_fits rule_part rules ∙ all_more (is_rule_over buckets) (λ r. rule_fits (rule_part r)) rules (rule_fine buckets) all
 
 -- ---- pools
 
+-- a pool within the limits fits
 pool_fine : (p : PoolFacts) → IsWithinLimits p → pool_fits (pool_part p) ≡ true
 unfolding pool_fits
 pool_fine p within =
@@ -120,6 +135,7 @@ pool_fine p within =
     let size = natural_fits 1 10 p.size (omega (arith, within.size_some)) within.size_most in
     rw (id, pg_num, pgp_num, rule, size) refl
 
+-- so do all pools
 pub pools_fine : (pools : List PoolFacts) → All IsWithinLimits pools → list_all pool_fits (map pool_part pools) ≡ true
 pools_fine pools within =
     list_all-map pool_fits pool_part pools

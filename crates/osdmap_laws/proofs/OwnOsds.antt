@@ -78,10 +78,12 @@ pub record IsListed (m : ClusterMap) (n : ℕ) (o : OsdPart) : Type 0 where
   pub there : slice_get m.presences n ≡ Some presence
   pub is : o ≡ osd_part n (record { exists = presence.exists; up = presence.up; weight = slice_index m.weights n })
 
+-- an OSD that is listed is stated as it is
 notable_is : (n : ℕ) (s : OsdState) (o : OsdPart) (b : Bool) → cond b (Some (osd_part n s)) None ≡ Some o → o ≡ osd_part n s
 notable_is n s o true h = cc
 notable_is n s o false h = cc
 
+-- it is listed at its number
 is_listed_of : (m : ClusterMap) (n : ℕ) (o : OsdPart) → part_listed m n ≡ Some o → IsListed m n o
 is_listed_of m n o is = by_row (slice_get m.presences n) refl
   where
@@ -93,12 +95,15 @@ is_listed_of m n o is = by_row (slice_get m.presences n) refl
       is = notable_is n _ o _ (rw here at is);
     }
 
+-- with its own number
 own_number : (m : ClusterMap) (n : ℕ) (o : OsdPart) → part_listed m n ≡ Some o → nat_abs o.id ≡ n
 own_number m n o is = let listed_is = is_listed_of m n o is in rw listed_is.is refl
 
+-- and found there among the parts
 pub own_listed : (m : ClusterMap) (n : ℕ) → n < length m.presences → listed (osd_parts m) n ≡ part_listed m n
 own_listed m n inside = found (part_listed m) (own_number m) 0 (length m.presences) n (omega arith) (omega arith)
 
+-- no OSD is listed twice
 pub own_distinct : (m : ClusterMap) → is_distinct (map (λ o. nat_abs o.id) (osd_parts m)) ≡ true
 own_distinct m = apart (part_listed m) (own_number m) 0 (length m.presences)
 
@@ -111,6 +116,7 @@ presence_own n zero false false h = refl
 presence_own n (suc w) false false h = rw (ne_eqb (suc w) 0 (λ same. omega (arith, same))) refl
 presence_own n w false true h = absurd (false≢true h)
 
+-- its reweight is the stated one, or 0 where it is not listed
 weight_own : (n w : ℕ) (e u : Bool)
     → option_map_or (λ (o : OsdPart). nat_abs o.weight) (if is_notable (record { exists = e; up = u; weight = w }) then Some (osd_part n (record { exists = e; up = u; weight = w })) else None) 0 ≡ w
 weight_own n w true u = refl

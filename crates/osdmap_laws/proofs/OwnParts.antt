@@ -45,6 +45,7 @@ use Rattle.keylist.proofs.Each.{all_more, map_twice}
 
 -- ---- values that state themselves
 
+-- what is stated entry by entry is read back so
 map_own : {X Y : Type 0} (f : Y → X) (g : X → Y) → ((x : X) → f (g x) ≡ x) → (xs : List X) → map f (map g xs) ≡ xs
 map_own f g own [] = refl
 map_own f g own (x ∷ xs) = rw (own x, map_own f g own xs) refl
@@ -57,12 +58,15 @@ version_fine rules = by_tries (list_any (λ r. list_any sets_tries r.rule.steps)
     by_tries true = natural_fits 1 2 2 (omega arith) (omega arith)
     by_tries false = natural_fits 1 2 1 (omega arith) (omega arith)
 
+-- an item is the one that its part states
 item_own : (i : Item) → item_of (item_part i) ≡ i
 item_own i = refl
 
+-- so is a bucket
 bucket_own : (b : Bucket) → bucket_of (bucket_part b) ≡ b
 bucket_own b = rw (map_own item_of item_part item_own b.items) refl
 
+-- a step
 step_own : (s : RuleStep) → step_of (step_part s) ≡ s
 step_own (step.SetChooseTries n) = refl
 step_own (step.SetChooseleafTries n) = refl
@@ -70,18 +74,23 @@ step_own (step.Take id) = refl
 step_own (step.Choose c) = refl
 step_own step.Emit = refl
 
+-- a rule
 rule_own : (r : NumberedRule) → rule_of (rule_part r) ≡ r
 rule_own r = rw (map_own step_of step_part step_own r.rule.steps) refl
 
+-- a pool
 pool_own : (p : PoolFacts) → pool_of (pool_part p) ≡ p
 pool_own p = refl
 
+-- a number
 number_own : (n : ℕ) → nat_abs (pos n) ≡ n
 number_own n = refl
 
+-- a pair
 pair_own : (p : Pair) → pair_of (pair_part p) ≡ p
 pair_own p = refl
 
+-- and an exception
 exception_own : {E P : Type 0} (entry_of : P → E) (entry_part : E → P) → ((e : E) → entry_of (entry_part e) ≡ e) → (e : Exception E) → exception_of entry_of (exception_part entry_part e) ≡ e
 exception_own entry_of entry_part own e = rw (map_own entry_of entry_part own e.entries) refl
 
@@ -272,6 +281,7 @@ module _ (m : ClusterMap) (holds : HoldsTogether m) where
   pub states_itself : IsTextEpoch m.epoch → StatesItself m
   states_itself within = record { faultless = own_faultless within.0 within.1; stated = own_stated }
 
+-- the map after a change that is not refused is the one that its own parts state
 pub states_itself_after : (m : ClusterMap) (step : Step) → HoldsTogether m → IsChange step.change → change_fault m step.change ≡ None → IsTextEpoch step.epoch → StatesItself (apply m step)
 unfolding apply
 states_itself_after m step holds is lawful epoch = states_itself (apply m step) (HoldsTogether-after m step lawful is holds) (epoch_is epoch)
