@@ -24,7 +24,7 @@ get_set_same [] i x inside = absurd (omega arith)
 get_set_same (y ∷ ys) zero x inside = refl
 get_set_same (y ∷ ys) (suc i) x inside = get_set_same ys i x (omega arith)
 
-get_zip : {X Y : Type 0} (xs : List X) (ys : List Y) (i : ℕ) (x : X) (y : Y) → slice_get xs i ≡ Some x → slice_get ys i ≡ Some y → slice_get (zip xs ys) i ≡ Some (x, y)
+pub get_zip : {X Y : Type 0} (xs : List X) (ys : List Y) (i : ℕ) (x : X) (y : Y) → slice_get xs i ≡ Some x → slice_get ys i ≡ Some y → slice_get (zip xs ys) i ≡ Some (x, y)
 get_zip [] ys i x y p q = let wrong : None ≡ Some x = p in absurd (cc)
 get_zip (a ∷ xs) [] i x y p q = let wrong : None ≡ Some y = q in absurd (cc)
 get_zip (a ∷ xs) (b ∷ ys) zero x y p q =

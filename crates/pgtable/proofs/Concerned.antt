@@ -5,7 +5,7 @@ use Rattle.std.specs.Prelude.{nat_lt, nat_le, filter_map, is_some}
 use Rattle.std.specs.List.{All, list_any, filter, range_with_len}
 use Rattle.std.proofs.lemmas.Bool.{cases_Bool, cases_order, eqb-true}
 use Rattle.std.proofs.lemmas.Bool.Decides.{nat_tests}
-use Rattle.std.proofs.lemmas.List.Elements.{All-nil, All-cons, All-head, All-tail}
+use Rattle.std.proofs.lemmas.List.Elements.{All-nil, All-cons, All-head, All-tail, filter_agree}
 use Rattle.std.proofs.lemmas.List.{get_or-map, length-map, take_all}
 use Rattle.std.proofs.lemmas.List.FromFn.{length-range_with_len, get_or-range_with_len}
 use Rattle.keylist.specs.Keys.{has_key, entry_at, is_distinct}
@@ -29,7 +29,7 @@ use Rattle.osdmap.proofs.Coming.{comes}
 use Rattle.keylist.proofs.KeyedOrder.{rising_head, rising_tail, rising_from, rising-filter}
 use Rattle.keylist.proofs.Tests.{and_first, and_second}
 use Rattle.keylist.proofs.Each.{same_tests}
-use Rattle.pgtable.specs.Candidates.{NamedRise, groups_of, joined, named_in, candidates_by, candidates, number_at, number_in}
+use Rattle.pgtable.specs.Candidates.{NamedRise, groups_of, joined, named_in, candidates_by, candidates, number_at, number_in, named_numbers}
 use Rattle.pgtable.specs.Candidates as spec
 use Rattle.pgtable.specs.Patches.{concerned}
 use Rattle.pgtable.proofs.Keeping.{among}
@@ -337,6 +337,30 @@ by_weight m c g (w ∷ ws) is loud =
 pub candidates_have : (m : ClusterMap) (c : ChangeParts) (g : Pg) → concerns m c g ≡ true → has_key place_of (candidates m c) (place_of g) ≡ true
 unfolding candidates
 candidates_have m c g loud = by_weight m c g c.weight refl loud
+
+-- ---- where no OSD gets another reweight
+
+-- a change then concerns the groups that it names
+concerns_named : (m : ClusterMap) (c : ChangeParts) (g : Pg) → c.weight ≡ [] → concerns m c g ≡ is_named c g
+unfolding concerns
+concerns_named m c g none = rw (none_reweighted target c (said_of m.explicit g) none, none_reweighted sides c (said_of m.items g) none) (or_nothing (is_named c g))
+  where
+    or_nothing : (b : Bool) → ((b || false) || false) ≡ b
+    or_nothing true = refl
+    or_nothing false = refl
+
+-- these are among the groups that it names
+pub named_have : (m : ClusterMap) (c : ChangeParts) (g : Pg) → c.weight ≡ [] → concerns m c g ≡ true → has_key place_of (named_in c) (place_of g) ≡ true
+named_have m c g none loud = named_has c g (sym (concerns_named m c g none) ∙ loud)
+
+-- and are found among these in their order
+pub named_found : (m : ClusterMap) (c : ChangeParts) (p : PoolFacts) (groups : List Pg) → c.weight ≡ [] → IsRising place_of groups → ((g : Pg) → concerns m c g ≡ true → has_key place_of groups (place_of g) ≡ true)
+    → named_numbers c p groups ≡ concerned m c p
+named_found m c p groups none up complete =
+    over_places (λ n. is_named c (group_of p n)) (p.id * 2 ^ 32) p.pg_num groups
+    ∙ numbers_all (λ n. is_named c (group_of p n)) (p.id * 2 ^ 32) p.pg_num (map place_of groups) (places_rise groups up)
+    (λ j less yes. key_among place_of groups (p.id * 2 ^ 32 + j) ∙ complete (group_of p j) (concerns_named m c (group_of p j) none ∙ yes))
+    ∙ filter_agree (λ n. is_named c (group_of p n)) (λ n. concerns m c (group_of p n)) (λ n. sym (concerns_named m c (group_of p n) none)) (range_with_len 0 p.pg_num)
 
 -- the groups of exceptions with rising keys, and groups with others among them, rise
 pub groups_rise_all : {E : Type 0} (es : List (Exception E)) (gs : List Pg) (i : ℕ) → IsRising key_of es → gs ≡ groups_of (take i es) → length es ≤ i → IsRising place_of gs

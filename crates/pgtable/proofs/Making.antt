@@ -26,21 +26,21 @@ zip_more [] (b ∷ ys) x y same = absurd (omega arith)
 zip_more (a ∷ xs) [] x y same = absurd (omega arith)
 zip_more (a ∷ xs) (b ∷ ys) x y same = ap (λ z. (a, b) ∷ z) (zip_more xs ys x y (omega arith))
 
-get_before : {X : Type 0} (xs : List X) (x : X) (k : ℕ) → k < length xs → slice_get (xs ++ x ∷ []) k ≡ slice_get xs k
+pub get_before : {X : Type 0} (xs : List X) (x : X) (k : ℕ) → k < length xs → slice_get (xs ++ x ∷ []) k ≡ slice_get xs k
 get_before [] x k inside = absurd (omega arith)
 get_before (a ∷ xs) x zero inside = refl
 get_before (a ∷ xs) x (suc k) inside = get_before xs x k (omega arith)
 
-get_behind : {X : Type 0} (xs : List X) (x : X) (k : ℕ) → k ≡ length xs → slice_get (xs ++ x ∷ []) k ≡ Some x
+pub get_behind : {X : Type 0} (xs : List X) (x : X) (k : ℕ) → k ≡ length xs → slice_get (xs ++ x ∷ []) k ≡ Some x
 get_behind [] x zero is = refl
 get_behind [] x (suc k) is = absurd (omega arith)
 get_behind (a ∷ xs) x zero is = absurd (omega arith)
 get_behind (a ∷ xs) x (suc k) is = get_behind xs x k (omega arith)
 
-get_past : {X : Type 0} (xs : List X) (x y : X) (k : ℕ) → slice_get (xs ++ x ∷ []) k ≡ Some y → k ≤ length xs
+pub get_past : {X : Type 0} (xs : List X) (x y : X) (k : ℕ) → slice_get (xs ++ x ∷ []) k ≡ Some y → k ≤ length xs
 get_past xs x y k is = let long : length (xs ++ x ∷ []) ≡ length xs + 1 = length-append xs (x ∷ []) in omega (arith, slice_get_within (xs ++ x ∷ []) k y is)
 
-element : {X : Type 0} (xs : List X) (i : ℕ) → i < length xs → (x : X) × (slice_get xs i ≡ Some x)
+pub element : {X : Type 0} (xs : List X) (i : ℕ) → i < length xs → (x : X) × (slice_get xs i ≡ Some x)
 element [] i inside = absurd (omega arith)
 element (x ∷ xs) zero inside = (x, refl)
 element (x ∷ xs) (suc i) inside = element xs i (omega arith)
