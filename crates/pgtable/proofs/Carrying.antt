@@ -12,6 +12,7 @@ use Rattle.pgtable.specs.Patches.{carried, FitsAt, FitAll}
 
 -- ---- lists by places
 
+-- putting in an entry leaves the others
 pub get_set_other : {X : Type 0} (xs : List X) (i k : ℕ) (x : X) → k ≢ i → slice_get (set xs i x) k ≡ slice_get xs k
 get_set_other [] i k x other = refl
 get_set_other (y ∷ ys) zero zero x other = absurd (other refl)
@@ -19,12 +20,14 @@ get_set_other (y ∷ ys) zero (suc k) x other = refl
 get_set_other (y ∷ ys) (suc i) zero x other = refl
 get_set_other (y ∷ ys) (suc i) (suc k) x other = get_set_other ys i k x (λ e. other (ap suc e))
 
+-- and is found at its place
 pub get_set_same : {X : Type 0} (xs : List X) (i : ℕ) (x : X) → i < length xs → slice_get (set xs i x) i ≡ Some x
 get_set_same [] i x inside = absurd (omega arith)
 get_set_same (y ∷ ys) zero x inside = refl
 get_set_same (y ∷ ys) (suc i) x inside = get_set_same ys i x (omega arith)
 
-get_zip : {X Y : Type 0} (xs : List X) (ys : List Y) (i : ℕ) (x : X) (y : Y) → slice_get xs i ≡ Some x → slice_get ys i ≡ Some y → slice_get (zip xs ys) i ≡ Some (x, y)
+-- entries side by side are found together
+pub get_zip : {X Y : Type 0} (xs : List X) (ys : List Y) (i : ℕ) (x : X) (y : Y) → slice_get xs i ≡ Some x → slice_get ys i ≡ Some y → slice_get (zip xs ys) i ≡ Some (x, y)
 get_zip [] ys i x y p q = let wrong : None ≡ Some x = p in absurd (cc)
 get_zip (a ∷ xs) [] i x y p q = let wrong : None ≡ Some y = q in absurd (cc)
 get_zip (a ∷ xs) (b ∷ ys) zero x y p q =
@@ -33,11 +36,13 @@ get_zip (a ∷ xs) (b ∷ ys) zero x y p q =
     rw (e, f) refl
 get_zip (a ∷ xs) (b ∷ ys) (suc i) x y p q = get_zip xs ys i x y p q
 
+-- two lists of one length are as long side by side
 pub long_zip : {X Y : Type 0} (xs : List X) (ys : List Y) → length ys ≡ length xs → length (zip xs ys) ≡ length xs
 long_zip [] ys same = refl
 long_zip (x ∷ xs) [] same = absurd (omega arith)
 long_zip (x ∷ xs) (y ∷ ys) same = ap suc (long_zip xs ys (omega arith))
 
+-- lists of one length with equal entries are equal
 pub same_lists : {X : Type 0} (xs ys : List X) → length xs ≡ length ys → ((k : ℕ) → k < length xs → slice_get xs k ≡ slice_get ys k) → xs ≡ ys
 same_lists [] [] long same = refl
 same_lists [] (y ∷ ys) long same = absurd (omega arith)
@@ -59,10 +64,12 @@ pub record Carries (old0 pools0 : List PoolTable) (kept0 : List (Option Kept)) (
   pub kept_rest : (k : ℕ) → i ≤ k → slice_get kept k ≡ slice_get kept0 k
   pub olds : (k : ℕ) (b : Kept) → i ≤ k → slice_get kept0 k ≡ Some (Some b) → slice_get old b.at ≡ slice_get old0 b.at
 
+-- a table carried from its place is the same from any list that has it there
 same_sets : (old0 old : List PoolTable) (q : PoolTable) (one : Option Kept) → ((b : Kept) → one ≡ Some b → slice_get old b.at ≡ slice_get old0 b.at) → carried old q one ≡ carried old0 q one
 same_sets old0 old q None same = refl
 same_sets old0 old q (Some k) same = rw (same k refl) refl
 
+-- what fits the tables at first fits them as long as its place is untouched
 pub fits_now : (old0 old : List PoolTable) (k : Kept) → length old ≡ length old0 → slice_get old k.at ≡ slice_get old0 k.at → FitsAt old0 k → FitsAt old k
 fits_now old0 old k long same fits = record {
   inside = omega (arith, long, fits.inside);

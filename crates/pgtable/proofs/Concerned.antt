@@ -5,7 +5,7 @@ use Rattle.std.specs.Prelude.{nat_lt, nat_le, filter_map, is_some}
 use Rattle.std.specs.List.{All, list_any, filter, range_with_len}
 use Rattle.std.proofs.lemmas.Bool.{cases_Bool, cases_order, eqb-true}
 use Rattle.std.proofs.lemmas.Bool.Decides.{nat_tests}
-use Rattle.std.proofs.lemmas.List.Elements.{All-nil, All-cons, All-head, All-tail}
+use Rattle.std.proofs.lemmas.List.Elements.{All-nil, All-cons, All-head, All-tail, filter_agree}
 use Rattle.std.proofs.lemmas.List.{get_or-map, length-map, take_all}
 use Rattle.std.proofs.lemmas.List.FromFn.{length-range_with_len, get_or-range_with_len}
 use Rattle.keylist.specs.Keys.{has_key, entry_at, is_distinct}
@@ -29,7 +29,7 @@ use Rattle.osdmap.proofs.Coming.{comes}
 use Rattle.keylist.proofs.KeyedOrder.{rising_head, rising_tail, rising_from, rising-filter}
 use Rattle.keylist.proofs.Tests.{and_first, and_second}
 use Rattle.keylist.proofs.Each.{same_tests}
-use Rattle.pgtable.specs.Candidates.{NamedRise, groups_of, joined, named_in, candidates_by, candidates, number_at, number_in}
+use Rattle.pgtable.specs.Candidates.{NamedRise, groups_of, joined, named_in, candidates_by, candidates, number_at, number_in, named_numbers}
 use Rattle.pgtable.specs.Candidates as spec
 use Rattle.pgtable.specs.Patches.{concerned}
 use Rattle.pgtable.proofs.Keeping.{among}
@@ -42,10 +42,12 @@ has j xs = list_any (λ x. eqb x j) xs
 abbrev Rising : List ℕ → Type 0
 Rising xs = IsRising (λ (n : ℕ). n) xs
 
+-- of two tests of which one passes, the second where the first does not
 or_second : (a b : Bool) → (a || b) ≡ true → a ≡ false → b ≡ true
 or_second true b h k = absurd (false≢true (sym k))
 or_second false b h k = h
 
+-- or with true is true
 true_behind : (a : Bool) → (a || true) ≡ true
 true_behind true = refl
 true_behind false = refl
@@ -58,6 +60,7 @@ not_below j (x ∷ xs) above =
     let other : eqb x j ≡ false = grind (arith, nat_tests) in
     rw (other, not_below j xs (All-tail (λ y. j < y) x xs above)) refl
 
+-- a number equals itself
 itself : (x : ℕ) → eqb x x ≡ true
 itself x = grind (arith, nat_tests)
 
@@ -206,6 +209,7 @@ module _ (q : ℕ → Bool) (base n : ℕ) where
 
 -- ---- groups
 
+-- numbers of groups sought by their places
 over_places : (q : ℕ → Bool) (base n : ℕ) (groups : List Pg) → filter_map (λ g. number_at q base n (place_of g)) groups ≡ filter_map (number_at q base n) (map place_of groups)
 over_places q base n [] = refl
 over_places q base n (g ∷ gs) = elim (cases_Bool (passes q base n (place_of g))) [
@@ -213,6 +217,7 @@ over_places q base n (g ∷ gs) = elim (cases_Bool (passes q base n (place_of g)
   | inr goes ↦ rw (goes, over_places q base n gs) refl
 ]
 
+-- places of groups that rise do
 places_rise : (groups : List Pg) → IsRising place_of groups → Rising (map place_of groups)
 places_rise groups up i j d less inside =
     let long : length (map place_of groups) ≡ length groups = length-map groups place_of in
@@ -220,6 +225,7 @@ places_rise groups up i j d less inside =
     let e : Pg = record { pool = 0; number = 0 } in
     rw (get_or-map place_of groups i e d (omega arith), get_or-map place_of groups j e d last) (up i j e less last)
 
+-- among groups that have all that a change concerns, exactly those of a pool are found
 pub concerned_found : (m : ClusterMap) (c : ChangeParts) (p : PoolFacts) (groups : List Pg) → IsRising place_of groups → ((g : Pg) → concerns m c g ≡ true → has_key place_of groups (place_of g) ≡ true)
     → spec.numbers_in m c p groups ≡ concerned m c p
 concerned_found m c p groups up complete =
@@ -229,10 +235,12 @@ concerned_found m c p groups up complete =
 
 -- ---- candidates
 
+-- the groups of exceptions are those that have one
 groups_have : {E : Type 0} (es : List (Exception E)) (k : ℕ) → has_key place_of (groups_of es) k ≡ has_key key_of es k
 groups_have [] k = refl
 groups_have (e ∷ es) k = ap (λ b. eqb (key_of e) k || b) (groups_have es k)
 
+-- they rise where the exceptions do
 pub groups_rise : {E : Type 0} (es : List (Exception E)) → IsRising key_of es → IsRising place_of (groups_of es)
 groups_rise es up i j d less inside =
     let long : length (groups_of es) ≡ length es = length-map es (λ e. e.pg) in
@@ -246,9 +254,11 @@ groups_rise es up i j d less inside =
     element [] i inside = absurd (omega arith)
     element (x ∷ xs) i inside = x
 
+-- of distinct keys in two lists those of the first are
 first_distinct : (ks js : List ℕ) → is_distinct (ks ++ js) ≡ true → is_distinct ks ≡ true
 first_distinct ks js h = let parts = distinct-append ks js in grind (arith, parts, h)
 
+-- the groups that an accepted change names rise in each part
 pub named_rise : (m : ClusterMap) (c : ChangeParts) → change_fault m c ≡ None → IsInOrder c → NamedRise c
 unfolding names_once
 named_rise m c lawful ordered =
@@ -263,19 +273,24 @@ named_rise m c lawful ordered =
 
 -- ---- all that are concerned
 
+-- of two tests of which one passes, one does
 or_cases : (a b : Bool) → (a || b) ≡ true → (a ≡ true) ⊎ (b ≡ true)
 or_cases true b h = inl refl
 or_cases false b h = inr h
 
+-- the first that passes is enough
 some_or : (a b : Bool) → a ≡ true → (a || b) ≡ true
 some_or a b h = rw h refl
 
+-- so is the second
 other_or : (a b : Bool) → b ≡ true → (a || b) ≡ true
 other_or a b h = rw h (true_behind a)
 
+-- a group is among two lists joined where it is in either
 has_joined : (some others : List Pg) (k : ℕ) → has_key place_of (joined some others) k ≡ (has_key place_of others k || has_key place_of some k)
 has_joined some others k = has-puts place_of some others k
 
+-- a group that a change names is among those named
 named_has : (c : ChangeParts) (g : Pg) → is_named c g ≡ true → has_key place_of (named_in c) (place_of g) ≡ true
 unfolding is_named
 named_has c g named =
@@ -294,10 +309,12 @@ named_has c g named =
       ])
     ]
 
+-- where no number passes, none of a list does
 none_of : (p : ℕ → Bool) (xs : List ℕ) → ((x : ℕ) → p x ≡ false) → list_any p xs ≡ false
 none_of p [] none = refl
 none_of p (x ∷ xs) none = rw (none x) (none_of p xs none)
 
+-- nor of what entries name
 none_of_entries : {E : Type 0} (names : E → List ℕ) (p : ℕ → Bool) (entries : List E) → ((x : ℕ) → p x ≡ false) → list_any (λ e. list_any p (names e)) entries ≡ false
 none_of_entries names p [] none = refl
 none_of_entries names p (e ∷ es) none = rw (none_of p (names e) none) (none_of_entries names p es none)
@@ -315,6 +332,7 @@ said_has {E} names c es g h = has-entry key_of es (place_of g) ∙ by_entry (ent
     by_entry None is = absurd (false≢true (rw is at h))
     by_entry (Some e) is = rw is refl
 
+-- a group whose exceptions a change concerns is a candidate, whether OSDs are reweighted or not
 by_weight : (m : ClusterMap) (c : ChangeParts) (g : Pg) (ws : List Reweight) → c.weight ≡ ws → concerns m c g ≡ true → has_key place_of (candidates_by ws m c) (place_of g) ≡ true
 unfolding concerns
 by_weight m c g [] is loud = elim (or_cases _ _ loud) [
@@ -334,9 +352,34 @@ by_weight m c g (w ∷ ws) is loud =
       ])
     ]
 
+-- so it always is
 pub candidates_have : (m : ClusterMap) (c : ChangeParts) (g : Pg) → concerns m c g ≡ true → has_key place_of (candidates m c) (place_of g) ≡ true
 unfolding candidates
 candidates_have m c g loud = by_weight m c g c.weight refl loud
+
+-- ---- where no OSD gets another reweight
+
+-- a change then concerns the groups that it names
+concerns_named : (m : ClusterMap) (c : ChangeParts) (g : Pg) → c.weight ≡ [] → concerns m c g ≡ is_named c g
+unfolding concerns
+concerns_named m c g none = rw (none_reweighted target c (said_of m.explicit g) none, none_reweighted sides c (said_of m.items g) none) (or_nothing (is_named c g))
+  where
+    or_nothing : (b : Bool) → ((b || false) || false) ≡ b
+    or_nothing true = refl
+    or_nothing false = refl
+
+-- these are among the groups that it names
+pub named_have : (m : ClusterMap) (c : ChangeParts) (g : Pg) → c.weight ≡ [] → concerns m c g ≡ true → has_key place_of (named_in c) (place_of g) ≡ true
+named_have m c g none loud = named_has c g (sym (concerns_named m c g none) ∙ loud)
+
+-- and are found among these in their order
+pub named_found : (m : ClusterMap) (c : ChangeParts) (p : PoolFacts) (groups : List Pg) → c.weight ≡ [] → IsRising place_of groups → ((g : Pg) → concerns m c g ≡ true → has_key place_of groups (place_of g) ≡ true)
+    → named_numbers c p groups ≡ concerned m c p
+named_found m c p groups none up complete =
+    over_places (λ n. is_named c (group_of p n)) (p.id * 2 ^ 32) p.pg_num groups
+    ∙ numbers_all (λ n. is_named c (group_of p n)) (p.id * 2 ^ 32) p.pg_num (map place_of groups) (places_rise groups up)
+    (λ j less yes. key_among place_of groups (p.id * 2 ^ 32 + j) ∙ complete (group_of p j) (concerns_named m c (group_of p j) none ∙ yes))
+    ∙ filter_agree (λ n. is_named c (group_of p n)) (λ n. concerns m c (group_of p n)) (λ n. sym (concerns_named m c (group_of p n) none)) (range_with_len 0 p.pg_num)
 
 -- the groups of exceptions with rising keys, and groups with others among them, rise
 pub groups_rise_all : {E : Type 0} (es : List (Exception E)) (gs : List Pg) (i : ℕ) → IsRising key_of es → gs ≡ groups_of (take i es) → length es ≤ i → IsRising place_of gs
@@ -344,5 +387,6 @@ groups_rise_all es gs i up is past =
     let all : gs ≡ groups_of es = is ∙ ap groups_of (take_all i es past) in
     rw all (groups_rise es up)
 
+-- joined groups rise
 pub joined_rise : (some others gs : List Pg) → IsRising place_of some → gs ≡ joined some others → IsRising place_of gs
 joined_rise some others gs up is = rw is (rising-puts place_of some others up)

@@ -29,22 +29,27 @@ found_at key (y ∷ ys) (suc i) x rises inside is =
 
 -- ---- mapped sets
 
+-- an OSD that exists is below 1,024
 small_place : (m : ClusterMap) (place : Option ℕ) → length m.presences ≤ 1024 → IfSome place (λ osd. osd_exists m osd ≡ true) → IfSome place (λ osd. osd < 1024)
 small_place m None few is = tt
 small_place m (Some osd) few is = let below : nat_lt osd 1024 ≡ true = below_max m osd 1024 few is in grind (arith, nat_tests)
 
+-- so are all of a mapped set
 pub mapped_small : (m : ClusterMap) (g : Pg) (p : PoolFacts) (set : List (Option ℕ)) → HoldsTogether m → pool_at m.pools g.pool ≡ Some p → Places mapped_set m g set → All (λ place. IfSome place (λ osd. osd < 1024)) set
 mapped_small m g p set holds there places =
     let is : set ≡ mapped_set m p g.number = rw there at places.is in
     λ k d inside. small_place m (get_or set k d) holds.few (rw (← is) at (mapped_exist m p g.number holds) k d inside)
 
+-- a pool has at most 4,096 sets
 pub few_sets : (m : ClusterMap) (p : PoolFacts) (sets : List (List (Option ℕ))) → p.pg_num ≤ 4096 → sets ≡ sets_of m p → length sets ≤ 4096
 few_sets m p sets few is = rw is (omega (arith, length-map-range_with_len (mapped_set m p) 0 p.pg_num))
 
 -- ---- sizes
 
+-- there are as many tables as pools
 pub few_tables : (m : ClusterMap) (n : ℕ) → length m.pools ≤ n → length (tables_of m) ≤ n
 few_tables m n few = omega (arith, length-map m.pools (pool_table m))
 
+-- and as many bits as OSDs
 pub few_ups : (m : ClusterMap) (n : ℕ) → length m.presences ≤ n → length (ups_of m) ≤ n
 few_ups m n few = simp (length-map, length-range_with_len) few

@@ -31,6 +31,7 @@ use Rattle.pgtable.proofs.Carrying.{same_lists}
 
 -- ---- places
 
+-- what can be found has a place
 pub position_there : {X : Type 0} (p : X → Bool) (xs : List X) → is_some (find p xs) ≡ true → IsSome (position p xs)
 position_there p xs there = by_place (slice_get xs (position_or_len p xs)) refl
   where
@@ -38,6 +39,7 @@ position_there p xs there = by_place (slice_get xs (position_or_len p xs)) refl
     by_place None is = absurd (false≢true (ap is_some (sym (find_at p xs ∙ is)) ∙ there))
     by_place (Some x) is = rw (lt-ltb _ _ (slice_get_within xs (position_or_len p xs) x is)) refl
 
+-- at that place it stands
 pub position_found : {X : Type 0} (p : X → Bool) (xs : List X) (i : ℕ) → position p xs ≡ Some i → slice_get xs i ≡ find p xs
 position_found p xs i found = elim (cases_Bool (nat_lt (position_or_len p xs) (length xs))) [
   | inl inside ↦
@@ -49,31 +51,38 @@ position_found p xs i found = elim (cases_Bool (nat_lt (position_or_len p xs) (l
 
 -- ---- evaluations
 
+-- all are counted where all pass
 count_of_true : (xs : List ℕ) → count_by (λ (n : ℕ). true) xs ≡ length xs
 count_of_true [] = refl
 count_of_true (x ∷ xs) = rw (sum_by-cons (λ (n : ℕ). 1) x xs, count_of_true xs) (omega arith)
 
+-- a touched pool has an evaluation a group
 pub evals_touched : (m : ClusterMap) (c : ChangeParts) (p : PoolFacts) → is_touched m c p ≡ true → evals_in m c p ≡ p.pg_num
 evals_touched m c p touched = rw touched (count_of_true (range_with_len 0 p.pg_num) ∙ length-range_with_len 0 p.pg_num)
 
+-- another has one for each group that the change concerns
 pub evals_concerned : (m : ClusterMap) (c : ChangeParts) (p : PoolFacts) → is_touched m c p ≡ false → evals_in m c p ≡ length (concerned m c p)
 evals_concerned m c p touched = rw touched (sym (length-filter (λ n. concerns m c (group_of p n)) (range_with_len 0 p.pg_num)))
 
 -- ---- changes
 
+-- all of a range is below its end
 below : (n : ℕ) → All (λ k. k < n) (range_with_len 0 n)
 below n k d inside = let long = length-range_with_len 0 n in rw (get_or-range_with_len 0 n k d (omega arith)) (omega arith)
 
+-- a range rises
 rising : (n : ℕ) → AllPairs (λ a b. a < b) (range_with_len 0 n)
 rising n i j d less inside =
     let long = length-range_with_len 0 n in
     rw (get_or-range_with_len 0 n i d (omega arith), get_or-range_with_len 0 n j d (omega arith)) (omega arith)
 
+-- the changes of a pool are of groups that it has
 pub changes_within : (m n : ClusterMap) (c : ChangeParts) (p : PoolFacts) → All (λ e. e.0 < length (sets_of m p)) (changes_of n c p)
 changes_within m n c p =
     All-map (λ (e : ℕ × Places). e.0 < length (sets_of m p)) (λ k. (k, mapped_set n p k)) (concerned n c p)
     (rw (length-map-range_with_len (mapped_set m p) 0 p.pg_num) (All-filter (λ k. concerns n c (group_of p k)) (λ k. k < p.pg_num) (range_with_len 0 p.pg_num) (below p.pg_num)))
 
+-- they ascend by number
 pub changes_ascend : (n : ClusterMap) (c : ChangeParts) (p : PoolFacts) → AllPairs (λ a b. a.0 < b.0) (changes_of n c p)
 changes_ascend n c p i j d less inside =
     let long : length (changes_of n c p) ≡ length (concerned n c p) = length-map (concerned n c p) (λ k. (k, mapped_set n p k)) in
@@ -101,6 +110,7 @@ any_passes p q (x ∷ xs) passes any = elim (cases_Bool (p x)) [
       elim (cases_Bool (q x)) [ inl stays ↦ rw (stays, other) rest | inr goes ↦ rw goes rest ]
 ]
 
+-- a number that passes is among those that do
 pub among : (q : ℕ → Bool) (n k : ℕ) → k < n → q k ≡ true → list_any (λ x. eqb x k) (filter q (range_with_len 0 n)) ≡ true
 among q n k inside passes =
     any_passes (λ x. eqb x k) q (range_with_len 0 n) (λ x same. rw (eqb-true x k same) passes)

@@ -6,3 +6,4 @@ pub mod Keeping
 pub mod Making
 pub mod Concerned
 pub mod States
+pub mod Regrouping

@@ -20,27 +20,32 @@ use Rattle.pgtable.specs.Patches.{carried, KeepsPool, MakesPool, MakesAll, evals
 
 -- ---- one more behind
 
+-- two lists side by side, each with one more
 zip_more : {X Y : Type 0} (xs : List X) (ys : List Y) (x : X) (y : Y) → length xs ≡ length ys → zip (xs ++ x ∷ []) (ys ++ y ∷ []) ≡ zip xs ys ++ (x, y) ∷ []
 zip_more [] [] x y same = refl
 zip_more [] (b ∷ ys) x y same = absurd (omega arith)
 zip_more (a ∷ xs) [] x y same = absurd (omega arith)
 zip_more (a ∷ xs) (b ∷ ys) x y same = ap (λ z. (a, b) ∷ z) (zip_more xs ys x y (omega arith))
 
-get_before : {X : Type 0} (xs : List X) (x : X) (k : ℕ) → k < length xs → slice_get (xs ++ x ∷ []) k ≡ slice_get xs k
+-- an entry put behind leaves those before
+pub get_before : {X : Type 0} (xs : List X) (x : X) (k : ℕ) → k < length xs → slice_get (xs ++ x ∷ []) k ≡ slice_get xs k
 get_before [] x k inside = absurd (omega arith)
 get_before (a ∷ xs) x zero inside = refl
 get_before (a ∷ xs) x (suc k) inside = get_before xs x k (omega arith)
 
-get_behind : {X : Type 0} (xs : List X) (x : X) (k : ℕ) → k ≡ length xs → slice_get (xs ++ x ∷ []) k ≡ Some x
+-- and stands at the end
+pub get_behind : {X : Type 0} (xs : List X) (x : X) (k : ℕ) → k ≡ length xs → slice_get (xs ++ x ∷ []) k ≡ Some x
 get_behind [] x zero is = refl
 get_behind [] x (suc k) is = absurd (omega arith)
 get_behind (a ∷ xs) x zero is = absurd (omega arith)
 get_behind (a ∷ xs) x (suc k) is = get_behind xs x k (omega arith)
 
-get_past : {X : Type 0} (xs : List X) (x y : X) (k : ℕ) → slice_get (xs ++ x ∷ []) k ≡ Some y → k ≤ length xs
+-- nothing stands past it
+pub get_past : {X : Type 0} (xs : List X) (x y : X) (k : ℕ) → slice_get (xs ++ x ∷ []) k ≡ Some y → k ≤ length xs
 get_past xs x y k is = let long : length (xs ++ x ∷ []) ≡ length xs + 1 = length-append xs (x ∷ []) in omega (arith, slice_get_within (xs ++ x ∷ []) k y is)
 
-element : {X : Type 0} (xs : List X) (i : ℕ) → i < length xs → (x : X) × (slice_get xs i ≡ Some x)
+-- a list has an entry at each place
+pub element : {X : Type 0} (xs : List X) (i : ℕ) → i < length xs → (x : X) × (slice_get xs i ≡ Some x)
 element [] i inside = absurd (omega arith)
 element (x ∷ xs) zero inside = (x, refl)
 element (x ∷ xs) (suc i) inside = element xs i (omega arith)
@@ -129,6 +134,7 @@ module _ (old : List PoolTable) (m : ClusterMap) where
 
 -- ---- evaluations
 
+-- pools have at most 4,096 evaluations each
 few_evals : (m : ClusterMap) (c : ChangeParts) (ps : List PoolFacts) → All IsWithinLimits ps → sum_by (evals_in m c) ps ≤ 4096 * length ps
 few_evals m c [] within = omega arith
 few_evals m c (p ∷ ps) within =
@@ -139,10 +145,12 @@ few_evals m c (p ∷ ps) within =
     let sum = sum_by-cons (evals_in m c) p ps in
     omega (arith, here.groups_most)
 
+-- a change has at most 131,072
 pub evals_few : (m : ClusterMap) (c : ChangeParts) → HoldsTogether m → evals_of m c ≤ 131072
 unfolding evals_of
 evals_few m c holds = omega (arith, few_evals m c m.pools holds.pools_within, holds.few_pools)
 
+-- the evaluations of the pools so far, at the end, are all
 pub evals_all : (m : ClusterMap) (c : ChangeParts) (n : ℕ) → length m.pools ≤ n → sum_by (evals_in m c) (take n m.pools) ≡ evals_of m c
 unfolding evals_of
 evals_all m c n past = rw (take_all n m.pools past) refl

@@ -29,6 +29,7 @@ use Rattle.pgtable.proofs.Found.{found_at}
 
 -- ---- lists
 
+-- what is made of entries is found by what they are
 pub find_map : {X Y : Type 0} (p : Y → Bool) (f : X → Y) (xs : List X) → find p (map f xs) ≡ option_map f (find (λ x. p (f x)) xs)
 find_map p f [] = refl
 find_map p f (x ∷ xs) = elim (cases_Bool (p (f x))) [
@@ -36,6 +37,7 @@ find_map p f (x ∷ xs) = elim (cases_Bool (p (f x))) [
   | inr other ↦ rw (other, find_map p f xs) refl
 ]
 
+-- and sifted by it
 filter_map_over : {X Y : Type 0} (p : Y → Bool) (f : X → Y) (xs : List X) → filter p (map f xs) ≡ map f (filter (λ x. p (f x)) xs)
 filter_map_over p f [] = refl
 filter_map_over p f (x ∷ xs) = elim (cases_Bool (p (f x))) [
@@ -43,10 +45,12 @@ filter_map_over p f (x ∷ xs) = elim (cases_Bool (p (f x))) [
   | inr other ↦ rw (other, filter_map_over p f xs) refl
 ]
 
+-- where none passes, none is left
 filter_none : {X : Type 0} (p : X → Bool) → ((x : X) → p x ≡ false) → (xs : List X) → filter p xs ≡ []
 filter_none p none [] = refl
 filter_none p none (x ∷ xs) = rw (none x) (filter_none p none xs)
 
+-- what is made of a range is found by number
 slice_get_in : {X : Type 0} (f : ℕ → X) (n k : ℕ) → slice_get (map f (range_with_len 0 n)) k ≡ (if nat_lt k n then Some (f k) else None)
 slice_get_in f n k = elim (cases_lt k n) [
   | inl below ↦
@@ -59,6 +63,7 @@ slice_get_in f n k = elim (cases_lt k n) [
 
 -- ---- who is up
 
+-- the bit of an OSD says whether it is up
 pub up_in : (m : ClusterMap) (osd : ℕ) → slice_index_or (ups_of m) osd false ≡ osd_is_up m osd
 up_in m osd = elim (cases_lt osd (length m.presences)) [
   | inl below ↦ get_or-map-range_with_len (osd_is_up m) 0 (length m.presences) osd osd false below (omega arith)
@@ -67,16 +72,19 @@ up_in m osd = elim (cases_lt osd (length m.presences)) [
       get_or_past (ups_of m) osd false (omega arith) ∙ sym (rw (slice_get_past m.presences osd past) refl)
 ]
 
+-- a place is dropped by its bit as by the map
 upward_same : (m : ClusterMap) (place : Option ℕ) → option_and_then (upward_in (ups_of m)) place ≡ option_and_then (upward m) place
 upward_same m None = refl
 upward_same m (Some osd) = rw (up_in m osd) refl
 
 -- ---- up sets
 
+-- a mapped set without those that are down, by the bits, is the up set
 set_shown : (m : ClusterMap) (p : PoolFacts) (n : ℕ) → kept p.kind (map (option_and_then (upward_in (ups_of m))) (mapped_set m p n)) ≡ up_set m p n
 unfolding up_set
 set_shown m p n = ap (kept p.kind) (map-agree (option_and_then (upward_in (ups_of m))) (option_and_then (upward m)) (upward_same m) (mapped_set m p n))
 
+-- what a pool's table shows of a group is its up set
 of_pool : (m : ClusterMap) (up : List Bool) (p : PoolFacts) (n : ℕ) → up ≡ ups_of m
     → option_map (λ set. kept p.kind (map (option_and_then (upward_in up)) set)) (slice_get (sets_of m p) n) ≡ (if nat_lt n p.pg_num then Some (up_set m p n) else None)
 of_pool m up p n is = rw (is, slice_get_in (mapped_set m p) p.pg_num n) (elim (cases_Bool (nat_lt n p.pg_num)) [
@@ -84,6 +92,7 @@ of_pool m up p n is = rw (is, slice_get_in (mapped_set m p) p.pg_num n) (elim (c
   | inr past ↦ rw past refl
 ])
 
+-- what the table shows of a group is what the map says
 pub up_shown : (t : TableFacts) (m : ClusterMap) (g : Pg) → IsTableOf t m → shown_at t g ≡ up_at m g
 up_shown t m g is = rw (is.pools, find_map (λ (q : PoolTable). eqb q.pool.id g.pool) (pool_table m) m.pools) (by_pool (pool_at m.pools g.pool))
   where
@@ -100,10 +109,12 @@ numbers_held m osd p =
     (filter_same (λ n. stands osd (mapped_set m p n)) (λ n. stands osd (set_of (sets_of m p) n)) 0 p.pg_num
     (λ n low high. ap (stands osd) (get_or-map-range_with_len (mapped_set m p) 0 p.pg_num n n [] (omega arith) (omega arith))))
 
+-- and with true is the first
 and_true : (b : Bool) → (b && true) ≡ b
 and_true true = refl
 and_true false = refl
 
+-- and with false is false
 and_false : (b : Bool) → (b && false) ≡ false
 and_false true = refl
 and_false false = refl
@@ -123,6 +134,7 @@ none_down m osd p down =
 abbrev IsFound : ClusterMap → PoolFacts → Type 0
 IsFound m p = pool_at m.pools p.id ≡ Some p
 
+-- each pool is found by its id
 all_found : (m : ClusterMap) → IsRising (λ p. p.id) m.pools → All (IsFound m) m.pools
 all_found m rises k d inside = found_at (λ (p : PoolFacts). p.id) m.pools k (get_or m.pools k d) rises inside (get_or_default m.pools k d (get_or m.pools k d) inside)
 
@@ -132,6 +144,7 @@ part_found m osd p found =
     filter_map_over (stands_in m osd) (group_of p) (range_with_len 0 p.pg_num)
     ∙ ap (map (group_of p)) (filter_agree (λ n. stands_in m osd (group_of p n)) (λ n. stands osd (up_set m p n)) (λ n. rw found refl) (range_with_len 0 p.pg_num))
 
+-- the groups of an OSD that is up are those that the tables hold
 index_up : (m : ClusterMap) (osd : ℕ) (ps : List PoolFacts) → osd_is_up m osd ≡ true → All (IsFound m) ps → flat_map (held_in osd) (map (pool_table m) ps) ≡ filter (stands_in m osd) (flat_map groups_in ps)
 index_up m osd [] up found = refl
 index_up m osd (p ∷ ps) up found =
@@ -140,6 +153,7 @@ index_up m osd (p ∷ ps) up found =
     flat_map-cons (held_in osd) (pool_table m p) (map (pool_table m) ps)
     ∙ rw (here, rest) (sym (ap (filter (stands_in m osd)) (flat_map-cons groups_in p ps) ∙ filter-append (stands_in m osd) (groups_in p) (flat_map groups_in ps)))
 
+-- an OSD that is down has none
 index_down : (m : ClusterMap) (osd : ℕ) (ps : List PoolFacts) → osd_is_up m osd ≡ false → All (IsFound m) ps → filter (stands_in m osd) (flat_map groups_in ps) ≡ []
 index_down m osd [] down found = refl
 index_down m osd (p ∷ ps) down found =
@@ -147,19 +161,23 @@ index_down m osd (p ∷ ps) down found =
     let here = part_found m osd p (All-head (IsFound m) p ps found) ∙ ap (map (group_of p)) (none_down m osd p down) in
     ap (filter (stands_in m osd)) (flat_map-cons groups_in p ps) ∙ filter-append (stands_in m osd) (groups_in p) (flat_map groups_in ps) ∙ rw (here, rest) refl
 
+-- the groups that are shown of an OSD are its index
 index_shown : (m : ClusterMap) (osd : ℕ) (b : Bool) → IsRising (λ p. p.id) m.pools → osd_is_up m osd ≡ b → (if b then flat_map (held_in osd) (tables_of m) else []) ≡ index_of m osd
 index_shown m osd true rises is = index_up m osd m.pools is (all_found m rises)
 index_shown m osd false rises is = sym (index_down m osd m.pools is (all_found m rises))
 
+-- so the table's groups of an OSD are those that the map says
 pub groups_shown : (t : TableFacts) (m : ClusterMap) (osd : ℕ) → IsTableOf t m → shown_groups t osd ≡ index_of m osd
 groups_shown t m osd is = rw (is.pools, is.up, up_in m osd) (index_shown m osd (osd_is_up m osd) is.holds.pools_rise refl)
 
 -- ---- the index in a pool
 
+-- groups of another pool are none of this one
 other_pool : (id : ℕ) (p : PoolFacts) (xs : List ℕ) → eqb p.id id ≡ false → filter (λ g. eqb g.pool id) (map (group_of p) xs) ≡ []
 other_pool id p [] other = refl
 other_pool id p (x ∷ xs) other = rw other (other_pool id p xs other)
 
+-- groups of this one all are
 this_pool : (id : ℕ) (p : PoolFacts) (xs : List ℕ) → eqb p.id id ≡ true → filter (λ g. eqb g.pool id) (map (group_of p) xs) ≡ map (group_of p) xs
 this_pool id p [] here = refl
 this_pool id p (x ∷ xs) here = rw (here, this_pool id p xs here) refl
@@ -189,6 +207,7 @@ module _ (numbers : PoolFacts → List ℕ) (id : ℕ) where
       above : (a b : ℕ) → a < b → eqb a id ≡ true → eqb b id ≡ false
       above a b less here = grind (arith, nat_tests)
 
+-- the index, pool by pool
 index_parts : (m : ClusterMap) (osd : ℕ) (ps : List PoolFacts) → All (IsFound m) ps → filter (stands_in m osd) (flat_map groups_in ps) ≡ flat_map (part (λ p. filter (λ n. stands osd (up_set m p n)) (range_with_len 0 p.pg_num)) 0) ps
 index_parts m osd [] found = refl
 index_parts m osd (p ∷ ps) found =
@@ -197,6 +216,7 @@ index_parts m osd (p ∷ ps) found =
     ap (filter (stands_in m osd)) (flat_map-cons groups_in p ps) ∙ filter-append (stands_in m osd) (groups_in p) (flat_map groups_in ps)
     ∙ rw (here, rest) (sym (flat_map-cons (part (λ q. filter (λ n. stands osd (up_set m q n)) (range_with_len 0 q.pg_num)) 0) p ps))
 
+-- what is counted of one pool is its part of the index
 count_of_pool : (m : ClusterMap) (osd : ℕ) (b : Bool) (p : Option PoolFacts) → osd_is_up m osd ≡ b
     → (if b then option_map_or (λ q. length (held_in osd q)) (option_map (pool_table m) p) 0 else 0) ≡ length (option_map_or (λ q. map (group_of q) (filter (λ n. stands osd (up_set m q n)) (range_with_len 0 q.pg_num))) p [])
 count_of_pool m osd true None is = refl
@@ -204,6 +224,7 @@ count_of_pool m osd true (Some p) is = ap length (held_up m osd p is)
 count_of_pool m osd false None is = refl
 count_of_pool m osd false (Some p) is = rw (none_down m osd p is) refl
 
+-- so the table's count in a pool is the one that the map says
 pub count_shown : (t : TableFacts) (m : ClusterMap) (pool osd : ℕ) → IsTableOf t m → shown_in t pool osd ≡ count_in m pool osd
 count_shown t m pool osd is =
     let parts = index_parts m osd m.pools (all_found m is.holds.pools_rise) in

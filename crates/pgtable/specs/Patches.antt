@@ -1,18 +1,24 @@
 -- Patches: what they make of a table.
-use Rattle.std.specs.Prelude.{◌≡◌, ◌≢◌, ℕ, ◌+◌, ◌<◌, ◌≤◌, Bool, true, false, not, ◌&&◌, List, [], ◌∷◌, length, map, Option, Some, None, is_some, slice_get, slice_set, IfSome}
+use Rattle.std.specs.Prelude.{◌≡◌, ◌≢◌, ℕ, ◌+◌, ◌<◌, ◌≤◌, Bool, true, false, not, ◌&&◌, List, [], ◌∷◌, length, map, Option, Some, None, is_some, slice_get, slice_set, IfSome, if◌then◌else◌}
 use Rattle.std.specs.List.{zip, filter, fold, count_by, range_with_len}
 use Rattle.osdmap.specs.Evals.{concerns, is_evaluated}
 use Rattle.osdmap.specs.Placement.{group_of, mapped_set}
-use Rattle.std.specs.Option.{option_map, option_map_or}
+use Rattle.std.specs.Option.{option_map, option_map_or, option_or}
 use Rattle.grouptable.specs.Sets.{Places, changed}
 use Rattle.grouptable.specs.Tables.{IsPatchFor}
+use Rattle.grouptable.specs.declared.table.GroupPatch.{GroupPatch}
 use Rattle.stated.specs.declared.change.ChangeParts.{ChangeParts}
+use Rattle.stated.specs.declared.exception.Exception.{Exception}
+use Rattle.stated.specs.declared.pg.Pg.{Pg}
+use Rattle.stated.specs.Exceptions.{said_of, is_among}
 use Rattle.stated.specs.Pools.{PoolFacts}
 use Rattle.osdmap.specs.Maps.{ClusterMap, HoldsTogether}
 use Rattle.osdmap.specs.Changes.{change_fault, apply}
 use Rattle.pgtable.specs.declared.pool_table.PoolTable.{PoolTable}
 use Rattle.pgtable.specs.declared.patch.Kept.{Kept}
+use Rattle.pgtable.specs.declared.patch.NewTables.{NewTables}
 use Rattle.pgtable.specs.declared.patch.Brought.{Brought}
+use Rattle.pgtable.specs.declared.patch.Brought.TheVariants.{Groups, Pools}
 use Rattle.pgtable.specs.declared.patch.Patch.{Patch}
 use Rattle.pgtable.specs.Tables.{TableFacts, sets_of, pool_table, tables_of, IsTableOf}
 
@@ -28,21 +34,22 @@ pub record LeadsFrom (m : ClusterMap) (c : ChangeParts) (after : ClusterMap) : T
   pub holds_after : HoldsTogether after
 
 -- whether a list has no entries
-abbrev pub is_none : {X : Type 0} → List X → Bool
-is_none [] = true
-is_none (x ∷ xs) = false
+abbrev pub is_empty : {X : Type 0} → List X → Bool
+is_empty [] = true
+is_empty (x ∷ xs) = false
 
 -- whether a change leaves all pools as they are, and the forest and the rules
 unfoldable pub leaves_pools : ChangeParts → Bool
-leaves_pools c = is_none c.old_pools && not (is_some c.new_crush) && is_none c.new_pools && is_none c.grow_pool
+leaves_pools c = is_empty c.old_pools && not (is_some c.new_crush) && is_empty c.new_pools && is_empty c.grow_pool
 
--- whether it leaves all exceptions
-unfoldable pub leaves_exceptions : ChangeParts → Bool
-leaves_exceptions c = is_none c.old_upmap && is_none c.old_items && is_none c.new_upmap && is_none c.new_items
+-- whether it leaves all raw sets: the reweights stay too, so that only a group whose exceptions it names is placed
+-- otherwise
+unfoldable pub leaves_raw_sets : ChangeParts → Bool
+leaves_raw_sets c = leaves_pools c && is_empty c.weight
 
--- whether a change brings OSDs up or down and does nothing else, so that no group is placed otherwise
-unfoldable pub is_of_states : ChangeParts → Bool
-is_of_states c = leaves_pools c && leaves_exceptions c && is_none c.weight
+-- what a change makes of what is said of a group: what comes in its place, nothing where it goes, else what was said
+abbrev pub said_after : {E : Type 0} → List Pg → List (Exception E) → Option (List E) → Pg → Option (List E)
+said_after gone new said g = option_or (said_of new g) (if is_among gone g then None else said)
 
 -- some OSDs go up or down
 abbrev pub turned : Bool → List Bool → List ℕ → List Bool
@@ -76,6 +83,26 @@ abbrev pub carried : List PoolTable → PoolTable → Option Kept → PoolTable
 carried old q None = q
 carried old q (Some k) = record { pool = q.pool; groups = changed (sets_at old k.at) k.patch.changes.items }
 
+-- a pool's table that stays, with other sets for some groups
+abbrev pub regrouped : PoolTable → Option GroupPatch → PoolTable
+regrouped q None = q
+regrouped q (Some g) = record { pool = q.pool; groups = changed q.groups g.changes.items }
+
+-- each pool's table that gets other sets gets them for groups that it has
+pub record FitGroups (old : List PoolTable) (patches : List (Option GroupPatch)) : Type 0 where
+  pub same : length patches ≡ length old
+  pub each : (i : ℕ) (q : PoolTable) (g : GroupPatch) → slice_get old i ≡ Some q → slice_get patches i ≡ Some (Some g) → IsPatchFor q.groups g
+
+-- a pool's table with what it gets has the sets of a map
+pub record RegroupsPool (m : ClusterMap) (q : PoolTable) (one : Option GroupPatch) : Type 0 where
+  pub table : regrouped q one ≡ pool_table m q.pool
+  pub fits : IfSome one (IsPatchFor q.groups)
+
+-- the tables with what they get are those of a map
+pub record RegroupsAll (old : List PoolTable) (m : ClusterMap) (patches : List (Option GroupPatch)) : Type 0 where
+  pub fits : FitGroups old patches
+  pub tables : map (λ e. regrouped e.0 e.1) (zip old patches) ≡ tables_of m
+
 -- what is kept is there, and gets other sets for groups that it has
 pub record FitsAt (old : List PoolTable) (k : Kept) : Type 0 where
   pub inside : k.at < length old
@@ -105,19 +132,25 @@ pub record MakesAll (old : List PoolTable) (m : ClusterMap) (pools : List PoolTa
   pub tables : map (λ e. carried old e.0 e.1) (zip pools kept) ≡ tables_of m
 
 -- the tables that a patch brings fit those of a table
-pub record FitPools (t : TableFacts) (b : Brought) : Type 0 where
+pub record FitPools (t : TableFacts) (b : NewTables) : Type 0 where
   pub pools : FitAll t.pools b.pools.items b.kept.items
   pub few_pools : length b.pools.items ≤ 32
 
+-- what a patch brings fits a table
+abbrev pub FitsBrought : TableFacts → Brought → Type 0
+FitsBrought t (Groups patches) = FitGroups t.pools patches.items
+FitsBrought t (Pools b) = FitPools t b
+
 -- a patch fits a table
 pub record Fits (t : TableFacts) (p : Patch) : Type 0 where
-  pub pools : IfSome p.brought (FitPools t)
+  pub pools : FitsBrought t p.brought
   pub few_osds : length p.up.items ≤ 1024
 
--- the tables of pools after a patch: those that it brings, with what they keep of the old ones; or the old ones
-abbrev pub pools_patched : List PoolTable → Option Brought → List PoolTable
-pools_patched old None = old
-pools_patched old (Some b) = map (λ e. carried old e.0 e.1) (zip b.pools.items b.kept.items)
+-- the tables of pools after a patch: the old ones with other sets for some groups; or those that it brings, with what
+-- they keep of the old ones
+abbrev pub pools_patched : List PoolTable → Brought → List PoolTable
+pools_patched old (Groups patches) = map (λ e. regrouped e.0 e.1) (zip old patches.items)
+pools_patched old (Pools b) = map (λ e. carried old e.0 e.1) (zip b.pools.items b.kept.items)
 
 -- the table after a patch
 abbrev pub patched : TableFacts → Patch → TableFacts

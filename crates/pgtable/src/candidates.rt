@@ -1,16 +1,31 @@
 //! The groups that a change can concern.
 
-ghost use Rattle.std.specs.Prelude.{◌≡◌, None, IfOk, OnOk};
+ghost use Rattle.std.specs.Prelude.{◌≡◌, true, None, IfOk, OnOk};
 ghost use Rattle.keylist.specs.Order.{IsRising};
 ghost use Rattle.stated.specs.Exceptions.{place_of, key_of};
 ghost use Rattle.osdmap.specs.Changes.{change_fault};
+ghost use Rattle.osdmap.specs.Evals.{is_named};
 ghost use Rattle.pgtable.specs.Candidates.{groups_of, joined, NamedRise, IsCandidates, named_in, candidates};
+ghost use Rattle.pgtable.specs.Patches.{next, leaves_raw_sets};
 
-use keylist::put_all;
+use keylist::{has, put_all};
 use osdmap::{Change, Exception, OsdMap, Pg};
 use refusal::Memory;
 use stated::Blank;
 use std::alloc::Global;
+
+/// Whether exceptions of a group go or come with a change.
+#[tactic(auto, unfolding(osdmap::specs::Evals::is_named))]
+pub(crate) fn is_named(change: &Change, pg: Pg) -> bool
+    ensures { result ≡ is_named change.now pg }
+{
+    let parts = change.parts();
+    let place = pg.place();
+    has(&parts.old_upmap, place)
+        || has(&parts.old_items, place)
+        || has(&parts.new_upmap, place)
+        || has(&parts.new_items, place)
+}
 
 /// The groups of some exceptions, in their order; or `Memory` (30).
 fn groups_of<E: Blank>(alloc: Global, exceptions: &[Exception<E>]) -> Result<Vec<Pg>, Memory>
@@ -38,7 +53,7 @@ fn join(groups: &mut Vec<Pg>, others: &[Pg]) -> Result<(), Memory>
 }
 
 /// What a change names that a map does not refuse is in ascending order, each once: for proofs alone.
-fn rise(_map: &OsdMap, change: &Change)
+pub(crate) fn rise(_map: &OsdMap, change: &Change)
     requires { change_fault _map.now.map change.now ≡ None }
     ensures { NamedRise change.now }
 {
@@ -89,5 +104,21 @@ pub(crate) fn candidates(
 {
     rise(before, change);
     let groups = with_excepted(alloc, change, after)?;
+    Ok(groups)
+}
+
+/// The same where the change leaves all raw sets, without the map after it: the groups that the change names; or `Memory`
+/// (30).
+pub(crate) fn candidates_named(
+    alloc: Global,
+    map: &OsdMap,
+    change: &Change,
+) -> Result<Vec<Pg>, Memory>
+    requires lawful { change_fault map.now.map change.now ≡ None }
+    requires leaves { leaves_raw_sets change.now ≡ true }
+    ensures { IfOk result (λ groups. IsCandidates (next map.now.map change.now) change.now groups.items) }
+{
+    rise(map, change);
+    let groups = named(alloc, change)?;
     Ok(groups)
 }

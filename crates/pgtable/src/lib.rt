@@ -5,6 +5,7 @@ mod candidates;
 mod mapped;
 pub mod patch;
 pub mod pool_table;
+mod regroup;
 mod shown;
 pub mod table;
 mod update;

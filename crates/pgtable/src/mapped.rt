@@ -25,7 +25,7 @@ fn stored_place(place: Option<u32>) -> Option<u16>
 }
 
 /// A set of OSDs below 1,024, in two bytes a place.
-fn stored(set: &UpSet) -> OsdSet
+pub(crate) fn stored(set: &UpSet) -> OsdSet
     requires { All (λ place. IfSome place (λ osd. osd < 1024)) set.now }
     ensures { result ≡ set.now }
 {

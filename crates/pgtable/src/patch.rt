@@ -1,13 +1,15 @@
 //! Patches: what a change makes of a table.
 
-ghost use Rattle.std.specs.Prelude.{◌≡◌, ◌≢◌, ◌<◌, ◌==◌, ℕ, true, length, map, position, slice_get, Some, None};
+ghost use Rattle.std.specs.Prelude.{◌≡◌, ◌≢◌, ◌<◌, ◌==◌, ℕ, true, length, map, position, slice_get, Some, None, IfSome};
 ghost use Rattle.std.specs.List.{zip};
 ghost use Rattle.pgtable.specs.declared.patch.Kept.{Kept};
 ghost use Rattle.osdmap.specs.Marks.{are_below};
-ghost use Rattle.pgtable.specs.Patches.{carried, FitsAt, FitAll, is_none, leaves_pools, leaves_exceptions, is_of_states, turned};
+ghost use Rattle.grouptable.specs.Tables.{IsPatchFor};
+ghost use Rattle.pgtable.specs.Patches.{carried, regrouped, FitsAt, FitAll, FitGroups, is_empty, leaves_pools, leaves_raw_sets, turned};
 
-use crate::candidates::candidates;
+use crate::candidates::{candidates, candidates_named};
 use crate::pool_table::PoolTable;
+use crate::regroup::Regroup;
 use crate::table::{PgTable, ups_of};
 use crate::update::Update;
 use crush::Work;
@@ -28,22 +30,31 @@ pub(crate) struct Kept {
 
 /// The tables of all pools as a change makes them, with what each keeps of an old one.
 #[derive(Drop)]
-pub(crate) struct Brought {
+pub(crate) struct NewTables {
     pub pools: Vec<PoolTable>,
     pub kept: Vec<Option<Kept>>,
 }
 
-/// All that a change makes of a table, and the work by which it was found. Where it brings no tables of pools, these stay.
+/// What a change makes of the tables of pools.
+#[derive(Drop)]
+pub(crate) enum Brought {
+    /// All stay, those that have a patch here with other sets for some groups.
+    Groups(Vec<Option<GroupPatch>>),
+    /// Others take their place.
+    Pools(NewTables),
+}
+
+/// All that a change makes of a table, and the work by which it was found.
 #[derive(Drop)]
 pub struct Patch {
-    pub(crate) brought: Option<Brought>,
+    pub(crate) brought: Brought,
     pub(crate) up: Vec<bool>,
     pub(crate) work: Work,
 }
 
 /// Whether a list has no entries.
-fn is_none<T>(entries: &[T]) -> bool
-    ensures { result ≡ is_none entries.now }
+fn is_empty<T>(entries: &[T]) -> bool
+    ensures { result ≡ is_empty entries.now }
 {
     matches!(entries, [])
 }
@@ -54,30 +65,18 @@ fn leaves_pools(change: &Change) -> bool
     ensures { result ≡ leaves_pools change.now }
 {
     let parts = change.parts();
-    is_none(&parts.old_pools)
+    is_empty(&parts.old_pools)
         && parts.new_crush.is_none()
-        && is_none(&parts.new_pools)
-        && is_none(&parts.grow_pool)
+        && is_empty(&parts.new_pools)
+        && is_empty(&parts.grow_pool)
 }
 
-/// Whether it leaves all exceptions.
-#[tactic(auto, unfolding(crate::specs::Patches::leaves_exceptions))]
-fn leaves_exceptions(change: &Change) -> bool
-    ensures { result ≡ leaves_exceptions change.now }
+/// Whether it leaves all raw sets, so that only a group whose exceptions it names is placed otherwise.
+#[tactic(auto, unfolding(crate::specs::Patches::leaves_raw_sets))]
+fn leaves_raw_sets(change: &Change) -> bool
+    ensures { result ≡ leaves_raw_sets change.now }
 {
-    let parts = change.parts();
-    is_none(&parts.old_upmap)
-        && is_none(&parts.old_items)
-        && is_none(&parts.new_upmap)
-        && is_none(&parts.new_items)
-}
-
-/// Whether a change brings OSDs up or down and does nothing else.
-#[tactic(auto, unfolding(crate::specs::Patches::is_of_states))]
-fn is_of_states(change: &Change) -> bool
-    ensures { result ≡ is_of_states change.now }
-{
-    leaves_pools(change) && leaves_exceptions(change) && is_none(&change.parts().weight)
+    leaves_pools(change) && is_empty(&change.parts().weight)
 }
 
 /// Some OSDs go up or down.
@@ -136,6 +135,28 @@ pub(crate) fn carry_all(old: &mut [PoolTable], pools: &mut [PoolTable], mut kept
     }
 }
 
+/// Gives some groups of a pool other sets, where there are any.
+fn regroup(table: &mut PoolTable, patch: Option<GroupPatch>)
+    requires { IfSome patch (IsPatchFor table.old.groups) }
+    ensures { table.new ≡ regrouped table.old patch }
+{
+    if let Some(patch) = patch {
+        table.groups.install(patch);
+    }
+}
+
+/// Gives some groups of each pool other sets. It takes no memory.
+fn regroup_all(pools: &mut [PoolTable], mut patches: Vec<Option<GroupPatch>>)
+    requires { FitGroups pools.old patches.items }
+    ensures { pools.new ≡ map (λ e. regrouped e.0 e.1) (zip pools.old patches.items) }
+{
+    let most = pools.len();
+    for at in 0..most {
+        let one = patches[at].take();
+        regroup(&mut pools[at], one);
+    }
+}
+
 /// The place of the pool of an id among some.
 fn place_of(pools: &[PoolTable], id: u32) -> Option<usize>
     ensures { result ≡ position (λ q. q.pool.id == id) pools.now }
@@ -144,12 +165,12 @@ fn place_of(pools: &[PoolTable], id: u32) -> Option<usize>
 }
 
 impl PgTable {
-    ghost use Rattle.std.specs.Prelude.{◌≡◌, ◌+◌, ◌^◌, ◌<◌, true, false, None, is_some, length, slice_get, Some, IfOk, OnOk, IfSome};
+    ghost use Rattle.std.specs.Prelude.{◌≡◌, ◌+◌, ◌^◌, ◌<◌, true, false, None, is_some, length, slice_get, Some, IfOk, OnOk};
     ghost use Rattle.osdmap.specs.Maps.{ClusterMap, pool_at};
     ghost use Rattle.osdmap.specs.Changes.{change_fault};
     ghost use Rattle.osdmap.specs.Evals.{is_touched, evals_of};
-    ghost use Rattle.pgtable.specs.Tables.{IsTableOf, pool_in, RunsMore};
-    ghost use Rattle.pgtable.specs.Patches.{next, evals_in, KeepsPool, MakesPool, MakesAll, FitPools, Fits, LeadsTo, patched, pools_patched, ups_after, is_of_states};
+    ghost use Rattle.pgtable.specs.Tables.{IsTableOf, pool_in, pool_table, RunsMore};
+    ghost use Rattle.pgtable.specs.Patches.{next, evals_in, KeepsPool, MakesPool, MakesAll, RegroupsPool, RegroupsAll, FitsBrought, Fits, LeadsTo, patched, pools_patched, ups_after, leaves_raw_sets};
 
     /// The place of the pool of an id.
     fn place(&self, id: u32) -> usize
@@ -252,27 +273,74 @@ impl PgTable {
         let (pools, kept) = self.all_made(alloc, &update, &mut work)?;
         let up = ups_of(alloc, after)?;
         Ok(Patch {
-            brought: Some(Brought { pools, kept }),
+            brought: Brought::Pools(NewTables { pools, kept }),
             up,
             work,
         })
     }
 
-    /// The same of a change that brings OSDs up or down and does nothing else: no group is placed otherwise, and the map after
-    /// the change need not be there.
-    fn prepare_states(&self, alloc: Global, map: &OsdMap, change: &Change) -> Result<Patch, Memory>
+    /// Other sets for the groups of a pool that a change names, by which its table is that of the map after it.
+    fn regrouped(
+        alloc: Global,
+        regroup: &Regroup,
+        table: &PoolTable,
+        work: &mut Work,
+    ) -> Result<Option<GroupPatch>, Memory>
+        requires table { table.now ≡ pool_table regroup.now.map.now.map table.now.pool }
+        requires there { pool_at regroup.now.map.now.map.pools table.now.pool.id ≡ Some table.now.pool }
+        ensures made { IfOk result (RegroupsPool (next regroup.now.map.now.map regroup.now.change.now) table.now) }
+        ensures runs { OnOk result (RunsMore (evals_in (next regroup.now.map.now.map regroup.now.change.now) regroup.now.change.now table.now.pool) work.old work.new) }
+    {
+        regroup.holds();
+        let changes = regroup.changes(alloc, &table.pool, work)?;
+        if changes.is_empty() {
+            return Ok(None);
+        }
+        Ok(Some(table.groups.prepare(alloc, changes)?))
+    }
+
+    /// The same for each pool.
+    fn all_regrouped(
+        &self,
+        alloc: Global,
+        regroup: &Regroup,
+        work: &mut Work,
+    ) -> Result<Vec<Option<GroupPatch>>, Memory>
+        requires { IsTableOf self.now regroup.now.map.now.map }
+        ensures made { IfOk result (λ patches. RegroupsAll self.now.pools (next regroup.now.map.now.map regroup.now.change.now) patches.items) }
+        ensures runs { OnOk result (RunsMore (evals_of (next regroup.now.map.now.map regroup.now.change.now) regroup.now.change.now) work.old work.new) }
+    {
+        regroup.holds();
+        let _ = work.runs();
+        let mut patches = Vec::with_capacity(alloc, self.pools().len())?;
+        for table in self.pools() {
+            patches.push(PgTable::regrouped(alloc, regroup, table, work)?)?;
+        }
+        Ok(patches)
+    }
+
+    /// All that a change makes of the table of a map that does not refuse it, where it leaves all raw sets: the map after it
+    /// need not be there. Or `Memory` (30).
+    fn prepare_groups(&self, alloc: Global, map: &OsdMap, change: &Change) -> Result<Patch, Memory>
         requires table { IsTableOf self.now map.now.map }
         requires lawful { change_fault map.now.map change.now ≡ None }
-        requires states { is_of_states change.now ≡ true }
+        requires leaves { leaves_raw_sets change.now ≡ true }
         ensures leads { IfOk result (LeadsTo (next map.now.map change.now) self.now) }
         ensures counted { IfOk result (λ p. p.work.runs ≡ evals_of (next map.now.map change.now) change.now) }
     {
         map.holds_together();
         let _ = change.parts();
+        let groups = candidates_named(alloc, map, change)?;
+        let regroup = Regroup {
+            map,
+            change,
+            groups: &groups,
+        };
+        let mut work = Work::new(alloc, map.forest())?;
+        let patches = self.all_regrouped(alloc, &regroup, &mut work)?;
         let up = self.ups_after(alloc, change)?;
-        let work = Work::new(alloc, map.forest())?;
         Ok(Patch {
-            brought: None,
+            brought: Brought::Groups(patches),
             up,
             work,
         })
@@ -299,8 +367,8 @@ impl PgTable {
         ensures leads { IfOk result (LeadsTo (next map.now.map change.now) self.now) }
         ensures counted { IfOk result (λ p. p.work.runs ≡ evals_of (next map.now.map change.now) change.now) }
     {
-        if is_of_states(change) {
-            return self.prepare_states(alloc, map, change);
+        if leaves_raw_sets(change) {
+            return self.prepare_groups(alloc, map, change);
         }
         let after = map.after(alloc, change)?;
         self.prepare_to(alloc, map, change, &after)
@@ -316,15 +384,18 @@ impl PgTable {
         self.up = patch.up;
     }
 
-    /// Makes the tables of pools those that are brought, if any are.
-    fn bring(&mut self, brought: Option<Brought>)
-        requires { IfSome brought (FitPools self.old) }
+    /// Gives some groups of the pools other sets, or makes other tables those of the pools.
+    fn bring(&mut self, brought: Brought)
+        requires { FitsBrought self.old brought }
         ensures pools { self.new.pools ≡ pools_patched self.old.pools brought }
         ensures up { self.new.up ≡ self.old.up }
     {
-        if let Some(Brought { mut pools, kept }) = brought {
-            carry_all(&mut self.pools, &mut pools, kept);
-            self.pools = pools;
+        match brought {
+            Brought::Groups(patches) => regroup_all(&mut self.pools, patches),
+            Brought::Pools(NewTables { mut pools, kept }) => {
+                carry_all(&mut self.pools, &mut pools, kept);
+                self.pools = pools;
+            }
         }
     }
 }

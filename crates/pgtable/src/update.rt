@@ -5,10 +5,11 @@ ghost use Rattle.std.specs.Option.{option_copied};
 ghost use Rattle.std.specs.List.{list_any};
 ghost use Rattle.std.specs.List.Sorted.{IsNonDecreasingBy};
 ghost use Rattle.keylist.specs.Keys.{has_key};
-ghost use Rattle.osdmap.specs.Evals.{is_named, names_reweighted, reaches};
+ghost use Rattle.osdmap.specs.Evals.{names_reweighted, reaches};
 ghost use Rattle.pgtable.specs.Candidates.{IsCandidates};
 ghost use Rattle.pgtable.specs.Patches.{LeadsFrom};
 
+use crate::candidates::is_named;
 use crate::mapped::mapped;
 use crush::Work;
 use grouptable::OsdSet;
@@ -28,19 +29,6 @@ pub(crate) struct Update<'a> {
     pub groups: &'a [Pg],
     ghost leads: { LeadsFrom before.now.map change.now after.now.map },
     ghost candidates: { IsCandidates after.now.map change.now groups.now },
-}
-
-/// Whether exceptions of a group go or come with a change.
-#[tactic(auto, unfolding(osdmap::specs::Evals::is_named))]
-fn is_named(change: &Change, pg: Pg) -> bool
-    ensures { result ≡ is_named change.now pg }
-{
-    let parts = change.parts();
-    let place = pg.place();
-    has(&parts.old_upmap, place)
-        || has(&parts.old_items, place)
-        || has(&parts.new_upmap, place)
-        || has(&parts.new_items, place)
 }
 
 /// Whether an entry of an exception names an OSD that gets another reweight.

@@ -287,8 +287,8 @@ existing_stays m step None = refl
 existing_stays m step (Some (pos osd)) = rw (exists-after m step osd) refl
 existing_stays m step (Some (negsuc n)) = refl
 
--- a rule that reaches no reweighted OSD gives a group the raw set as before
-raw_stays : (m : ClusterMap) (step : Step) (p : PoolFacts) (n : ℕ) → HoldsTogether m → has_rule m.rules p ≡ true → step.change.new_crush ≡ None → reaches (apply m step) step.change p ≡ false → raw_set m p n ≡ raw_set (apply m step) p n
+-- the raw set of a group stays where no forest comes and the pool's rule reaches no OSD that gets another reweight
+pub raw_stays : (m : ClusterMap) (step : Step) (p : PoolFacts) (n : ℕ) → HoldsTogether m → has_rule m.rules p ≡ true → step.change.new_crush ≡ None → reaches (apply m step) step.change p ≡ false → raw_set m p n ≡ raw_set (apply m step) p n
 unfolding raw_set
 raw_stays m step p n holds has same none =
     let first = map-agree (option_and_then (existing m)) (option_and_then (existing (apply m step))) (existing_stays m step) (placed m p n) in

@@ -1,0 +1,48 @@
+use Rattle.std.proofs.Common.{◌≡◌, ◌<◌, refl, ap, length, arith}
+use Rattle.std.proofs.lemmas.List.Sums.{sum_by_more}
+use Rattle.std.proofs.lemmas.Option.{slice_get_read}
+use Rattle.pgtable.specs.declared.pool_table.PoolTable.{PoolTable}
+use Rattle.pgtable.specs.Patches.{next, evals_in}
+use Rattle.pgtable.proofs.Regrouping.{leaving, table_at, regroup_more, regrouped_all, evals_regrouped}
+use Rattle.pgtable.proofs.table.PgTable.all_regrouped.Goals as goal
+
+pub regrouped-requires-clause-table : goal.regrouped-requires-clause-table
+regrouped-requires-clause-table c =
+    let inside = rw c.pools-table-items.ensures.pools at c.loop-table-test.true in
+    let is = rw c.pools-table-items.ensures.pools at c.table-item.is in
+    let there = slice_get_read c.args.self.now.pools _ c.loop-table.table-index c.table-item.result refl inside is in
+    (table_at c.args.self.now c.args.regroup.now.map.now.map c.loop-table.table-index c.table-item.result c.requires there).0
+
+pub regrouped-requires-clause-there : goal.regrouped-requires-clause-there
+regrouped-requires-clause-there c =
+    let inside = rw c.pools-table-items.ensures.pools at c.loop-table-test.true in
+    let is = rw c.pools-table-items.ensures.pools at c.table-item.is in
+    let there = slice_get_read c.args.self.now.pools _ c.loop-table.table-index c.table-item.result refl inside is in
+    (table_at c.args.self.now c.args.regroup.now.map.now.map c.loop-table.table-index c.table-item.result c.requires there).1
+
+pub loop-table-preserved : goal.loop-table-preserved
+loop-table-preserved c =
+    let inside : c.loop-table.table-index < length c.args.self.now.pools = rw c.pools-table-items.ensures.pools at c.loop-table-test.true in
+    let is = rw c.pools-table-items.ensures.pools at c.table-item.is in
+    let there = slice_get_read c.args.self.now.pools _ c.loop-table.table-index c.table-item.result refl inside is in
+    let after = next c.args.regroup.now.map.now.map c.args.regroup.now.change.now in
+    let evals = λ (q : PoolTable). evals_in after c.args.regroup.now.change.now q.pool in
+    let more = regroup_more c.args.self.now.pools after c.loop-table.table-index c.table-item.result c.loop-table.patches.items c.in_ok-regrouped.field-0 c.loop-table.invariant.made there c.in_ok-regrouped.ensures.made in
+    let sum = sum_by_more evals c.args.self.now.pools c.loop-table.table-index c.table-item.result inside in
+    let last = ap evals is in
+    record {
+      made = rw c.in_ok-push.ensures.items more;
+      runs = omega (arith, sum, last, c.in_ok-regrouped.ensures.runs, c.loop-table.invariant.runs);
+    }
+
+pub returns-clause-made : goal.returns-clause-made
+returns-clause-made c =
+    let past = rw c.pools-table-items.ensures.pools at c.loop-table-test.false in
+    let end = rw c.pools-table-items.ensures.pools at c.loop-table.auto.table-index-end in
+    let e : c.loop-table.table-index ≡ length c.args.self.now.pools = omega (arith, past, end) in
+    regrouped_all c.args.self.now c.args.regroup.now.map.now.map c.args.regroup.now.change.now c.loop-table.patches.items c.requires (leaving c.args.regroup.now.change.now c.holds.ensures.leaves) (rw e at c.loop-table.invariant.made)
+
+pub returns-clause-runs : goal.returns-clause-runs
+returns-clause-runs c =
+    let past = rw c.pools-table-items.ensures.pools at c.loop-table-test.false in
+    rw (← evals_regrouped c.args.self.now c.args.regroup.now.map.now.map c.args.regroup.now.change.now c.loop-table.table-index c.requires (leaving c.args.regroup.now.change.now c.holds.ensures.leaves) past) c.loop-table.invariant.runs
