@@ -361,7 +361,8 @@ fn commit_three<R: Wait + Threads + Sync>(
     second
 }
 
-/// The epoch that a follower reaches after nine changes of three threads, and whether it then writes the monitor's own map.
+/// The epoch that a follower reaches after nine changes of three threads, and whether it then writes the monitor's
+/// own map.
 fn followed<R: Wait + Threads + Sync>(rt: &R, alloc: Global) -> Result<(u64, bool), Refusal> {
     let (monitor, mut members) = opened(alloc, 100_000)?;
     let mut follower = Follower::new(alloc, &monitor)?;

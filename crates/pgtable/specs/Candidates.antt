@@ -43,7 +43,8 @@ candidates m c = candidates_by c.weight m c
 
 -- the number in a pool, whose first group has a place, of the group of another place, where a test passes it
 abbrev pub number_at : (ℕ → Bool) → ℕ → ℕ → ℕ → Option ℕ
-number_at q base n place = if nat_le base place && (nat_lt (place - base) n && q (place - base)) then Some (place - base) else None
+number_at q base n place =
+    if nat_le base place && (nat_lt (place - base) n && q (place - base)) then Some (place - base) else None
 
 -- the number in a pool of a group that a change concerns
 abbrev pub number_in : ClusterMap → ChangeParts → PoolFacts → Pg → Option ℕ

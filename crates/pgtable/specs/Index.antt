@@ -10,7 +10,9 @@ use Rattle.placement_laws.specs.Standing.{stands}
 
 -- the up set of a group, where it is there
 abbrev pub up_at : ClusterMap → Pg → Option (List (Option ℕ))
-up_at m g = option_and_then (λ p. if nat_lt g.number p.pg_num then Some (up_set m p g.number) else None) (pool_at m.pools g.pool)
+up_at m g =
+    option_and_then (λ p. if nat_lt g.number p.pg_num then Some (up_set m p g.number) else None)
+    (pool_at m.pools g.pool)
 
 -- the groups of a pool, by number
 abbrev pub groups_in : PoolFacts → List Pg

@@ -91,7 +91,8 @@ regrouped q (Some g) = record { pool = q.pool; groups = changed q.groups g.chang
 -- each pool's table that gets other sets gets them for groups that it has
 pub record FitGroups (old : List PoolTable) (patches : List (Option GroupPatch)) : Type 0 where
   pub same : length patches ≡ length old
-  pub each : (i : ℕ) (q : PoolTable) (g : GroupPatch) → slice_get old i ≡ Some q → slice_get patches i ≡ Some (Some g) → IsPatchFor q.groups g
+  pub each : (i : ℕ) (q : PoolTable) (g : GroupPatch) → slice_get old i ≡ Some q → slice_get patches i ≡ Some (Some g) →
+      IsPatchFor q.groups g
 
 -- a pool's table with what it gets has the sets of a map
 pub record RegroupsPool (m : ClusterMap) (q : PoolTable) (one : Option GroupPatch) : Type 0 where
@@ -112,7 +113,8 @@ pub record FitsAt (old : List PoolTable) (k : Kept) : Type 0 where
 pub record FitAll (old pools : List PoolTable) (kept : List (Option Kept)) : Type 0 where
   pub same : length kept ≡ length pools
   pub each : (i : ℕ) (k : Kept) → slice_get kept i ≡ Some (Some k) → FitsAt old k
-  pub apart : (i j : ℕ) (a b : Kept) → i < j → slice_get kept i ≡ Some (Some a) → slice_get kept j ≡ Some (Some b) → a.at ≢ b.at
+  pub apart : (i j : ℕ) (a b : Kept) → i < j → slice_get kept i ≡ Some (Some a) → slice_get kept j ≡ Some (Some b) →
+      a.at ≢ b.at
 
 -- what is kept of a pool's table gets the sets of a map
 pub record KeepsPool (old : List PoolTable) (m : ClusterMap) (p : PoolFacts) (k : Kept) : Type 0 where
@@ -121,12 +123,14 @@ pub record KeepsPool (old : List PoolTable) (m : ClusterMap) (p : PoolFacts) (k 
   pub sets : changed (sets_at old k.at) k.patch.changes.items ≡ sets_of m p
 
 -- a pool's table as it is made, with what is kept, gets the sets of a map
-pub record MakesPool (old : List PoolTable) (m : ClusterMap) (p : PoolFacts) (q : PoolTable) (one : Option Kept) : Type 0 where
+pub record MakesPool (old : List PoolTable) (m : ClusterMap) (p : PoolFacts) (q : PoolTable) (one : Option Kept) :
+    Type 0 where
   pub table : carried old q one ≡ pool_table m p
   pub kept : (k : Kept) → one ≡ Some k → KeepsPool old m p k
 
 -- the tables as they are made, with what is kept, are those of a map
-pub record MakesAll (old : List PoolTable) (m : ClusterMap) (pools : List PoolTable) (kept : List (Option Kept)) : Type 0 where
+pub record MakesAll (old : List PoolTable) (m : ClusterMap) (pools : List PoolTable) (kept : List (Option Kept)) :
+    Type 0 where
   pub long : length pools ≡ length m.pools
   pub fits : FitAll old pools kept
   pub tables : map (λ e. carried old e.0 e.1) (zip pools kept) ≡ tables_of m

@@ -66,7 +66,8 @@ shown_groups t osd = if slice_index_or t.up osd false then flat_map (held_in osd
 
 -- how many of these are groups of a pool
 abbrev pub shown_in : TableFacts → ℕ → ℕ → ℕ
-shown_in t pool osd = if slice_index_or t.up osd false then option_map_or (λ q. length (held_in osd q)) (pool_in t pool) 0 else 0
+shown_in t pool osd =
+    if slice_index_or t.up osd false then option_map_or (λ q. length (held_in osd q)) (pool_in t pool) 0 else 0
 
 -- ---- runs
 

@@ -91,8 +91,8 @@ fn with_excepted(alloc: Global, change: &Change, after: &OsdMap) -> Result<Vec<P
     Ok(groups)
 }
 
-/// Groups in ascending order, among which are all whose exceptions a change concerns that a map does not refuse; or `Memory`
-/// (30).
+/// Groups in ascending order, among which are all whose exceptions a change concerns that a map does not refuse; or
+/// `Memory` (30).
 pub(crate) fn candidates(
     alloc: Global,
     before: &OsdMap,
@@ -107,8 +107,8 @@ pub(crate) fn candidates(
     Ok(groups)
 }
 
-/// The same where the change leaves all raw sets, without the map after it: the groups that the change names; or `Memory`
-/// (30).
+/// The same where the change leaves all raw sets, without the map after it: the groups that the change names; or
+/// `Memory` (30).
 pub(crate) fn candidates_named(
     alloc: Global,
     map: &OsdMap,

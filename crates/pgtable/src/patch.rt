@@ -192,7 +192,8 @@ impl PgTable {
         requires there { pool_at update.now.after.now.map.pools pool.now.id ≡ Some pool.now }
         requires untouched { is_touched update.now.after.now.map update.now.change.now pool.now ≡ false }
         ensures kept { IfOk result (KeepsPool self.now.pools update.now.after.now.map pool.now) }
-        ensures runs { OnOk result (RunsMore (evals_in update.now.after.now.map update.now.change.now pool.now) work.old work.new) }
+        ensures runs { OnOk result (RunsMore (evals_in update.now.after.now.map update.now.change.now pool.now)
+            work.old work.new) }
     {
         update.leads();
         let at = self.place(pool.id());
@@ -212,7 +213,8 @@ impl PgTable {
         requires table { IsTableOf self.now update.now.before.now.map }
         requires there { pool_at update.now.after.now.map.pools pool.now.id ≡ Some pool.now }
         ensures made { IfOk result (λ r. MakesPool self.now.pools update.now.after.now.map pool.now r.0 r.1) }
-        ensures runs { OnOk result (RunsMore (evals_in update.now.after.now.map update.now.change.now pool.now) work.old work.new) }
+        ensures runs { OnOk result (RunsMore (evals_in update.now.after.now.map update.now.change.now pool.now)
+            work.old work.new) }
     {
         if update.is_touched(pool) {
             let table = PoolTable::of(alloc, update.after, *pool, work)?;
@@ -231,7 +233,8 @@ impl PgTable {
     ) -> Result<(Vec<PoolTable>, Vec<Option<Kept>>), Memory>
         requires { IsTableOf self.now update.now.before.now.map }
         ensures made { IfOk result (λ r. MakesAll self.now.pools update.now.after.now.map r.0.items r.1.items) }
-        ensures runs { OnOk result (RunsMore (evals_of update.now.after.now.map update.now.change.now) work.old work.new) }
+        ensures runs { OnOk result (RunsMore (evals_of update.now.after.now.map update.now.change.now)
+            work.old work.new) }
     {
         update.leads();
         let _ = work.runs();
@@ -245,8 +248,8 @@ impl PgTable {
         Ok((pools, kept))
     }
 
-    /// All that a change makes of the table of a map that does not refuse it, where the map after it is there; or `Memory`
-    /// (30).
+    /// All that a change makes of the table of a map that does not refuse it, where the map after it is there; or
+    /// `Memory` (30).
     pub fn prepare_to(
         &self,
         alloc: Global,
@@ -289,7 +292,9 @@ impl PgTable {
         requires table { table.now ≡ pool_table regroup.now.map.now.map table.now.pool }
         requires there { pool_at regroup.now.map.now.map.pools table.now.pool.id ≡ Some table.now.pool }
         ensures made { IfOk result (RegroupsPool (next regroup.now.map.now.map regroup.now.change.now) table.now) }
-        ensures runs { OnOk result (RunsMore (evals_in (next regroup.now.map.now.map regroup.now.change.now) regroup.now.change.now table.now.pool) work.old work.new) }
+        ensures runs { OnOk result (RunsMore (evals_in
+            (next regroup.now.map.now.map regroup.now.change.now) regroup.now.change.now table.now.pool)
+            work.old work.new) }
     {
         regroup.holds();
         let changes = regroup.changes(alloc, &table.pool, work)?;
@@ -307,8 +312,10 @@ impl PgTable {
         work: &mut Work,
     ) -> Result<Vec<Option<GroupPatch>>, Memory>
         requires { IsTableOf self.now regroup.now.map.now.map }
-        ensures made { IfOk result (λ patches. RegroupsAll self.now.pools (next regroup.now.map.now.map regroup.now.change.now) patches.items) }
-        ensures runs { OnOk result (RunsMore (evals_of (next regroup.now.map.now.map regroup.now.change.now) regroup.now.change.now) work.old work.new) }
+        ensures made { IfOk result (λ patches. RegroupsAll self.now.pools
+            (next regroup.now.map.now.map regroup.now.change.now) patches.items) }
+        ensures runs { OnOk result (RunsMore (evals_of
+            (next regroup.now.map.now.map regroup.now.change.now) regroup.now.change.now) work.old work.new) }
     {
         regroup.holds();
         let _ = work.runs();
@@ -319,8 +326,8 @@ impl PgTable {
         Ok(patches)
     }
 
-    /// All that a change makes of the table of a map that does not refuse it, where it leaves all raw sets: the map after it
-    /// need not be there. Or `Memory` (30).
+    /// All that a change makes of the table of a map that does not refuse it, where it leaves all raw sets: the map
+    /// after it need not be there. Or `Memory` (30).
     fn prepare_groups(&self, alloc: Global, map: &OsdMap, change: &Change) -> Result<Patch, Memory>
         requires table { IsTableOf self.now map.now.map }
         requires lawful { change_fault map.now.map change.now ≡ None }
@@ -358,8 +365,8 @@ impl PgTable {
         Ok(up)
     }
 
-    /// All that a change makes of the table of a map that does not refuse it; or `Memory` (30). It runs a rule for each of
-    /// the evaluations of the change, and for nothing else.
+    /// All that a change makes of the table of a map that does not refuse it; or `Memory` (30). It runs a rule for each
+    /// of the evaluations of the change, and for nothing else.
     pub fn prepare(&self, alloc: Global, map: &OsdMap, change: &Change) -> Result<Patch, Memory>
         requires table { IsTableOf self.now map.now.map }
         requires lawful { change_fault map.now.map change.now ≡ None }

@@ -61,7 +61,8 @@ impl Regroup<'_> {
 
     /// What holds of the map and the change: for proofs alone.
     pub fn holds(&self)
-        ensures leads { LeadsFrom self.now.map.now.map self.now.change.now (next self.now.map.now.map self.now.change.now) }
+        ensures leads { LeadsFrom self.now.map.now.map self.now.change.now
+            (next self.now.map.now.map self.now.change.now) }
         ensures leaves { leaves_raw_sets self.now.change.now ≡ true }
         ensures candidates { IsCandidates (next self.now.map.now.map self.now.change.now) self.now.change.now self.now.groups.now }
     {
@@ -71,7 +72,8 @@ impl Regroup<'_> {
     /// The mapped set of a group of a pool after the change, by one run of the pool's rule; or `Memory` (30).
     fn mapped(&self, pool: &Pool, number: u32, work: &mut Work) -> Result<OsdSet, Memory>
         requires { pool_at self.now.map.now.map.pools pool.now.id ≡ Some pool.now }
-        ensures set { IfOk result (λ set. set ≡ mapped_set (next self.now.map.now.map self.now.change.now) pool.now number) }
+        ensures set { IfOk result (λ set. set ≡ mapped_set
+            (next self.now.map.now.map self.now.change.now) pool.now number) }
         ensures run { RunsOnce work.old work.new result }
     {
         let pg = Pg {
@@ -119,7 +121,8 @@ impl Regroup<'_> {
 
     /// The numbers in a pool of those of the groups that stand in it and that the change names; or `Memory` (30).
     fn numbers_in(&self, alloc: Global, pool: &Pool) -> Result<Vec<u32>, Memory>
-        ensures { IfOk result (λ numbers. numbers.items ≡ named_numbers self.now.change.now pool.now self.now.groups.now) }
+        ensures { IfOk result (λ numbers. numbers.items
+            ≡ named_numbers self.now.change.now pool.now self.now.groups.now) }
     {
         Ok(
             self.groups
@@ -131,7 +134,8 @@ impl Regroup<'_> {
 
     /// The groups of a pool whose exceptions the change concerns; or `Memory` (30).
     fn concerned(&self, alloc: Global, pool: &Pool) -> Result<Vec<u32>, Memory>
-        ensures { IfOk result (λ numbers. numbers.items ≡ concerned (next self.now.map.now.map self.now.change.now) self.now.change.now pool.now) }
+        ensures { IfOk result (λ numbers. numbers.items
+            ≡ concerned (next self.now.map.now.map self.now.change.now) self.now.change.now pool.now) }
     {
         self.holds();
         let numbers = self.numbers_in(alloc, pool)?;
@@ -146,14 +150,18 @@ impl Regroup<'_> {
         work: &mut Work,
     ) -> Result<Vec<(u32, OsdSet)>, Memory>
         requires { pool_at self.now.map.now.map.pools pool.now.id ≡ Some pool.now }
-        ensures changes { IfOk result (λ changes. changes.items ≡ changes_of (next self.now.map.now.map self.now.change.now) self.now.change.now pool.now) }
-        ensures runs { OnOk result (RunsMore (length (concerned (next self.now.map.now.map self.now.change.now) self.now.change.now pool.now)) work.old work.new) }
+        ensures changes { IfOk result (λ changes. changes.items
+            ≡ changes_of (next self.now.map.now.map self.now.change.now) self.now.change.now pool.now) }
+        ensures runs { OnOk result (RunsMore (length
+            (concerned (next self.now.map.now.map self.now.change.now) self.now.change.now pool.now))
+            work.old work.new) }
     {
         let numbers = self.concerned(alloc, pool)?;
         self.sets(alloc, pool, &numbers, work)
     }
 
-    /// Some groups of a pool with their sets after the change, by one run of the pool's rule for each; or `Memory` (30).
+    /// Some groups of a pool with their sets after the change, by one run of the pool's rule for each; or `Memory`
+    /// (30).
     fn sets(
         &self,
         alloc: Global,
@@ -162,7 +170,8 @@ impl Regroup<'_> {
         work: &mut Work,
     ) -> Result<Vec<(u32, OsdSet)>, Memory>
         requires { pool_at self.now.map.now.map.pools pool.now.id ≡ Some pool.now }
-        ensures changes { IfOk result (λ changes. changes.items ≡ with_sets (next self.now.map.now.map self.now.change.now) pool.now numbers.now) }
+        ensures changes { IfOk result (λ changes. changes.items
+            ≡ with_sets (next self.now.map.now.map self.now.change.now) pool.now numbers.now) }
         ensures runs { OnOk result (RunsMore (length numbers.now) work.old work.new) }
     {
         let _ = work.runs();

@@ -101,8 +101,8 @@ impl Update<'_> {
         let _ = &self.groups;
     }
 
-    /// Whether all groups of a pool may be placed otherwise: the forest and the rules were replaced, it came or grew with the
-    /// change, or its rule reaches an OSD that got another reweight.
+    /// Whether all groups of a pool may be placed otherwise: the forest and the rules were replaced, it came or grew
+    /// with the change, or its rule reaches an OSD that got another reweight.
     #[tactic(auto, unfolding(osdmap::specs::Evals::is_touched))]
     pub fn is_touched(&self, pool: &Pool) -> bool
         ensures { result ≡ is_touched self.now.after.now.map self.now.change.now pool.now }
@@ -115,8 +115,8 @@ impl Update<'_> {
             || reaches(self.after, self.change, pool)
     }
 
-    /// Whether the change concerns the exceptions of a group of a pool: they go or come, or name an OSD that gets another
-    /// reweight.
+    /// Whether the change concerns the exceptions of a group of a pool: they go or come, or name an OSD that gets
+    /// another reweight.
     #[tactic(auto, unfolding(osdmap::specs::Evals::concerns))]
     fn concerns(&self, pool: &Pool, number: u32) -> bool
         ensures { result ≡ concerns self.now.after.now.map self.now.change.now (group_of pool.now number) }
@@ -148,7 +148,8 @@ impl Update<'_> {
 
     /// The numbers in a pool of those of some groups that stand in it and that the change concerns; or `Memory` (30).
     fn numbers_in(&self, alloc: Global, pool: &Pool, groups: &[Pg]) -> Result<Vec<u32>, Memory>
-        ensures { IfOk result (λ numbers. numbers.items ≡ numbers_in self.now.after.now.map self.now.change.now pool.now groups.now) }
+        ensures { IfOk result (λ numbers. numbers.items
+            ≡ numbers_in self.now.after.now.map self.now.change.now pool.now groups.now) }
     {
         Ok(
             groups
@@ -160,7 +161,8 @@ impl Update<'_> {
 
     /// The groups of a pool whose exceptions the change concerns, found among the candidates; or `Memory` (30).
     fn concerned(&self, alloc: Global, pool: &Pool) -> Result<Vec<u32>, Memory>
-        ensures { IfOk result (λ numbers. numbers.items ≡ concerned self.now.after.now.map self.now.change.now pool.now) }
+        ensures { IfOk result (λ numbers. numbers.items
+            ≡ concerned self.now.after.now.map self.now.change.now pool.now) }
     {
         self.has_candidates();
         let numbers = self.numbers_in(alloc, pool, self.groups)?;
@@ -175,14 +177,17 @@ impl Update<'_> {
         work: &mut Work,
     ) -> Result<Vec<(u32, OsdSet)>, Memory>
         requires { pool_at self.now.after.now.map.pools pool.now.id ≡ Some pool.now }
-        ensures changes { IfOk result (λ changes. changes.items ≡ changes_of self.now.after.now.map self.now.change.now pool.now) }
-        ensures runs { OnOk result (RunsMore (length (concerned self.now.after.now.map self.now.change.now pool.now)) work.old work.new) }
+        ensures changes { IfOk result (λ changes. changes.items
+            ≡ changes_of self.now.after.now.map self.now.change.now pool.now) }
+        ensures runs { OnOk result (RunsMore (length
+            (concerned self.now.after.now.map self.now.change.now pool.now)) work.old work.new) }
     {
         let numbers = self.concerned(alloc, pool)?;
         self.sets(alloc, pool, &numbers, work)
     }
 
-    /// Some groups of a pool with their sets after the change, by one run of the pool's rule for each; or `Memory` (30).
+    /// Some groups of a pool with their sets after the change, by one run of the pool's rule for each; or `Memory`
+    /// (30).
     fn sets(
         &self,
         alloc: Global,
@@ -191,7 +196,8 @@ impl Update<'_> {
         work: &mut Work,
     ) -> Result<Vec<(u32, OsdSet)>, Memory>
         requires { pool_at self.now.after.now.map.pools pool.now.id ≡ Some pool.now }
-        ensures changes { IfOk result (λ changes. changes.items ≡ with_sets self.now.after.now.map pool.now numbers.now) }
+        ensures changes { IfOk result (λ changes. changes.items
+            ≡ with_sets self.now.after.now.map pool.now numbers.now) }
         ensures runs { OnOk result (RunsMore (length numbers.now) work.old work.new) }
     {
         let _ = work.runs();
