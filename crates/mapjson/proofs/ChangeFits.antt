@@ -22,6 +22,7 @@ pub record ChangeFits (c : RawChange) : Type 0 where
   pub new_upmap : exceptions_fit is_osd_id c.new_upmap ≡ true
   pub new_items : exceptions_fit pair_fits c.new_items ≡ true
 
+-- a change within the limits has each of its lists within them
 pub change_fits_each : (c : RawChange) → change_fits c ≡ true → ChangeFits c
 unfolding change_fits
 change_fits_each c h = record {
@@ -41,10 +42,12 @@ words_from : (fits : ℤ → Bool) (numbers : List ℤ) → ((z : ℤ) → fits 
     → list_all fits numbers ≡ true → All (λ z. IsTrue (is_between (pos 0) (pos 4294967295) z)) numbers
 words_from fits numbers word h k d l = word (slice_index_or numbers k d) (all_from_test fits numbers h k d l)
 
+-- the id of a pool is a word
 pool_id_is_word : (z : ℤ) → is_pool_id z ≡ true → IsTrue (is_between (pos 0) (pos 4294967295) z)
 unfolding is_pool_id
 pool_id_is_word z h = word_between 1 65535 z (omega arith) h
 
+-- the id of an OSD is a word
 osd_is_word : (z : ℤ) → is_osd_id z ≡ true → IsTrue (is_between (pos 0) (pos 4294967295) z)
 unfolding is_osd_id
 osd_is_word z h = word_between 0 1023 z (omega arith) h

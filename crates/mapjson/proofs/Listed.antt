@@ -5,6 +5,7 @@ use Rattle.std.proofs.lemmas.List.{map-append}
 use Rattle.std.proofs.lemmas.List.Elements.{filter_map-append}
 use Rattle.crush.proofs.Rounds.{range-more}
 
+-- what is written of one entry, or of none
 written_one : {V D : Type 0} (f : V → D) (o : Option V) → map f (cons_option o []) ≡ cons_option (option_map f o) []
 written_one f None = refl
 written_one f (Some v) = refl

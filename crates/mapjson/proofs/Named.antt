@@ -21,6 +21,7 @@ use Rattle.mapjson.specs.Written.{IsNamed, AreNamed}
 
 -- ---- one group
 
+-- parts that make up a group are those of that group
 whole_parts : (pool number : Option ℕ) (g : Pg) → group_of (record { pool = pool; number = number }) ≡ Some g → record { pool = pool; number = number } ≡ pg_part g
 whole_parts (Some pool) (Some number) g h = cc
 whole_parts (Some pool) None g h = cc
@@ -31,6 +32,7 @@ pub parts_of_group : (o : Option PgParts) (g : Pg) → option_and_then group_of 
 parts_of_group (Some parts) g h = ap Some (whole_parts parts.pool parts.number g h)
 parts_of_group None g h = cc
 
+-- the text of a group whose parts are words states that group
 pub group_named : (g : Pg) → g.pool < 2 ^ 32 → g.number < 2 ^ 32 → IsNamed (pg_part g)
 group_named g pool number = parts_of_group (parts_in (group_text g)) g (group_in-text g pool number)
 
@@ -52,6 +54,7 @@ in_pools (q ∷ qs) g fit there =
     let fits = and_parts (pool_fits q) _ fit in
     in_first q g.number (entry_at (λ (p : PoolFacts). p.id) (map pool_of qs) g.pool) (nat_abs q.id == g.pool) fits.0 (in_pools qs g fits.1) there
 
+-- the text of the group of fitting parts states those parts
 parts_named : (pool number : Option ℕ) → pg_fits (record { pool = pool; number = number }) ≡ true → unwrap_or number 0 < 2 ^ 32 → IsNamed (record { pool = pool; number = number })
 unfolding pg_fits
 parts_named (Some pool) (Some number) fit small = group_named (record { pool = pool; number = number }) (grind (arith, nat_tests, fit)) small

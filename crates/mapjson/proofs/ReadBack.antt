@@ -24,6 +24,7 @@ use Rattle.mapjson.specs.Written.{number_data, list_data, item_data, kind_word, 
 
 -- ---- values
 
+-- a number reads back as itself
 number_back : (z : ℤ) → number_of (number_data z) ≡ Some z
 number_back (pos n) = refl
 number_back (negsuc n) = refl
@@ -35,30 +36,36 @@ entries_back stated entry P back [] all = refl
 entries_back stated entry P back (x ∷ xs) all =
     rw (back x (all 0 x (omega arith)), entries_back stated entry P back xs (λ k d below. all (suc k) d (omega arith)))
 
+-- a list reads back where each of its entries does
 list_back : {X : Type 0} (stated : Data → Option X) (entry : X → Data) → ((x : X) → stated (entry x) ≡ Some x) → (xs : List X) → list_of stated (list_data entry xs) ≡ Some xs
 list_back stated entry back xs = entries_back stated entry (λ x. ⊤) (λ x h. back x) xs (λ k d below. tt)
 
 -- ---- the forest
 
+-- the word of a kind of bucket reads back as that kind
 kind_back : (k : BucketKind) → bucket_kind_of (string (kind_word k)) ≡ Some k
 kind_back Uniform = refl
 kind_back Listed = refl
 kind_back Tree = refl
 
+-- an item reads back as itself
 item_back : (i : ItemPart) → item_of (item_data i) ≡ Some i
 unfolding item_of
 item_back i = rw (number_back i.id, number_back i.weight)
 
+-- a bucket reads back as itself
 bucket_back : (b : BucketPart) → bucket_of (bucket_data b) ≡ Some b
 unfolding bucket_of bucket_data
 bucket_back b = rw (number_back b.id, number_back b.level, kind_back b.kind, list_back item_of item_data item_back b.items)
 
 -- ---- rules
 
+-- the word of what a rule is for reads back as that
 use_back : (k : RuleKind) → rule_kind_of (string (use_word k)) ≡ Some k
 use_back Replicated = refl
 use_back Erasure = refl
 
+-- a choose step reads back as itself
 choose_back : (mode : Mode) (to_leaf : Bool) (count level : ℤ) → let c : StepPart = Choose (record { mode = mode; to_leaf = to_leaf; count = count; level = level }) in step_of (step_data c) ≡ Some c
 unfolding step_of step_by take_of choose_of emit_of step_data
 choose_back Firstn false count level = rw (number_back count, number_back level)
@@ -66,6 +73,7 @@ choose_back Indep false count level = rw (number_back count, number_back level)
 choose_back Firstn true count level = rw (number_back count, number_back level)
 choose_back Indep true count level = rw (number_back count, number_back level)
 
+-- a step reads back as itself
 step_back : (s : StepPart) → step_of (step_data s) ≡ Some s
 unfolding step_of step_by take_of choose_of emit_of tries_of leaf_tries_of step_data
 step_back (SetChooseTries tries) = rw (number_back tries)
@@ -74,37 +82,44 @@ step_back (Take id) = rw (number_back id)
 step_back (Choose c) = choose_back c.mode c.to_leaf c.count c.level
 step_back Emit = refl
 
+-- a rule reads back as itself
 rule_back : (r : RulePart) → rule_of (rule_data r) ≡ Some r
 unfolding rule_of rule_data
 rule_back r = rw (number_back r.id, use_back r.kind, list_back step_of step_data step_back r.steps)
 
 -- ---- pools and OSDs
 
+-- a pool reads back as itself
 pool_back : (p : PoolPart) → pool_of (pool_data p) ≡ Some p
 unfolding pool_of pool_data
 pool_back p = rw (number_back p.id, use_back p.kind, number_back p.pg_num, number_back p.pgp_num, number_back p.rule, number_back p.size)
 
+-- an OSD reads back as itself
 osd_back : (o : OsdPart) → osd_of (osd_data o) ≡ Some o
 unfolding osd_of osd_data
 osd_back o = rw (number_back o.id, number_back o.weight)
 
 -- ---- exceptions
 
+-- a pair reads back as itself
 pair_back : (p : PairPart) → pair_of (pair_data p) ≡ Some p
 unfolding pair_of
 pair_back p = rw (number_back p.from, number_back p.to)
 
+-- an exception of a named group reads back where each of its entries does
 exception_back : {X : Type 0} (stated : Data → Option X) (entry : X → Data) → ((x : X) → stated (entry x) ≡ Some x)
     → (e : ExceptionPart X) → IsNamed e.pg → exception_of stated (exception_data entry e) ≡ Some e
 unfolding exception_of exception_data
 exception_back stated entry back e named = rw (named, list_back stated entry back e.entries)
 
+-- exceptions of named groups read back where each of their entries does
 exceptions_back : {X : Type 0} (stated : Data → Option X) (entry : X → Data) → ((x : X) → stated (entry x) ≡ Some x)
     → (es : List (ExceptionPart X)) → AreNamed es → list_of (exception_of stated) (list_data (exception_data entry) es) ≡ Some es
 exceptions_back stated entry back es named = entries_back (exception_of stated) (exception_data entry) (λ e. IsNamed e.pg) (exception_back stated entry back) es named
 
 -- ---- the map
 
+-- the parts of a map read back as themselves, whatever the version
 parts_back : (p : MapParts) → AreNamed p.pg_upmap → AreNamed p.pg_upmap_items → map_of (map_data p) ≡ Some p
 unfolding map_of map_data
 parts_back p explicit items = rw (

@@ -29,6 +29,7 @@ built found no_members = found
 built found (member k d ms) = built (put k d found) ms
 
 abbrev mutual
+  -- a value whose numbers are integers of 64 bits, whose texts are ASCII, and whose members stand in the order of their keys
   pub IsReadable : Data → Type 0
   IsReadable null = ⊤
   IsReadable (boolean b) = ⊤
@@ -37,10 +38,12 @@ abbrev mutual
   IsReadable (array ds) = ItemsReadable ds
   IsReadable (object ms) = MembersReadable ms × (built no_members ms ≡ ms)
 
+  -- the same of each value of a list
   pub ItemsReadable : Items → Type 0
   ItemsReadable no_items = ⊤
   ItemsReadable (item d ds) = IsReadable d × ItemsReadable ds
 
+  -- the same of each member of an object
   pub MembersReadable : Members → Type 0
   MembersReadable no_members = ⊤
   MembersReadable (member k d ms) = (are_ascii k ≡ true) × IsReadable d × MembersReadable ms
@@ -48,6 +51,7 @@ abbrev mutual
 -- ---- the value of the JSON
 
 mutual
+  -- what is written of a readable value is converted back to it
   of_json-outline : (d : Data) → IsReadable d → of_json (outline d) ≡ Some d
   of_json-outline null h = refl
   of_json-outline (boolean b) h = refl
@@ -59,10 +63,12 @@ mutual
   of_json-outline (array ds) h = ap (option_map array) (of_items-outline ds h)
   of_json-outline (object ms) h = ap (option_map object) (of_members-outline ms no_members h.0 ∙ ap Some h.1)
 
+  -- the same of the values of a list
   of_items-outline : (ds : Items) → ItemsReadable ds → of_items (items_outline ds) ≡ Some ds
   of_items-outline no_items h = refl
   of_items-outline (item d ds) h = rw (of_json-outline d h.0, of_items-outline ds h.1)
 
+  -- the same of the members of an object, behind those found before
   of_members-outline : (ms found : Members) → MembersReadable ms → of_members (members_outline ms) found ≡ Some (built found ms)
   of_members-outline no_members found h = refl
   of_members-outline (member k d ms) found h = rw (of_json-outline d h.1) (of_members-outline ms (put k d found) h.2)
@@ -70,6 +76,7 @@ mutual
 -- ---- the tokens
 
 mutual
+  -- each number that is written of a readable value is a number of JSON
   HasNumbers-outline : (d : Data) → IsReadable d → tree.HasNumbers (outline d)
   HasNumbers-outline null h = tt
   HasNumbers-outline (boolean b) h = tt
@@ -81,15 +88,18 @@ mutual
   HasNumbers-outline (array ds) h = ItemsHaveNumbers-outline ds h
   HasNumbers-outline (object ms) h = MembersHaveNumbers-outline ms h.0
 
+  -- the same of the values of a list
   ItemsHaveNumbers-outline : (ds : Items) → ItemsReadable ds → tree.ItemsHaveNumbers (items_outline ds)
   ItemsHaveNumbers-outline no_items h = tt
   ItemsHaveNumbers-outline (item d ds) h = (HasNumbers-outline d h.0, ItemsHaveNumbers-outline ds h.1)
 
+  -- the same of the members of an object
   MembersHaveNumbers-outline : (ms : Members) → MembersReadable ms → tree.MembersHaveNumbers (members_outline ms)
   MembersHaveNumbers-outline no_members h = tt
   MembersHaveNumbers-outline (member k d ms) h = (HasNumbers-outline d h.1, MembersHaveNumbers-outline ms h.2)
 
 mutual
+  -- what is written of a value nests as deep as the value
   depth-outline : (d : Data) → tree.depth (outline d) ≡ depth d
   depth-outline null = refl
   depth-outline (boolean b) = refl
@@ -98,17 +108,21 @@ mutual
   depth-outline (array ds) = ap suc (items_depth-outline ds)
   depth-outline (object ms) = ap suc (members_depth-outline ms)
 
+  -- the same of the values of a list
   items_depth-outline : (ds : Items) → tree.items_depth (items_outline ds) ≡ items_depth ds
   items_depth-outline no_items = refl
   items_depth-outline (item d ds) = ap₂ max (depth-outline d) (items_depth-outline ds)
 
+  -- the same of the members of an object
   members_depth-outline : (ms : Members) → tree.members_depth (members_outline ms) ≡ members_depth ms
   members_depth-outline no_members = refl
   members_depth-outline (member k d ms) = ap₂ max (depth-outline d) (members_depth-outline ms)
 
+-- the tokens of the compact text of a readable value are those of its outline
 tokens-compact_text : (d : Data) → IsReadable d → tokens (compact_text d) ≡ tree.json_tokens (outline d)
 tokens-compact_text d h = ap tokens (sym (print-outline d)) ∙ tokens-print _ (ArePrintable-json_tokens (outline d) (HasNumbers-outline d h))
 
+-- the compact text of a readable value reads back as that value
 pub read-compact_text : (d : Data) → IsReadable d → depth d ≤ max_depth → read (compact_text d) ≡ Some d
 read-compact_text d h shallow =
     let deep : tree.depth (outline d) ≤ max_depth = omega (arith, depth-outline d) in
@@ -118,20 +132,24 @@ read-compact_text d h shallow =
 
 -- ---- the bytes
 
+-- decimal digits are UTF-8
 IsUtf8-decimal : (n : ℕ) → n < 2 ^ 64 → IsUtf8 (decimal n)
 IsUtf8-decimal n h = IsUtf8-from_ascii _ (IsAscii-decimal n h)
 
+-- the text of a number is UTF-8
 IsUtf8-number : (n : Num) → IsWide n → IsUtf8 (number_text n)
 IsUtf8-number (unsigned n) h = IsUtf8-decimal n h
 IsUtf8-number (negative (pos n)) h = absurd h
 IsUtf8-number (negative (negsuc n)) h = IsUtf8-append (45 ∷ []) (decimal (suc n)) (IsUtf8-are_ascii _ refl) (IsUtf8-decimal (suc n) (omega arith))
 IsUtf8-number (float x) h = absurd h
 
+-- a comma, or none, is UTF-8
 IsUtf8-comma_if : (later : Bool) → IsUtf8 (comma_if later)
 IsUtf8-comma_if true = IsUtf8-are_ascii _ refl
 IsUtf8-comma_if false = IsUtf8-are_ascii _ refl
 
 mutual
+  -- the compact text of a readable value is UTF-8
   pub IsUtf8-compact_text : (d : Data) → IsReadable d → IsUtf8 (compact_text d)
   IsUtf8-compact_text null h = IsUtf8-are_ascii _ refl
   IsUtf8-compact_text (boolean b) h = IsUtf8-boolean b
@@ -140,11 +158,13 @@ mutual
   IsUtf8-compact_text (array ds) h = IsUtf8-append (91 ∷ []) _ (IsUtf8-are_ascii _ refl) (IsUtf8-items_text false ds h)
   IsUtf8-compact_text (object ms) h = IsUtf8-append (123 ∷ []) _ (IsUtf8-are_ascii _ refl) (IsUtf8-members_text false ms h.0)
 
+  -- the same of the values of a list
   IsUtf8-items_text : (later : Bool) (ds : Items) → ItemsReadable ds → IsUtf8 (items_text later ds)
   IsUtf8-items_text later no_items h = IsUtf8-are_ascii _ refl
   IsUtf8-items_text later (item d ds) h =
       IsUtf8-append _ _ (IsUtf8-comma_if later) (IsUtf8-append _ _ (IsUtf8-compact_text d h.0) (IsUtf8-items_text true ds h.1))
 
+  -- the same of the members of an object
   IsUtf8-members_text : (later : Bool) (ms : Members) → MembersReadable ms → IsUtf8 (members_text later ms)
   IsUtf8-members_text later no_members h = IsUtf8-are_ascii _ refl
   IsUtf8-members_text later (member k d ms) h =

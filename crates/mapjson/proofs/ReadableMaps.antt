@@ -38,41 +38,49 @@ abbrev IsLow : ℤ → Type 0
 IsLow (pos n) = ⊤
 IsLow (negsuc n) = n < 2 ^ 63
 
+-- a bound that is below 2^64
 abbrev IsHigh : ℤ → Type 0
 IsHigh (pos n) = n < 2 ^ 64
 IsHigh (negsuc n) = ⊤
 
+-- a number within bounds of 64 bits is readable
 number_within : (low high z : ℤ) → IsLow low → IsHigh high → int_le low z ≡ true → int_le z high ≡ true → IsReadable (number_data z)
 number_within low (pos h) (pos n) l u above below = let most : pos n ≤ℤ pos h = grind (arith, ints) in omega (arith, ints)
 number_within low (negsuc h) (pos n) l u above below = let most : pos n ≤ℤ negsuc h = grind (arith, ints) in absurd (omega (arith, ints))
 number_within (negsuc b) high (negsuc n) l u above below = let least : negsuc b ≤ℤ negsuc n = grind (arith, ints) in omega (arith, ints)
 number_within (pos b) high (negsuc n) l u above below = let least : pos b ≤ℤ negsuc n = grind (arith, ints) in absurd (omega (arith, ints))
 
+-- the same by the test
 number_between : (low high z : ℤ) → IsLow low → IsHigh high → is_between low high z ≡ true → IsReadable (number_data z)
 unfolding is_between
 number_between low high z l u h = let p = and_parts (int_le low z) _ h in number_within low high z l u p.0 p.1
 
+-- a list is readable where each entry that passes a test is
 entries_within : {X : Type 0} (fits : X → Bool) (entry : X → Data) → ((x : X) → fits x ≡ true → IsReadable (entry x)) → (xs : List X) → list_all fits xs ≡ true → ItemsReadable (items_of (map entry xs))
 entries_within fits entry each [] h = tt
 entries_within fits entry each (x ∷ xs) h = let p = and_parts (fits x) _ h in (each x p.0, entries_within fits entry each xs p.1)
 
 -- ---- the forest
 
+-- the word of a kind of bucket is ASCII
 kind_ascii : (k : BucketKind) → are_ascii (kind_word k) ≡ true
 kind_ascii Uniform = refl
 kind_ascii Listed = refl
 kind_ascii Tree = refl
 
+-- an item within its limits is readable
 item_readable : (i : ItemPart) → item_fits i ≡ true → IsReadable (item_data i)
 unfolding item_fits
 item_readable i h =
     let p = and_parts (is_between (negsuc 65535) (pos 1023) i.id) _ h in
     (number_between (negsuc 65535) (pos 1023) i.id (omega arith) (omega arith) p.0, (number_between (pos 1) (pos 4294967295) i.weight tt (omega arith) p.1, tt))
 
+-- the id of a bucket is readable
 id_readable : (z : ℤ) → is_bucket_id z ≡ true → IsReadable (number_data z)
 unfolding is_bucket_id
 id_readable z h = number_between (negsuc 65535) (negsuc 0) z (omega arith) tt h
 
+-- a bucket within its limits is readable
 bucket_readable : (b : BucketPart) → bucket_fits b ≡ true → IsReadable (bucket_data b)
 unfolding bucket_fits bucket_data
 bucket_readable b h =
@@ -93,16 +101,19 @@ bucket_readable b h =
 
 -- ---- rules
 
+-- the word of what a rule is for is ASCII
 use_ascii : (k : RuleKind) → are_ascii (use_word k) ≡ true
 use_ascii Replicated = refl
 use_ascii Erasure = refl
 
+-- the word of a choose step is ASCII
 choose_ascii : (mode : Mode) (to_leaf : Bool) → are_ascii (choose_word mode to_leaf) ≡ true
 choose_ascii Firstn false = refl
 choose_ascii Indep false = refl
 choose_ascii Firstn true = refl
 choose_ascii Indep true = refl
 
+-- a step within its limits is readable
 step_readable : (s : StepPart) → step_fits s ≡ true → IsReadable (step_data s)
 unfolding step_fits step_data
 step_readable (SetChooseTries tries) h = (refl, (number_between (pos 1) (pos 200) tries tt (omega arith) h, tt))
@@ -115,6 +126,7 @@ step_readable (Choose c) h =
     )
 step_readable Emit h = (refl, tt)
 
+-- a rule within its limits is readable
 rule_readable : (r : RulePart) → rule_fits r ≡ true → IsReadable (rule_data r)
 unfolding rule_fits rule_data
 rule_readable r h =
@@ -130,6 +142,7 @@ rule_readable r h =
 
 -- ---- pools and OSDs
 
+-- a pool within its limits is readable
 pool_readable : (p : PoolPart) → pool_fits p ≡ true → IsReadable (pool_data p)
 unfolding pool_fits pool_data
 pool_readable p h =
@@ -161,6 +174,7 @@ pool_readable p h =
       refl,
     )
 
+-- an OSD within its limits is readable
 osd_readable : (o : OsdPart) → osd_fits o ≡ true → IsReadable (osd_data o)
 unfolding osd_fits osd_data
 osd_readable o h =
@@ -179,10 +193,12 @@ osd_readable o h =
 
 -- ---- exceptions
 
+-- two texts of ASCII behind one another are ASCII
 ascii-append : (xs ys : List ℕ) → are_ascii xs ≡ true → are_ascii ys ≡ true → are_ascii (xs ++ ys) ≡ true
 ascii-append [] ys front back = back
 ascii-append (x ∷ xs) ys front back = let p = and_parts (nat_lt x 128) _ front in rw (p.0, ascii-append xs ys p.1 back) refl
 
+-- a digit in front of ASCII is ASCII
 ascii-glyph : (d : ℕ) (cs : List ℕ) → d < 16 → are_ascii cs ≡ true → are_ascii (digit_glyph false d ∷ cs) ≡ true
 ascii-glyph d cs small others = grind (arith, others)
 
@@ -191,30 +207,36 @@ ascii-last : (k base n : ℕ) (cs : List ℕ) (b : Bool) → are_ascii cs ≡ tr
 ascii-last k base n cs true last more = last
 ascii-last k base n cs false last more = more
 
+-- digits in front of ASCII are ASCII
 ascii-digits_onto : (k base n : ℕ) (cs : List ℕ) → 0 < base → base ≤ 16 → are_ascii cs ≡ true → are_ascii (digits_onto k base false n cs) ≡ true
 ascii-digits_onto zero base n cs some few others = others
 ascii-digits_onto (suc k) base n cs some few others =
     let last = ascii-glyph (n % base) cs (omega (arith, mod_below n base some)) others in
     ascii-last k base (n / base) (digit_glyph false (n % base) ∷ cs) (n / base == 0) last (ascii-digits_onto k base (n / base) (digit_glyph false (n % base) ∷ cs) some few last)
 
+-- the text of a group is ASCII
 group_ascii : (g : Pg) → are_ascii (group_text g) ≡ true
 unfolding digits
 group_ascii g =
     ascii-append (decimal g.pool) _ (ascii-digits_onto 64 10 g.pool [] (omega arith) (omega arith) refl)
     (ascii-digits_onto 64 16 g.number [] (omega arith) (omega arith) refl)
 
+-- the id of an OSD is readable
 osd_id_readable : (z : ℤ) → is_osd_id z ≡ true → IsReadable (number_data z)
 unfolding is_osd_id
 osd_id_readable z h = number_between (pos 0) (pos 1023) z tt (omega arith) h
 
+-- a pair within its limits is readable
 pair_readable : (p : PairPart) → pair_fits p ≡ true → IsReadable (pair_data p)
 unfolding pair_fits
 pair_readable p h = let each = and_parts (is_osd_id p.from) (is_osd_id p.to) h in (osd_id_readable p.from each.0, (osd_id_readable p.to each.1, tt))
 
+-- an exception within its limits is readable where its entries are
 exception_readable : {X : Type 0} (fits : X → Bool) (entry : X → Data) → ((x : X) → fits x ≡ true → IsReadable (entry x)) → (e : ExceptionPart X) → exception_fits fits e ≡ true → IsReadable (exception_data entry e)
 unfolding exception_fits exception_data
 exception_readable fits entry each e h = (group_ascii (pg_of e.pg), (entries_within fits entry each e.entries (and_parts _ (list_all fits e.entries) h).1, tt))
 
+-- exceptions within their limits are readable where their entries are
 exceptions_readable : {X : Type 0} (fits : X → Bool) (entry : X → Data) → ((x : X) → fits x ≡ true → IsReadable (entry x)) → (es : List (ExceptionPart X)) → exceptions_fit fits es ≡ true → ItemsReadable (items_of (map (exception_data entry) es))
 unfolding exceptions_fit
 exceptions_readable fits entry each es h =
@@ -222,6 +244,7 @@ exceptions_readable fits entry each es h =
 
 -- ---- the map
 
+-- the parts of a map within the limits are readable
 pub map_readable : (p : MapParts) → parts_fit p ≡ true → IsReadable (map_data p)
 unfolding parts_fit head_fits map_data
 map_readable p h =

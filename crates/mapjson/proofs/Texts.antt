@@ -11,6 +11,7 @@ pub json_of_some : (bytes : List ℕ) (d : Data) → IsUtf8 bytes → read bytes
 json_of_some bytes d utf8 reads =
     ap (λ b. if b then read bytes else None) (is_utf8-from_IsUtf8 bytes utf8) ∙ reads
 
+-- nothing comes of a test that leads to nothing where it holds
 none_if : (b : Bool) (o : Option Data) → (b ≡ true → o ≡ None) → (if b then o else None) ≡ None
 none_if true o h = h refl
 none_if false o h = refl

@@ -18,10 +18,12 @@ step_same (step.Take id) = refl
 step_same (step.Choose c) = refl
 step_same step.Emit = refl
 
+-- the parts of steps set tries where the steps do
 steps_same : (steps : List Step) → list_any sets_tries (map step_part steps) ≡ list_any grammar.sets_tries steps
 steps_same [] = refl
 steps_same (s ∷ steps) = rw (step_same s, steps_same steps) refl
 
+-- the parts of rules set tries where the rules do
 rules_same : (rules : List NumberedRule) → list_any (λ r. list_any sets_tries r.steps) (map rule_part rules) ≡ list_any (λ r. list_any grammar.sets_tries r.rule.steps) rules
 rules_same [] = refl
 rules_same (r ∷ rules) = rw (steps_same r.rule.steps, rules_same rules) refl

@@ -30,7 +30,9 @@ reweight_of d = option_map (λ one. record { osd = one.0; weight = one.1 }) (bot
 
 -- a pool and its new numbers of groups: [pool, pg_num, pgp_num]
 unfoldable pub growth_of : Data → Option GrowPart
-growth_of d = option_map (λ three. record { pool = three.0; pg_num = three.1; pgp_num = three.2 }) (three_of number_of number_of number_of d)
+growth_of d =
+    option_map (λ three. record { pool = three.0; pg_num = three.1; pgp_num = three.2 })
+    (three_of number_of number_of number_of d)
 
 -- a forest and rules, both required; steps that set tries are always allowed
 unfoldable pub crush_of : Data → Option CrushParts
@@ -41,8 +43,8 @@ crush_of d = if has_only (codes "buckets" ∷ codes "rules" ∷ []) d then (do
 
 abbrev pub change_keys : List (List ℕ)
 change_keys =
-    codes "base" ∷ codes "down" ∷ codes "grow_pool" ∷ codes "new_crush" ∷ codes "new_items" ∷ codes "new_pools" ∷ codes "new_upmap" ∷ codes "old_items"
-    ∷ codes "old_pools" ∷ codes "old_upmap" ∷ codes "up" ∷ codes "weight" ∷ []
+    codes "base" ∷ codes "down" ∷ codes "grow_pool" ∷ codes "new_crush" ∷ codes "new_items" ∷ codes "new_pools"
+    ∷ codes "new_upmap" ∷ codes "old_items" ∷ codes "old_pools" ∷ codes "old_upmap" ∷ codes "up" ∷ codes "weight" ∷ []
 
 -- the parts of a change: the base, which is required, lists, which may be missing, and a CRUSH map, which may be
 unfoldable pub stated_change : Data → Option RawChange
@@ -133,8 +135,8 @@ IsCrushStated (Some p) k = IsSomeAnd k (IsCrushOf p.buckets p.rules)
 abbrev pub are_even : RawChange → Bool
 are_even c = list_all has_enough_groups c.new_pools && list_all grows_evenly c.grow_pool
 
--- a number or a length is outside its limits, else the CRUSH map is none, else a pool has more groups for placement than
--- groups
+-- a number or a length is outside its limits, else the CRUSH map is none, else a pool has more groups for placement
+-- than groups
 abbrev pub change_fault : RawChange → Option Refusal
 change_fault c =
     if not (change_fits c) then Some BadLimit

@@ -53,7 +53,8 @@ both_of first second d = if has_count 2 d then (do
   Some (x, y)) else None
 
 -- a list of three values, by what states each
-abbrev pub three_of : {X Y Z : Type 0} → (Data → Option X) → (Data → Option Y) → (Data → Option Z) → Data → Option (X × Y × Z)
+abbrev pub three_of : {X Y Z : Type 0} → (Data → Option X) → (Data → Option Y) → (Data → Option Z) → Data
+    → Option (X × Y × Z)
 three_of first second third d = if has_count 3 d then (do
   x ← place first 0 d
   y ← place second 1 d

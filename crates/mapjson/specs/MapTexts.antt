@@ -199,7 +199,8 @@ map_of d = if has_only map_keys d then (do
 
 -- rules set tries in maps of version 2 alone
 abbrev pub in_its_version : MapParts → Option MapParts
-in_its_version p = if not (int_eq p.version (pos 2)) && list_any (λ r. list_any sets_tries r.steps) p.rules then None else Some p
+in_its_version p =
+    if not (int_eq p.version (pos 2)) && list_any (λ r. list_any sets_tries r.steps) p.rules then None else Some p
 
 -- the parts of a map of its version
 unfoldable pub stated_map : Data → Option MapParts

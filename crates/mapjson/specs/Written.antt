@@ -151,6 +151,7 @@ map_data p = object_of (
     ∷ (codes "version", number_data p.version)
     ∷ [])
 
--- the text of a map: its buckets by id downwards, its rules, pools and OSDs by id upwards, and its exceptions by group upwards
+-- the text of a map: its buckets by id downwards, its rules, pools and OSDs by id upwards, and its exceptions by group
+-- upwards
 unfoldable pub written : ClusterMap → List ℕ
 written m = compact_text (map_data (parts_of m))

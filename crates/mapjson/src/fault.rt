@@ -1,7 +1,7 @@
 //! Why a value is not read.
 
 use refusal::Refusal;
-use std::alloc::AllocFailed;
+use std::alloc::{AllocError, AllocFailed};
 
 /// Why a value is not read.
 #[derive(Clone, Copy, Debug, PartialEq, Eq)]
@@ -23,6 +23,17 @@ impl From<Fault> for Refusal {
             Fault::Field => Refusal::BadField,
             Fault::Memory => Refusal::Memory,
         }
+    }
+}
+
+impl From<AllocError> for Fault {
+    ghost use Rattle.std.specs.Prelude.{◌≡◌};
+    ghost use Rattle.mapjson.specs.declared.fault.Fault.TheVariants.{Memory as OutOfMemory};
+
+    ghost from_gives = { λ _ fault. fault ≡ OutOfMemory };
+
+    fn from(_error: AllocError) -> Fault {
+        Fault::Memory
     }
 }
 

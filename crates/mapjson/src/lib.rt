@@ -37,11 +37,11 @@ pub fn read_map(alloc: Global, bytes: &[u8]) -> Result<OsdMap, Refusal>
 /// than 127; `BadField` (11) where it does not state a change; `BadLimit` (12) where a number or a length is outside
 /// its limits: a base of 0 to 2^64 - 1, ids of pools of 1 to 65,535, OSDs of 0 to 1,023, reweights of 0 to
 /// 4,294,967,295, groups' numbers of at most 32 bits, at most 10 OSDs or pairs of a group, lists of at most 131,072
-/// entries, of a new pool what [`osdmap::Pool`] has, of a growth what [`osdmap::Grow`] has, and of a new CRUSH map what a
-/// map's buckets and rules have; `BadForest` (13) where the new buckets are no well-formed forest over 1,024 devices;
-/// `BadRule` (14) where a new rule is outside the grammar, takes a bucket that is not among them, or has the id of another;
-/// `BadPool` (15) where the `pgp_num` of a new or growing pool is above its `pg_num`. Each is tested
-/// over the whole text before the next. `Memory` (30).
+/// entries, of a new pool what [`osdmap::Pool`] has, of a growth what [`osdmap::Grow`] has, and of a new CRUSH map what
+/// a map's buckets and rules have; `BadForest` (13) where the new buckets are no well-formed forest over 1,024 devices;
+/// `BadRule` (14) where a new rule is outside the grammar, takes a bucket that is not among them, or has the id of
+/// another; `BadPool` (15) where the `pgp_num` of a new or growing pool is above its `pg_num`. Each is tested over the
+/// whole text before the next. `Memory` (30).
 pub fn read_change(alloc: Global, bytes: &[u8]) -> Result<(u64, Change), Refusal>
     ensures { Makes result (change_text_fault bytes.now) (StatesChange bytes.now) }
 {
@@ -51,9 +51,9 @@ pub fn read_change(alloc: Global, bytes: &[u8]) -> Result<(u64, Change), Refusal
     Ok((base, change))
 }
 
-/// The text of a map: compact JSON, each object with all its keys in byte order, buckets by id from -1 downwards, rules,
-/// pools and OSDs by id upwards, exceptions by group upwards, items, steps, explicit sets and pairs in their order. An
-/// OSD that does not exist and has reweight 0 is left out. Or 30 (Memory).
+/// The text of a map: compact JSON, each object with all its keys in byte order, buckets by id from -1 downwards,
+/// rules, pools and OSDs by id upwards, exceptions by group upwards, items, steps, explicit sets and pairs in their
+/// order. An OSD that does not exist and has reweight 0 is left out. Or 30 (Memory).
 pub fn write_map(alloc: Global, map: &OsdMap) -> Result<Vec<u8>, Memory>
     ensures text { IfOk result (λ bytes. bytes.items ≡ written map.now.map) }
     ensures utf8 { IfOk result (λ bytes. IsUtf8 bytes.items) }

@@ -58,7 +58,7 @@ impl<T: FromJson> FromJson for Entries<T> {
 fn entries<T: FromJson>(alloc: Global, values: &[Value]) -> Result<Entries<T>, Fault>
     ensures { Reads result (entries_of T.stated (items_view values.now)) }
 {
-    let mut found = Vec::new(alloc);
+    let mut found = Vec::with_capacity(alloc, values.len())?;
     for value in values {
         found.push(T::from_json(alloc, value)?)?;
     }

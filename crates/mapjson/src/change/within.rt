@@ -61,7 +61,8 @@ fn groups(alloc: Global, stated: &[PgParts]) -> Result<Vec<Pg>, AllocError>
 /// groups.
 fn pools(alloc: Global, stated: &[PoolPart]) -> Result<Vec<Pool>, Refusal>
     requires { list_all pool_fits stated.now ≡ true }
-    ensures { Makes result (refused_unless (list_all has_enough_groups stated.now) BadPool) (λ pools. pools.items ≡ map pool_of stated.now) }
+    ensures { Makes result (refused_unless (list_all has_enough_groups stated.now) BadPool)
+        (λ pools. pools.items ≡ map pool_of stated.now) }
 {
     let mut pools = Vec::with_capacity(alloc, stated.len())?;
     for part in stated {
@@ -74,7 +75,8 @@ fn pools(alloc: Global, stated: &[PoolPart]) -> Result<Vec<Pool>, Refusal>
 /// groups.
 fn growths(alloc: Global, stated: &[GrowPart]) -> Result<Vec<Grow>, Refusal>
     requires { list_all growth_fits stated.now ≡ true }
-    ensures { Makes result (refused_unless (list_all grows_evenly stated.now) BadPool) (λ found. found.items ≡ map growth_of stated.now) }
+    ensures { Makes result (refused_unless (list_all grows_evenly stated.now) BadPool)
+        (λ found. found.items ≡ map growth_of stated.now) }
 {
     let mut found = Vec::with_capacity(alloc, stated.len())?;
     for part in stated {
@@ -101,7 +103,8 @@ pub(super) fn crush_within(
 #[tactic(auto, unfolding(stated::specs::CrushMaps::crush_fits))]
 fn crush_stated(alloc: Global, parts: &CrushParts) -> Result<CrushMap, Refusal>
     requires { crush_fits parts.now ≡ true }
-    ensures { Makes result (crush_fault parts.now.buckets parts.now.rules max_devices) (IsCrushOf parts.now.buckets parts.now.rules) }
+    ensures { Makes result (crush_fault parts.now.buckets parts.now.rules max_devices)
+        (IsCrushOf parts.now.buckets parts.now.rules) }
 {
     CrushMap::stated(alloc, &parts.buckets, &parts.rules, MAX_DEVICES)
 }
