@@ -1,8 +1,8 @@
 """Many sessions at once, each answer checked by one history.
 
-Each session has a script of mixed look-ups and changes over many pools, from a seed. A change's base comes in turn: a few sessions wait for each epoch
-and then try to change the map at it, one of them by something that the map cannot refuse, so that the epochs go on however the sessions fall; plans of a
-balancer go in between. `faults` rebuilds from the answers the one order in which changes were accepted, plays that order by one session, with
+Each session has a script of mixed look-ups and changes over many pools, from a seed. The epochs are cut into stretches, and half of the sessions wait for
+each stretch and then all try to change the map at each of its epochs in turn. One of them does so by something that the map cannot refuse, so that
+the epochs go on however the sessions fall; plans of a balancer go in between. `faults` rebuilds from the answers the one order in which changes were accepted, plays that order by one session, with
 each line put at the epoch that its answer carries, and compares the answers.
 """
 
@@ -12,7 +12,7 @@ import re
 import subprocess
 
 FIRST, OSDS, HOSTS = 1, 24, 8
-CLASSES = 4
+CLASSES, STRETCH = 2, 10
 SPARE_POOL = 77
 SPAN = re.compile(r"^(?:up|fup|count|groups|epoch|ok|follow) (\d+)|^moved \d+ epoch (\d+)|^err 20 StaleEpoch (\d+)|^f?dump .*?\"epoch\":(\d+)")
 
@@ -92,20 +92,20 @@ class Writer:
         return "change " + json.dumps({"base": base, **part}, separators=(",", ":"))
 
     def script(self, place, lines, bases):
-        """The script of a session: it waits for each base of its class, changes the map at it, and looks at maps between."""
-        own = [base for base in range(FIRST, FIRST + bases) if base % CLASSES == place % CLASSES]
+        """The script of a session: it waits for each stretch of bases of its class, tries to change the map at each base of it, and looks at maps between."""
+        own = [base for base in range(bases) if base // STRETCH % CLASSES == place % CLASSES]
         script = []
         for number, base in enumerate(own):
             due = lines * (number + 1) // len(own) - 2
             script += [self.look() for _ in range(due - len(script))]
-            script += [f"await {base}", self.change(base, place < CLASSES)]
+            script += [f"await {FIRST + base}"] * (base % STRETCH == 0) + [self.change(FIRST + base, place < CLASSES)]
         return script + [self.look() for _ in range(lines - len(script))]
 
 
 def scripts(seed, sessions, lines, pools, groups):
-    """A map and a script for each session; a quarter of a script's lines or so wait and change."""
+    """A map and a script for each session; a quarter of a script's lines or so try to change the map."""
     writer = Writer(seed, pools, groups)
-    bases = CLASSES * lines // 8
+    bases = CLASSES * (lines // 4 // STRETCH) * STRETCH
     return a_map(pools, groups), [writer.script(place, lines, bases) for place in range(sessions)]
 
 
