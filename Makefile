@@ -12,7 +12,7 @@ help:
 	@echo 'make test   the gate: every proof from nothing, the edits that must not prove, the tests, then runs of the built program'
 	@echo 'make gate   the gate without the runs'
 	@echo 'make runs   the runs of the built program alone (seconds)'
-	@echo 'make bench  speeds of the built program, and its placements beside plain C (cc, and valgrind for instructions), outside the gate'
+	@echo 'make bench  what the built program costs, as tables: placements beside plain C (cc, and valgrind for instructions), table, sessions, balancer'
 
 # Runs with checks in place of proofs.
 try:
@@ -36,5 +36,8 @@ runs:
 	@python3 tests/run.py $(PROGRAM)
 
 bench: prove
-	@python3 bench/speeds.py $(PROGRAM)
+	@python3 bench/machine.py
 	@python3 bench/placements.py $(PROGRAM)
+	@python3 bench/tables.py $(PROGRAM)
+	@python3 bench/sessions.py $(PROGRAM)
+	@python3 bench/balancer.py $(PROGRAM)

@@ -1,49 +1,49 @@
 #!/usr/bin/env python3
-"""What one placement costs, in instructions: the built program beside plain C (bench/plain.c, cc -O2).
+"""What one placement costs, in instructions: the built program beside plain C (plain.c, cc -O2), and beside Ceph's own `osdmaptool` where it
+is installed.
 
     placements.py PROGRAM
 
-Each row is a map of one kind of bucket. Both sides place the same 1,000 groups, and must agree; the cost is that of 1,100 groups
-less that of 100, over 1,000. Of the program's cost that of as many lines of the same form that are refused (a pool that there is
-not) is taken off: what is left is the placement, with the look-up of the group and the writing of its set, some 800 instructions
-that plain C does not have. Where there is no valgrind, the microseconds of a placement are told in place of instructions. It is no
-part of the gate.
+A map is opened by a run of its rule for each group, so the cost of a placement is that of opening a map with 4,096 groups less that of the same
+map with 1,024, over 3,072: reading the map and all else cancels. Plain C and `osdmaptool` place the same groups, and their cost is told apart in the
+same way. All sets of the 4,096 groups are compared in the same run. The program does more than plain C, which adds a set up and forgets it: it looks
+for the group's exceptions, keeps the set in the table, and puts the group into the lists of its OSDs. What the function costs that finds a group's mapped
+set (the rule's run and the exceptions, without the table) is told apart, by its name in the built program. Where there is no valgrind, microseconds
+are told in place of instructions. It is no part of the gate.
 """
 
-import json
 import os
 import re
-import shutil
 import subprocess
 import sys
-import tempfile
-import time
 
-import speeds
+import ceph
+from maps import KINDS, SHAPES
+from running import HAS_VALGRIND, heading, in_folder, instructions, output, seconds, table
 
-KINDS = ("uniform", "list", "tree")
-FEW, MANY = 100, 1100
-
-
-def instructions(words):
-    """The instructions of a run."""
-    done = subprocess.run(["valgrind", "--tool=callgrind", "--callgrind-out-file=/dev/null"] + words,
-                          stdout=subprocess.DEVNULL, stderr=subprocess.PIPE, text=True, check=True)
-    return int(re.search(r"Collected : (\d+)", done.stderr).group(1))
+FEW, MANY = 1024, 4096
+MAPPED = "*OsdMap::mapped_of*"
+GOALS = {"uniform": [0.75, 0.75, 0.75], "list": [0.6, 0.5, 0.4], "tree": [0.95, 0.95, 0.95]}
+HERE = os.path.dirname(os.path.abspath(__file__))
 
 
-def microseconds(words):
-    """The time of a run, the best of five."""
-    times = []
-    for _ in range(5):
-        begin = time.perf_counter()
-        subprocess.run(words, stdout=subprocess.DEVNULL, check=True)
-        times.append(time.perf_counter() - begin)
-    return min(times) * 1e6
+def cost(words):
+    """The instructions of a run, or its microseconds."""
+    return instructions(words) if HAS_VALGRIND else seconds(words) * 1e6
+
+
+def a_placement(few, many, measure=cost):
+    """The cost of one of the groups that only the second of two runs places."""
+    return (measure(many) - measure(few)) / (MANY - FEW)
+
+
+def mapped_cost(words):
+    """The instructions that finding mapped sets takes in a run; 0 where they cannot be told apart."""
+    return instructions(words, MAPPED) if HAS_VALGRIND else 0
 
 
 def plain_text(stated):
-    """The map as bench/plain.c reads it."""
+    """The map as plain.c reads it."""
     numbers = [stated["max_osd"], len(stated["buckets"])]
     for bucket in stated["buckets"]:
         numbers += [bucket["id"], bucket["type"], KINDS.index(bucket["kind"]), len(bucket["items"])]
@@ -52,52 +52,58 @@ def plain_text(stated):
     return " ".join(str(number) for number in numbers + [step[2], stated["pools"][0]["size"]]) + "\n"
 
 
-def script(folder, pool, count):
-    """A script of `up` lines over the groups of a pool."""
-    path = os.path.join(folder, f"{pool}-{count}")
-    with open(path, "w") as out:
-        out.writelines(f"up {pool}.{n:x}\n" for n in range(count))
-    return path
+def program_sets(runs, stated):
+    """The sets of all groups as the program answers them."""
+    lines = output(runs.words(stated, "".join(f"up 1.{number:x}\n" for number in range(MANY))))
+    return [line.split(" ")[3] for line in lines]
 
 
-def answers(words, pattern):
-    """The sets that a run answers, in order."""
-    done = subprocess.run(words, stdout=subprocess.PIPE, text=True, check=True)
-    return re.findall(pattern, done.stdout, re.M)
+def plain_sets(words):
+    """The sets of all groups as plain C prints them."""
+    return re.findall(r"^\S+ (\[[-\d,]*\])", subprocess.run(words + ["print"], stdout=subprocess.PIPE, text=True, check=True).stdout, re.M)
 
 
-def compared(program, plain, folder, stated):
-    """What one placement costs the program and plain C."""
-    rough = os.path.join(folder, "map.txt")
-    with open(rough, "w") as out:
-        out.write(plain_text(stated))
-    exact = os.path.join(folder, "map.json")
-    with open(exact, "w") as out:
-        json.dump(stated, out)
-    ours = answers([program, exact, script(folder, 1, MANY)], r"^up \d+ \S+ (\[[-\d,]*\])")
-    theirs = answers([plain, rough, "0", str(MANY), "print"], r"^\S+ (\[[-\d,]*\])")
-    if ours != theirs or len(ours) != MANY:
-        sys.exit("the program and plain C place differently")
-    cost = instructions if shutil.which("valgrind") else microseconds
-    placed, refused = ([cost([program, exact, script(folder, pool, count)]) for count in (FEW, MANY)] for pool in (1, 99))
-    written = [cost([plain, rough, "0", str(count)]) for count in (FEW, MANY)]
-    return ((placed[1] - placed[0]) - (refused[1] - refused[0])) / (MANY - FEW), (written[1] - written[0]) / (MANY - FEW)
+def agree(ours, others, who):
+    """Ends the bench where some sets differ."""
+    if len(ours) != MANY or ours != others:
+        sys.exit(f"the program and {who} place differently")
+
+
+def compared(runs, plain, shape, kind):
+    """What a placement costs the program, and in it the mapped set; plain C; and Ceph where it is installed."""
+    few, many = shape(kind, FEW), shape(kind, MANY)
+    ours = [runs.map(stated) for stated in (few, many)]
+    rough = runs.file(plain_text(many))
+    theirs = [[plain, rough, "0", str(count)] for count in (FEW, MANY)]
+    sets = program_sets(runs, ours[1])
+    agree(sets, plain_sets(theirs[1]), "plain C")
+    opened = [runs.words(stated, "") for stated in ours]
+    found = [a_placement(*opened), a_placement(*opened, mapped_cost), a_placement(*theirs)]
+    if ceph.is_installed():
+        paths = [ceph.osdmap(stated, runs.folder) for stated in (few, many)]
+        agree(sets, ceph.sets(paths[1]), "osdmaptool")
+        found.append(a_placement(*map(ceph.words, paths)))
+    return found
+
+
+def rows(runs):
+    """A row for each of the nine maps."""
+    plain = os.path.join(runs.folder, "plain")
+    subprocess.run(["cc", "-O2", "-o", plain, os.path.join(HERE, "plain.c")], check=True)
+    for place, (name, shape) in enumerate(SHAPES):
+        for kind in KINDS:
+            ours, mapped, theirs, *tool = compared(runs, plain, shape, kind)
+            ratios = [ours / theirs, f"{GOALS[kind][place]}", mapped / theirs]
+            yield [f"{name}, {kind}", ours, mapped, theirs] + ratios + [cell for cost in tool for cell in (cost, ours / cost)]
 
 
 def main():
-    program = os.path.abspath(sys.argv[1])
-    unit = "instructions" if shutil.which("valgrind") else "microseconds"
-    print(f"{unit} a placement of size 3; the ratio is the program's to that of plain C")
-    with tempfile.TemporaryDirectory() as folder:
-        plain = os.path.join(folder, "plain")
-        subprocess.run(["cc", "-O2", "-o", plain, os.path.join(os.path.dirname(os.path.abspath(__file__)), "plain.c")], check=True)
-        shapes = (("64 OSDs in 8 hosts", speeds.few_hosts),
-                  ("1,024 OSDs, 511 buckets, 3 levels", lambda kind: speeds.levels(kind, 30, 480, 8)),
-                  ("64 OSDs in one bucket", speeds.flat))
-        for name, shape in shapes:
-            for kind in KINDS:
-                ours, theirs = compared(program, plain, folder, shape(kind))
-                print(f"{name:34} {kind:8} program {ours:10,.1f} plain C {theirs:10,.1f} ratio {ours / theirs:5.2f}")
+    heading(f"A placement of size 3, in {'instructions' if HAS_VALGRIND else 'microseconds'}")
+    tool = ["`osdmaptool`", "to `osdmaptool`"] if ceph.is_installed() else []
+    columns = ["map", "program", "of it the mapped set", "plain C", "to plain C", "goal", "the set to plain C"] + tool
+    in_folder(sys.argv[1], lambda runs: table(columns, rows(runs)))
+    if not tool:
+        print("\nNot beside Ceph: no `osdmaptool` and `crushtool` here.")
 
 
 if __name__ == "__main__":

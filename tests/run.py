@@ -12,7 +12,9 @@ a text, or a change as an object. Where a row stands for many runs, or for many 
 `sessions` has a script and the answers of each, and runs them at once. A row with
 `arguments` says all itself: files, standard output, standard error, status. Entries repeated in a list are written as
 `filled` below reads them, and texts as `text_of` does. The greatest runs are made by this file (`maxima`); the examples
-have their answers beside them. At the end each growth of the examples' runs is refused in turn (memory.py).
+have their answers beside them. `plans` and `balanced` are plans of a balancer reckoned apart (plans.py, balanced.py), `soak` many sessions whose answers must be
+those of one history (soak.py), and `apart` holds what reckons apart against Ceph's placements and the kept answers, and the kept picture against
+its numbers. At the end each growth of the examples' runs is refused in turn (memory.py).
 """
 
 import argparse
@@ -24,11 +26,18 @@ import sys
 import tempfile
 from concurrent.futures import ThreadPoolExecutor
 
+import balanced
 import memory
+import model
+import soak
 from plans import cases as plan_cases
 
 HERE = pathlib.Path(__file__).resolve().parent
-TABLES = ["worked", "placements", "changes", "growth", "limits", "texts", "sessions", "balance", "plans", "program", "examples", "maxima"]
+sys.path.insert(0, str(HERE.parent / "tools"))
+import chart  # noqa: E402
+
+TABLES = ["worked", "placements", "changes", "growth", "limits", "texts", "sessions", "balance", "plans", "balanced", "soak", "program", "examples",
+          "apart", "maxima"]
 SECONDS = 60
 
 
@@ -151,6 +160,13 @@ class Run:
         self.wanted = {"status": status, "output": output, "error": error}
 
 
+class Check:
+    """What is found otherwise than by comparing the output of one run: some work that is given the program and answers what is wrong."""
+
+    def __init__(self, name, work):
+        self.name, self.work = name, work
+
+
 def coded(text):
     return text.encode("utf-8", "surrogateescape")
 
@@ -190,7 +206,9 @@ def difference(what, wanted, got):
 
 
 def differences(run, command):
-    """All that differs in a run, and in the run that follows from its output where there is one."""
+    """All that differs in a run, and in the run that follows from its output where there is one; or what a check finds."""
+    if isinstance(run, Check):
+        return run.work(command)
     with tempfile.TemporaryDirectory() as folder:
         for name, data in run.files.items():
             path = pathlib.Path(folder) / name
@@ -388,12 +406,73 @@ def plans():
         yield Run(name, {"map": text, "script": "\n".join(lines) + "\n"}, "\n".join(["session 1"] + answers) + "\n")
 
 
+def in_files(command, value, lines):
+    """The answers of the lines of one session over a map."""
+    with tempfile.TemporaryDirectory() as folder:
+        words, play = soak.run(command, pathlib.Path(folder), [], value)
+        return play(lines)
+
+
+def balanced_case():
+    """The larger map, answered as by the model, and what must hold of the answers."""
+    value, script, answers = balanced.case()
+
+    def work(command):
+        got = in_files(command, value, script)
+        unlike = [f"{line}: wanted {wanted[:200]}, got {answer[:200]}" for line, wanted, answer in zip(script, answers, got) if wanted != answer]
+        return unlike + balanced.faults(value, got)
+
+    yield Check("three pools over 40 OSDs", work)
+
+
+def soaks():
+    """8 sessions of 200 lines at once, from several seeds."""
+    def work_of(seed):
+        def work(command):
+            value, scripts = soak.scripts(seed, 8, 200, 6, 16)
+            with tempfile.TemporaryDirectory() as folder:
+                words, play = soak.run(command, pathlib.Path(folder), scripts, value)
+                output = subprocess.run(words, capture_output=True, text=True, timeout=SECONDS, check=True).stdout
+                wrong, made, compared = soak.faults(scripts, output, play)
+            return wrong if wrong or (made >= 100 and compared >= 1400) else [f"only {made} changes made, {compared} answers compared"]
+        return work
+
+    return (Check(f"8 sessions at once, seed {seed}", work_of(seed)) for seed in range(1, 5))
+
+
+def modelled(row):
+    """What the model places otherwise than a table of sets says; a rule that sets tries it does not know."""
+    cluster = model.Cluster(json.loads(map_text(row.get("map", "one device"))))
+    return [f"{group}: wanted {places}, the model {found}" for group, places in row["sets"].items()
+            if (found := model.placed(cluster, group)) != places]
+
+
+def apart():
+    """The model against placements, among them those of Ceph's tools, and against the example that is answered by it; the kept picture."""
+    def answered(_):
+        value, script = json.loads((folder / "map.json").read_text()), (folder / "script.txt").read_text().splitlines()
+        return [] if model.answers(value, script) == (folder / "answers.txt").read_text().splitlines()[1:] else ["answered otherwise"]
+
+    def drawn(_):
+        value, script, answers = ((folder / name).read_text() for name in ("map.json", "script.txt", "answers.txt"))
+        kept = (HERE.parent / "docs" / "balance.svg").read_text()
+        return [] if chart.picture(json.loads(value), script, answers) == kept else ["docs/balance.svg is not what tools/chart.py draws"]
+
+    folder = HERE.parent / "examples" / "balance"
+    for row in json.loads((HERE / "placements.json").read_text())["runs"]:
+        if "sets" in row and "set_choose" not in map_text(row.get("map", "one device")):
+            yield Check(f"the model: {row['name']}", lambda _, row=row: modelled(row))
+    yield Check("the model: the example of balancing", answered)
+    yield Check("the picture of the example", drawn)
+
+
+MADE = {"plans": plans, "examples": examples, "maxima": maxima, "balanced": balanced_case, "soak": soaks, "apart": apart}
+
+
 def table_of(name):
     """The runs of a table."""
-    if name == "plans":
-        return plans()
-    if name in ("examples", "maxima"):
-        return examples() if name == "examples" else maxima()
+    if name in MADE:
+        return MADE[name]()
     rows = json.loads((HERE / f"{name}.json").read_text())["runs"]
     return (run for row in rows for run in runs_of(row))
 

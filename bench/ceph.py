@@ -1,0 +1,83 @@
+"""A map of one rule and one replicated pool in the form of Ceph's tools: a CRUSH map as text, which `crushtool` compiles, put into a map that
+`osdmaptool` makes with a pool of the same number of groups. All OSDs are up and in.
+
+The traps: the reader of the text wants each bucket after those in it; `osdmaptool` gives a pool a number of groups that is the number of OSDs
+shifted to the left; it prints placements whole only into a file; and no name may begin with a word of the text's own, such as `type`.
+"""
+
+import os
+import re
+import shutil
+import subprocess
+
+TOOLS = ("crushtool", "osdmaptool")
+TUNABLES = {"choose_local_tries": 0, "choose_local_fallback_tries": 0, "choose_total_tries": 50, "chooseleaf_descend_once": 1,
+            "chooseleaf_vary_r": 1, "chooseleaf_stable": 1, "straw_calc_version": 1, "allowed_bucket_algs": 14}
+
+
+def is_installed():
+    return all(shutil.which(tool) for tool in TOOLS)
+
+
+def item_name(item):
+    return f"osd.{item}" if item >= 0 else f"bucket{-item}"
+
+
+def type_name(level):
+    return f"level{level}" if level else "osd"
+
+
+def bucket_text(bucket):
+    """A bucket; its weights have sixteen binary places, so that their decimals are exact."""
+    items = "".join(f"    item {item_name(item)} weight {weight / 65536:.16f}\n" for item, weight in bucket["items"])
+    return f"{type_name(bucket['type'])} {item_name(bucket['id'])} {{\n    id {bucket['id']}\n    alg {bucket['kind']}\n    hash 0\n{items}}}\n"
+
+
+def step_text(step):
+    if step[0] == "take":
+        return f"take {item_name(step[1])}"
+    if step[0] == "emit":
+        return "emit"
+    return f"{step[0].replace('_', ' ')} {step[1]} type {type_name(step[2])}"
+
+
+def crush_text(stated):
+    """The CRUSH map of a map as text."""
+    buckets, rule = sorted(stated["buckets"], key=lambda bucket: bucket["type"]), stated["rules"][0]
+    lines = [f"tunable {name} {value}" for name, value in TUNABLES.items()]
+    lines += [f"device {osd} osd.{osd}" for osd in range(stated["max_osd"])]
+    lines += [f"type {level} {type_name(level)}" for level in sorted({0} | {bucket["type"] for bucket in buckets})]
+    steps = "".join(f"    step {step_text(step)}\n" for step in rule["steps"])
+    rules = f"rule placing {{\n    id {rule['id']}\n    type {rule['kind']}\n    min_size 1\n    max_size 10\n{steps}}}\n"
+    return "\n".join(lines) + "\n" + "".join(map(bucket_text, buckets)) + rules
+
+
+def quietly(*words):
+    subprocess.run(words, check=True, stdout=subprocess.DEVNULL, stderr=subprocess.DEVNULL)
+
+
+def osdmap(stated, folder):
+    """The file of a map in Ceph's form."""
+    text, crush, path = (os.path.join(folder, f"{name}-{stated['pools'][0]['pg_num']}") for name in ("crush.txt", "crush", "osdmap"))
+    with open(text, "w", encoding="utf-8") as out:
+        out.write(crush_text(stated))
+    shift = (stated["pools"][0]["pg_num"] // stated["max_osd"]).bit_length() - 1
+    quietly("crushtool", "-c", text, "-o", crush)
+    quietly("osdmaptool", "--createsimple", str(stated["max_osd"]), "--pg-bits", str(shift), "--pgp-bits", str(shift), "--with-default-pool",
+            f"--osd_pool_default_size={stated['pools'][0]['size']}", "--clobber", path)
+    quietly("osdmaptool", path, "--import-crush", crush)
+    return path
+
+
+def words(path):
+    """The words of a run that places each group and prints how many an OSD has."""
+    return ["osdmaptool", path, "--mark-up-in", "--test-map-pgs", "--pool", "1"]
+
+
+def sets(path):
+    """The up set of each group, in order."""
+    with open(path + ".sets", "w+", encoding="utf-8") as found:
+        subprocess.run(["osdmaptool", path, "--mark-up-in", "--test-map-pgs-dump-all", "--pool", "1"], check=True, stdout=found,
+                       stderr=subprocess.DEVNULL)
+        found.seek(0)
+        return re.findall(r"^1\.\S+ raw .* up \((\[[-\d,]*\]), p-?\d+\) acting", found.read(), re.M)

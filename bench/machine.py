@@ -1,0 +1,22 @@
+#!/usr/bin/env python3
+"""Prints on what machine and when the tables that follow were measured."""
+
+import datetime
+import os
+import re
+
+
+def processor():
+    """The name of the processor."""
+    with open("/proc/cpuinfo", encoding="utf-8") as text:
+        found = re.search(r"^model name\s*: (.*)$", text.read(), re.M)
+    return found.group(1) if found else "a processor without a name"
+
+
+def main():
+    load = os.getloadavg()[0]
+    print(f"{datetime.datetime.now():%Y-%m-%d %H:%M}, {os.cpu_count()} cores, {processor()}; load at the beginning {load:.1f}", flush=True)
+
+
+if __name__ == "__main__":
+    main()

@@ -1,0 +1,46 @@
+"""The maps that the benches run over."""
+
+KINDS = ("uniform", "list", "tree")
+
+
+def osds(count):
+    return [{"exists": True, "id": i, "up": True, "weight": 65536} for i in range(count)]
+
+
+def pool(number, groups, size=3):
+    return {"id": number, "kind": "replicated", "pg_num": groups, "pgp_num": groups, "rule": 0, "size": size}
+
+
+def a_map(buckets, count, steps, pools, groups):
+    """A map of so many devices and pools of so many groups each, under one rule."""
+    rule = {"id": 0, "kind": "replicated", "steps": [["take", -1]] + steps + [["emit"]]}
+    return {"buckets": buckets, "epoch": 100_000, "max_osd": count, "osds": osds(count),
+            "pools": [pool(number, groups) for number in range(1, pools + 1)], "rules": [rule], "version": 1}
+
+
+def flat(kind, groups, pools=1):
+    """64 devices in one bucket."""
+    bucket = {"id": -1, "items": [[i, 65536] for i in range(64)], "kind": kind, "type": 10}
+    return a_map([bucket], 64, [["choose_firstn", 0, 0]], pools, groups)
+
+
+def few_hosts(kind, groups, pools=1):
+    """64 devices in 8 hosts under one root."""
+    buckets = [{"id": -1, "items": [[-2 - h, 524288] for h in range(8)], "kind": kind, "type": 10}]
+    buckets += [{"id": -2 - h, "items": [[8 * h + i, 65536] for i in range(8)], "kind": kind, "type": 1} for h in range(8)]
+    return a_map(buckets, 64, [["chooseleaf_firstn", 0, 1]], pools, groups)
+
+
+def levels(kind, groups, pools=1, racks=30, hosts=480):
+    """1,024 devices in hosts in racks under one root: 511 buckets as it is, with two devices or three in a host."""
+    buckets = [{"id": -1, "items": [[-2 - r, 65536] for r in range(racks)], "kind": kind, "type": 10}]
+    for r in range(racks):
+        below = range(r * hosts // racks, (r + 1) * hosts // racks)
+        buckets.append({"id": -2 - r, "items": [[-2 - racks - h, 65536] for h in below], "kind": kind, "type": 2})
+    for h in range(hosts):
+        below = range(h * 1024 // hosts, (h + 1) * 1024 // hosts)
+        buckets.append({"id": -2 - racks - h, "items": [[d, 65536] for d in below], "kind": kind, "type": 1})
+    return a_map(buckets, 1024, [["chooseleaf_firstn", 0, 1]], pools, groups)
+
+
+SHAPES = (("64 OSDs in 8 hosts", few_hosts), ("1,024 OSDs, 511 buckets, 3 levels", levels), ("64 OSDs in one bucket", flat))

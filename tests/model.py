@@ -1,0 +1,392 @@
+#!/usr/bin/env python3
+"""Placement and balancing by their definitions, written apart from the program and with no care for speed.
+
+    tests/model.py MAP SCRIPT
+
+answers the lines `up`, `count`, `groups`, `epoch`, `dump`, `balance`, and `change` with the parts down, up, weight and new_items, as far as
+nothing in them is refused. The answers of examples/balance and of the larger map of balanced.py come from here; `run.py` also
+holds it against the placements that Ceph's own tools gave.
+"""
+
+import json
+import sys
+
+WORD = 0xFFFFFFFF
+TRIES, LEAF_TRIES = 51, 1
+
+
+# Hashes (Ceph, hash.c)
+
+def mix(a, b, c):
+    a = (a - b - c & WORD) ^ c >> 13
+    b = (b - c - a & WORD) ^ a << 8 & WORD
+    c = (c - a - b & WORD) ^ b >> 13
+    a = (a - b - c & WORD) ^ c >> 12
+    b = (b - c - a & WORD) ^ a << 16 & WORD
+    c = (c - a - b & WORD) ^ b >> 5
+    a = (a - b - c & WORD) ^ c >> 3
+    b = (b - c - a & WORD) ^ a << 10 & WORD
+    c = (c - a - b & WORD) ^ b >> 15
+    return a, b, c
+
+
+def mixed(words, order):
+    """The hash of words: the places of an order name the words, x, y, and the hash itself."""
+    values = dict(zip("abcd", (word & WORD for word in words)), x=231232, y=1232, h=1315423911)
+    for word in words:
+        values["h"] ^= word & WORD
+    for one, other in order.split():
+        values[one], values[other], values["h"] = mix(values[one], values[other], values["h"])
+    return values["h"]
+
+
+def hash2(*words):
+    return mixed(words, "ab xa by")
+
+
+def hash3(*words):
+    return mixed(words, "ab cx ya bx yc")
+
+
+def hash4(*words):
+    return mixed(words, "ab cd ax yb cx yd")
+
+
+# Picks of a bucket
+
+def uniform_pick(bucket, x, r):
+    count = len(bucket["items"])
+    places = list(range(count))
+    for p in range(count - 1):
+        other = p + hash3(x, bucket["id"], p) % (count - p)
+        places[p], places[other] = places[other], places[p]
+    return bucket["items"][places[r % count]][0]
+
+
+def list_pick(bucket, x, r):
+    items = bucket["items"]
+    for place in range(len(items) - 1, 0, -1):
+        item, weight = items[place]
+        draw = hash4(x, item, r, bucket["id"]) % 65536
+        if draw * sum(w for _, w in items[:place + 1]) // 65536 < weight:
+            return item
+    return items[0][0]
+
+
+def tree_pick(bucket, x, r):
+    weights = [weight for _, weight in bucket["items"]]
+    half = 1 << (len(weights) - 1).bit_length()
+    first = 0
+    while half > 1:
+        half //= 2
+        left, right = (sum(weights[at:at + half]) for at in (first, first + half))
+        if hash4(x, 2 * (first + half), r, bucket["id"]) * (left + right) >> 32 >= left:
+            first += half
+    return bucket["items"][first][0]
+
+
+PICKS = {"uniform": uniform_pick, "list": list_pick, "tree": tree_pick}
+
+
+class Cluster:
+    """A map as it stands after some changes."""
+
+    def __init__(self, value):
+        self.value, self.epoch = value, value["epoch"]
+        self.buckets = {bucket["id"]: bucket for bucket in value["buckets"]}
+        self.parent = {item: bucket["id"] for bucket in value["buckets"] for item, _ in bucket["items"]}
+        self.weight = {item: weight for bucket in value["buckets"] for item, weight in bucket["items"]}
+        self.rules = {rule["id"]: rule["steps"] for rule in value["rules"]}
+        self.pools = {pool["id"]: pool for pool in value["pools"]}
+        self.osds = {osd["id"]: dict(osd) for osd in value["osds"]}
+        self.explicit = {group_of(text): places for text, places in value.get("pg_upmap", [])}
+        self.items = {group_of(text): pairs for text, pairs in value.get("pg_upmap_items", [])}
+        self.raws = {}
+
+    def reweight(self, osd):
+        return self.osds[osd]["weight"] if osd in self.osds else 0
+
+    def exists(self, osd):
+        return osd in self.osds and self.osds[osd]["exists"]
+
+    def is_up(self, osd):
+        return osd in self.osds and self.osds[osd]["up"]
+
+    # Rules
+
+    def is_out(self, item, x):
+        """Whether an item is an OSD that is out."""
+        return item >= 0 and self.reweight(item) < 65536 and hash2(x, item) % 65536 >= self.reweight(item)
+
+    def type_of(self, item):
+        return self.buckets[item]["type"] if item < 0 else 0
+
+    def descend(self, item, level, x, r, coded=None):
+        """The item of a type to which the picks lead, None where they meet a device of another type; and the number of the last pick."""
+        while True:
+            bucket, number = self.buckets[item], r
+            if coded is not None:
+                count, rounds = coded
+                number += rounds * (count + (bucket["kind"] == "uniform" and len(bucket["items"]) % count == 0))
+            item = PICKS[bucket["kind"]](bucket, x, number)
+            if self.type_of(item) == level:
+                return item, number
+            if item >= 0:
+                return None, number
+
+    def firstn(self, start, count, level, leafwise, x, room):
+        """What packing chooses below a bucket: the items, or their leaves."""
+        items, leaves = [], []
+        for replica in range(count):
+            for failures in range(TRIES):
+                if len(items) == room:
+                    return leaves
+                r = replica + failures
+                item, _ = self.descend(start, level, x, r)
+                if item is None:
+                    break
+                leaf = self.descend(item, 0, x, r)[0] if leafwise and item < 0 else item
+                is_failure = item in items or leaf is None or leafwise and leaf in leaves
+                if is_failure or self.is_out(leaf, x):
+                    continue
+                items.append(item)
+                leaves.append(leaf)
+                break
+        return leaves
+
+    def indep(self, start, count, level, leafwise, x, room):
+        """What choosing for positions gives below a bucket."""
+        positions = min(count, room)
+        items, leaves, decided = [None] * positions, [None] * positions, [False] * positions
+        for rounds in range(TRIES):
+            for place in (place for place in range(positions) if not decided[place]):
+                item, number = self.descend(start, level, x, place, (count, rounds))
+                decided[place] = item is None
+                if item is None or item in items:
+                    continue
+                leaf = self.descend(item, 0, x, place + number, (count, 0))[0] if leafwise and item < 0 else item
+                if leaf is not None and not self.is_out(leaf, x):
+                    items[place], leaves[place], decided[place] = item, leaf, True
+        return leaves
+
+    def run(self, steps, x, size):
+        """A rule's result."""
+        result, working = [], []
+        for step in steps:
+            if step[0] == "take":
+                working = [step[1]]
+            elif step[0] == "emit":
+                result, working = result + working[:size - len(result)], []
+            else:
+                choose = self.indep if step[0].endswith("indep") else self.firstn
+                chosen = []
+                for start in working:
+                    if start is not None and start < 0 and len(chosen) < size:
+                        chosen += choose(start, step[1] or size, step[2], step[0].startswith("chooseleaf"), x, size - len(chosen))
+                working = chosen
+        return result
+
+    # Groups
+
+    def raw(self, group):
+        """What the rule gives, as long as no reweight changes."""
+        if group not in self.raws:
+            pool = self.pools[group[0]]
+            mask = (1 << (pool["pgp_num"] - 1).bit_length()) - 1
+            place = group[1] & mask if group[1] & mask < pool["pgp_num"] else group[1] & mask >> 1
+            self.raws[group] = self.run(self.rules[pool["rule"]], hash2(place, group[0]), pool["size"])
+        return self.without(group, self.raws[group], self.exists)
+
+    def without(self, group, places, keeps):
+        """A set without the OSDs that are not kept: closed up, or with holes."""
+        kept = [osd if osd is not None and keeps(osd) else None for osd in places]
+        return kept if self.pools[group[0]]["kind"] == "erasure" else [osd for osd in kept if osd is not None]
+
+    def mapped(self, group):
+        places, explicit = list(self.raw(group)), self.explicit.get(group)
+        if explicit is not None and any(self.reweight(osd) == 0 for osd in explicit):
+            return places
+        if explicit is not None:
+            places = list(explicit)
+        for left, right in self.items.get(group, []):
+            if left in places and right not in places and self.reweight(right) > 0:
+                places[places.index(left)] = right
+        return places
+
+    def up(self, group):
+        return self.without(group, self.mapped(group), self.is_up)
+
+    def groups(self):
+        return [(pool, number) for pool in sorted(self.pools) for number in range(self.pools[pool]["pg_num"])]
+
+    # Changes
+
+    def below(self, item):
+        """The devices under an item."""
+        return [item] if item >= 0 else [osd for below, _ in self.buckets[item]["items"] for osd in self.below(below)]
+
+    def reached(self, rule):
+        return {osd for step in self.rules[rule] if step[0] == "take" for osd in self.below(step[1])}
+
+    def concerns(self, group, osds):
+        """Whether the rule of a group reaches one of some OSDs, or its exceptions name one."""
+        named = set(self.explicit.get(group, [])) | {osd for pair in self.items.get(group, []) for osd in pair}
+        return bool(osds & named) or bool(osds & self.reached(self.pools[group[0]]["rule"]))
+
+    def change(self, change):
+        """The number of evaluations of a change that nothing refuses, which is then made."""
+        named = {group_of(text) for text, _ in change.get("new_items", [])}
+        for osd in change.get("down", []):
+            self.osds[osd]["up"] = False
+        for osd in change.get("up", []):
+            self.osds[osd]["up"] = True
+        for osd, weight in change.get("weight", []):
+            self.osds[osd]["weight"] = weight
+            self.raws = {}
+        for text, pairs in change.get("new_items", []):
+            self.items[group_of(text)] = pairs
+        osds = {osd for osd, _ in change.get("weight", [])}
+        self.epoch += 1
+        return sum(group in named or bool(osds) and self.concerns(group, osds) for group in self.groups())
+
+    def written(self):
+        """The map as text; that of the first map had its lists in order."""
+        items = [[group_text(group), pairs] for group, pairs in sorted(self.items.items())]
+        after = {**self.value, "epoch": self.epoch, "osds": list(self.osds.values()), "pg_upmap_items": items}
+        return json.dumps(after, sort_keys=True, separators=(",", ":"))
+
+    # Balancing
+
+    def ancestor(self, item, level):
+        while item in self.parent:
+            item = self.parent[item]
+            if self.type_of(item) == level:
+                return item
+        return None
+
+    def balance(self, pool, limit):
+        """The greedy plan, put into the map; and how many moves it has."""
+        board = Board(self, pool)
+        moves = 0
+        while moves < limit and (move := board.best()):
+            board.make(move)
+            moves += 1
+        self.items.update(board.pairs)
+        self.epoch += moves > 0
+        return moves
+
+
+class Board:
+    """What moves of a pool go by: its mapped sets, pairs, and how far each candidate is from its share."""
+
+    def __init__(self, cluster, pool):
+        self.cluster, self.size = cluster, cluster.pools[pool]["size"]
+        steps = cluster.rules[cluster.pools[pool]["rule"]]
+        self.levels = [step[2] for step in steps if step[0].startswith("choose")]
+        candidates = sorted(cluster.below(steps[[step[0] for step in steps].index("take")][1]))
+        self.share = {osd: cluster.weight[osd] * cluster.reweight(osd) for osd in candidates
+                      if cluster.is_up(osd) and cluster.reweight(osd) > 0}
+        self.mapped = {group: cluster.mapped(group) for group in cluster.groups() if group[0] == pool}
+        self.pairs = {group: list(cluster.items[group]) for group in self.mapped if group in cluster.items}
+        self.total = sum(self.share.values())
+
+    def counts(self):
+        found = dict.fromkeys(self.share, 0)
+        for places in self.mapped.values():
+            for osd in set(places) & set(found):
+                found[osd] += 1
+        return found
+
+    def deviations(self):
+        """How far each candidate is from its share, times T."""
+        counts = self.counts()
+        places = sum(counts.values())
+        return {osd: counts[osd] * self.total - places * share for osd, share in self.share.items()}
+
+    def domain(self, osd):
+        return osd if self.levels[-1] == 0 else self.cluster.ancestor(osd, self.levels[-1])
+
+    def is_allowed(self, group, leaves, comes):
+        places, ancestor = self.mapped[group], self.cluster.ancestor
+        if places.count(leaves) != 1 or comes in places or len(self.pairs.get(group, [])) >= self.size:
+            return False
+        if any(ancestor(leaves, level) != ancestor(comes, level) for level in self.levels[:-1]):
+            return False
+        domain = self.domain(comes)
+        return domain is not None and all(self.domain(osd) != domain for osd in places if osd not in (leaves, None))
+
+    def good(self):
+        """The pairs of candidates whose deviations differ by more than T, by how much they differ, then by number."""
+        away = self.deviations()
+        return sorted((away[comes] - away[leaves], leaves, comes) for leaves in away for comes in away
+                      if away[leaves] - away[comes] > self.total)
+
+    def best(self):
+        """The good move that greed takes: group, who leaves and who comes; None where no good move is left."""
+        for _, leaves, comes in self.good():
+            for group in self.mapped:
+                if leaves in self.mapped[group] and self.is_allowed(group, leaves, comes):
+                    return group, leaves, comes
+        return None
+
+    def make(self, move):
+        group, leaves, comes = move
+        self.mapped[group][self.mapped[group].index(leaves)] = comes
+        self.pairs.setdefault(group, []).append([leaves, comes])
+
+
+# Lines
+
+def group_of(text):
+    pool, number = text.split(".")
+    return int(pool), int(number, 16)
+
+
+def group_text(group):
+    return f"{group[0]}.{group[1]:x}"
+
+
+def set_text(places):
+    return "[" + ",".join("none" if osd is None else str(osd) for osd in places) + "]"
+
+
+def placed(cluster, text):
+    """The up set of a group and its primary."""
+    places = cluster.up(group_of(text))
+    return f"{set_text(places)} {next((osd for osd in places if osd is not None), -1)}"
+
+
+def answer(cluster, line):
+    """The answer of a line."""
+    word, _, rest = line.partition(" ")
+    if word == "epoch":
+        return f"epoch {cluster.epoch}"
+    if word == "dump":
+        return "dump " + cluster.written()
+    if word == "up":
+        return f"up {cluster.epoch} {rest} {placed(cluster, rest)}"
+    if word in ("count", "groups"):
+        found = [group for group in cluster.groups() if int(rest) in cluster.up(group)]
+        text = len(found) if word == "count" else "[" + ",".join(map(group_text, found)) + "]"
+        return f"{word} {cluster.epoch} {rest} {text}"
+    if word == "change":
+        evals = cluster.change(json.loads(rest))
+        return f"ok {cluster.epoch} evals {evals}"
+    pool, limit = map(int, rest.split())
+    moves = cluster.balance(pool, limit)
+    return f"moved {moves} epoch {cluster.epoch}"
+
+
+def answers(value, lines):
+    """The answers of the lines of a session over a map."""
+    cluster = Cluster(value)
+    return [answer(cluster, line) for line in lines if line]
+
+
+def main():
+    with open(sys.argv[1], encoding="utf-8") as text, open(sys.argv[2], encoding="utf-8") as script:
+        print("\n".join(["session 1"] + answers(json.load(text), script.read().splitlines())))
+
+
+if __name__ == "__main__":
+    main()

@@ -1,0 +1,260 @@
+"""Many sessions at once, each answer checked by one history.
+
+Each session has a script of mixed look-ups and changes over many pools, from a seed. The epochs are cut into stretches, and half of the sessions wait for
+each stretch and then all try to change the map at each of its epochs in turn. One of them does so by something that the map cannot refuse, so that
+the epochs go on however the sessions fall; plans of a balancer go in between. `faults` rebuilds from the answers the one order in which changes were accepted, plays that order by one session, with
+each line put at the epoch that its answer carries, and compares the answers.
+"""
+
+import json
+import random
+import re
+import subprocess
+
+FIRST, OSDS, HOSTS = 1, 24, 8
+CLASSES, STRETCH = 2, 10
+SPARE_POOL = 77
+SPAN = re.compile(r"^(?:up|fup|count|groups|epoch|ok|follow) (\d+)|^moved \d+ epoch (\d+)|^err 20 StaleEpoch (\d+)|^f?dump .*?\"epoch\":(\d+)")
+
+
+# Maps and scripts
+
+def pool(number, groups):
+    kind, size = ("erasure", 4) if number % 4 == 3 else ("replicated", 3)
+    return {"id": number, "kind": kind, "pg_num": groups, "pgp_num": groups, "rule": int(kind == "erasure"), "size": size}
+
+
+def a_map(pools, groups):
+    """OSDs in hosts of three kinds under one root, and pools of copies and of coded parts."""
+    each = OSDS // HOSTS
+    buckets = [{"id": -1, "items": [[-2 - h, 65536 * each] for h in range(HOSTS)], "kind": "list", "type": 10}]
+    buckets += [{"id": -2 - h, "items": [[each * h + i, 65536] for i in range(each)], "kind": ("list", "tree", "uniform")[h % 3], "type": 1}
+                for h in range(HOSTS)]
+    rules = [{"id": number, "kind": kind, "steps": [["take", -1], [step, 0, 1], ["emit"]]}
+             for number, (kind, step) in enumerate((("replicated", "chooseleaf_firstn"), ("erasure", "chooseleaf_indep")))]
+    osds = [{"exists": True, "id": osd, "up": True, "weight": 65536} for osd in range(OSDS)]
+    return {"buckets": buckets, "epoch": FIRST, "max_osd": OSDS + 1, "osds": osds, "version": 1, "rules": rules,
+            "pools": [pool(number, groups) for number in range(1, pools + 1)]}
+
+
+class Writer:
+    """What writes the scripts of a run."""
+
+    def __init__(self, seed, pools, groups):
+        self.rng, self.pools, self.groups = random.Random(seed), pools, groups
+
+    def group(self):
+        rng = self.rng
+        number = SPARE_POOL if rng.random() < 0.05 else rng.randint(1, self.pools + (rng.random() < 0.02))
+        return f"{number}.{rng.randrange(self.groups + (rng.random() < 0.05)):x}"
+
+    def osd(self):
+        return self.rng.randrange(OSDS + (self.rng.random() < 0.05))
+
+    def look(self):
+        """A line that changes nothing, or a plan."""
+        rng, kind = self.rng, self.rng.random()
+        if kind < 0.45:
+            return f"up {self.group()}"
+        if kind < 0.70:
+            return f"{rng.choice(['count', 'groups'])} {self.osd()}"
+        if kind < 0.85:
+            return f"fup {self.group()}"
+        if kind < 0.92:
+            return rng.choice(["epoch", "follow", "follow"])
+        if kind < 0.94:
+            return rng.choice(["dump", "fdump"])
+        if kind < 0.96:
+            return f"balance {rng.randint(1, self.pools)} {rng.randint(1, 3)}"
+        return rng.choice(["up 1", "count 99", "hello", 'change {"base":0}', 'change {"base":"x"}', "balance 99 1"])
+
+    def state(self):
+        """A part that no map refuses."""
+        osd = self.rng.randrange(OSDS)
+        return self.rng.choice([{"down": [osd]}, {"up": [osd]}, {"up": [osd]}, {"weight": [[osd, self.rng.choice([0, 20000, 65536, 65536])]]}])
+
+    def exceptions(self):
+        """A part that names a group."""
+        rng, group = self.rng, self.group()
+        pair = rng.sample(range(OSDS), 2)
+        return rng.choice([{"new_items": [[group, [pair]]]}, {"old_items": [group]}, {"new_upmap": [[group, rng.sample(range(OSDS), 3)]]},
+                           {"old_upmap": [group]}, {"new_items": [[group, [[self.osd(), self.osd()]]]]}])
+
+    def pools_part(self):
+        """A part that brings a pool, takes it away or lets it grow."""
+        groups = self.rng.randint(1, self.groups)
+        return self.rng.choice([{"new_pools": [pool(SPARE_POOL, groups)]}, {"old_pools": [SPARE_POOL]},
+                                {"grow_pool": [[SPARE_POOL, self.groups, groups]]}])
+
+    def change(self, base, is_safe):
+        kind = self.rng.random()
+        part = self.state() if is_safe or kind < 0.4 else self.exceptions() if kind < 0.85 else self.pools_part()
+        return "change " + json.dumps({"base": base, **part}, separators=(",", ":"))
+
+    def script(self, place, lines, bases):
+        """The script of a session: it waits for each stretch of bases of its class, tries to change the map at each base of it, and looks at maps between."""
+        own = [base for base in range(bases) if base // STRETCH % CLASSES == place % CLASSES]
+        script = []
+        for number, base in enumerate(own):
+            due = lines * (number + 1) // len(own) - 2
+            script += [self.look() for _ in range(due - len(script))]
+            script += [f"await {FIRST + base}"] * (base % STRETCH == 0) + [self.change(FIRST + base, place < CLASSES)]
+        return script + [self.look() for _ in range(lines - len(script))]
+
+
+def scripts(seed, sessions, lines, pools, groups):
+    """A map and a script for each session; a quarter of a script's lines or so try to change the map."""
+    writer = Writer(seed, pools, groups)
+    bases = CLASSES * (lines // 4 // STRETCH) * STRETCH
+    return a_map(pools, groups), [writer.script(place, lines, bases) for place in range(sessions)]
+
+
+# What the answers say
+
+def epoch_of(answer):
+    """The epoch that an answer carries, or None."""
+    found = SPAN.match(answer)
+    return next((int(word) for word in found.groups() if word), None) if found else None
+
+
+def is_made(answer):
+    """Whether an answer tells of a change that was made."""
+    return answer.startswith("ok ") or answer.startswith("moved ") and not answer.startswith("moved 0 ")
+
+
+class Asked:
+    """A line that is asked again of one history: what was answered, and the epochs at which it may be."""
+
+    def __init__(self, where, line, answer, epochs):
+        self.where, self.line, self.answer, self.epochs = where, line, answer, epochs
+
+
+class History:
+    """The one order of changes that the answers of all sessions tell, and what else is to be asked in it."""
+
+    def __init__(self):
+        self.made, self.asked, self.wrong = {}, [], []
+
+    def make(self, where, line, answer):
+        epoch = epoch_of(answer)
+        if epoch in self.made:
+            self.wrong.append(f"{where}: epoch {epoch} was made twice")
+        self.made[epoch] = (line, answer)
+
+    def last(self):
+        return max(self.made, default=FIRST)
+
+    def has_gaps(self):
+        return sorted(self.made) != list(range(FIRST + 1, self.last() + 1))
+
+
+def own_epochs(script, answers):
+    """The epoch of each answer of a session, of the map that it asked: None where the answer carries none or is a follower's."""
+    return [None if line.startswith(("fup", "fdump", "follow")) else epoch_of(answer) for line, answer in zip(script, answers)]
+
+
+def take_follower(history, where, line, answer, stand):
+    """Puts a follower's line to the history, and answers where the follower then stands. It never goes back."""
+    if line == "follow":
+        epoch = epoch_of(answer)
+        if epoch is None or epoch < stand:
+            history.wrong.append(f"{where}: {line} at {stand} answered {answer}")
+            return stand
+        return epoch
+    asked = answer[1:] if answer.startswith("f") else answer
+    history.asked.append(Asked(where, line[1:], asked, [stand]))
+    return stand
+
+
+def take_session(history, name, script, answers):
+    """Puts the answers of a session to the history."""
+    if len(script) != len(answers):
+        history.wrong.append(f"{name}: {len(script)} lines, {len(answers)} answers")
+    epochs, stand, low = own_epochs(script, answers), FIRST, FIRST
+    for place, (line, answer, epoch) in enumerate(zip(script, answers, epochs)):
+        where = f"{name}, line {place + 1}"
+        if line.startswith(("fup", "fdump", "follow")):
+            stand = take_follower(history, where, line, answer, stand)
+        elif is_made(answer):
+            history.make(where, line, answer)
+        elif epoch is not None:
+            history.asked.append(Asked(where, "epoch" if line.startswith("await") else line, answer, [epoch]))
+        else:
+            later = next((after for after in epochs[place:] if after is not None), None)
+            history.asked.append(Asked(where, line, answer, (low, later)))
+        if epoch is not None and epoch < low:
+            history.wrong.append(f"{where}: epoch {epoch} after {low}")
+        low = max(low, epoch or low)
+
+
+def played(history, last):
+    """The lines of one session that make the history, each with what is to be compared: a place of `asked`, or what was answered."""
+    at = {}
+    for place, asked in enumerate(history.asked):
+        epochs = asked.epochs
+        if isinstance(epochs, tuple):
+            epochs = range(epochs[0], (last if epochs[1] is None else epochs[1]) + 1)
+        for epoch in epochs:
+            at.setdefault(epoch, []).append((asked.line, place))
+    lines = []
+    for epoch in range(FIRST, last + 1):
+        lines += at.get(epoch, [])
+        if epoch < last:
+            lines.append(history.made[epoch + 1])
+    return lines
+
+
+def sessions_of(output):
+    """The answers of each session, by the headings."""
+    found = []
+    for line in output.splitlines():
+        if re.fullmatch(r"session \d+", line):
+            found.append([])
+        else:
+            found[-1].append(line)
+    return found
+
+
+def differences(history, lines, answers):
+    """What one session answers otherwise than the many did."""
+    wrong, met = [], set()
+    for (line, wanted), answer in zip(lines, answers):
+        if isinstance(wanted, str) and wanted != answer:
+            wrong.append(f"{line[:200]}: many sessions {wanted}, one {answer}")
+        elif not isinstance(wanted, str) and history.asked[wanted].answer == answer:
+            met.add(wanted)
+    for place, asked in enumerate(history.asked):
+        if place not in met and asked.answer != "err 34 AwaitSpent":
+            wrong.append(f"{asked.where}: {asked.line[:200]} answered {asked.answer[:200]}, one session at {asked.epochs} does not")
+    return wrong
+
+
+def faults(all_scripts, output, play):
+    """What in the output of a run cannot be of one history, how many changes were made, and how many answers compared. `play` answers the
+    lines of one session over the same map."""
+    found, history = sessions_of(output), History()
+    if len(found) != len(all_scripts):
+        return [f"{len(found)} sessions answered"], 0, 0
+    for number, (script, answers) in enumerate(zip(all_scripts, found), 1):
+        take_session(history, f"session {number}", script, answers)
+    if history.has_gaps() or history.wrong:
+        return history.wrong + [f"{len(history.made)} changes made, the last epoch {history.last()}"], len(history.made), 0
+    lines = played(history, history.last())
+    answers = play([line for line, _ in lines])
+    wrong = [] if len(answers) == len(lines) else [f"one session: {len(lines)} lines, {len(answers)} answers"]
+    return wrong + differences(history, lines, answers), len(history.made), len(history.asked)
+
+
+def run(command, folder, all_scripts, value):
+    """A run of scripts at once over a map: its words, and what plays one session over that map."""
+    def file(name, text):
+        (folder / name).write_text(text, encoding="utf-8")
+        return str(folder / name)
+
+    def play(lines):
+        words = [command, "--journal", "65536", stated, file("one", "".join(line + "\n" for line in lines))]
+        return sessions_of(subprocess.run(words, stdout=subprocess.PIPE, text=True, check=True).stdout)[0]
+
+    stated = file("map", json.dumps(value))
+    names = [file(f"script-{number}", "\n".join(script) + "\n") for number, script in enumerate(all_scripts, 1)]
+    return [str(command), "--journal", "65536", stated] + names, play
