@@ -234,12 +234,14 @@ exceptions-rise : {E : Type 0} (old_pools : List ℕ) (gone : List Pg) (coming e
 unfolding exceptions_after
 exceptions-rise old_pools gone coming es rises = rising-puts key_of _ coming (rising-filter key_of _ es rises)
 
+-- the explicit sets after an accepted change are right ones
 explicit-after : (m : ClusterMap) (step : Step) → Accepted m step.change → HoldsTogether m
     → list_all (is_exception target is_set (pools_after m step.change) (osd_exists (apply m step))) (exceptions_after step.change.old_pools step.change.old_upmap step.change.new_upmap m.explicit) ≡ true
 unfolding names_osds names_groups all_groups excepts_soundly
 explicit-after m step ok holds =
     exceptions-sound target is_set m step ok.new (rightly-each m step.change ok.rightly).grow step.change.old_upmap step.change.new_upmap m.explicit holds.explicit_sound (grind (arith, ok.osds)) (grind (arith, ok.groups)) (grind (arith, ok.sound))
 
+-- so are the pairs
 items-after : (m : ClusterMap) (step : Step) → Accepted m step.change → HoldsTogether m
     → list_all (is_exception sides are_pairs (pools_after m step.change) (osd_exists (apply m step))) (exceptions_after step.change.old_pools step.change.old_items step.change.new_items m.items) ≡ true
 unfolding names_osds names_groups all_groups excepts_soundly
