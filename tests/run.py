@@ -12,9 +12,10 @@ a text, or a change as an object. Where a row stands for many runs, or for many 
 `sessions` has a script and the answers of each, and runs them at once. A row with
 `arguments` says all itself: files, standard output, standard error, status. Entries repeated in a list are written as
 `filled` below reads them, and texts as `text_of` does. The greatest runs are made by this file (`maxima`); the examples
-have their answers beside them. `plans` and `balanced` are plans of a balancer reckoned apart (plans.py, balanced.py), `soak` many sessions whose answers must be
-those of one history (soak.py), and `apart` holds what reckons apart against Ceph's placements and the kept answers, and the kept picture against
-its numbers. At the end each growth of the examples' runs is refused in turn (memory.py).
+have their answers beside them. `plans` and `balanced` are plans of a balancer reckoned apart (plans.py, balanced.py), `soak`
+many sessions whose answers must be those of one history (soak.py), `patched` tables that random changes led to beside tables
+built anew (anew.py), and `apart` holds what reckons apart against Ceph's placements and the kept answers, and the kept picture
+against its numbers. At the end each growth of the examples' runs is refused in turn (memory.py).
 """
 
 import argparse
@@ -26,6 +27,7 @@ import sys
 import tempfile
 from concurrent.futures import ThreadPoolExecutor
 
+import anew
 import balanced
 import memory
 import model
@@ -37,7 +39,7 @@ sys.path.insert(0, str(HERE.parent / "tools"))
 import chart  # noqa: E402
 
 TABLES = ["worked", "placements", "changes", "growth", "limits", "texts", "sessions", "balance", "plans", "balanced", "soak", "program", "examples",
-          "apart", "maxima"]
+          "apart", "maxima", "patched"]
 SECONDS = 60
 
 
@@ -466,7 +468,18 @@ def apart():
     yield Check("the picture of the example", drawn)
 
 
-MADE = {"plans": plans, "examples": examples, "maxima": maxima, "balanced": balanced_case, "soak": soaks, "apart": apart}
+def patched():
+    """Tables that random changes led to, beside tables built anew of the maps then written."""
+    def work_of(seed):
+        def work(command):
+            with tempfile.TemporaryDirectory() as folder:
+                return anew.history(command, pathlib.Path(folder), seed)
+        return work
+
+    return (Check(f"{anew.CHANGES} tables that patches led to, seed {seed}", work_of(seed)) for seed in range(anew.SEED, anew.SEED + anew.HISTORIES))
+
+
+MADE = {"patched": patched, "plans": plans, "examples": examples, "maxima": maxima, "balanced": balanced_case, "soak": soaks, "apart": apart}
 
 
 def table_of(name):
