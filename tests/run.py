@@ -210,7 +210,10 @@ def difference(what, wanted, got):
 def differences(run, command):
     """All that differs in a run, and in the run that follows from its output where there is one; or what a check finds."""
     if isinstance(run, Check):
-        return run.work(command)
+        try:
+            return run.work(command)
+        except subprocess.SubprocessError as fault:
+            return [str(fault)[:300]]
     with tempfile.TemporaryDirectory() as folder:
         for name, data in run.files.items():
             path = pathlib.Path(folder) / name

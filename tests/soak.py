@@ -14,6 +14,7 @@ import subprocess
 FIRST, OSDS, HOSTS = 1, 24, 8
 CLASSES, STRETCH = 2, 10
 SPARE_POOL = 77
+SECONDS = 120
 SPAN = re.compile(r"^(?:up|fup|count|groups|epoch|ok|follow) (\d+)|^moved \d+ epoch (\d+)|^err 20 StaleEpoch (\d+)|^f?dump .*?\"epoch\":(\d+)")
 
 
@@ -166,6 +167,12 @@ def take_follower(history, where, line, answer, stand):
     return stand
 
 
+def take_given_up(history, where, line, answer, low):
+    """A session may give up waiting, where it has not seen the epoch that it waits for."""
+    if answer != "err 34 AwaitSpent" or int(line.split()[1]) <= low:
+        history.wrong.append(f"{where}: {line} answered {answer} at {low} or later")
+
+
 def take_session(history, name, script, answers):
     """Puts the answers of a session to the history."""
     if len(script) != len(answers):
@@ -179,6 +186,8 @@ def take_session(history, name, script, answers):
             history.make(where, line, answer)
         elif epoch is not None:
             history.asked.append(Asked(where, "epoch" if line.startswith("await") else line, answer, [epoch]))
+        elif line.startswith("await"):
+            take_given_up(history, where, line, answer, low)
         else:
             later = next((after for after in epochs[place:] if after is not None), None)
             history.asked.append(Asked(where, line, answer, (low, later)))
@@ -224,7 +233,7 @@ def differences(history, lines, answers):
         elif not isinstance(wanted, str) and history.asked[wanted].answer == answer:
             met.add(wanted)
     for place, asked in enumerate(history.asked):
-        if place not in met and asked.answer != "err 34 AwaitSpent":
+        if place not in met:
             wrong.append(f"{asked.where}: {asked.line[:200]} answered {asked.answer[:200]}, one session at {asked.epochs} does not")
     return wrong
 
@@ -253,7 +262,7 @@ def run(command, folder, all_scripts, value):
 
     def play(lines):
         words = [command, "--journal", "65536", stated, file("one", "".join(line + "\n" for line in lines))]
-        return sessions_of(subprocess.run(words, stdout=subprocess.PIPE, text=True, check=True).stdout)[0]
+        return sessions_of(subprocess.run(words, stdout=subprocess.PIPE, text=True, check=True, timeout=SECONDS).stdout)[0]
 
     stated = file("map", json.dumps(value))
     names = [file(f"script-{number}", "\n".join(script) + "\n") for number, script in enumerate(all_scripts, 1)]
