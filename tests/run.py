@@ -25,7 +25,7 @@ import pathlib
 import subprocess
 import sys
 import tempfile
-from concurrent.futures import ThreadPoolExecutor
+from concurrent.futures import ThreadPoolExecutor, wait
 
 import anew
 import balanced
@@ -40,7 +40,7 @@ import chart  # noqa: E402
 
 TABLES = ["worked", "placements", "changes", "growth", "limits", "texts", "sessions", "balance", "plans", "balanced", "soak", "program", "examples",
           "apart", "maxima", "patched"]
-SECONDS = 60
+SECONDS = 300
 
 
 # Texts and maps of a table
@@ -160,13 +160,17 @@ class Run:
         self.name, self.files, self.sink, self.follow = name, files, sink, follow
         self.arguments = ["map", "script"] if arguments is None else arguments
         self.wanted = {"status": status, "output": output, "error": error}
+        # Sessions that wait for one another, and those that wait in vain, are run one by one: beside others they would wait for a
+        # processor too.
+        self.alone = len(self.arguments) > 2 or "AwaitSpent" in (output if isinstance(output, str) else "")
 
 
 class Check:
-    """What is found otherwise than by comparing the output of one run: some work that is given the program and answers what is wrong."""
+    """What is found otherwise than by comparing the output of one run: some work that is given the program and answers what is
+    wrong."""
 
-    def __init__(self, name, work):
-        self.name, self.work = name, work
+    def __init__(self, name, work, alone=False):
+        self.name, self.work, self.alone = name, work, alone
 
 
 def coded(text):
@@ -442,7 +446,7 @@ def soaks():
             return wrong if wrong or (made >= 100 and compared >= 1400) else [f"only {made} changes made, {compared} answers compared"]
         return work
 
-    return (Check(f"8 sessions at once, seed {seed}", work_of(seed)) for seed in range(1, 5))
+    return (Check(f"8 sessions at once, seed {seed}", work_of(seed), alone=True) for seed in range(1, 5))
 
 
 def modelled(row):
@@ -501,13 +505,18 @@ def main():
     parser.add_argument("--show", type=int, default=10, help="how many failed runs of a table are shown")
     options = parser.parse_args()
     command, total, wrong = options.program.resolve(), 0, 0
-    with ThreadPoolExecutor(4) as pool:
+    with ThreadPoolExecutor(4) as pool, ThreadPoolExecutor(1) as alone:
         # The greatest runs begin first, since they take the longest.
-        tables = {name: [] for name in TABLES}
+        tables, later = {name: [] for name in TABLES}, []
         for name in reversed(TABLES):
             for run in table_of(name):
-                if options.only in run.name:
+                if options.only in run.name and not run.alone:
                     tables[name].append((run, pool.submit(differences, run, command)))
+                elif options.only in run.name:
+                    later.append((name, run))
+        wait([found for runs in tables.values() for _, found in runs])
+        for name, run in later:
+            tables[name].append((run, alone.submit(differences, run, command)))
         for name, runs in tables.items():
             failed = [(run, found.result()) for run, found in runs if found.result()]
             for run, found in failed[:options.show]:

@@ -14,7 +14,7 @@ import subprocess
 FIRST, OSDS, HOSTS = 1, 24, 8
 CLASSES, STRETCH = 2, 10
 SPARE_POOL = 77
-SECONDS = 120
+SECONDS = 300
 SPAN = re.compile(r"^(?:up|fup|count|groups|epoch|ok|follow) (\d+)|^moved \d+ epoch (\d+)|^err 20 StaleEpoch (\d+)|^f?dump .*?\"epoch\":(\d+)")
 
 
