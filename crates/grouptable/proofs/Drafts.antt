@@ -1,9 +1,7 @@
--- Fresh lists over those of a table: what one list more changes, what another list at a place changes, and what is left
--- once all are put in.
-use Rattle.std.proofs.Common.{◌≡◌, ℕ, zero, suc, ◌+◌, ◌<◌, ◌≤◌, Bool, true, false, cond, eqb, List, [], ◌∷◌, ◌++◌, length, get_or, set, refl, ap, sym, ◌∙◌, subst, inl, inr, All, arith}
-use Rattle.std.specs.List.{fold, list_any}
+-- Fresh lists over those of a table: what one list more changes, and what another list at a place changes.
+use Rattle.std.proofs.Common.{◌≡◌, ℕ, zero, suc, ◌<◌, ◌≤◌, Bool, true, false, cond, eqb, List, [], ◌∷◌, ◌++◌, length, get_or, set, refl, ap, sym, ◌∙◌, subst, inl, inr, arith}
 use Rattle.std.proofs.lemmas.Bool.{eq-eqb, eqb-true, ne_eqb, cases_order}
-use Rattle.std.proofs.lemmas.List.{length-set, get_or-set_same, get_or-set_other, get_or_default, get_or_push, length_push, set-get_or}
+use Rattle.std.proofs.lemmas.List.{get_or_default, set-get_or}
 use Rattle.std.proofs.lemmas.List.Sums.{fold_push}
 use Rattle.std.proofs.lemmas.List.Folds.{list_any_at}
 use Rattle.std.proofs.lemmas.Map.Steps.{le-length_from_below}
@@ -36,7 +34,7 @@ alone places fresh at osd draft stands i p l g =
     omega (arith, a, b)
 
 -- another list at the place of an OSD is its list from then on
-pub drawn_set : (lists : List (List ℕ)) (places : List ℕ) (fresh next : List (ℕ × List ℕ)) (at osd k : ℕ) (list : List ℕ) → IsDraft places fresh → StandsAt fresh osd at → next ≡ set fresh at (osd, list) → drawn lists next k ≡ cond (eqb osd k) list (drawn lists fresh k)
+drawn_set : (lists : List (List ℕ)) (places : List ℕ) (fresh next : List (ℕ × List ℕ)) (at osd k : ℕ) (list : List ℕ) → IsDraft places fresh → StandsAt fresh osd at → next ≡ set fresh at (osd, list) → drawn lists next k ≡ cond (eqb osd k) list (drawn lists fresh k)
 drawn_set lists places fresh next at osd k list draft stands e = rw e (over_set k (get_or lists k []) fresh at osd list stands.0 stands.1 (alone places fresh at osd draft stands))
 
 -- the list at the place of an OSD is its list
@@ -74,79 +72,8 @@ drawn_open lists fresh next osd k list none e f =
       | inr (inr more) ↦ rw (f, drawn_push lists fresh (osd, list) k, ne_eqb osd k (λ g. omega arith)) refl
     ]
 
--- the OSDs of a draft stay, where one gets another list
-osd_set : (fresh : List (ℕ × List ℕ)) (at osd : ℕ) (list : List ℕ) (i : ℕ) → StandsAt fresh osd at → osd_at (set fresh at (osd, list)) i ≡ osd_at fresh i
-osd_set fresh at osd list i stands =
-    elim (cases_order i at) [
-      | inl same ↦ rw same (ap (λ (x : ℕ × List ℕ). x.0) (get_or-set_same fresh at (osd, list) (0, []) stands.0) ∙ sym stands.1)
-      | inr (inl less) ↦ ap (λ (x : ℕ × List ℕ). x.0) (get_or-set_other fresh at i (osd, list) (0, []) (λ g. omega arith))
-      | inr (inr more) ↦ ap (λ (x : ℕ × List ℕ). x.0) (get_or-set_other fresh at i (osd, list) (0, []) (λ g. omega arith))
-    ]
-
--- so it is a draft still
-pub draft_set : (places : List ℕ) (fresh next : List (ℕ × List ℕ)) (at osd : ℕ) (list : List ℕ) → IsDraft places fresh → StandsAt fresh osd at → next ≡ set fresh at (osd, list) → IsDraft places next
-draft_set places fresh next at osd list draft stands e =
-    let n : length (set fresh at (osd, list)) ≡ length fresh = length-set fresh at (osd, list) in
-    rw e record {
-      long = draft.long;
-      within = λ i h. rw (osd_set fresh at osd list i stands) (draft.within i (omega (arith, h, n)));
-      kept = λ i h. rw (osd_set fresh at osd list i stands) (draft.kept i (omega (arith, h, n)));
-    }
-
--- a list more keeps those before it
-osd_before : (fresh : List (ℕ × List ℕ)) (f : ℕ × List ℕ) (i : ℕ) → i < length fresh → osd_at (fresh ++ f ∷ []) i ≡ osd_at fresh i
-osd_before [] f i h = absurd (omega arith)
-osd_before (g ∷ gs) f zero h = refl
-osd_before (g ∷ gs) f (suc i) h = osd_before gs f i (omega arith)
-
--- and stands behind them
-osd_last : (fresh : List (ℕ × List ℕ)) (f : ℕ × List ℕ) → osd_at (fresh ++ f ∷ []) (length fresh) ≡ f.0
-osd_last fresh f = ap (λ (x : ℕ × List ℕ). x.0) (get_or_push fresh f (0, []) (length fresh) refl)
-
--- a draft whose OSD gets its first list
-pub draft_open : (places after : List ℕ) (fresh next : List (ℕ × List ℕ)) (at osd : ℕ) (list : List ℕ) → IsDraft places fresh → osd < 1024 → StandsNowhere fresh osd → at ≡ length fresh → next ≡ fresh ++ (osd, list) ∷ [] → after ≡ set places osd at → IsDraft after next
-draft_open places after fresh next at osd list draft h none a e f =
-    let n : length (fresh ++ (osd, list) ∷ []) ≡ length fresh + 1 = length_push fresh (osd, list) in
-    rw (e, f) record {
-      long = length-set places osd at ∙ draft.long;
-      within = λ i l. elim (cases_order i (length fresh)) [
-        | inl same ↦ rw (same, osd_last fresh (osd, list)) h
-        | inr (inl less) ↦ rw (osd_before fresh (osd, list) i less) (draft.within i less)
-        | inr (inr more) ↦ absurd (omega (arith, l, n))
-      ];
-      kept = λ i l. elim (cases_order i (length fresh)) [
-        | inl same ↦ rw (same, osd_last fresh (osd, list), get_or-set_same places osd at 0 (omega (arith, draft.long))) a
-        | inr (inl less) ↦ rw (osd_before fresh (osd, list) i less, get_or-set_other places osd (osd_at fresh i) at 0 (none i less)) (draft.kept i less)
-        | inr (inr more) ↦ absurd (omega (arith, l, n))
-      ];
-    }
-
--- it stands where the draft ended
-pub stands_last : (fresh next : List (ℕ × List ℕ)) (at osd : ℕ) (list : List ℕ) → at ≡ length fresh → next ≡ fresh ++ (osd, list) ∷ [] → StandsAt next osd at
-stands_last fresh next at osd list a e =
-    rw (e, a) (omega (arith, length_push fresh (osd, list)), osd_last fresh (osd, list))
-
 -- a draft has at most a list for each OSD
 pub few_fresh : (places : List ℕ) (fresh : List (ℕ × List ℕ)) → IsDraft places fresh → length fresh ≤ 1024
 few_fresh places fresh draft =
     let few : length fresh ≤ length places = le-length_from_below places (length fresh) (λ q h. list_any_at (λ x. eqb q x) places (osd_at fresh q) 0 (omega (arith, draft.within q h, draft.long)) (eq-eqb q (get_or places (osd_at fresh q) 0) (sym (draft.kept q h)))) in
     omega (arith, few, draft.long)
-
--- an OSD whose kept place holds no list of it has none
-pub nowhere : (places : List ℕ) (fresh : List (ℕ × List ℕ)) (osd : ℕ) → IsDraft places fresh → (StandsAt fresh osd (get_or places osd 0) → ⊥) → StandsNowhere fresh osd
-nowhere places fresh osd draft none i h e =
-    let there : get_or places osd 0 ≡ i = subst (λ (x : ℕ). get_or places x 0 ≡ i) e (draft.kept i h) in
-    none (rw there (h, e))
-
--- the OSDs of a draft are below 1,024
-pub all_within : (places : List ℕ) (fresh : List (ℕ × List ℕ)) → IsDraft places fresh → All (λ f. f.0 < 1024) fresh
-all_within places fresh draft k d h = rw (get_or_default fresh k d (0, []) h) (draft.within k h)
-
--- one fresh list more is put in
-pub settled_more : (lists start : List (List ℕ)) (fresh : List (ℕ × List ℕ)) (f : ℕ × List ℕ) (k : ℕ) → f.0 < length lists → get_or lists k [] ≡ drawn start fresh k → get_or (set lists f.0 f.1) k [] ≡ drawn start (fresh ++ f ∷ []) k
-settled_more lists start fresh f k h e =
-    elim (cases_order f.0 k) [
-      | inl same ↦ rw (drawn_push start fresh f k, eq-eqb f.0 k same, ← same) (get_or-set_same lists f.0 f.1 [] h)
-      | inr (inl less) ↦ rw (drawn_push start fresh f k, ne_eqb f.0 k (λ g. omega arith)) (get_or-set_other lists f.0 k f.1 [] (λ g. omega arith) ∙ e)
-      | inr (inr more) ↦ rw (drawn_push start fresh f k, ne_eqb f.0 k (λ g. omega arith)) (get_or-set_other lists f.0 k f.1 [] (λ g. omega arith) ∙ e)
-    ]

@@ -43,8 +43,8 @@ left before after group groups = cond before (cond after groups (without_key gro
 abbrev pub joined : Bool → Bool → ℕ → List ℕ → List ℕ
 joined before after group groups = cond after (cond before groups (with_key group groups)) groups
 
--- the list of an OSD, where it has these groups, after one fresh list, and after a draft of them: a later list of the same
--- OSD takes the place of an earlier one
+-- the list of an OSD, where it has these groups, after one fresh list, and after a draft of them: a later list of the
+-- same OSD takes the place of an earlier one
 abbrev pub latest : ℕ → List ℕ → ℕ × List ℕ → List ℕ
 latest osd groups fresh = cond (fresh.0 == osd) fresh.1 groups
 
