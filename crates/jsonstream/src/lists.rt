@@ -44,13 +44,29 @@ pub fn entries<T: FromJson>(
     Ok(found)
 }
 
-/// A list of exactly the length of what was found.
-fn exact<T: Drop>(found: Option<Vec<T>>) -> Option<Entries<T>>
-    ensures { result ≡ option_map (λ v. v.items) found }
+/// The longest list that is copied to be cut to its length.
+const SHORT: usize = 256;
+
+/// A list of exactly the length of what was found: a short one is copied, as what is cut off it would lie waste.
+fn cut<T: Drop>(alloc: Global, found: Vec<T>) -> Result<Vec<T>, Refusal>
+    ensures { MatchResult result (λ list. list.items ≡ found.items) (λ e. e ≡ Refusal.Memory) }
 {
-    let mut list = found?;
-    list.shrink_to_fit();
-    Some(Entries::new(list))
+    let mut list = found;
+    if list.len() > SHORT {
+        list.shrink_to_fit();
+        return Ok(list);
+    }
+    Ok(list.into_iter().collect::<Vec<T>>(alloc)?)
+}
+
+/// A list of exactly the length of what was found.
+fn exact<T: Drop>(alloc: Global, found: Option<Vec<T>>) -> Result<Option<Entries<T>>, Refusal>
+    ensures { MatchResult result (λ r. r ≡ option_map (λ v. v.items) found) (λ e. e ≡ Refusal.Memory) }
+{
+    match found {
+        Some(list) => Ok(Some(Entries::new(cut(alloc, list)?))),
+        None => Ok(None),
+    }
 }
 
 impl<T: FromJson> FromJson for Entries<T> {
@@ -65,7 +81,7 @@ impl<T: FromJson> FromJson for Entries<T> {
             return Ok(None);
         }
         let found = entries(alloc, reader, depth - 1)?;
-        Ok(exact(found))
+        exact(alloc, found)
     }
 }
 
