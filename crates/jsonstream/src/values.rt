@@ -1,0 +1,34 @@
+//! Numbers and flags.
+
+ghost use Rattle.serde_json.specs.Find.{as_bool};
+ghost use Rattle.jsonstream.specs.Json.{number_of};
+
+use crate::objects::FromJson;
+use crate::tokens::{flag, number};
+use json::Reader;
+use refusal::Refusal;
+use std::alloc::Global;
+
+impl FromJson for i128 {
+    ghost stated = { number_of };
+
+    fn read(
+        _alloc: Global,
+        reader: &mut Reader<'_>,
+        depth: usize,
+    ) -> Result<Option<i128>, Refusal> {
+        number(reader, depth)
+    }
+}
+
+impl FromJson for bool {
+    ghost stated = { as_bool };
+
+    fn read(
+        _alloc: Global,
+        reader: &mut Reader<'_>,
+        depth: usize,
+    ) -> Result<Option<bool>, Refusal> {
+        flag(reader, depth)
+    }
+}
