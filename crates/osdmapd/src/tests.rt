@@ -1,5 +1,5 @@
 //! What no run of the program shows: a sink that fails, a seat that is spent, a gate and a look that are held while
-//! another asks, and members who try again. The tables of `tests/` run the built program over many scripts and command
+//! another asks. The tables of `tests/` run the built program over many scripts and command
 //! lines.
 ghost use Rattle.std.specs.Prelude.{IfOk, All};
 ghost use Rattle.monitor.specs.Members.{IsMemberOf, IsNewMemberOf};
@@ -7,7 +7,7 @@ ghost use Rattle.monitor.specs.Members.{IsMemberOf, IsNewMemberOf};
 use crate::playing::next;
 use crossbeam_utils::Backoff;
 use mapjson::{read_change, read_map};
-use monitor::{Follower, Look, Member, Monitor};
+use monitor::{Look, Member, Monitor};
 use refusal::Refusal;
 use session::{Buffer, Gate, Open, SessionError, Sink, WriteFailed};
 use std::alloc::Global;
@@ -275,111 +275,8 @@ fn commit<R: Wait>(
     Err(Refusal::StaleEpoch(0))
 }
 
-/// Commits three changes.
-fn commit_all<R: Wait>(
-    rt: &R,
-    alloc: Global,
-    monitor: &Monitor,
-    member: Member,
-    texts: [&str; 3],
-) -> Result<(), Refusal>
-    requires { IsMemberOf monitor.now member }
-{
-    let mut member = member;
-    for text in texts {
-        commit(rt, alloc, monitor, &mut member, text)?;
-    }
-    Ok(())
-}
-
-/// What three members commit, each of an OSD of its own.
-const TURNS: [[&str; 3]; 3] = [
-    [
-        r#"{"base":1,"down":[0]}"#,
-        r#"{"base":1,"up":[0]}"#,
-        r#"{"base":1,"down":[0]}"#,
-    ],
-    [
-        r#"{"base":1,"down":[1]}"#,
-        r#"{"base":1,"up":[1]}"#,
-        r#"{"base":1,"down":[1]}"#,
-    ],
-    [
-        r#"{"base":1,"down":[2]}"#,
-        r#"{"base":1,"up":[2]}"#,
-        r#"{"base":1,"down":[2]}"#,
-    ],
-];
-
-/// How two members of two threads end who commit at once.
-fn commit_two<R: Wait + Threads + Sync>(
-    rt: &R,
-    alloc: Global,
-    monitor: &Monitor,
-    one: Member,
-    other: Member,
-) -> Result<(), Refusal>
-    requires one { IsMemberOf monitor.now one }
-    requires other { IsMemberOf monitor.now other }
-{
-    let (first, second) = thread::join(
-        rt,
-        move ||
-            requires { IsMemberOf monitor.now one }
-        { commit_all(rt, alloc, monitor, one, TURNS[1]) },
-        move ||
-            requires { IsMemberOf monitor.now other }
-        { commit_all(rt, alloc, monitor, other, TURNS[2]) },
-    );
-    first?;
-    second
-}
-
-/// How three end.
-fn commit_three<R: Wait + Threads + Sync>(
-    rt: &R,
-    alloc: Global,
-    monitor: &Monitor,
-    members: &mut Vec<Member>,
-) -> Result<(), Refusal>
-    requires { All (IsNewMemberOf monitor.now) members.old.items }
-    ensures { All (IsNewMemberOf monitor.now) members.new.items }
-{
-    let one = taken(monitor, members)?;
-    let other = taken(monitor, members)?;
-    let third = taken(monitor, members)?;
-    let (first, second) = thread::join(
-        rt,
-        move ||
-            requires { IsMemberOf monitor.now one }
-        { commit_all(rt, alloc, monitor, one, TURNS[0]) },
-        move ||
-            requires { IsMemberOf monitor.now other × IsMemberOf monitor.now third }
-        { commit_two(rt, alloc, monitor, other, third) },
-    );
-    first?;
-    second
-}
-
-/// The epoch that a follower reaches after nine changes of three threads, and whether it then writes the monitor's
-/// own map.
-fn followed<R: Wait + Threads + Sync>(rt: &R, alloc: Global) -> Result<(u64, bool), Refusal> {
-    let (monitor, mut members) = opened(alloc, 100_000)?;
-    let mut follower = Follower::new(alloc, &monitor)?;
-    commit_three(rt, alloc, &monitor, &mut members)?;
-    let mut last = taken(&monitor, &mut members)?;
-    let epoch = follower.catch_up(alloc, &monitor)?;
-    let own = follower.dump(alloc)?;
-    let text = monitor.dump(rt, alloc, &mut last)?;
-    Ok((epoch, own == text))
-}
-
-/// A follower of nine changes, of three threads that try again, ends with the map of the monitor.
-#[test]
-fn three_threads_commit_nine_changes(rt: HostRuntime) -> Result<(), Fail> {
-    assert!(rt; followed(&rt, rt.alloc()) == Ok((10, true)));
-    Ok(())
-}
+/// An OSD goes down.
+const DOWN: &str = r#"{"base":1,"down":[0]}"#;
 
 /// The epochs that two looks show which are held at the same time.
 fn seen_together<R: Wait>(
@@ -406,7 +303,7 @@ fn looked<R: Wait>(rt: &R, alloc: Global) -> Result<Option<(u64, u64)>, Refusal>
     let mut writer = taken(&monitor, &mut members)?;
     let one = taken(&monitor, &mut members)?;
     let other = taken(&monitor, &mut members)?;
-    commit(rt, alloc, &monitor, &mut writer, TURNS[0][0])?;
+    commit(rt, alloc, &monitor, &mut writer, DOWN)?;
     match monitor.look(rt, one) {
         Ok(first) => {
             let epochs = seen_together(rt, &monitor, &first, other);
