@@ -5,4 +5,3 @@ pub mod Places
 pub mod Moves
 pub mod Changes
 pub mod NewTable
-pub mod Drafts
