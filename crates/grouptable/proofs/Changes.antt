@@ -1,10 +1,10 @@
 -- Changes put in one after another, and a draft that follows them.
-use Rattle.std.proofs.Common.{◌≡◌, ℕ, zero, suc, ◌+◌, ◌<◌, ◌≤◌, Option, None, unwrap_or, List, [], ◌∷◌, length, get_or, take, replicate, refl, ap, sym, ◌∙◌, subst, All, arith}
-use Rattle.std.proofs.lemmas.List.{length-set, get_or-set_other, get_or-take, get_or-replicate, get_or_default, length-take-le, take_all}
+use Rattle.std.proofs.Common.{◌≡◌, ℕ, zero, suc, ◌+◌, ◌<◌, ◌≤◌, List, [], ◌∷◌, length, get_or, take, refl, ap, sym, ◌∙◌, subst, All, arith}
+use Rattle.std.proofs.lemmas.List.{length-set, get_or-set_other, get_or-take, get_or_default, length-take-le, take_all}
 use Rattle.std.specs.List.{range_with_len}
 use Rattle.std.proofs.lemmas.List.FromFn.{length-range_with_len}
 use Rattle.std.proofs.lemmas.List.Sums.{fold_more, length-filter, count_by-le-length}
-use Rattle.grouptable.specs.Sets.{Places, stands, set_of, groups_of, put, changed, left, joined, drawn}
+use Rattle.grouptable.specs.Sets.{Places, stands, set_of, groups_of, put, changed, left, joined, drawn, drawn_over}
 use Rattle.grouptable.specs.Tables.{IsAscending}
 use Rattle.grouptable.proofs.Moves.{groups_moved}
 
@@ -38,12 +38,8 @@ drafted sets cs i c osd before now mid next h e within up f w l j =
     let more : changed sets (take (i + 1) cs) ≡ put (changed sets (take i cs)) c = fold_more put sets cs i c h ∙ ap (λ x. put (changed sets (take i cs)) x) (sym e) in
     rw more (j ∙ rw (l, f, was, ← same) (sym moves))
 
--- a draft with no fresh list shows the table's
-pub drawn_none : (lists : List (List ℕ)) (fresh : List (Option (List ℕ))) (osd : ℕ) → fresh ≡ replicate 1024 None → osd < 1024 → drawn lists fresh osd ≡ get_or lists osd []
-drawn_none lists fresh osd e h = rw (e, get_or-replicate {A = Option (List ℕ)} 1024 osd None None h) refl
-
 -- where all changes are drafted, the lists are those of the sets after them
-pub fits_all : (sets : List Places) (lists : List (List ℕ)) (fresh : List (Option (List ℕ))) (cs : List (ℕ × Places)) (i osd : ℕ) → get_or lists osd [] ≡ groups_of osd sets → drawn lists fresh osd ≡ groups_of osd (changed sets (take i cs)) → length cs ≤ i → unwrap_or (get_or fresh osd None) (groups_of osd sets) ≡ groups_of osd (changed sets cs)
+pub fits_all : (sets : List Places) (lists : List (List ℕ)) (fresh : List (ℕ × List ℕ)) (cs : List (ℕ × Places)) (i osd : ℕ) → get_or lists osd [] ≡ groups_of osd sets → drawn lists fresh osd ≡ groups_of osd (changed sets (take i cs)) → length cs ≤ i → drawn_over osd (groups_of osd sets) fresh ≡ groups_of osd (changed sets cs)
 fits_all sets lists fresh cs i osd e f h = rw (e, take_all i cs h) at f
 
 -- where a group changes there is one

@@ -5,3 +5,4 @@ pub mod Places
 pub mod Moves
 pub mod Changes
 pub mod NewTable
+pub mod Drafts

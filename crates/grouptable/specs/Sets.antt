@@ -1,5 +1,5 @@
 -- The sets of groups, and what an index over them says of an OSD.
-use Rattle.std.specs.Prelude.{◌≡◌, ℕ, ◌<◌, Bool, false, cond, List, [], Option, Some, None, unwrap_or, length, filter, slice_index_or, slice_set, nat_lt, ◌==◌}
+use Rattle.std.specs.Prelude.{◌≡◌, ℕ, ◌<◌, Bool, false, cond, List, [], Option, Some, None, length, filter, slice_index_or, slice_set, nat_lt, ◌==◌}
 use Rattle.std.specs.List.{list_any, range_with_len, fold}
 use Rattle.std.specs.Option.{option_map_or}
 use Rattle.grouptable.specs.Keys.{with_key, without_key}
@@ -43,10 +43,18 @@ left before after group groups = cond before (cond after groups (without_key gro
 abbrev pub joined : Bool → Bool → ℕ → List ℕ → List ℕ
 joined before after group groups = cond after (cond before groups (with_key group groups)) groups
 
--- the list of an OSD in a draft: its own, or that of the table
-abbrev pub drawn : List (List ℕ) → List (Option (List ℕ)) → ℕ → List ℕ
-drawn lists fresh osd = unwrap_or (slice_index_or fresh osd None) (slice_index_or lists osd [])
+-- the list of an OSD, where it has these groups, after one fresh list, and after a draft of them: a later list of the
+-- same OSD takes the place of an earlier one
+abbrev pub latest : ℕ → List ℕ → ℕ × List ℕ → List ℕ
+latest osd groups fresh = cond (fresh.0 == osd) fresh.1 groups
+
+abbrev pub drawn_over : ℕ → List ℕ → List (ℕ × List ℕ) → List ℕ
+drawn_over osd groups fresh = fold (latest osd) groups fresh
+
+-- the list of an OSD in a draft over the lists of a table
+abbrev pub drawn : List (List ℕ) → List (ℕ × List ℕ) → ℕ → List ℕ
+drawn lists fresh osd = drawn_over osd (slice_index_or lists osd []) fresh
 
 -- each OSD's groups in a draft, by those that it had before
-abbrev pub IsRedrawn : (ℕ → List ℕ → List ℕ) → List (List ℕ) → List (Option (List ℕ)) → List (Option (List ℕ)) → Type 0
+abbrev pub IsRedrawn : (ℕ → List ℕ → List ℕ) → List (List ℕ) → List (ℕ × List ℕ) → List (ℕ × List ℕ) → Type 0
 IsRedrawn step lists old new = (osd : ℕ) → osd < length lists → drawn lists new osd ≡ step osd (drawn lists old osd)

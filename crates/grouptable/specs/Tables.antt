@@ -1,6 +1,6 @@
 -- What the index of a table is, and what a patch of it holds.
-use Rattle.std.specs.Prelude.{◌≡◌, ℕ, ◌<◌, ◌≤◌, List, [], Option, None, unwrap_or, length, slice_index_or, All, AllPairs}
-use Rattle.grouptable.specs.Sets.{Places, groups_of, changed}
+use Rattle.std.specs.Prelude.{◌≡◌, ℕ, ◌<◌, ◌≤◌, List, [], length, slice_index_or, All, AllPairs}
+use Rattle.grouptable.specs.Sets.{Places, groups_of, changed, drawn_over}
 use Rattle.grouptable.specs.declared.table.GroupPatch.{GroupPatch}
 
 -- each OSD's list is that of the groups in whose set it stands; a table without a group needs no lists
@@ -13,13 +13,11 @@ pub record IsTable (sets : List Places) (lists : List (List ℕ)) : Type 0 where
 abbrev pub IsAscending : List (ℕ × Places) → Type 0
 IsAscending changes = AllPairs (λ a b. a.0 < b.0) changes
 
--- lists that take the place of those of a table where groups get other sets: none, or each that changes
-pub record IsRedrawing (sets : List Places) (changes : List (ℕ × Places)) (fresh : List (Option (List ℕ))) :
-    Type 0 where
-  pub all : 0 < length fresh → length fresh ≡ 1024
+-- lists that take the place of those of a table where groups get other sets: those that change are among them
+pub record IsRedrawing (sets : List Places) (changes : List (ℕ × Places)) (fresh : List (ℕ × List ℕ)) : Type 0 where
+  pub within : All (λ f. f.0 < 1024) fresh
   pub some : 0 < length fresh → 0 < length sets
-  pub each : (osd : ℕ) → osd < 1024 → unwrap_or (slice_index_or fresh osd None) (groups_of osd sets)
-      ≡ groups_of osd (changed sets changes)
+  pub each : (osd : ℕ) → osd < 1024 → drawn_over osd (groups_of osd sets) fresh ≡ groups_of osd (changed sets changes)
 
 -- a patch gives other sets to groups that are there, with the lists that change
 pub record IsPatchFor (sets : List Places) (patch : GroupPatch) : Type 0 where

@@ -4,7 +4,7 @@ ghost use Rattle.std.specs.Prelude.{◌≡◌, ◌<◌, ◌≤◌, [], length, s
 ghost use Rattle.grouptable.specs.Sets.{groups_of, changed};
 ghost use Rattle.grouptable.specs.Tables.{IsAscending, IsPatchFor, IsRedrawing};
 
-use crate::draft::{join, leave, none, put_all, settle};
+use crate::draft::{Draft, Exchange, put_all, settle};
 use crate::fresh::{empty_lists, empty_sets, numbered};
 use crate::group_list::GroupList;
 use crate::osd_set::OsdSet;
@@ -35,7 +35,7 @@ impl Model for GroupTable {
 #[derive(Drop)]
 pub struct GroupPatch {
     changes: Vec<(u32, OsdSet)>,
-    fresh: Vec<Option<GroupList>>,
+    fresh: Vec<(u32, GroupList)>,
 }
 
 impl GroupTable {
@@ -114,7 +114,7 @@ impl GroupTable {
         &self,
         alloc: Global,
         changes: &[(u32, OsdSet)],
-    ) -> Result<Vec<Option<GroupList>>, Memory>
+    ) -> Result<Vec<(u32, GroupList)>, Memory>
         requires within { All (λ c. c.0 < length self.now) changes.now }
         requires ascending { IsAscending changes.now }
         ensures { IfOk result (λ fresh. IsRedrawing self.now changes.now fresh.items) }
@@ -122,13 +122,18 @@ impl GroupTable {
         if changes.is_empty() {
             return Ok(Vec::new(alloc));
         }
-        let mut fresh = none(alloc)?;
+        let mut draft = Draft::new(alloc)?;
         for (group, after) in changes {
-            let before = &self.sets[*group as usize];
-            leave(alloc, &self.lists, &mut fresh, before, after, *group)?;
-            join(alloc, &self.lists, &mut fresh, before, after, *group)?;
+            let exchange = Exchange {
+                lists: &self.lists,
+                before: &self.sets[*group as usize],
+                after,
+                group: *group,
+            };
+            draft.leave(alloc, &exchange)?;
+            draft.join(alloc, &exchange)?;
         }
-        Ok(fresh)
+        Ok(draft.done())
     }
 
     /// Puts the other sets in. It takes no memory.

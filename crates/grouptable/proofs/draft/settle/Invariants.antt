@@ -1,11 +1,6 @@
-use Rattle.std.proofs.Common.{◌≡◌, ℕ, ◌<◌, None, length, get_or, vec_len}
+use Rattle.std.proofs.Common.{◌≡◌, ℕ, [], length, get_or}
 use Rattle.grouptable.specs.Sets.{drawn}
 use Rattle.grouptable.proofs.draft.settle.Given as goal
 
 abbrev pub invariant-loop-osd : goal.invariant-loop-osd
-invariant-loop-osd l = record {
-  same : vec_len l.fresh ≡ vec_len l.initial.fresh;
-  long : length l.lists ≡ length l.initial.lists;
-  done : (k : ℕ) → k < l.osd → get_or l.fresh.items k None ≡ None;
-  each : (k : ℕ) → drawn l.lists l.fresh.items k ≡ drawn l.initial.lists l.initial.fresh.items k;
-}
+invariant-loop-osd l = ((osd : ℕ) → get_or l.lists osd [] ≡ drawn l.initial.lists l.yielded osd) × ((length l.lists ≡ length l.initial.lists) × ((goal.iterator-loop-osd).can_next l.osd-iterator × (goal.iterator-loop-osd).is_finite l.osd-iterator))

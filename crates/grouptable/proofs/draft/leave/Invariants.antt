@@ -1,6 +1,0 @@
-use Rattle.std.proofs.Common.{◌≡◌, take, length, vec_len}
-use Rattle.grouptable.specs.Sets.{stands, left, IsRedrawn}
-use Rattle.grouptable.proofs.draft.leave.Given as goal
-
-abbrev pub invariant-loop-i : goal.invariant-loop-i
-invariant-loop-i l = (vec_len l.fresh ≡ length l.lists) × IsRedrawn (λ k. left (stands k (take l.i l.before)) (stands k l.after) l.group) l.lists l.initial.fresh.items l.fresh.items
