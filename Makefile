@@ -11,7 +11,7 @@ help:
 	@echo 'make run    the program proved and built, then the example answered by it (slow the first time: every proof below it)'
 	@echo 'make test   the gate: every proof from nothing, the edits that must not prove, the tests, then runs of the built program'
 	@echo 'make gate   the gate without the runs'
-	@echo 'make runs   the runs of the built program alone (seconds)'
+	@echo 'make runs   the runs of the built program alone (a minute or two)'
 	@echo 'make bench  what the built program costs, as tables: placements beside plain C (cc, and valgrind for instructions), table, sessions, balancer'
 
 # Runs with checks in place of proofs.
