@@ -107,4 +107,6 @@ fn main(rt: HostRuntime) -> ExitCode {
 }
 
 #[cfg(test)]
+mod racing;
+#[cfg(test)]
 mod tests;

@@ -1,14 +1,13 @@
 //! What no run of the program shows: a sink that fails, a seat that is spent, a gate and a look that are held while
-//! another asks. The tables of `tests/` run the built program over many scripts and command
-//! lines.
-ghost use Rattle.std.specs.Prelude.{IfOk, All};
+//! another asks. The tables of `tests/` run the built program over many scripts and command lines.
+//! Whoever owns a monitor and its members leaves by few ways, as each way out drops them all.
+ghost use Rattle.std.specs.Prelude.{IfSome, All};
 ghost use Rattle.monitor.specs.Members.{IsMemberOf, IsNewMemberOf};
 
 use crate::playing::next;
 use crossbeam_utils::Backoff;
 use mapjson::{read_change, read_map};
 use monitor::{Look, Member, Monitor};
-use refusal::Refusal;
 use session::{Buffer, Gate, Open, SessionError, Sink, WriteFailed};
 use std::alloc::Global;
 use std::sync::Wait;
@@ -18,7 +17,7 @@ use std::thread;
 use std::thread::Threads;
 
 /// Four devices, and an explicit set for the one group.
-const FOUR_DEVICES: &str = concat!(
+pub const FOUR_DEVICES: &str = concat!(
     r#"{"buckets":[{"id":-1,"items":[[0,65536],[1,65536],[2,65536],[3,65536]],"kind":"uniform","type":10}],"#,
     r#""epoch":1,"max_osd":4,"osds":[{"exists":true,"id":0,"up":true,"weight":65536},"#,
     r#"{"exists":true,"id":1,"up":true,"weight":65536},{"exists":true,"id":2,"up":true,"weight":65536},"#,
@@ -27,21 +26,25 @@ const FOUR_DEVICES: &str = concat!(
     r#""rules":[{"id":0,"kind":"replicated","steps":[["take",-1],["choose_firstn",0,0],["emit"]]}],"version":1}"#,
 );
 
-/// A monitor of four devices, and four members of it, whose seats may draw so often.
-fn opened(alloc: Global, draws: u64) -> Result<(Monitor, Vec<Member>), Refusal>
-    ensures { IfOk result (λ r. All (IsNewMemberOf r.0) r.1.items) }
+/// Two of the members.
+fn two_of(monitor: &Monitor, members: Vec<Member>) -> Option<(Member, Member)>
+    requires { All (IsNewMemberOf monitor.now) members.items }
+    ensures { IfSome result (λ r. IsNewMemberOf monitor.now r.0 × IsNewMemberOf monitor.now r.1) }
 {
-    let map = read_map(alloc, FOUR_DEVICES.as_bytes())?;
-    Ok(Monitor::open_limited(alloc, map, 16, 4, draws)?)
+    let mut members = members;
+    let one = next(monitor, &mut members)?;
+    let other = next(monitor, &mut members)?;
+    Some((one, other))
 }
 
-/// One of the members.
-fn taken(monitor: &Monitor, members: &mut Vec<Member>) -> Result<Member, Refusal>
-    requires { All (IsNewMemberOf monitor.now) members.old.items }
-    ensures rest { All (IsNewMemberOf monitor.now) members.new.items }
-    ensures one { IfOk result (IsNewMemberOf monitor.now) }
+/// A monitor of the map of a text, and two members of it, whose seats may draw so often.
+pub fn opened(alloc: Global, text: &str, draws: u64) -> Option<(Monitor, Member, Member)>
+    ensures { IfSome result (λ r. IsNewMemberOf r.0 r.1 × IsNewMemberOf r.0 r.2) }
 {
-    next(monitor, members).ok_or(Refusal::Memory)
+    let map = read_map(alloc, text.as_bytes()).ok()?;
+    let (monitor, members) = Monitor::open_limited(alloc, map, 16, 2, draws).ok()?;
+    let (one, other) = two_of(&monitor, members)?;
+    Some((monitor, one, other))
 }
 
 /// A sink that takes at most 3 bytes a call, and fails once it has no calls left.
@@ -73,15 +76,13 @@ impl Sink for Slow {
 }
 
 /// A change and a question over four devices, to a sink that takes some calls: how the session ends, what is out, and
-/// the epoch that another member then sees.
+/// whether another member then sees the change.
 fn cut_off<R: Wait>(
     rt: &R,
     alloc: Global,
     calls: usize,
-) -> Result<(Result<(), SessionError>, Slow, u64), Refusal> {
-    let (monitor, mut members) = opened(alloc, 1024)?;
-    let mut member = taken(&monitor, &mut members)?;
-    let mut other = taken(&monitor, &mut members)?;
+) -> Option<(Result<(), SessionError>, Slow, bool)> {
+    let (monitor, mut member, mut other) = opened(alloc, FOUR_DEVICES, 1024)?;
     let mut slow = Slow {
         bytes: Vec::new(alloc),
         calls,
@@ -89,8 +90,8 @@ fn cut_off<R: Wait>(
     };
     let script = b"change {\"base\":1,\"down\":[2]}\nup 1.0\n";
     let ended = session::run(alloc, rt, &monitor, &mut member, script, &mut slow, &Open);
-    let epoch = monitor.epoch(rt, &mut other)?;
-    Ok((ended, slow, epoch))
+    let stands = monitor.epoch(rt, &mut other) == Ok(2);
+    Some((ended, slow, stands))
 }
 
 /// The first answer, of 13 bytes, takes 5 calls, and the second, of 17, takes 6. The change stands, whether it is told
@@ -110,24 +111,23 @@ fn a_session_ends_at_each_failed_write(rt: HostRuntime) -> Result<(), Fail> {
             Ok(())
         };
         match cut_off(&rt, rt.alloc(), calls) {
-            Ok((ended, slow, epoch)) => {
+            Some((ended, slow, stands)) => {
                 assert_eq!(rt; ended, wanted, "{calls}");
                 assert_eq!(rt; slow.bytes.as_slice(), &answers[..out.min(30)], "{calls}");
-                assert_eq!(rt; epoch, 2, "{calls}");
+                assert!(rt; stands, "{calls}");
             }
-            Err(_) => assert!(rt; false, "{calls}"),
+            None => assert!(rt; false, "{calls}"),
         }
     }
     Ok(())
 }
 
-/// What a session answers whose seat may draw twice.
-fn spent<R: Wait>(rt: &R, alloc: Global) -> Result<Buffer, Refusal> {
-    let (monitor, mut members) = opened(alloc, 2)?;
-    let mut member = taken(&monitor, &mut members)?;
+/// What a session answers whose seat may draw twice, and how it ends.
+fn spent<R: Wait>(rt: &R, alloc: Global) -> Option<(Result<(), SessionError>, Buffer)> {
+    let (monitor, mut member, _) = opened(alloc, FOUR_DEVICES, 2)?;
     let mut answers = Buffer::new(alloc);
     let script = b"epoch\nepoch\nepoch\nhello\nfup 1.0\n";
-    match session::run(
+    let ended = session::run(
         alloc,
         rt,
         &monitor,
@@ -135,10 +135,8 @@ fn spent<R: Wait>(rt: &R, alloc: Global) -> Result<Buffer, Refusal> {
         script,
         &mut answers,
         &Open,
-    ) {
-        Ok(()) => Ok(answers),
-        Err(_) => Err(Refusal::Memory),
-    }
+    );
+    Some((ended, answers))
 }
 
 /// A line that is no command and a follower take no draw.
@@ -146,8 +144,11 @@ fn spent<R: Wait>(rt: &R, alloc: Global) -> Result<Buffer, Refusal> {
 fn a_third_draw_of_two_is_refused(rt: HostRuntime) -> Result<(), Fail> {
     let wanted = b"epoch 1\nepoch 1\nerr 31 SeatSpent\nerr 33 BadCommand\nfup 1 1.0 [2,0,1] 2\n";
     match spent(&rt, rt.alloc()) {
-        Ok(answers) => assert_eq!(rt; answers.bytes(), wanted.as_slice()),
-        Err(_) => assert!(rt; false),
+        Some((ended, answers)) => {
+            assert_eq!(rt; ended, Ok(()));
+            assert_eq!(rt; answers.bytes(), wanted.as_slice());
+        }
+        None => assert!(rt; false),
     }
     Ok(())
 }
@@ -203,80 +204,68 @@ fn met<R: Wait>(
     session::run(alloc, rt, monitor, &mut member, script, &mut answers, &gate)
 }
 
-/// How two sessions end that run at once.
-fn met_at_once<R: Wait + Threads + Sync>(rt: &R, alloc: Global) -> Result<bool, Refusal> {
-    let (monitor, mut members) = opened(alloc, 1024)?;
-    let one = taken(&monitor, &mut members)?;
-    let other = taken(&monitor, &mut members)?;
-    let (shared, asked) = (&monitor, &AtomicU64::new(0));
+/// Whether both of two sessions end well that run at once.
+fn meet<R: Wait + Threads + Sync>(
+    rt: &R,
+    alloc: Global,
+    monitor: &Monitor,
+    one: Member,
+    other: Member,
+) -> bool
+    requires one { IsMemberOf monitor.now one }
+    requires other { IsMemberOf monitor.now other }
+{
+    let asked = &AtomicU64::new(0);
     let (first, second) = thread::join(
         rt,
         move ||
-            requires { IsMemberOf shared.now one }
+            requires { IsMemberOf monitor.now one }
         {
-            met(
-                rt,
-                alloc,
-                shared,
-                one,
-                Meeting {
-                    is_first: true,
-                    asked,
-                },
-            )
+            let gate = Meeting {
+                is_first: true,
+                asked,
+            };
+            met(rt, alloc, monitor, one, gate)
         },
         move ||
-            requires { IsMemberOf shared.now other }
+            requires { IsMemberOf monitor.now other }
         {
-            met(
-                rt,
-                alloc,
-                shared,
-                other,
-                Meeting {
-                    is_first: false,
-                    asked,
-                },
-            )
+            let gate = Meeting {
+                is_first: false,
+                asked,
+            };
+            met(rt, alloc, monitor, other, gate)
         },
     );
-    Ok(first.is_ok() && second.is_ok())
+    first.is_ok() && second.is_ok()
+}
+
+/// The same, of a new monitor.
+fn met_at_once<R: Wait + Threads + Sync>(rt: &R, alloc: Global) -> Option<bool> {
+    let (monitor, one, other) = opened(alloc, FOUR_DEVICES, 1024)?;
+    Some(meet(rt, alloc, &monitor, one, other))
 }
 
 /// One after the other, the first would end held.
 #[test]
 fn sessions_run_at_once(rt: HostRuntime) -> Result<(), Fail> {
-    assert!(rt; met_at_once(&rt, rt.alloc()) == Ok(true));
+    assert!(rt; met_at_once(&rt, rt.alloc()) == Some(true));
     Ok(())
-}
-
-/// How often a change is tried again.
-const MAX_TRIES: u32 = 1_000;
-
-/// Commits a change at the present epoch, again where another was committed meanwhile; or why it is refused.
-fn commit<R: Wait>(
-    rt: &R,
-    alloc: Global,
-    monitor: &Monitor,
-    member: &mut Member,
-    text: &str,
-) -> Result<(), Refusal>
-    requires { IsMemberOf monitor.now member.old }
-    ensures { IsMemberOf monitor.now member.new }
-{
-    for _ in 0..MAX_TRIES {
-        let base = monitor.epoch(rt, member)?;
-        let (_, change) = read_change(alloc, text.as_bytes())?;
-        match monitor.commit(rt, alloc, member, base, change) {
-            Err(Refusal::StaleEpoch(_)) => {}
-            answer => return answer.map(|_| ()),
-        }
-    }
-    Err(Refusal::StaleEpoch(0))
 }
 
 /// An OSD goes down.
 const DOWN: &str = r#"{"base":1,"down":[0]}"#;
+
+/// Commits this change at epoch 1; whether it is accepted.
+fn commit<R: Wait>(rt: &R, alloc: Global, monitor: &Monitor, member: &mut Member) -> bool
+    requires { IsMemberOf monitor.now member.old }
+    ensures { IsMemberOf monitor.now member.new }
+{
+    let Ok((base, change)) = read_change(alloc, DOWN.as_bytes()) else {
+        return false;
+    };
+    monitor.commit(rt, alloc, member, base, change).is_ok()
+}
 
 /// The epochs that two looks show which are held at the same time.
 fn seen_together<R: Wait>(
@@ -297,26 +286,31 @@ fn seen_together<R: Wait>(
     }
 }
 
-/// The epochs of two looks after another member's commit.
-fn looked<R: Wait>(rt: &R, alloc: Global) -> Result<Option<(u64, u64)>, Refusal> {
-    let (monitor, mut members) = opened(alloc, 1024)?;
-    let mut writer = taken(&monitor, &mut members)?;
-    let one = taken(&monitor, &mut members)?;
-    let other = taken(&monitor, &mut members)?;
-    commit(rt, alloc, &monitor, &mut writer, DOWN)?;
+/// The epochs that the looks of two members show, the one held within the other.
+fn looks<R: Wait>(rt: &R, monitor: &Monitor, one: Member, other: Member) -> Option<(u64, u64)>
+    requires one { IsMemberOf monitor.now one }
+    requires other { IsMemberOf monitor.now other }
+{
     match monitor.look(rt, one) {
         Ok(first) => {
-            let epochs = seen_together(rt, &monitor, &first, other);
+            let epochs = seen_together(rt, monitor, &first, other);
             let _ = first.leave();
-            Ok(epochs)
+            epochs
         }
-        Err(_) => Ok(None),
+        Err(_) => None,
     }
+}
+
+/// The epochs of the looks of two members, after a commit of the one.
+fn looked<R: Wait>(rt: &R, alloc: Global) -> Option<(u64, u64)> {
+    let (monitor, mut one, other) = opened(alloc, FOUR_DEVICES, 1024)?;
+    let _ = commit(rt, alloc, &monitor, &mut one);
+    looks(rt, &monitor, one, other)
 }
 
 /// Where readers did not share, the second would wait for good.
 #[test]
 fn two_looks_are_held_at_once_after_a_commit(rt: HostRuntime) -> Result<(), Fail> {
-    assert!(rt; looked(&rt, rt.alloc()) == Ok(Some((2, 2))));
+    assert!(rt; looked(&rt, rt.alloc()) == Some((2, 2)));
     Ok(())
 }

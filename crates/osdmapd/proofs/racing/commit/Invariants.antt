@@ -1,5 +1,5 @@
 use Rattle.monitor.specs.Members.{IsMemberOf}
-use Rattle.osdmapd.proofs.tests.commit.Given as goal
+use Rattle.osdmapd.proofs.racing.commit.Given as goal
 
 -- the member is one of the monitor's
 abbrev pub invariant-loop : goal.invariant-loop
