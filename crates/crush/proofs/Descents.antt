@@ -7,7 +7,7 @@ use Rattle.crush.specs.declared.choose.Picked.{Picked}
 use Rattle.crush.specs.Forest.{bucket_at, level_of}
 use Rattle.crush.specs.Pick.{pick_of}
 use Rattle.crush.specs.World.{World}
-use Rattle.crush.specs.Indep.{number_in}
+use Rattle.crush.specs.Indep.{replica_number}
 use Rattle.crush.specs.Descent.{descent}
 
 -- the type of an item, from its bucket
@@ -53,10 +53,10 @@ unfolding descent
 descent_none w r wanted n met b past = let none : n - met ≡ zero = omega arith in ap (λ m. descent w r wanted m b) none
 
 -- in round 0 the number is the same at each bucket
-at_zero : (r : ℕ) (b : Bucket) → number_in 1 r 0 b ≡ r
-unfolding number_in
+at_zero : (r : ℕ) (b : Bucket) → replica_number 1 r 0 b ≡ r
+unfolding replica_number
 at_zero r b = omega arith
 
 -- so a draw of round 0 over one replica is a number of its own
-pub steady : (r : ℕ) → number_in 1 r 0 ≡ (λ _. r)
+pub steady : (r : ℕ) → replica_number 1 r 0 ≡ (λ _. r)
 steady r = λ i b. at_zero r b i

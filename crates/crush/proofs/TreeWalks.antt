@@ -17,7 +17,7 @@ use Rattle.crush.specs.declared.pick.tree.Walk.{Walk}
 use Rattle.crush.specs.Tree.{weight_between, goes_left, height_of, tree_place}
 use Rattle.crush.specs.Walks.{stepped}
 use Rattle.crush.specs.Items.{item_at}
-use Rattle.crush.specs.Pick.{place_of, pick_of}
+use Rattle.crush.specs.Pick.{place_picked, pick_of}
 use Rattle.std.proofs.lemmas.List.FromFn.{length-range_with_len, get_or-range_with_len}
 
 -- what is computed for each of 1 to 64
@@ -202,6 +202,6 @@ half_room draw k from half w items some eh at =
     omega (arith, two, eh, room)
 
 -- the item at the place picked
-pub picked_at : (b : Bucket) (x r place : ℕ) (items : List Item) → items ≡ b.items → place ≡ place_of b x r → (item_at items place).id ≡ pick_of b x r
+pub picked_at : (b : Bucket) (x r place : ℕ) (items : List Item) → items ≡ b.items → place ≡ place_picked b x r → (item_at items place).id ≡ pick_of b x r
 unfolding pick_of
 picked_at b x r place items same e = ap (λ (ys : List Item). (item_at ys place).id) same ∙ ap (λ p. (item_at b.items p).id) e

@@ -20,12 +20,12 @@ stride_by InList numrep size = numrep
 stride_by InTree numrep size = numrep
 
 -- the replica number of a round at a bucket, on top of `base`
-unfoldable pub number_in : ℕ → ℕ → ℕ → Bucket → ℕ
-number_in numrep base round b = base + stride_by b.kind numrep (length b.items) * round
+unfoldable pub replica_number : ℕ → ℕ → ℕ → Bucket → ℕ
+replica_number numrep base round b = base + stride_by b.kind numrep (length b.items) * round
 
 -- the same for the rounds 0 up to n
-abbrev pub numbers_in : ℕ → ℕ → ℕ → List (Bucket → ℕ)
-numbers_in numrep base n = map (number_in numrep base) (range_with_len 0 n)
+abbrev pub replica_numbers : ℕ → ℕ → ℕ → List (Bucket → ℕ)
+replica_numbers numrep base n = map (replica_number numrep base) (range_with_len 0 n)
 
 -- whether an item stands at a position
 abbrev pub holds_item : ℤ → Position → Bool
@@ -55,7 +55,8 @@ unfoldable pub position_with : Choosing → List Position → ℕ → Picked →
 position_with k positions rep p =
     if list_any (holds_item p.item) positions then Open
     else if k.choose.to_leaf
-    then filled_with p.item (leaf_below k.world (is_in k.world) (numbers_in k.numrep (rep + p.r) k.tries.leaf) p.item)
+    then filled_with p.item
+    (leaf_below k.world (is_in k.world) (replica_numbers k.numrep (rep + p.r) k.tries.leaf) p.item)
     else if k.choose.level == 0 && is_out k.world p.item then Open
     else Filled (record { item = p.item; leaf = p.item })
 
@@ -67,7 +68,7 @@ position_at k positions rep (Some p) = position_with k positions rep p
 -- what position `rep` becomes in a round
 unfoldable pub position_of : Choosing → Bucket → ℕ → List Position → ℕ → Position
 position_of k start round positions rep =
-    position_at k positions rep (item_below k.world (number_in k.numrep rep round) k.choose.level start)
+    position_at k positions rep (item_below k.world (replica_number k.numrep rep round) k.choose.level start)
 
 -- one turn of a round: an open position is tried, another is left alone
 abbrev pub after_turn : Choosing → Bucket → ℕ → List Position → ℕ → List Position

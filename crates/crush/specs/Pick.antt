@@ -17,13 +17,13 @@ place_by InList b x r = list_place x (word b.id) r b.items
 place_by InTree b x r = tree_place (draw_at x (word b.id) r) b.items (height_of (length b.items)) 0
 
 -- the place that a bucket picks
-abbrev pub place_of : Bucket → ℕ → ℕ → ℕ
-place_of b x r = place_by b.kind b x r
+abbrev pub place_picked : Bucket → ℕ → ℕ → ℕ
+place_picked b x r = place_by b.kind b x r
 
 -- the item that a bucket picks
 unfoldable pub pick_of : Bucket → ℕ → ℕ → ℤ
-pick_of b x r = (item_at b.items (place_of b x r)).id
+pick_of b x r = (item_at b.items (place_picked b x r)).id
 
 -- what a bucket picks for the replica numbers 0 to 3
-abbrev pub ArePicks : Bucket → ℕ → List ℤ → Type 0
-ArePicks b x picks = (r : ℕ) → r < 4 → slice_index_or picks r (pos 0) ≡ pick_of b x r
+abbrev pub AreFirstPicks : Bucket → ℕ → List ℤ → Type 0
+AreFirstPicks b x picks = (r : ℕ) → r < 4 → slice_index_or picks r (pos 0) ≡ pick_of b x r

@@ -61,7 +61,7 @@ pub(crate) struct Draw {
 
 impl Draw {
     ghost use Rattle.std.specs.Prelude.{◌≡◌, ◌+◌, ◌*◌, ◌^◌, ◌<◌, ◌≤◌, length};
-    ghost use Rattle.crush.specs.Indep.{number_in, stride_by};
+    ghost use Rattle.crush.specs.Indep.{replica_number, stride_by};
 
     /// How far the replica number goes on each round.
     fn stride(self, bucket: &Bucket) -> u32
@@ -77,11 +77,11 @@ impl Draw {
     }
 
     /// The replica number at a bucket.
-    #[tactic(auto, unfolding(crate::specs::Indep::number_in))]
+    #[tactic(auto, unfolding(crate::specs::Indep::replica_number))]
     pub(crate) fn at(self, bucket: &Bucket) -> u32
         requires some { 0 < self.numrep }
         requires fits { self.base < 2 ^ 31 }
-        ensures value { result ≡ number_in self.numrep self.base self.round bucket.now }
+        ensures value { result ≡ replica_number self.numrep self.base self.round bucket.now }
         ensures small { result ≤ self.base + 65280 }
     {
         if self.round == 0 {

@@ -45,8 +45,9 @@ impl Chooser<'_> {
             result ≡ leaf_below w (is_free w chosen.now) (numbers_from r self.now.tries.leaf) item }
     {
         let bucket = self.placement.forest.bucket(item)?;
+        let below = Start::new(bucket, self.placement.x, 1);
         for turn in 0..self.tries.leaf {
-            if let Some(picked) = self.placement.descend_at(bucket, 0, r + u32::from(turn)) {
+            if let Some(picked) = self.placement.descend_at(&below, 0, r + u32::from(turn)) {
                 if self.is_free(chosen, picked.item) {
                     return Some(picked.item);
                 }
@@ -82,7 +83,7 @@ impl Chooser<'_> {
         requires room { r < 2 ^ 30 }
         ensures { result ≡ attempt_of (choosing self.now) chosen.now start.now.bucket.now r }
     {
-        match self.placement.descend_below_at(start, self.choose.level, r) {
+        match self.placement.descend_at(start, self.choose.level, r) {
             Some(picked) => self.attempt_with(chosen, r, picked.item),
             None => Attempt::Abandoned,
         }

@@ -7,7 +7,7 @@ use crate::bucket::Bucket;
 use crate::limits::MAX_DEVICES;
 use crate::met::{SLOTS, slot_of};
 use crate::parents::parents_of;
-use crate::search::{bucket_of, is_known, level_of};
+use crate::search::{bucket_of, is_known};
 use crate::well_formed::{is_well_formed, is_within_limits};
 use refusal::{Memory, Refusal};
 use std::alloc::Global;
@@ -39,7 +39,7 @@ impl Forest {
     ghost use Rattle.std.specs.List.{find};
     ghost use Rattle.std.specs.Option.{option_copied};
     ghost use Rattle.refusal.specs.Outcomes.{Judges, refused_unless};
-    ghost use Rattle.crush.specs.Forest.{bucket_at, level_of, IsPickable};
+    ghost use Rattle.crush.specs.Forest.{bucket_at, IsPickable};
     ghost use Rattle.crush.specs.Order.{by_id};
     ghost use Rattle.crush.specs.Paths.{has_item, is_above, IsAncestor};
     ghost use Rattle.crush.specs.WellFormed.{forest_limits_ok, forest_ok, forest_fault, IsForest, IsDescending};
@@ -99,13 +99,6 @@ impl Forest {
             return None;
         }
         bucket_of(buckets, id)
-    }
-
-    /// The type of an item: that of its bucket, and 0 for a device.
-    pub fn level(&self, item: i32) -> u8
-        ensures { result ≡ level_of self.now item }
-    {
-        level_of(&self.buckets, item)
     }
 
     /// The bucket of type `level` above an item, a device as a rule. There is no more than one.

@@ -2,8 +2,6 @@
 
 ghost use Rattle.std.specs.Prelude.{◌≡◌};
 ghost use Rattle.std.specs.List.{list_all};
-ghost use Rattle.crush.specs.Limits.{max_tries};
-ghost use Rattle.crush.specs.WellFormed.{is_within};
 ghost use Rattle.crush.specs.Grammar.{step_limits_ok, rule_limits_ok, serves, is_last, is_earlier, is_block, sets_tries, is_piece, is_emit, are_blocks, is_rule, takes_known};
 
 use crate::forest::Forest;
@@ -18,16 +16,10 @@ fn is_step_within(step: &Step) -> bool
     match step {
         Step::Take(bucket) => is_bucket_id(*bucket),
         Step::Choose(choose) => choose.count <= MAX_COUNT && choose.level <= MAX_LEVEL,
-        Step::SetChooseTries(tries) | Step::SetChooseleafTries(tries) => are_tries_within(*tries),
+        Step::SetChooseTries(tries) | Step::SetChooseleafTries(tries) => 1 <= *tries
+            && *tries <= MAX_TRIES,
         Step::Emit => true,
     }
-}
-
-/// Whether a step may set so many tries.
-fn are_tries_within(tries: u8) -> bool
-    ensures { result ≡ is_within 1 max_tries tries }
-{
-    1 <= tries && tries <= MAX_TRIES
 }
 
 /// Whether each step is within the limits.

@@ -32,23 +32,24 @@ impl Chooser<'_> {
     ghost use Rattle.crush.specs.Limits.{max_size};
     ghost use Rattle.crush.specs.Placed.{choosing};
     ghost use Rattle.crush.specs.Descent.{leaf_below};
-    ghost use Rattle.crush.specs.Indep.{is_in, numbers_in, position_with, position_of, after_turn, after_round, indep};
+    ghost use Rattle.crush.specs.Indep.{is_in, replica_numbers, position_with, position_of, after_turn, after_round, indep};
 
     /// The leaf below an item chosen for a position.
     fn position_leaf(&self, item: i32, base: u32) -> Option<i32>
         requires some { 0 < self.now.numrep }
         requires fits { base < 2 ^ 31 }
         ensures { let k = choosing self.now in
-            result ≡ leaf_below k.world (is_in k.world) (numbers_in k.numrep base k.tries.leaf) item }
+            result ≡ leaf_below k.world (is_in k.world) (replica_numbers k.numrep base k.tries.leaf) item }
     {
         let bucket = self.placement.forest.bucket(item)?;
+        let below = Start::new(bucket, self.placement.x, 1);
         for round in 0..self.tries.leaf {
             let draw = Draw {
                 numrep: self.numrep,
                 base,
                 round,
             };
-            if let Some(picked) = self.placement.descend(bucket, 0, draw) {
+            if let Some(picked) = self.placement.descend(&below, 0, draw) {
                 if !self.placement.is_out(picked.item) {
                     return Some(picked.item);
                 }
@@ -92,7 +93,7 @@ impl Chooser<'_> {
             base: rep,
             round,
         };
-        match self.placement.descend_below(start, self.choose.level, draw) {
+        match self.placement.descend(start, self.choose.level, draw) {
             Some(picked) => self.position_with(positions, rep, picked),
             None => Position::Hole,
         }

@@ -23,7 +23,7 @@ fn total_weight(items: &[Item]) -> u32
 impl Bucket {
     ghost use Rattle.std.specs.Prelude.{◌≡◌, ℕ, ◌<◌, length, slice_index, IfSome};
     ghost use Rattle.crush.specs.Forest.{IsPickable};
-    ghost use Rattle.crush.specs.Pick.{place_of, pick_of, ArePicks};
+    ghost use Rattle.crush.specs.Pick.{place_picked, pick_of, AreFirstPicks};
 
     /// The item that the bucket picks for an input and a replica number. It takes no memory.
     pub fn pick(&self, x: u32, r: u32) -> i32
@@ -37,7 +37,7 @@ impl Bucket {
     #[tactic(auto, unfolding(crate::specs::Pick::place_by))]
     fn place(&self, x: u32, r: u32) -> usize
         requires { IsPickable self.now }
-        ensures place { result ≡ place_of self.now x r }
+        ensures place { result ≡ place_picked self.now x r }
         ensures within { result < length self.now.items }
     {
         let id = self.id.cast_unsigned();
@@ -52,7 +52,7 @@ impl Bucket {
     /// The items that the bucket picks for the replica numbers 0 to 3, where together they are less work than apart.
     pub(crate) fn first_picks(&self, x: u32) -> Option<[i32; 4]>
         requires { IsPickable self.now }
-        ensures { IfSome result (ArePicks self.now x) }
+        ensures { IfSome result (AreFirstPicks self.now x) }
     {
         let places = self.first_places(x)?;
         let items: &[Item] = &self.items;
@@ -68,7 +68,7 @@ impl Bucket {
     #[tactic(auto, unfolding(crate::specs::Pick::place_by))]
     fn first_places(&self, x: u32) -> Option<[usize; 4]>
         requires { IsPickable self.now }
-        ensures place { IfSome result (λ places. (r : ℕ) → r < 4 → slice_index places r ≡ place_of self.now x r) }
+        ensures place { IfSome result (λ places. (r : ℕ) → r < 4 → slice_index places r ≡ place_picked self.now x r) }
         ensures within { IfSome result (λ places. (r : ℕ) → r < 4 → slice_index places r < length self.now.items) }
     {
         let id = self.id.cast_unsigned();

@@ -4,7 +4,7 @@ ghost use Rattle.std.specs.Prelude.{◌≡◌, IfSome};
 ghost use Rattle.std.specs.Option.{option_copied, option_map_or};
 ghost use Rattle.std.proofs.Props.{props};
 ghost use Rattle.crush.specs.Forest.{IsPickable};
-ghost use Rattle.crush.specs.Pick.{ArePicks};
+ghost use Rattle.crush.specs.Pick.{AreFirstPicks};
 
 use crate::bucket::Bucket;
 use crate::choose::{Draw, Picked};
@@ -29,7 +29,7 @@ pub(crate) struct Start<'a> {
     x: u32,
     firsts: Option<[i32; 4]>,
     ghost within: { IsPickable bucket.now },
-    ghost picked: { IfSome firsts (ArePicks bucket.now x) } by { Prim.hlevel props },
+    ghost picked: { IfSome firsts (AreFirstPicks bucket.now x) } by { Prim.hlevel props },
 }
 
 impl<'a> Start<'a> {
@@ -72,12 +72,10 @@ pub(crate) struct Placement<'a> {
 
 impl Placement<'_> {
     ghost use Rattle.std.specs.Prelude.{◌≡◌, ◌+◌, ◌^◌, ◌<◌, ◌≤◌, IfSome};
-    ghost use Rattle.crush.specs.Forest.{IsPickable};
     ghost use Rattle.crush.specs.World.{is_out};
     ghost use Rattle.crush.specs.Placed.{world};
     ghost use Rattle.crush.specs.Descent.{item_below};
-    ghost use Rattle.crush.specs.Indep.{number_in};
-    ghost use Rattle.crush.specs.Pick.{pick_of};
+    ghost use Rattle.crush.specs.Indep.{replica_number};
 
     /// Whether a device is out.
     #[tactic(auto, unfolding(crate::specs::World::is_out))]
@@ -89,25 +87,20 @@ impl Placement<'_> {
         weight < FULL_WEIGHT && weight <= hash2(self.x, number) % FULL_WEIGHT
     }
 
-    /// The item of the wanted type below a bucket that picks `first`.
-    pub(crate) fn descend_from(
-        &self,
-        start: &Bucket,
-        first: i32,
-        wanted: u8,
-        draw: Draw,
-    ) -> Option<Picked>
-        requires within { IsPickable start.now }
+    /// The item of the wanted type below a bucket.
+    pub(crate) fn descend(&self, start: &Start, wanted: u8, draw: Draw) -> Option<Picked>
+        requires input { start.now.x ≡ self.now.x }
         requires some { 0 < draw.numrep }
         requires fits { draw.base < 2 ^ 31 }
-        requires picked { first ≡ pick_of start.now self.now.x (number_in draw.numrep draw.base draw.round start.now) }
-        ensures value { let r = number_in draw.numrep draw.base draw.round in
-            result ≡ item_below (world self.now) r wanted start.now }
+        ensures value { let r = replica_number draw.numrep draw.base draw.round in
+            result ≡ item_below (world self.now) r wanted start.now.bucket.now }
         ensures small { IfSome result (λ p. p.r ≤ draw.base + 65280) }
     {
-        let mut bucket = start;
+        let base = draw.at(start.bucket);
+        let first = start.pick(base);
+        let mut bucket = start.bucket;
         let mut item = first;
-        for met in 0..start.level {
+        for met in 0..start.bucket.level {
             let found = self.forest.bucket(item);
             if level_of(found) == wanted {
                 let r = draw.at(bucket);
@@ -124,58 +117,17 @@ impl Placement<'_> {
         None
     }
 
-    /// The item of the wanted type below a bucket.
-    pub(crate) fn descend(&self, start: &Bucket, wanted: u8, draw: Draw) -> Option<Picked>
-        requires within { IsPickable start.now }
-        requires some { 0 < draw.numrep }
-        requires fits { draw.base < 2 ^ 31 }
-        ensures value { let r = number_in draw.numrep draw.base draw.round in
-            result ≡ item_below (world self.now) r wanted start.now }
-        ensures small { IfSome result (λ p. p.r ≤ draw.base + 65280) }
-    {
-        let first = start.pick(self.x, draw.at(start));
-        self.descend_from(start, first, wanted, draw)
-    }
-
-    /// The same below a bucket whose first picks are made.
-    pub(crate) fn descend_below(&self, start: &Start, wanted: u8, draw: Draw) -> Option<Picked>
-        requires input { start.now.x ≡ self.now.x }
-        requires some { 0 < draw.numrep }
-        requires fits { draw.base < 2 ^ 31 }
-        ensures value { let r = number_in draw.numrep draw.base draw.round in
-            result ≡ item_below (world self.now) r wanted start.now.bucket.now }
-        ensures small { IfSome result (λ p. p.r ≤ draw.base + 65280) }
-    {
-        let first = start.pick(draw.at(start.bucket));
-        self.descend_from(start.bucket, first, wanted, draw)
-    }
-
     /// The same, all picks made with one replica number.
-    pub(crate) fn descend_at(&self, start: &Bucket, wanted: u8, r: u32) -> Option<Picked>
-        requires within { IsPickable start.now }
-        requires fits { r < 2 ^ 31 }
-        ensures { result ≡ item_below (world self.now) (λ _. r) wanted start.now }
-    {
-        self.descend(start, wanted, steady(r))
-    }
-
-    /// The same below a bucket whose first picks are made.
-    pub(crate) fn descend_below_at(&self, start: &Start, wanted: u8, r: u32) -> Option<Picked>
+    pub(crate) fn descend_at(&self, start: &Start, wanted: u8, r: u32) -> Option<Picked>
         requires input { start.now.x ≡ self.now.x }
         requires fits { r < 2 ^ 31 }
         ensures { result ≡ item_below (world self.now) (λ _. r) wanted start.now.bucket.now }
     {
-        self.descend_below(start, wanted, steady(r))
-    }
-}
-
-/// One replica number throughout.
-fn steady(r: u32) -> Draw
-    ensures { result ≡ record { numrep = 1; base = r; round = 0 } }
-{
-    Draw {
-        numrep: 1,
-        base: r,
-        round: 0,
+        let draw = Draw {
+            numrep: 1,
+            base: r,
+            round: 0,
+        };
+        self.descend(start, wanted, draw)
     }
 }

@@ -79,26 +79,6 @@ impl Chooser<'_> {
         Ok(())
     }
 
-    /// Adds what a choose step gives below one bucket.
-    fn add_segment(
-        &self,
-        size: u8,
-        start: &Bucket,
-        chosen: &mut Vec<Choice>,
-        found: &mut Vec<Option<i32>>,
-    ) -> Result<(), AllocError>
-        requires within { IsPickable start.now }
-        requires some { 0 < self.now.numrep }
-        requires few { size ≤ max_size }
-        ensures { OnOk result (found.new.items ≡ found.old.items
-            ++ segment_of (choosing self.now) start.now (size - length found.old.items)) }
-    {
-        match self.choose.mode {
-            Mode::Firstn => self.add_packed(size, start, chosen, found),
-            Mode::Indep => self.add_positions(size, start, found),
-        }
-    }
-
     /// Adds what a choose step gives below an entry of the working list: nothing below a device or a hole.
     fn add_entry(
         &self,
@@ -114,9 +94,12 @@ impl Chooser<'_> {
         let Some(item) = entry else {
             return Ok(());
         };
-        match self.placement.forest.bucket(item) {
-            Some(bucket) => self.add_segment(size, bucket, chosen, found),
-            None => Ok(()),
+        let Some(bucket) = self.placement.forest.bucket(item) else {
+            return Ok(());
+        };
+        match self.choose.mode {
+            Mode::Firstn => self.add_packed(size, bucket, chosen, found),
+            Mode::Indep => self.add_positions(size, bucket, found),
         }
     }
 

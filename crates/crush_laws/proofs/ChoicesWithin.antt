@@ -17,7 +17,7 @@ use Rattle.crush.specs.Choosing.{Choosing}
 use Rattle.crush.specs.World.{World, is_out}
 use Rattle.crush.specs.Descent.{item_below, leaf_below}
 use Rattle.crush.specs.Firstn.{numbers_from, is_free, attempt_with, attempt_at, attempt_of, is_failed, replica_of, with_attempt, after_replica, firstn}
-use Rattle.crush.specs.Indep.{number_in, numbers_in, holds_item, is_open, position_with, position_at, position_of, after_turn, after_round, indep}
+use Rattle.crush.specs.Indep.{replica_number, replica_numbers, holds_item, is_open, position_with, position_at, position_of, after_turn, after_round, indep}
 use Rattle.crush_laws.proofs.FirstnSegments.{attempt_by, chosen_by, first_of}
 use Rattle.crush_laws.proofs.Folds.{fold_keeps}
 use Rattle.crush_laws.proofs.IndepPositions.{position_by, filled_by}
@@ -156,7 +156,7 @@ unfolding position_with position_by
 position_same R k vs positions rep p s holds device =
     let v = other k.world vs in
     let held = list_any (holds_item p.item) positions in
-    let rs = numbers_in k.numrep (rep + p.r) k.tries.leaf in
+    let rs = replica_numbers k.numrep (rep + p.r) k.tries.leaf in
     let accepts : World → ℤ → Bool = λ u d. not (is_out u d) in
     let leaf = leaf_same R k.world vs (accepts k.world) (accepts v) rs p.item s holds (λ d h q. ap not (s.alike d h q)) in
     ap (λ l. position_by held k.choose.to_leaf (eqb k.choose.level 0 && is_out k.world p.item) l p.item) leaf
@@ -167,7 +167,7 @@ filled_in : (D : ℤ → Type 0) (k : Choosing) (positions : List Position) (rep
 unfolding position_with position_by
 filled_in D k positions rep p e leaves bare h =
     let accepts : ℤ → Bool = λ d. not (is_out k.world d) in
-    let rs = numbers_in k.numrep (rep + p.r) k.tries.leaf in
+    let rs = replica_numbers k.numrep (rep + p.r) k.tries.leaf in
     let is = filled_by (list_any (holds_item p.item) positions) k.choose.to_leaf (eqb k.choose.level 0 && is_out k.world p.item) (leaf_below k.world accepts rs p.item) p.item e h in
     elim (cases_Bool k.choose.to_leaf) [
       | inl leafy ↦ leaves accepts rs e.leaf (is.taken leafy)
@@ -188,7 +188,7 @@ position_at_in D k positions rep (Some p) e leaves bare is = filled_in D k posit
 position_of_same : (R : ℤ → Type 0) (k : Choosing) (vs : List ℕ) (start : Bucket) (round : ℕ) (positions : List Position) (rep : ℕ) → AreAlike R k.world vs → HasIn R k.world.buckets start → position_of k start round positions rep ≡ position_of (other_step k vs) start round positions rep
 unfolding position_of
 position_of_same R k vs start round positions rep s h =
-    let r = number_in k.numrep rep round in
+    let r = replica_number k.numrep rep round in
     position_at_same R k vs positions rep (item_below k.world r k.choose.level start) s (λ p is. descent_in R k.world vs r k.choose.level start.level start p s h is) (λ p is e. device_at R k.world vs r k.choose.level start p s h is e)
     ∙ ap (position_at (other_step k vs) positions rep) (descent_same k.world vs r k.choose.level start.level start)
 
@@ -202,7 +202,7 @@ held_in R (Filled e) h = h e refl
 position_of_in : (D : ℤ → Type 0) (k : Choosing) (start : Bucket) (round : ℕ) (positions : List Position) (rep : ℕ) → LeadsIn D k start → HoldsIn D (position_of k start round positions rep)
 unfolding position_of
 position_of_in D k start round positions rep s =
-    let r = number_in k.numrep rep round in
+    let r = replica_number k.numrep rep round in
     held_in D _ (λ e is. position_at_in D k positions rep (item_below k.world r k.choose.level start) e (λ p accepts rs leaf. s.leaf r p accepts rs leaf) (λ p. s.bare r p) is)
 
 -- a round is the same

@@ -8,7 +8,7 @@ use Rattle.std.proofs.lemmas.Bool.Decides.{Decides-int_eq}
 use Rattle.crush.specs.declared.bucket.Bucket.{Bucket}
 use Rattle.crush.specs.declared.choose.Picked.{Picked}
 use Rattle.crush.specs.Forest.{bucket_at, level_of}
-use Rattle.crush.specs.Pick.{place_of, pick_of}
+use Rattle.crush.specs.Pick.{place_picked, pick_of}
 use Rattle.crush.specs.World.{World}
 use Rattle.crush.specs.Descent.{descent}
 use Rattle.crush.specs.WellFormed.{is_known, IsForest}
@@ -22,7 +22,7 @@ use Rattle.crush_laws.proofs.DescentsWithin.{IsDevice, within_by}
 picked_known : (w : World) (b : Bucket) (r : ℕ) → IsForest w.buckets → bucket_at w.buckets b.id ≡ Some b → (is_known w.buckets 1024 (pick_of b w.x r) ≡ true) × (level_of w.buckets (pick_of b w.x r) < b.level)
 unfolding pick_of
 picked_known w b r forest e =
-    item_known w.buckets b.id b (place_of b w.x r) (record { id = pos 0; weight = 0 }) forest e (within_by b.kind b w.x r refl (bucket_at-pickable w.buckets forest b.id b e))
+    item_known w.buckets b.id b (place_picked b w.x r) (record { id = pos 0; weight = 0 }) forest e (within_by b.kind b w.x r refl (bucket_at-pickable w.buckets forest b.id b e))
 
 -- a known item that is no bucket is a device
 device_of : (buckets : List Bucket) (id : ℤ) → is_known buckets 1024 id ≡ true → bucket_at buckets id ≡ None → IsDevice id

@@ -11,7 +11,7 @@ use Rattle.crush.specs.declared.bucket.BucketKind.TheVariants.{Uniform, List as 
 use Rattle.crush.specs.declared.choose.Picked.{Picked}
 use Rattle.crush.specs.Forest.{word, bucket_at, level_of, IsPickable}
 use Rattle.crush.specs.Items.{item_at}
-use Rattle.crush.specs.Pick.{place_by, place_of, pick_of}
+use Rattle.crush.specs.Pick.{place_by, place_picked, pick_of}
 use Rattle.crush.specs.World.{World, world_of, is_out}
 use Rattle.crush.specs.Descent.{descent, item_below, device_below, leaf_below}
 use Rattle.crush.proofs.UniformDraws.{uniform_place_below}
@@ -54,12 +54,12 @@ within_by InTree b x r e p = subst (λ k. place_by k b x r < length b.items) e (
 -- what a bucket picks is one of its items
 picked_in : (R : ℤ → Type 0) (buckets : List Bucket) (b : Bucket) (x r : ℕ) → HasIn R buckets b → R (pick_of b x r)
 unfolding pick_of
-picked_in R buckets b x r h = h.items (place_of b x r) (record { id = pos 0; weight = 0 }) (within_by b.kind b x r refl h.pickable)
+picked_in R buckets b x r h = h.items (place_picked b x r) (record { id = pos 0; weight = 0 }) (within_by b.kind b x r refl h.pickable)
 
 -- a pick of type 0 is a device
 picked_device : (R : ℤ → Type 0) (buckets : List Bucket) (b : Bucket) (x r : ℕ) → HasIn R buckets b → level_of buckets (pick_of b x r) ≡ 0 → IsDevice (pick_of b x r)
 unfolding pick_of
-picked_device R buckets b x r h e = h.devices (place_of b x r) (record { id = pos 0; weight = 0 }) (within_by b.kind b x r refl h.pickable) e
+picked_device R buckets b x r h e = h.devices (place_picked b x r) (record { id = pos 0; weight = 0 }) (within_by b.kind b x r refl h.pickable) e
 
 -- a descent reads no reweight
 pub descent_same : (w : World) (vs : List ℕ) (r : Bucket → ℕ) (wanted n : ℕ) (b : Bucket) → descent w r wanted n b ≡ descent (other w vs) r wanted n b

@@ -22,7 +22,7 @@ use Rattle.crush.specs.World.{World, world_of}
 use Rattle.crush_laws.specs.Choices.{takes_devices}
 use Rattle.crush_laws.specs.Descents.{LeadsAstray, LeadsToWanted}
 use Rattle.crush_laws.specs.Forests.{IsDeviceNumber}
-use Rattle.crush_laws.specs.Rules.{steps_of}
+use Rattle.crush_laws.specs.Rules.{steps_of_blocks}
 use Rattle.crush_laws.specs.Runs.{HoldsDevice, RunPlacesDevices}
 use Rattle.crush_laws.proofs.ChoicesWithin.{LeadsIn}
 use Rattle.crush_laws.proofs.DescentEnds.{descent_ends}
@@ -153,14 +153,14 @@ emit_ends w size p q ends before =
     All-take (IsIn IsDeviceNumber) size (q.emitted ++ q.working) (All-append (IsIn IsDeviceNumber) q.emitted q.working (subst P (sym ends.emitted) before) ends.working)
 
 -- block after block
-blocks_end : (w : World) (size : ℕ) (kind : RuleKind) (blocks : List (List Step)) (p : Progress) → IsForest w.buckets → AllByRecursion (λ block. is_piece kind block ≡ true) blocks → All (IsIn IsDeviceNumber) p.emitted → All (IsIn IsDeviceNumber) (fold (after_step w size) p (steps_of blocks)).emitted
+blocks_end : (w : World) (size : ℕ) (kind : RuleKind) (blocks : List (List Step)) (p : Progress) → IsForest w.buckets → AllByRecursion (λ block. is_piece kind block ≡ true) blocks → All (IsIn IsDeviceNumber) p.emitted → All (IsIn IsDeviceNumber) (fold (after_step w size) p (steps_of_blocks blocks)).emitted
 blocks_end w size kind [] p forest lawful before = before
 blocks_end w size kind (block ∷ blocks) p forest lawful before =
     let f = after_step w size in
     let q = fold f p block in
     let next = emit_ends w size p q (piece_ends w size kind block p forest lawful.0) before in
     let P : Progress → Type 0 = λ s. All (IsIn IsDeviceNumber) s.emitted in
-    subst P (sym (fold-append f p block (step.Emit ∷ steps_of blocks))) (blocks_end w size kind blocks (f q step.Emit) forest lawful.1 next)
+    subst P (sym (fold-append f p block (step.Emit ∷ steps_of_blocks blocks))) (blocks_end w size kind blocks (f q step.Emit) forest lawful.1 next)
 
 -- a place that holds nothing but a device
 place_holds : (place : Option ℤ) → IsIn IsDeviceNumber place → HoldsDevice place

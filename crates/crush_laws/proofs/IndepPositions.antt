@@ -16,7 +16,7 @@ use Rattle.crush.specs.Choosing.{Choosing}
 use Rattle.crush.specs.World.{is_out}
 use Rattle.crush.specs.Descent.{leaf_below, item_below}
 use Rattle.crush.proofs.Rounds.{range_append}
-use Rattle.crush.specs.Indep.{number_in, numbers_in, holds_item, is_open, filled_with, position_with, position_at, position_of, after_turn, after_round, indep}
+use Rattle.crush.specs.Indep.{replica_number, replica_numbers, holds_item, is_open, filled_with, position_with, position_at, position_of, after_turn, after_round, indep}
 use Rattle.crush_laws.specs.Choices.{takes_devices, AreApart, HoldsNoneOut, ArePositions, in_rounds, IndepIsPositions, IndepKeepsPositions, IndepLooksBack}
 use Rattle.crush_laws.proofs.Folds.{fold_keeps}
 use Rattle.crush_laws.proofs.LeafSearches.{leaf_accepted, other_holds, no_device, not_true}
@@ -57,7 +57,7 @@ fills_with : (k : Choosing) (positions : List Position) (rep : ℕ) (p : Picked)
 unfolding position_with position_by
 fills_with k positions rep p e h =
     let accepts : ℤ → Bool = λ d. not (is_out k.world d) in
-    let rs = numbers_in k.numrep (rep + p.r) k.tries.leaf in
+    let rs = replica_numbers k.numrep (rep + p.r) k.tries.leaf in
     let is = filled_by (list_any (holds_item p.item) positions) k.choose.to_leaf (eqb k.choose.level 0 && is_out k.world p.item) (leaf_below k.world accepts rs p.item) p.item e h in
     record {
       item = ap (λ i. list_any (holds_item i) positions) (sym is.item_is) ∙ is.apart;
@@ -75,7 +75,7 @@ fills_at k positions rep (Some p) e h = fills_with k positions rep p e h
 -- and what a round fills it with
 fills_of : (k : Choosing) (start : Bucket) (round : ℕ) (positions : List Position) (rep : ℕ) (e : Choice) → position_of k start round positions rep ≡ Filled e → MayFill k positions e
 unfolding position_of
-fills_of k start round positions rep e h = fills_at k positions rep (item_below k.world (number_in k.numrep rep round) k.choose.level start) e h
+fills_of k start round positions rep e h = fills_at k positions rep (item_below k.world (replica_number k.numrep rep round) k.choose.level start) e h
 
 -- a position that does not hold an item is apart from one that does
 apart_from : (q : Position) (e : Choice) → holds_item e.item q ≡ false → AreApart q (Filled e) × AreApart (Filled e) q

@@ -10,7 +10,7 @@ use Rattle.crush.specs.declared.step.Step.TheVariants as step
 use Rattle.crush.specs.declared.step.Step.{Step}
 use Rattle.crush.specs.Grammar.{is_emit, is_block, sets_tries, is_piece, are_blocks, is_rule}
 use Rattle.crush.proofs.LastSteps.{is_rule-at_last}
-use Rattle.crush_laws.specs.Rules.{steps_of, IsGrammatical, RulesAreBlocks}
+use Rattle.crush_laws.specs.Rules.{steps_of_blocks, IsGrammatical, RulesAreBlocks}
 
 -- a step that emits is an emit
 emit-is : (x : Step) → is_emit x ≡ true → x ≡ step.Emit
@@ -46,14 +46,14 @@ piece-plain kind [] e = absurd (false≢true e)
 piece-plain kind (x ∷ rest) e = piece-by kind x rest (sets_tries x) refl e (piece-plain kind rest)
 
 -- the pieces between the emits, each with its emit, are the steps
-steps_of-split : (xs : List Step) → steps_of (slice_split is_emit xs) ≡ xs ++ step.Emit ∷ []
-steps_of-split [] = refl
-steps_of-split (x ∷ xs) = elim (cases_Bool (is_emit x)) [
-  | inl emits ↦ rw (slice_split-cons_yes is_emit x xs emits, emit-is x emits, steps_of-split xs)
-  | inr plain ↦ rw (slice_split-cons_no is_emit x xs plain) (onto (slice_split is_emit xs) (omega (arith, length-slice_split is_emit xs)) (steps_of-split xs))
+steps_of_blocks-split : (xs : List Step) → steps_of_blocks (slice_split is_emit xs) ≡ xs ++ step.Emit ∷ []
+steps_of_blocks-split [] = refl
+steps_of_blocks-split (x ∷ xs) = elim (cases_Bool (is_emit x)) [
+  | inl emits ↦ rw (slice_split-cons_yes is_emit x xs emits, emit-is x emits, steps_of_blocks-split xs)
+  | inr plain ↦ rw (slice_split-cons_no is_emit x xs plain) (onto (slice_split is_emit xs) (omega (arith, length-slice_split is_emit xs)) (steps_of_blocks-split xs))
 ]
   where
-    onto : (parts : List (List Step)) → 0 < length parts → steps_of parts ≡ xs ++ step.Emit ∷ [] → steps_of (onto_first x parts) ≡ x ∷ (xs ++ step.Emit ∷ [])
+    onto : (parts : List (List Step)) → 0 < length parts → steps_of_blocks parts ≡ xs ++ step.Emit ∷ [] → steps_of_blocks (onto_first x parts) ≡ x ∷ (xs ++ step.Emit ∷ [])
     onto [] some e = absurd (omega arith)
     onto (part ∷ parts) some e = ap (λ l. x ∷ l) e
 
@@ -63,10 +63,10 @@ front_of b [] = b
 front_of b (c ∷ cs) = b ++ step.Emit ∷ front_of c cs
 
 -- the steps of blocks end with the last emit
-steps_of-front : (b : List Step) (bs : List (List Step)) → steps_of (b ∷ bs) ≡ front_of b bs ++ step.Emit ∷ []
+steps_of_blocks-front : (b : List Step) (bs : List (List Step)) → steps_of_blocks (b ∷ bs) ≡ front_of b bs ++ step.Emit ∷ []
 unfolding front_of
-steps_of-front b [] = refl
-steps_of-front b (c ∷ cs) = rw (steps_of-front c cs, append_assoc)
+steps_of_blocks-front b [] = refl
+steps_of_blocks-front b (c ∷ cs) = rw (steps_of_blocks-front c cs, append_assoc)
 
 -- parted at the emits they are the blocks
 split-front : (kind : RuleKind) (b : List Step) (bs : List (List Step)) → AllByRecursion (λ c. is_piece kind c ≡ true) (b ∷ bs) → slice_split is_emit (front_of b bs) ≡ b ∷ bs
@@ -92,17 +92,17 @@ grammatical kind (y ∷ ys) rule =
       blocks = slice_split is_emit last.0;
       some = omega (arith, length-slice_split is_emit last.0);
       lawful = AllPass-from_list_all (is_piece kind) (slice_split is_emit last.0) both.1;
-      made = rw (last.2, emit-is last.1 both.0) (sym (steps_of-split last.0));
+      made = rw (last.2, emit-is last.1 both.0) (sym (steps_of_blocks-split last.0));
     }
 
 -- the steps of blocks pass
-lawful-rule : (kind : RuleKind) (blocks : List (List Step)) → 0 < length blocks → All (λ block. is_piece kind block ≡ true) blocks → is_rule kind (steps_of blocks) ≡ true
+lawful-rule : (kind : RuleKind) (blocks : List (List Step)) → 0 < length blocks → All (λ block. is_piece kind block ≡ true) blocks → is_rule kind (steps_of_blocks blocks) ≡ true
 unfolding are_blocks
 lawful-rule kind [] some lawful = absurd (omega arith)
 lawful-rule kind (b ∷ bs) some lawful =
     let front = front_of b bs in
     let parts = split-front kind b bs (recursion_from_All (λ block. is_piece kind block ≡ true) (b ∷ bs) lawful) in
-    is_rule-at_last kind (steps_of (b ∷ bs)) front step.Emit (steps_of-front b bs) ∙ rw parts (list_all-from_AllPass (is_piece kind) (b ∷ bs) lawful)
+    is_rule-at_last kind (steps_of_blocks (b ∷ bs)) front step.Emit (steps_of_blocks-front b bs) ∙ rw parts (list_all-from_AllPass (is_piece kind) (b ∷ bs) lawful)
 
 -- the test of the grammar holds of the steps of blocks alone
 pub rules_are_blocks : RulesAreBlocks

@@ -14,7 +14,7 @@ ArePicks w r b (next ∷ between) item =
     (bucket_at w.buckets (pick_of b w.x (r b)) ≡ Some next) × ArePicks w r next between item
 
 -- some picks lead from a bucket to an item
-pub record LeadsTo (w : World) (r : Bucket → ℕ) (b : Bucket) (item : ℤ) : Type 0 where
+pub record PicksLeadTo (w : World) (r : Bucket → ℕ) (b : Bucket) (item : ℤ) : Type 0 where
   pub between : List Bucket
   pub picks : ArePicks w r b between item
 
@@ -22,13 +22,13 @@ pub record LeadsTo (w : World) (r : Bucket → ℕ) (b : Bucket) (item : ℤ) : 
 pub record LeadsAstray (w : World) (r : Bucket → ℕ) (wanted : ℕ) (b : Bucket) : Type 0 where
   pub osd : ℕ
   pub other : wanted ≢ 0
-  pub leads : LeadsTo w r b (pos osd)
+  pub leads : PicksLeadTo w r b (pos osd)
 
 -- the picks from a bucket lead to an item of the forest of the wanted type
 pub record LeadsToWanted (w : World) (r : Bucket → ℕ) (wanted : ℕ) (b : Bucket) (item : ℤ) : Type 0 where
   pub of_type : level_of w.buckets item ≡ wanted
   pub known : is_known w.buckets 1024 item ≡ true
-  pub leads : LeadsTo w r b item
+  pub leads : PicksLeadTo w r b item
 
 -- in a forest a descent comes to an item of the wanted type, unless a device of another type stops it: never to an
 -- unknown item, and never to an end for want of levels

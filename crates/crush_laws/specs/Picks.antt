@@ -9,7 +9,7 @@ use Rattle.crush.specs.Forest.{word, IsPickable}
 use Rattle.crush.specs.Items.{item_at}
 use Rattle.crush.specs.Uniform.{draw_order}
 use Rattle.crush.specs.Listed.{wins_at}
-use Rattle.crush.specs.Pick.{place_of, pick_of}
+use Rattle.crush.specs.Pick.{place_picked, pick_of}
 use Rattle.crush.specs.Tree.{weight_between, goes_left, height_of, tree_place}
 
 -- the greatest place that wins its draw
@@ -30,12 +30,12 @@ UniformPicksEachOnce = (b : Bucket) (x : ℕ) → b.kind ≡ Uniform →
 -- a list bucket picks the greatest place that wins its draw
 abbrev pub ListPicksGreatestWinner : Type 0
 ListPicksGreatestWinner = (b : Bucket) (x r : ℕ) → b.kind ≡ InList → IsPickable b →
-    IsGreatestWinner x (word b.id) r b.items (place_of b x r)
+    IsGreatestWinner x (word b.id) r b.items (place_picked b x r)
 
 -- a tree bucket picks an item that weighs something
 abbrev pub TreePicksWeight : Type 0
 TreePicksWeight = (b : Bucket) (x r : ℕ) → b.kind ≡ InTree → IsPickable b →
-    0 < (item_at b.items (place_of b x r)).weight
+    0 < (item_at b.items (place_picked b x r)).weight
 
 -- the weight of the places under a node of height k
 abbrev pub weight_under : List Item → ℕ → ℕ → ℕ

@@ -6,16 +6,16 @@ use Rattle.crush.specs.declared.step.Step.TheVariants.{Emit}
 use Rattle.crush.specs.Grammar.{is_piece, is_rule}
 
 -- the steps of blocks, one after another, each ended by an emit
-abbrev pub steps_of : List (List Step) → List Step
-steps_of [] = []
-steps_of (block ∷ blocks) = block ++ Emit ∷ steps_of blocks
+abbrev pub steps_of_blocks : List (List Step) → List Step
+steps_of_blocks [] = []
+steps_of_blocks (block ∷ blocks) = block ++ Emit ∷ steps_of_blocks blocks
 
 -- the steps are those of one or more blocks, each with the steps that set tries before it
 pub record IsGrammatical (kind : RuleKind) (steps : List Step) : Type 0 where
   pub blocks : List (List Step)
   pub some : 0 < length blocks
   pub lawful : All (λ block. IsTrue (is_piece kind block)) blocks
-  pub made : steps ≡ steps_of blocks
+  pub made : steps ≡ steps_of_blocks blocks
 
 -- the rules are the steps of one or more blocks
 abbrev pub RulesAreBlocks : Type 0

@@ -93,7 +93,7 @@ fn are_growths(growths: &[Grow])
     ensures { All IsGrowth growths.now }
 {
     for growth in growths {
-        growth.is_growth();
+        let _ = growth.pgp_num();
     }
 }
 

@@ -3,7 +3,7 @@
 ghost use Rattle.std.specs.Prelude.{◌≡◌};
 ghost use Rattle.std.specs.List.{list_all};
 ghost use Rattle.stated.specs.CrushMaps.{crush_fits};
-ghost use Rattle.stated.specs.Parts.{item_fits, bucket_fits, step_fits, rule_fits, pool_fits, osd_fits, head_fits, lists_fit, parts_fit};
+ghost use Rattle.stated.specs.Parts.{head_fits, lists_fit, parts_fit};
 
 use crate::entry_part::exceptions_fit;
 use crate::limits::{
@@ -17,81 +17,90 @@ use crate::parts::{
 use crate::pool::all_pools_fit;
 use crush::limits::{MAX_BUCKETS, MAX_ITEMS, MAX_STEPS};
 
-#[tactic(auto, unfolding(crate::specs::Parts::item_fits))]
-fn item_fits(item: &ItemPart) -> bool
-    ensures { result ≡ item_fits item.now }
-{
-    is_between(LOWEST_BUCKET, MAX_OSDS - 1, item.id) && is_between(1, MAX_ITEM_WEIGHT, item.weight)
+/// A part of a map whose numbers and lengths have limits.
+trait Limited {
+    ghost use Rattle.std.specs.Prelude.{◌≡◌, Bool};
+
+    ghost within: { Self → Bool };
+
+    /// Whether they are within their limits.
+    fn is_within(&self) -> bool
+        ensures { result ≡ within self.now };
 }
 
-fn all_items_fit(items: &[ItemPart]) -> bool
-    ensures { result ≡ list_all item_fits items.now }
+/// Whether each of some parts is within its limits.
+fn all_within<P: Limited>(parts: &[P]) -> bool
+    ensures { result ≡ list_all P.within parts.now }
 {
-    items.iter().all(|item| item_fits(item))
+    parts.iter().all(|part| part.is_within())
 }
 
-#[tactic(auto, unfolding(crate::specs::Parts::bucket_fits))]
-fn bucket_fits(bucket: &BucketPart) -> bool
-    ensures { result ≡ bucket_fits bucket.now }
-{
-    let items: &[ItemPart] = &bucket.items;
-    is_bucket_id(bucket.id)
-        && is_between(1, MAX_LEVEL, bucket.level)
-        && has_between(1, MAX_ITEMS, items)
-        && all_items_fit(items)
-}
+impl Limited for ItemPart {
+    ghost use Rattle.stated.specs.Parts.{item_fits};
 
-fn all_buckets_fit(buckets: &[BucketPart]) -> bool
-    ensures { result ≡ list_all bucket_fits buckets.now }
-{
-    buckets.iter().all(|bucket| bucket_fits(bucket))
-}
+    ghost within = { item_fits };
 
-#[tactic(auto, unfolding(crate::specs::Parts::step_fits))]
-fn step_fits(step: &StepPart) -> bool
-    ensures { result ≡ step_fits step.now }
-{
-    match step {
-        StepPart::SetChooseTries(tries) => is_between(1, MAX_TRIES, *tries),
-        StepPart::SetChooseleafTries(tries) => is_between(1, MAX_TRIES, *tries),
-        StepPart::Take(id) => is_bucket_id(*id),
-        StepPart::Choose(choose) => is_between(0, MAX_COUNT, choose.count)
-            && is_between(0, MAX_LEVEL, choose.level),
-        StepPart::Emit => true,
+    #[tactic(auto, unfolding(crate::specs::Parts::item_fits))]
+    fn is_within(&self) -> bool {
+        is_between(LOWEST_BUCKET, MAX_OSDS - 1, self.id)
+            && is_between(1, MAX_ITEM_WEIGHT, self.weight)
     }
 }
 
-fn all_steps_fit(steps: &[StepPart]) -> bool
-    ensures { result ≡ list_all step_fits steps.now }
-{
-    steps.iter().all(|step| step_fits(step))
+impl Limited for BucketPart {
+    ghost use Rattle.stated.specs.Parts.{bucket_fits};
+
+    ghost within = { bucket_fits };
+
+    #[tactic(auto, unfolding(crate::specs::Parts::bucket_fits))]
+    fn is_within(&self) -> bool {
+        let items: &[ItemPart] = &self.items;
+        is_bucket_id(self.id)
+            && is_between(1, MAX_LEVEL, self.level)
+            && has_between(1, MAX_ITEMS, items)
+            && all_within(items)
+    }
 }
 
-#[tactic(auto, unfolding(crate::specs::Parts::rule_fits))]
-fn rule_fits(rule: &RulePart) -> bool
-    ensures { result ≡ rule_fits rule.now }
-{
-    let steps: &[StepPart] = &rule.steps;
-    is_between(0, MAX_RULE_ID, rule.id) && has_between(1, MAX_STEPS, steps) && all_steps_fit(steps)
+impl Limited for StepPart {
+    ghost use Rattle.stated.specs.Parts.{step_fits};
+
+    ghost within = { step_fits };
+
+    #[tactic(auto, unfolding(crate::specs::Parts::step_fits))]
+    fn is_within(&self) -> bool {
+        match self {
+            StepPart::SetChooseTries(tries) => is_between(1, MAX_TRIES, *tries),
+            StepPart::SetChooseleafTries(tries) => is_between(1, MAX_TRIES, *tries),
+            StepPart::Take(id) => is_bucket_id(*id),
+            StepPart::Choose(choose) => is_between(0, MAX_COUNT, choose.count)
+                && is_between(0, MAX_LEVEL, choose.level),
+            StepPart::Emit => true,
+        }
+    }
 }
 
-fn all_rules_fit(rules: &[RulePart]) -> bool
-    ensures { result ≡ list_all rule_fits rules.now }
-{
-    rules.iter().all(|rule| rule_fits(rule))
+impl Limited for RulePart {
+    ghost use Rattle.stated.specs.Parts.{rule_fits};
+
+    ghost within = { rule_fits };
+
+    #[tactic(auto, unfolding(crate::specs::Parts::rule_fits))]
+    fn is_within(&self) -> bool {
+        let steps: &[StepPart] = &self.steps;
+        is_between(0, MAX_RULE_ID, self.id) && has_between(1, MAX_STEPS, steps) && all_within(steps)
+    }
 }
 
-#[tactic(auto, unfolding(crate::specs::Parts::osd_fits))]
-fn osd_fits(osd: &OsdPart) -> bool
-    ensures { result ≡ osd_fits osd.now }
-{
-    is_between(0, MAX_OSDS - 1, osd.id) && is_between(0, i128::from(FULL_WEIGHT), osd.weight)
-}
+impl Limited for OsdPart {
+    ghost use Rattle.stated.specs.Parts.{osd_fits};
 
-fn all_osds_fit(osds: &[OsdPart]) -> bool
-    ensures { result ≡ list_all osd_fits osds.now }
-{
-    osds.iter().all(|osd| osd_fits(osd))
+    ghost within = { osd_fits };
+
+    #[tactic(auto, unfolding(crate::specs::Parts::osd_fits))]
+    fn is_within(&self) -> bool {
+        is_between(0, MAX_OSDS - 1, self.id) && is_between(0, i128::from(FULL_WEIGHT), self.weight)
+    }
 }
 
 #[tactic(auto, unfolding(crate::specs::Parts::head_fits))]
@@ -119,8 +128,8 @@ pub fn crush_fits(parts: &CrushParts) -> bool
 {
     has_between(1, MAX_BUCKETS, &parts.buckets)
         && has_between(1, MAX_RULES, &parts.rules)
-        && all_buckets_fit(&parts.buckets)
-        && all_rules_fit(&parts.rules)
+        && all_within::<BucketPart>(&parts.buckets)
+        && all_within::<RulePart>(&parts.rules)
 }
 
 /// Whether every number and every length of a map is within its limits.
@@ -130,10 +139,10 @@ pub fn parts_fit(parts: &MapParts) -> bool
 {
     head_fits(parts)
         && lists_fit(parts)
-        && all_buckets_fit(&parts.buckets)
-        && all_rules_fit(&parts.rules)
+        && all_within::<BucketPart>(&parts.buckets)
+        && all_within::<RulePart>(&parts.rules)
         && all_pools_fit(&parts.pools)
-        && all_osds_fit(&parts.osds)
+        && all_within::<OsdPart>(&parts.osds)
         && exceptions_fit(&parts.pg_upmap)
         && exceptions_fit(&parts.pg_upmap_items)
 }

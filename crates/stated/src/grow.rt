@@ -90,13 +90,6 @@ impl Grow {
         })
     }
 
-    /// Its numbers are within their limits: for a proof alone.
-    pub fn is_growth(&self)
-        ensures { IsGrowth self.now }
-    {
-        let _ = &self.pool;
-    }
-
     /// The id of the pool.
     pub fn pool(&self) -> u32
         ensures { result ≡ self.now.pool }
@@ -111,9 +104,10 @@ impl Grow {
         self.pg_num
     }
 
-    /// The number of groups for placement.
+    /// The number of groups for placement. Each number is within its limits.
     pub fn pgp_num(&self) -> u32
-        ensures { result ≡ self.now.pgp_num }
+        ensures value { result ≡ self.now.pgp_num }
+        ensures within { IsGrowth self.now }
     {
         self.pgp_num
     }

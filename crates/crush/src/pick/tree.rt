@@ -3,7 +3,7 @@
 ghost use Rattle.std.specs.Prelude.{◌≡◌, ℕ, ◌+◌, ◌*◌, ◌^◌, ◌<◌, ◌≤◌, length, take, slice_index};
 ghost use Rattle.crush.specs.Forest.{weight_of};
 ghost use Rattle.crush.specs.Limits.{max_items};
-ghost use Rattle.crush.specs.Tree.{draw_at, goes_left, height_of, tree_place};
+ghost use Rattle.crush.specs.Tree.{draw_at, height_of, tree_place};
 
 use crate::bucket::Item;
 use crate::limits::MAX_ITEMS;
@@ -29,14 +29,6 @@ fn sums_of(items: &[Item]) -> [u32; MAX_ITEMS + 1]
         sums[place + 1] = sum;
     }
     sums
-}
-
-/// Whether a draw against the weight of a node falls below that of its left half.
-#[tactic(auto, unfolding(crate::specs::Tree::goes_left))]
-fn turns_left(draw: u32, weight: u32, left: u32) -> bool
-    ensures { result ≡ goes_left draw weight left }
-{
-    u64::from(draw) * u64::from(weight) / (1 << 32) < u64::from(left)
 }
 
 /// The least number of levels of halves that hold the items.
@@ -74,14 +66,14 @@ impl Tree<'_> {
     }
 
     /// The walk one level on, at a node of halves of `half` places.
-    #[tactic(auto, unfolding(crate::specs::Walks::stepped))]
+    #[tactic(auto, unfolding(crate::specs::Walks::stepped, crate::specs::Tree::goes_left))]
     fn step(&self, draw: u32, half: usize, walk: Walk) -> Walk
         requires few { walk.from + half ≤ 2 * max_items }
         requires part { weight_between self.now.items.now walk.from half ≤ walk.weight }
         ensures { result ≡ stepped self.now.items.now draw half walk }
     {
         let left = self.weight_between(walk.from, half);
-        if turns_left(draw, walk.weight, left) {
+        if u64::from(draw) * u64::from(walk.weight) / (1 << 32) < u64::from(left) {
             Walk {
                 from: walk.from,
                 weight: left,

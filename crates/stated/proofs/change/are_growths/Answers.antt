@@ -6,7 +6,7 @@ use Rattle.stated.proofs.change.are_growths.Goals as goal
 
 pub loop-growth-preserved : goal.loop-growth-preserved
 loop-growth-preserved c =
-    All-more IsGrowth c.args.growths.now c.loop-growth.growth-index c.growth-item.result c.loop-growth-test.true c.loop-growth.invariant (rw (← c.growth-item.is) c.is_growth.ensures)
+    All-more IsGrowth c.args.growths.now c.loop-growth.growth-index c.growth-item.result c.loop-growth-test.true c.loop-growth.invariant (rw (← c.growth-item.is) c.pgp_num.ensures.within)
 
 pub returns : goal.returns
 returns c =

@@ -1,4 +1,4 @@
-use Rattle.std.proofs.Common.{◌≡◌, ◌+◌, ℕ, SFits, w32, to_z, of_z, ap, sym, ◌∙◌, rules, arith}
+use Rattle.std.proofs.Common.{◌≡◌, ◌+◌, Some, ℕ, SFits, w32, to_z, of_z, ap, sym, ◌∙◌, rules, arith}
 use Rattle.std.proofs.lemmas.Int.{to_z-of_z}
 use Rattle.crush.specs.Forest.{bucket_at}
 use Rattle.crush.specs.declared.bucket.Bucket.{Bucket}
@@ -21,10 +21,10 @@ returns-then-is_free c =
     let a = c.args in
     let w = world a.self.now.placement in
     let ok = is_free w a.chosen.now in
-    let b = c.in_ok-bucket.bucket.now in
+    let b = c.new-below.result.bucket.now in
     let F : ℕ → Bucket → ℕ = λ r b. r in
     let passed : SFits w32 a.item = c.ranges.item in
-    let start = leaf_in w ok F a.r a.self.now.tries.leaf a.item b (ap (bucket_at w.buckets) (sym (to_z-of_z w32 a.item passed)) ∙ sym c.in_ok-bucket.ensures.value) in
+    let start = leaf_in w ok F a.r a.self.now.tries.leaf a.item b (ap (bucket_at w.buckets) (sym (to_z-of_z w32 a.item passed)) ∙ sym c.in_ok-bucket.ensures.value ∙ ap Some (sym c.new-below.ensures.bucket)) in
     let p = c.in-Some.picked in
     let fits : SFits w32 p.item = search rules in
     let at : a.r + c.from.result ≡ a.r + c.loop-turn.turn = omega arith in
@@ -35,7 +35,7 @@ loop-turn-preserved c =
     let a = c.args in
     let w = world a.self.now.placement in
     let ok = is_free w a.chosen.now in
-    let b = c.in_ok-bucket.bucket.now in
+    let b = c.new-below.result.bucket.now in
     let F : ℕ → Bucket → ℕ = λ r b. r in
     let at : a.r + c.from.result ≡ a.r + c.loop-turn.turn = omega arith in
     elim c.match-descend_at.branch [
@@ -50,8 +50,8 @@ returns c =
     let a = c.args in
     let w = world a.self.now.placement in
     let ok = is_free w a.chosen.now in
-    let b = c.in_ok-bucket.bucket.now in
+    let b = c.new-below.result.bucket.now in
     let F : ℕ → Bucket → ℕ = λ r b. r in
     let passed : SFits w32 a.item = c.ranges.item in
-    let start = leaf_in w ok F a.r a.self.now.tries.leaf a.item b (ap (bucket_at w.buckets) (sym (to_z-of_z w32 a.item passed)) ∙ sym c.in_ok-bucket.ensures.value) in
+    let start = leaf_in w ok F a.r a.self.now.tries.leaf a.item b (ap (bucket_at w.buckets) (sym (to_z-of_z w32 a.item passed)) ∙ sym c.in_ok-bucket.ensures.value ∙ ap Some (sym c.new-below.ensures.bucket)) in
     sym (leaf_over w ok b F a.r a.self.now.tries.leaf c.loop-turn.turn (omega arith)) ∙ c.loop-turn.invariant ∙ sym start

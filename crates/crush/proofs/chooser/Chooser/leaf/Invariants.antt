@@ -9,4 +9,4 @@ abbrev pub invariant-loop-turn : goal.invariant-loop-turn
 invariant-loop-turn l =
     let w = world l.self.placement in
     let F : ℕ → Bucket → ℕ = λ r b. r in
-    first_leaf w (is_free w l.chosen) l.bucket F (l.r + l.turn) (l.self.tries.leaf - l.turn) ≡ first_leaf w (is_free w l.chosen) l.bucket F l.r l.self.tries.leaf
+    first_leaf w (is_free w l.chosen) l.below.bucket.now F (l.r + l.turn) (l.self.tries.leaf - l.turn) ≡ first_leaf w (is_free w l.chosen) l.below.bucket.now F l.r l.self.tries.leaf

@@ -1,7 +1,5 @@
 use Rattle.std.proofs.Common.{ap, ◌∙◌}
-use Rattle.crush.specs.declared.choose.Draw.{Draw}
 use Rattle.crush.specs.Placed.{world}
-use Rattle.crush.specs.Indep.{number_in}
 use Rattle.crush.specs.Descent.{item_below}
 use Rattle.crush.proofs.Descents.{steady}
 use Rattle.crush.proofs.placement.Placement.descend_at.Goals as goal
@@ -9,6 +7,6 @@ use Rattle.crush.proofs.placement.Placement.descend_at.Goals as goal
 pub returns : goal.returns
 returns c =
     let w = world c.args.self.now in
+    let b = c.args.start.now.bucket.now in
     c.descend.ensures.value
-    ∙ ap (λ (d : Draw). item_below w (number_in d.numrep d.base d.round) c.args.wanted c.args.start.now) c.steady.ensures
-    ∙ ap (λ r. item_below w r c.args.wanted c.args.start.now) (steady c.args.r)
+    ∙ ap (λ r. item_below w r c.args.wanted b) (steady c.args.r)

@@ -1,17 +1,17 @@
 use Rattle.std.proofs.Common.{◌≡◌, ◌-◌}
 use Rattle.crush.specs.Forest.{IsPickable}
 use Rattle.crush.specs.Placed.{world}
-use Rattle.crush.specs.Indep.{number_in}
+use Rattle.crush.specs.Indep.{replica_number}
 use Rattle.crush.specs.Pick.{pick_of}
 use Rattle.crush.specs.Descent.{descent}
-use Rattle.crush.proofs.placement.Placement.descend_from.Given as goal
+use Rattle.crush.proofs.placement.Placement.descend.Given as goal
 
 abbrev pub invariant-loop-met : goal.invariant-loop-met
 invariant-loop-met l =
     let w = world l.self in
-    let r = number_in l.draw.numrep l.draw.base l.draw.round in
+    let r = replica_number l.draw.numrep l.draw.base l.draw.round in
     record {
       within : IsPickable l.bucket;
       picked : l.item ≡ pick_of l.bucket w.x (r l.bucket);
-      rest : descent w r l.wanted (l.met-end - l.met) l.bucket ≡ descent w r l.wanted l.met-end l.start;
+      rest : descent w r l.wanted (l.met-end - l.met) l.bucket ≡ descent w r l.wanted l.met-end l.start.bucket.now;
     }
