@@ -11,7 +11,7 @@ ghost use Rattle.balancer.specs.Boards.{is_fixed, group_at, groups_of, gone};
 use crate::moves::Move;
 use crate::shares::reweight;
 use crush::Work;
-use osdmap::{OsdMap, Pair, Pg, Pool};
+use osdmap::{OsdMap, Pair, Pg, Placing, Pool};
 use refusal::Memory;
 use stated::{Blank, Short};
 use std::alloc::Global;
@@ -75,32 +75,27 @@ fn is_fixed(map: &OsdMap, pg: Pg) -> bool
 }
 
 /// The mapped set of a group of a pool, by one run of the pool's rule; or `Memory` (30).
-fn mapped(map: &OsdMap, pool: &Pool, pg: Pg, work: &mut Work) -> Result<Short<Option<u32>>, Memory>
-    requires pool { pg.pool ≡ pool.now.id }
-    requires there { pool_at map.now.map.pools pool.now.id ≡ Some pool.now }
-    ensures { IfOk result (λ set. set ≡ mapped_set map.now.map pool.now pg.number) }
+fn mapped(placing: &Placing, number: u32, work: &mut Work) -> Result<Short<Option<u32>>, Memory>
+    ensures { IfOk result (λ set. set ≡ mapped_set placing.now.map.now.map placing.now.pool number) }
 {
-    match map.mapped_of(pg, work) {
-        Ok(set) => Ok(short_of(set.places())),
-        Err(_) => Err(Memory),
-    }
+    let set = placing.mapped(number, work)?;
+    Ok(short_of(set.places()))
 }
 
 /// What is kept of a group of a pool, by one run of the pool's rule; or `Memory` (30).
 #[tactic(auto, unfolding(crate::specs::Boards::group_at))]
-fn group_at(map: &OsdMap, pool: &Pool, number: u32, work: &mut Work) -> Result<Group, Memory>
-    requires { pool_at map.now.map.pools pool.now.id ≡ Some pool.now }
-    ensures { IfOk result (λ group. group ≡ group_at map.now.map pool.now number) }
+fn group_at(placing: &Placing, number: u32, work: &mut Work) -> Result<Group, Memory>
+    ensures { IfOk result (λ group. group ≡ group_at placing.now.map.now.map placing.now.pool number) }
 {
+    let places = mapped(placing, number, work)?;
     let pg = Pg {
-        pool: pool.id(),
+        pool: placing.pool.id(),
         number,
     };
-    let places = mapped(map, pool, pg, work)?;
     Ok(Group {
         places,
-        pairs: pairs_in(map, pg),
-        is_fixed: is_fixed(map, pg),
+        pairs: pairs_in(placing.map, pg),
+        is_fixed: is_fixed(placing.map, pg),
     })
 }
 
@@ -109,10 +104,11 @@ pub(crate) fn groups(alloc: Global, map: &OsdMap, pool: &Pool) -> Result<Vec<Gro
     requires { pool_at map.now.map.pools pool.now.id ≡ Some pool.now }
     ensures { IfOk result (λ groups. groups.items ≡ groups_of map.now.map pool.now) }
 {
+    let placing = map.placing(pool);
     let mut work = Work::new(alloc, map.forest())?;
     let mut groups = Vec::with_capacity(alloc, pool.pg_num() as usize)?;
     for number in 0..pool.pg_num() {
-        groups.push(group_at(map, pool, number, &mut work)?)?;
+        groups.push(group_at(&placing, number, &mut work)?)?;
     }
     Ok(groups)
 }

@@ -47,8 +47,10 @@ impl Draft {
     pub fn new(alloc: Global) -> Result<Self, AllocError>
         ensures { IfOk result (λ d. d ≡ []) }
     {
+        let mut places = Vec::new(alloc);
+        places.resize(1024, 0u16)?;
         Ok(Draft {
-            places: vec![in alloc; 0u16; 1024]?,
+            places,
             fresh: Vec::new(alloc),
         })
     }

@@ -12,7 +12,7 @@ mod placement;
 pub mod up_set;
 
 pub use map::OsdMap;
-pub use placement::stable_mod;
+pub use placement::{Placing, stable_mod};
 pub use stated::{
     Change, ChangeParts, CrushMap, Exception, Explicit, Grow, Incremental, Items, MapParts,
     NumberedRule, OsdState, Pair, Pg, Pool, Presence, Reweight,

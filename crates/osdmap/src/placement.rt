@@ -1,12 +1,13 @@
 //! Where a map places the groups of its pools (Ceph, OSDMap.cc).
 
-ghost use Rattle.std.specs.Prelude.{◌≡◌, ◌<◌, unwrap_or, nat_le};
+ghost use Rattle.std.specs.Prelude.{◌≡◌, ◌<◌, Some, unwrap_or, nat_le};
 ghost use Rattle.std.specs.List.{find};
-ghost use Rattle.osdmap.specs.Placement.{mask_of, stable_mod, placement_input};
+ghost use Rattle.stated.specs.CrushMaps.{rule_at};
+ghost use Rattle.osdmap.specs.Placement.{mask_of, stable_mod};
 
 use crate::map::OsdMap;
 use crate::up_set::UpSet;
-use crush::Work;
+use crush::{Rule, Work};
 use refusal::{Memory, Refusal};
 use rjenkins::hash2;
 use stated::{Pair, Pg, Pool};
@@ -42,13 +43,67 @@ pub fn stable_mod(number: u32, count: u32, mask: u32) -> u32
     }
 }
 
-/// The input with which a pool's rule places its group of a number (Ceph, `raw_pg_to_pps` with `hashpspool`).
-#[tactic(auto, unfolding(crate::specs::Placement::placement_input))]
-fn placement_input(pool: &Pool, number: u32) -> u32
-    ensures { result ≡ placement_input pool.now number }
-{
-    let count = pool.pgp_num();
-    hash2(stable_mod(number, count, mask(count)), pool.id())
+/// A pool of a map, and what places each of its groups: its rule, and the mask that folds their numbers.
+#[derive(Clone, Copy)]
+pub struct Placing<'a> {
+    /// The map.
+    pub map: &'a OsdMap,
+    /// The pool.
+    pub pool: Pool,
+    rule: &'a Rule,
+    mask: u32,
+    ghost ruled: { rule_at map.now.map.rules pool.rule ≡ Some rule.now },
+    ghost folds: { mask ≡ mask_of pool.pgp_num },
+}
+
+impl Placing<'_> {
+    ghost use Rattle.std.specs.Prelude.{◌≡◌, IfOk};
+    ghost use Rattle.osdmap.specs.Placement.{placement_input, raw_set, mapped_set, RunsOnce};
+
+    /// The input with which the rule places the group of a number (Ceph, `raw_pg_to_pps` with `hashpspool`).
+    #[tactic(auto, unfolding(crate::specs::Placement::placement_input))]
+    fn input(&self, number: u32) -> u32
+        ensures { result ≡ placement_input self.now.pool number }
+    {
+        hash2(
+            stable_mod(number, self.pool.pgp_num(), self.mask),
+            self.pool.id(),
+        )
+    }
+
+    /// The raw set of the group of a number.
+    #[tactic(auto, unfolding(crate::specs::Placement::raw_set, crate::specs::Placement::placed))]
+    fn raw(&self, number: u32, work: &mut Work) -> Result<UpSet, Memory>
+        ensures set { IfOk result (λ set. set ≡ raw_set self.now.map.now.map self.now.pool number) }
+        ensures run { RunsOnce work.old work.new result }
+    {
+        let map = self.map;
+        let input = self.input(number);
+        self.rule
+            .run(map.forest(), &map.weights, input, self.pool.size(), work)?;
+        Ok(map.existing_set(&self.pool, work.result()))
+    }
+
+    /// The mapped set of the group of a number, by one run of the rule, which `work` counts, also where its set is not
+    /// wanted; or `Memory` (30).
+    #[tactic(auto, unfolding(crate::specs::Placement::mapped_set, crate::specs::Mapped::mapped))]
+    pub fn mapped(&self, number: u32, work: &mut Work) -> Result<UpSet, Memory>
+        ensures set { IfOk result (λ set. set ≡ mapped_set self.now.map.now.map self.now.pool number) }
+        ensures run { RunsOnce work.old work.new result }
+    {
+        let map = self.map;
+        let pg = Pg {
+            pool: self.pool.id(),
+            number,
+        };
+        match (map.explicit(pg), map.items(pg)) {
+            (None, None) => self.raw(number, work),
+            (explicit, items) => {
+                let raw = self.raw(number, work)?;
+                Ok(map.excepted(raw, explicit, items))
+            }
+        }
+    }
 }
 
 impl OsdMap {
@@ -92,6 +147,32 @@ impl OsdMap {
         }
     }
 
+    /// What places the groups of a pool that has a rule.
+    fn placing_in(&self, pool: &Pool) -> Placing<'_>
+        requires { has_rule self.now.map.rules pool.now ≡ true }
+        ensures map { result.map.now ≡ self.now }
+        ensures pool { result.pool ≡ pool.now }
+    {
+        let rule = self.rule(pool.rule()).unwrap();
+        let mask = mask(pool.pgp_num());
+        Placing {
+            map: self,
+            pool: *pool,
+            rule,
+            mask,
+        }
+    }
+
+    /// What places the groups of a pool of the map.
+    pub fn placing(&self, pool: &Pool) -> Placing<'_>
+        requires { pool_at self.now.map.pools pool.now.id ≡ Some pool.now }
+        ensures map { result.map.now ≡ self.now }
+        ensures pool { result.pool ≡ pool.now }
+    {
+        self.holds_together();
+        self.placing_in(pool)
+    }
+
     /// The set of those of some devices that exist, in the way of the pool's kind.
     fn existing_set(&self, pool: &Pool, devices: &[Option<i32>]) -> UpSet
         requires { length devices.now ≤ 10 }
@@ -113,19 +194,6 @@ impl OsdMap {
             set.add(pool.kind(), osd.and_then(|osd| self.upward(osd)));
         }
         set
-    }
-
-    /// The raw set of a group of a pool of the map.
-    #[tactic(auto, unfolding(crate::specs::Placement::raw_set, crate::specs::Placement::placed))]
-    fn raw_in(&self, pool: &Pool, number: u32, work: &mut Work) -> Result<UpSet, Memory>
-        requires { has_rule self.now.map.rules pool.now ≡ true }
-        ensures set { IfOk result (λ set. set ≡ raw_set self.now.map pool.now number) }
-        ensures run { RunsOnce work.old work.new result }
-    {
-        let input = placement_input(pool, number);
-        let rule = self.rule(pool.rule()).unwrap();
-        rule.run(self.forest(), &self.weights, input, pool.size(), work)?;
-        Ok(self.existing_set(pool, work.result()))
     }
 
     /// Whether an OSD is out for good.
@@ -178,21 +246,6 @@ impl OsdMap {
         set
     }
 
-    /// The mapped set of a group of a pool of the map. The rule runs once, also where its set is not wanted.
-    #[tactic(auto, unfolding(crate::specs::Placement::mapped_set))]
-    fn mapped_in(&self, pool: &Pool, number: u32, work: &mut Work) -> Result<UpSet, Memory>
-        requires { has_rule self.now.map.rules pool.now ≡ true }
-        ensures set { IfOk result (λ set. set ≡ mapped_set self.now.map pool.now number) }
-        ensures run { RunsOnce work.old work.new result }
-    {
-        let raw = self.raw_in(pool, number, work)?;
-        let pg = Pg {
-            pool: pool.id(),
-            number,
-        };
-        Ok(self.excepted(raw, self.explicit(pg), self.items(pg)))
-    }
-
     /// The raw set of a group: the OSDs that its pool's rule places and that exist (Ceph, `_pg_to_raw_osds`). It takes
     /// one run of the rule, which `work` counts. `UnknownPool` (23), `UnknownGroup` (25), else `Memory` (30).
     pub fn raw_of(&self, pg: Pg, work: &mut Work) -> Result<UpSet, Refusal>
@@ -200,7 +253,7 @@ impl OsdMap {
         ensures run { RunsOnce work.old work.new result }
     {
         let pool = self.pool_of(pg)?;
-        Ok(self.raw_in(&pool, pg.number, work)?)
+        Ok(self.placing_in(&pool).raw(pg.number, work)?)
     }
 
     /// The mapped set of a group: its raw set under its exceptions (Ceph, `_apply_upmap`). Where one of the OSDs of its
@@ -211,7 +264,7 @@ impl OsdMap {
         ensures run { RunsOnce work.old work.new result }
     {
         let pool = self.pool_of(pg)?;
-        Ok(self.mapped_in(&pool, pg.number, work)?)
+        Ok(self.placing_in(&pool).mapped(pg.number, work)?)
     }
 
     /// The mapped set that a group would have if an explicit set and pairs were its exceptions, in place of those that
@@ -231,7 +284,7 @@ impl OsdMap {
         ensures run { RunsOnce work.old work.new result }
     {
         let pool = self.pool_of(pg)?;
-        let raw = self.raw_in(&pool, pg.number, work)?;
+        let raw = self.placing_in(&pool).raw(pg.number, work)?;
         Ok(self.excepted(raw, explicit, items))
     }
 
@@ -243,7 +296,7 @@ impl OsdMap {
         ensures run { RunsOnce work.old work.new result }
     {
         let pool = self.pool_of(pg)?;
-        let mapped = self.mapped_in(&pool, pg.number, work)?;
+        let mapped = self.placing_in(&pool).mapped(pg.number, work)?;
         Ok(self.upward_set(&pool, &mapped))
     }
 }

@@ -7,10 +7,9 @@ use Rattle.std.proofs.lemmas.List.{length-map}
 use Rattle.std.proofs.lemmas.List.FromFn.{length-range_with_len, length-map-range_with_len}
 use Rattle.keylist.specs.Order.{IsRising}
 use Rattle.keylist.proofs.KeyedOrder.{rising_head, rising_tail}
-use Rattle.stated.specs.declared.pg.Pg.{Pg}
 use Rattle.stated.specs.Pools.{PoolFacts}
-use Rattle.osdmap.specs.Maps.{ClusterMap, pool_at, osd_exists, HoldsTogether}
-use Rattle.osdmap.specs.Placement.{mapped_set, Places}
+use Rattle.osdmap.specs.Maps.{ClusterMap, osd_exists, HoldsTogether}
+use Rattle.osdmap.specs.Placement.{mapped_set}
 use Rattle.osdmap.proofs.Named.{below_max}
 use Rattle.placement_laws.proofs.Existing.{mapped_exist}
 use Rattle.pgtable.specs.Tables.{sets_of, ups_of, pool_table, tables_of}
@@ -35,10 +34,8 @@ small_place m None few is = tt
 small_place m (Some osd) few is = let below : nat_lt osd 1024 ≡ true = below_max m osd 1024 few is in grind (arith, nat_tests)
 
 -- so are all of a mapped set
-pub mapped_small : (m : ClusterMap) (g : Pg) (p : PoolFacts) (set : List (Option ℕ)) → HoldsTogether m → pool_at m.pools g.pool ≡ Some p → Places mapped_set m g set → All (λ place. IfSome place (λ osd. osd < 1024)) set
-mapped_small m g p set holds there places =
-    let is : set ≡ mapped_set m p g.number = rw there at places.is in
-    λ k d inside. small_place m (get_or set k d) holds.few (rw (← is) at (mapped_exist m p g.number holds) k d inside)
+pub mapped_small : (m : ClusterMap) (p : PoolFacts) (n : ℕ) (set : List (Option ℕ)) → HoldsTogether m → set ≡ mapped_set m p n → All (λ place. IfSome place (λ osd. osd < 1024)) set
+mapped_small m p n set holds is k d inside = small_place m (get_or set k d) holds.few (rw (← is) at (mapped_exist m p n holds) k d inside)
 
 -- a pool has at most 4,096 sets
 pub few_sets : (m : ClusterMap) (p : PoolFacts) (sets : List (List (Option ℕ))) → p.pg_num ≤ 4096 → sets ≡ sets_of m p → length sets ≤ 4096

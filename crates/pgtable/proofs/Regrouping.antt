@@ -172,11 +172,9 @@ leads_next m c lawful is holds = record {
 }
 
 -- what such a set names are OSDs below 1,024
-pub small_then : (m : ClusterMap) (c : ChangeParts) (p : PoolFacts) (n : ℕ) (places : List (Option ℕ)) → LeavesRawSets c → LeadsFrom m c (next m c) → pool_at m.pools p.id ≡ Some p → places ≡ mapped_set (next m c) p n
+pub small_then : (m : ClusterMap) (c : ChangeParts) (p : PoolFacts) (n : ℕ) (places : List (Option ℕ)) → LeadsFrom m c (next m c) → places ≡ mapped_set (next m c) p n
     → All (λ place. IfSome place (λ osd. osd < 1024)) places
-small_then m c p n places s leads there is =
-    let found : pool_at (next m c).pools p.id ≡ Some p = rw (pools_stay m c s) there in
-    mapped_small (next m c) (group_of p n) p places leads.holds_after found (record { is = rw found is })
+small_then m c p n places leads is = mapped_small (next m c) p n places leads.holds_after is
 
 -- the table of a pool with the sets that a change gives to its groups
 pub pool_regroups : (m : ClusterMap) (c : ChangeParts) (q : PoolTable) (one : Option GroupPatch) (cs : List (ℕ × Places)) → LeadsFrom m c (next m c) → LeavesRawSets c → q ≡ pool_table m q.pool → pool_at m.pools q.pool.id ≡ Some q.pool

@@ -8,7 +8,7 @@ ghost use Rattle.pgtable.specs.Tables.{sets_of, RunsMore};
 
 use crush::Work;
 use grouptable::OsdSet;
-use osdmap::{OsdMap, Pg, Pool, UpSet};
+use osdmap::{OsdMap, Placing, Pool, UpSet};
 use refusal::Memory;
 use std::alloc::Global;
 
@@ -37,20 +37,13 @@ pub(crate) fn stored(set: &UpSet) -> OsdSet
 }
 
 /// The mapped set of a group of a pool of a map, by one run of the pool's rule; or `Memory` (30).
-pub fn mapped(map: &OsdMap, pool: &Pool, number: u32, work: &mut Work) -> Result<OsdSet, Memory>
-    requires { pool_at map.now.map.pools pool.now.id ≡ Some pool.now }
-    ensures set { IfOk result (λ set. set ≡ mapped_set map.now.map pool.now number) }
+pub fn mapped(placing: &Placing, number: u32, work: &mut Work) -> Result<OsdSet, Memory>
+    ensures set { IfOk result (λ set. set ≡ mapped_set placing.now.map.now.map placing.now.pool number) }
     ensures run { RunsOnce work.old work.new result }
 {
-    let pg = Pg {
-        pool: pool.id(),
-        number,
-    };
-    map.holds_together();
-    match map.mapped_of(pg, work) {
-        Ok(set) => Ok(stored(&set)),
-        Err(_) => Err(Memory),
-    }
+    placing.map.holds_together();
+    let set = placing.mapped(number, work)?;
+    Ok(stored(&set))
 }
 
 /// The mapped sets of all groups of a pool of a map, by a run of the pool's rule for each; or `Memory` (30).
@@ -65,9 +58,10 @@ pub fn all_mapped(
     ensures runs { OnOk result (RunsMore pool.now.pg_num work.old work.new) }
 {
     let _ = work.runs();
+    let placing = map.placing(pool);
     let mut sets = Vec::with_capacity(alloc, pool.pg_num() as usize)?;
     for number in 0..pool.pg_num() {
-        sets.push(mapped(map, pool, number, work)?)?;
+        sets.push(mapped(&placing, number, work)?)?;
     }
     Ok(sets)
 }

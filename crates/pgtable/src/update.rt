@@ -201,9 +201,10 @@ impl Update<'_> {
         ensures runs { OnOk result (RunsMore (length numbers.now) work.old work.new) }
     {
         let _ = work.runs();
+        let placing = self.after.placing(pool);
         let mut changes = Vec::with_capacity(alloc, numbers.len())?;
         for number in numbers {
-            changes.push((*number, mapped(self.after, pool, *number, work)?))?;
+            changes.push((*number, mapped(&placing, *number, work)?))?;
         }
         Ok(changes)
     }
