@@ -22,7 +22,7 @@ from maps import KINDS, SHAPES
 from running import HAS_VALGRIND, heading, in_folder, instructions, output, seconds, table
 
 FEW, MANY = 1024, 4096
-MAPPED = "*pgtable::mapped::mapped*"
+MAPPED = "*Placing::mapped*"
 GOALS = {"uniform": [0.75, 0.75, 0.75], "list": [0.6, 0.5, 0.4], "tree": [0.95, 0.95, 0.95]}
 HERE = os.path.dirname(os.path.abspath(__file__))
 
