@@ -1,4 +1,5 @@
-pub mod Json
 pub mod MapTexts
 pub mod ChangeTexts
+pub mod Steps
+pub mod Members
 pub mod Written
