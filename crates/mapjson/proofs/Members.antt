@@ -1,10 +1,14 @@
 -- What objects state, by their members.
-use Rattle.std.proofs.Common.{◌≡◌, ◌&&◌, ℕ, List, codes, bytes_eq, Some, None, if◌then◌else◌, refl}
+use Rattle.std.proofs.Common.{◌≡◌, ◌∙◌, ◌&&◌, ℕ, Bool, true, false, List, codes, bytes_eq, Option, Some, None, if◌then◌else◌, refl}
 use Rattle.std.specs.List.{list_any}
 use Rattle.serde_json.specs.Data.{Data, Members, object, put}
 use Rattle.serde_json.specs.Find.{as_bool, as_object}
 use Rattle.jsonstream.specs.Json.{number_of, list_of}
 use Rattle.jsonstream.proofs.Taken.{field_held, list_held, optional_held, none_stated}
+use Rattle.stated.specs.declared.parts.MapParts.{MapParts}
+use Rattle.jsonstream.specs.Json.{◌>>=◌}
+use Rattle.jsonstream.specs.Stream.{flat, or_empty, if_there, triple_if}
+use Rattle.mapjson.specs.declared.change.RawChange.{RawChange}
 use Rattle.mapjson.proofs.Held.{known_held, slot_held}
 use Rattle.mapjson.specs.declared.forest.BucketSlots.{BucketSlots}
 use Rattle.mapjson.specs.declared.rules.RuleSlots.{RuleSlots}
@@ -16,6 +20,20 @@ use Rattle.mapjson.specs.declared.change.ChangeSlots.{ChangeSlots}
 use Rattle.mapjson.specs.MapTexts.{bucket_kind_of, item_of, bucket_of, rule_kind_of, step_of, rule_of, pool_keys, pool_of, osd_of, pg_of, pair_of, exception_of, map_keys, map_of}
 use Rattle.mapjson.specs.ChangeTexts.{reweight_of, growth_of, crush_of, change_keys, stated_change}
 use Rattle.mapjson.specs.Members.{bucket_keys, rule_keys, osd_keys, crush_keys, HoldsBucket, HoldsRule, HoldsPool, HoldsOsd, HoldsMap, HoldsCrush, HoldsChange, bucket_if, rule_if, pool_if, osd_if, map_if, crush_if, change_if}
+
+-- three things one after another are three at once
+by_three : {A B C R : Type 0} (a : Option A) (b : Option B) (c : Option C) (j : A → B → C → Option R) (k : A × B × C → Option R) → ((x : A) (y : B) (z : C) → j x y z ≡ k (x, y, z))
+    → (a >>= (λ x. b >>= (λ y. c >>= (λ z. j x y z)))) ≡ (triple_if true a b c >>= k)
+by_three None b c j k e = refl
+by_three (Some x) None c j k e = refl
+by_three (Some x) (Some y) None j k e = refl
+by_three (Some x) (Some y) (Some z) j k e = e x y z
+
+-- so are the first three, where no key is too much
+by_three_if : {A B C R : Type 0} (known : Bool) (a : Option A) (b : Option B) (c : Option C) (j : A → B → C → Option R) (k : A × B × C → Option R) → ((x : A) (y : B) (z : C) → j x y z ≡ k (x, y, z))
+    → (if known then a >>= (λ x. b >>= (λ y. c >>= (λ z. j x y z))) else None) ≡ (triple_if known a b c >>= k)
+by_three_if true a b c j k e = by_three a b c j k e
+by_three_if false a b c j k e = refl
 
 -- what is no object states no bucket
 pub no_bucket : (d : Data) → as_object d ≡ None → bucket_of d ≡ None
@@ -87,10 +105,33 @@ pub no_map : (d : Data) → as_object d ≡ None → map_of d ≡ None
 unfolding map_of
 no_map d e = none_stated map_keys d _ e
 
--- an object states the map that its members make
-pub map_made : (s : MapSlots) (ms : Members) → HoldsMap s ms → map_of (object ms) ≡ map_if s
+-- the members of a map, one after another
+abbrev map_chain : MapSlots → Option MapParts
+map_chain s = if s.known then (do
+  version ← flat s.version
+  epoch ← flat s.epoch
+  max_osd ← flat s.max_osd
+  buckets ← flat s.buckets
+  rules ← flat s.rules
+  pools ← flat s.pools
+  osds ← flat s.osds
+  pg_upmap ← or_empty s.pg_upmap
+  pg_upmap_items ← or_empty s.pg_upmap_items
+  Some (record {
+    version = version;
+    epoch = epoch;
+    max_osd = max_osd;
+    buckets = buckets;
+    rules = rules;
+    pools = pools;
+    osds = osds;
+    pg_upmap = pg_upmap;
+    pg_upmap_items = pg_upmap_items;
+  })) else None
+
+map_each : (s : MapSlots) (ms : Members) → HoldsMap s ms → map_of (object ms) ≡ map_chain s
 unfolding map_of
-map_made s ms h = rw (
+map_each s ms h = rw (
   h.0,
   field_held (list_of bucket_of) (codes "buckets") ms s.buckets h.1,
   field_held number_of (codes "epoch") ms s.epoch h.2,
@@ -102,6 +143,13 @@ map_made s ms h = rw (
   field_held (list_of rule_of) (codes "rules") ms s.rules h.8,
   field_held number_of (codes "version") ms s.version h.9,
 ) refl
+
+map_grouped : (s : MapSlots) → map_chain s ≡ map_if s
+map_grouped s = by_three_if s.known (flat s.version) (flat s.epoch) (flat s.max_osd) _ _ (λ x0 x1 x2. by_three (flat s.buckets) (flat s.rules) (flat s.pools) _ _ (λ y0 y1 y2. by_three (flat s.osds) (or_empty s.pg_upmap) (or_empty s.pg_upmap_items) _ _ (λ a b c. refl)))
+
+-- an object states the map that its members make
+pub map_made : (s : MapSlots) (ms : Members) → HoldsMap s ms → map_of (object ms) ≡ map_if s
+map_made s ms h = map_each s ms h ∙ map_grouped s
 
 -- what is no object states no CRUSH map
 pub no_crush : (d : Data) → as_object d ≡ None → crush_of d ≡ None
@@ -122,10 +170,39 @@ pub no_change : (d : Data) → as_object d ≡ None → stated_change d ≡ None
 unfolding stated_change
 no_change d e = none_stated change_keys d _ e
 
--- an object states the change that its members make
-pub change_made : (s : ChangeSlots) (ms : Members) → HoldsChange s ms → stated_change (object ms) ≡ change_if s
+-- the members of a change, one after another
+abbrev change_chain : ChangeSlots → Option RawChange
+change_chain s = if s.known then (do
+  base ← flat s.base
+  old_pools ← or_empty s.old_pools
+  new_crush ← if_there s.new_crush
+  new_pools ← or_empty s.new_pools
+  grow_pool ← or_empty s.grow_pool
+  down ← or_empty s.down
+  up ← or_empty s.up
+  weight ← or_empty s.weight
+  old_upmap ← or_empty s.old_upmap
+  old_items ← or_empty s.old_items
+  new_upmap ← or_empty s.new_upmap
+  new_items ← or_empty s.new_items
+  Some (record {
+    base = base;
+    old_pools = old_pools;
+    new_crush = new_crush;
+    new_pools = new_pools;
+    grow_pool = grow_pool;
+    down = down;
+    up = up;
+    weight = weight;
+    old_upmap = old_upmap;
+    old_items = old_items;
+    new_upmap = new_upmap;
+    new_items = new_items;
+  })) else None
+
+change_each : (s : ChangeSlots) (ms : Members) → HoldsChange s ms → stated_change (object ms) ≡ change_chain s
 unfolding stated_change
-change_made s ms h = rw (
+change_each s ms h = rw (
   h.0,
   field_held number_of (codes "base") ms s.base h.1,
   list_held number_of (codes "down") ms s.down h.2,
@@ -140,6 +217,13 @@ change_made s ms h = rw (
   list_held number_of (codes "up") ms s.up h.11,
   list_held reweight_of (codes "weight") ms s.weight h.12,
 ) refl
+
+change_grouped : (s : ChangeSlots) → change_chain s ≡ change_if s
+change_grouped s = by_three_if s.known (flat s.base) (or_empty s.old_pools) (if_there s.new_crush) _ _ (λ x0 x1 x2. by_three (or_empty s.new_pools) (or_empty s.grow_pool) (or_empty s.down) _ _ (λ y0 y1 y2. by_three (or_empty s.up) (or_empty s.weight) (or_empty s.old_upmap) _ _ (λ z0 z1 z2. by_three (or_empty s.old_items) (or_empty s.new_upmap) (or_empty s.new_items) _ _ (λ a b c. refl))))
+
+-- an object states the change that its members make
+pub change_made : (s : ChangeSlots) (ms : Members) → HoldsChange s ms → stated_change (object ms) ≡ change_if s
+change_made s ms h = change_each s ms h ∙ change_grouped s
 
 -- ---- one member more
 

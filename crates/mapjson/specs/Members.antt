@@ -1,5 +1,5 @@
 -- The members of an object that have come, key by key, and the part that they make.
-use Rattle.std.specs.Prelude.{◌≡◌, List, ℕ, [], ◌∷◌, codes, Option, Some, None, if◌then◌else◌}
+use Rattle.std.specs.Prelude.{◌≡◌, List, ℕ, true, [], ◌∷◌, codes, Option, Some, None, if◌then◌else◌}
 use Rattle.serde_json.specs.Data.{Members}
 use Rattle.serde_json.specs.Find.{as_bool}
 use Rattle.stated.specs.declared.parts.BucketPart.{BucketPart}
@@ -9,7 +9,7 @@ use Rattle.stated.specs.declared.parts.OsdPart.{OsdPart}
 use Rattle.stated.specs.declared.parts.CrushParts.{CrushParts}
 use Rattle.stated.specs.declared.parts.MapParts.{MapParts}
 use Rattle.jsonstream.specs.Json.{◌>>=◌, number_of, list_of, has_only_keys}
-use Rattle.jsonstream.specs.Stream.{slot, flat, or_empty, if_there}
+use Rattle.jsonstream.specs.Stream.{slot, flat, or_empty, if_there, triple_if}
 use Rattle.mapjson.specs.declared.forest.BucketSlots.{BucketSlots}
 use Rattle.mapjson.specs.declared.rules.RuleSlots.{RuleSlots}
 use Rattle.mapjson.specs.declared.pools.PoolSlots.{PoolSlots}
@@ -124,27 +124,21 @@ HoldsMap s ms =
 
 -- a map from them
 abbrev pub map_if : MapSlots → Option MapParts
-map_if s = if s.known then (do
-  version ← flat s.version
-  epoch ← flat s.epoch
-  max_osd ← flat s.max_osd
-  buckets ← flat s.buckets
-  rules ← flat s.rules
-  pools ← flat s.pools
-  osds ← flat s.osds
-  pg_upmap ← or_empty s.pg_upmap
-  pg_upmap_items ← or_empty s.pg_upmap_items
+map_if s = do
+  x ← triple_if s.known (flat s.version) (flat s.epoch) (flat s.max_osd)
+  y ← triple_if true (flat s.buckets) (flat s.rules) (flat s.pools)
+  z ← triple_if true (flat s.osds) (or_empty s.pg_upmap) (or_empty s.pg_upmap_items)
   Some (record {
-    version = version;
-    epoch = epoch;
-    max_osd = max_osd;
-    buckets = buckets;
-    rules = rules;
-    pools = pools;
-    osds = osds;
-    pg_upmap = pg_upmap;
-    pg_upmap_items = pg_upmap_items;
-  })) else None
+    version = x.0;
+    epoch = x.1;
+    max_osd = x.2;
+    buckets = y.0;
+    rules = y.1;
+    pools = y.2;
+    osds = z.0;
+    pg_upmap = z.1;
+    pg_upmap_items = z.2;
+  })
 
 -- the members of a CRUSH map that have come
 abbrev pub HoldsCrush : CrushSlots → Members → Type 0
@@ -179,30 +173,22 @@ HoldsChange s ms =
 
 -- a change from them
 abbrev pub change_if : ChangeSlots → Option RawChange
-change_if s = if s.known then (do
-  base ← flat s.base
-  old_pools ← or_empty s.old_pools
-  new_crush ← if_there s.new_crush
-  new_pools ← or_empty s.new_pools
-  grow_pool ← or_empty s.grow_pool
-  down ← or_empty s.down
-  up ← or_empty s.up
-  weight ← or_empty s.weight
-  old_upmap ← or_empty s.old_upmap
-  old_items ← or_empty s.old_items
-  new_upmap ← or_empty s.new_upmap
-  new_items ← or_empty s.new_items
+change_if s = do
+  x ← triple_if s.known (flat s.base) (or_empty s.old_pools) (if_there s.new_crush)
+  y ← triple_if true (or_empty s.new_pools) (or_empty s.grow_pool) (or_empty s.down)
+  z ← triple_if true (or_empty s.up) (or_empty s.weight) (or_empty s.old_upmap)
+  w ← triple_if true (or_empty s.old_items) (or_empty s.new_upmap) (or_empty s.new_items)
   Some (record {
-    base = base;
-    old_pools = old_pools;
-    new_crush = new_crush;
-    new_pools = new_pools;
-    grow_pool = grow_pool;
-    down = down;
-    up = up;
-    weight = weight;
-    old_upmap = old_upmap;
-    old_items = old_items;
-    new_upmap = new_upmap;
-    new_items = new_items;
-  })) else None
+    base = x.0;
+    old_pools = x.1;
+    new_crush = x.2;
+    new_pools = y.0;
+    grow_pool = y.1;
+    down = y.2;
+    up = z.0;
+    weight = z.1;
+    old_upmap = z.2;
+    old_items = w.0;
+    new_upmap = w.1;
+    new_items = w.2;
+  })

@@ -9,6 +9,7 @@ ghost use Rattle.mapjson.specs.Members.{HoldsCrush, HoldsChange, crush_if, chang
 mod limits;
 mod within;
 
+use crate::lists::triple;
 use crate::objects::{FromJson, Slots, object};
 use crate::slots::{Slot, flat, if_there, member, or_empty};
 use json::Reader;
@@ -212,22 +213,47 @@ impl ChangeSlots {
     fn part(self, alloc: Global) -> Option<RawChange>
         ensures { result ≡ change_if self }
     {
-        if !self.known {
-            return None;
-        }
+        let first = triple(
+            flat(self.base),
+            or_empty(alloc, self.old_pools),
+            if_there(self.new_crush),
+            self.known,
+        );
+        let second = triple(
+            or_empty(alloc, self.new_pools),
+            or_empty(alloc, self.grow_pool),
+            or_empty(alloc, self.down),
+            true,
+        );
+        let third = triple(
+            or_empty(alloc, self.up),
+            or_empty(alloc, self.weight),
+            or_empty(alloc, self.old_upmap),
+            true,
+        );
+        let fourth = triple(
+            or_empty(alloc, self.old_items),
+            or_empty(alloc, self.new_upmap),
+            or_empty(alloc, self.new_items),
+            true,
+        );
+        let (base, old_pools, new_crush) = first?;
+        let (new_pools, grow_pool, down) = second?;
+        let (up, weight, old_upmap) = third?;
+        let (old_items, new_upmap, new_items) = fourth?;
         Some(RawChange {
-            base: flat(self.base)?,
-            old_pools: or_empty(alloc, self.old_pools)?,
-            new_crush: if_there(self.new_crush)?,
-            new_pools: or_empty(alloc, self.new_pools)?,
-            grow_pool: or_empty(alloc, self.grow_pool)?,
-            down: or_empty(alloc, self.down)?,
-            up: or_empty(alloc, self.up)?,
-            weight: or_empty(alloc, self.weight)?,
-            old_upmap: or_empty(alloc, self.old_upmap)?,
-            old_items: or_empty(alloc, self.old_items)?,
-            new_upmap: or_empty(alloc, self.new_upmap)?,
-            new_items: or_empty(alloc, self.new_items)?,
+            base,
+            old_pools,
+            new_crush,
+            new_pools,
+            grow_pool,
+            down,
+            up,
+            weight,
+            old_upmap,
+            old_items,
+            new_upmap,
+            new_items,
         })
     }
 }

@@ -164,7 +164,7 @@ impl<A: FromJson, B: FromJson> FromJson for (A, B) {
 }
 
 /// Three values, where each states something and no more come.
-fn triple<A: Drop, B: Drop, C: Drop>(
+pub(crate) fn triple<A: Drop, B: Drop, C: Drop>(
     first: Option<A>,
     second: Option<B>,
     third: Option<C>,

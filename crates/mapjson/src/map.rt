@@ -8,6 +8,7 @@ ghost use Rattle.jsonstream.specs.Stream.{next, Takes};
 ghost use Rattle.mapjson.specs.MapTexts.{sets_tries, map_of, in_its_version, stated_map};
 ghost use Rattle.mapjson.specs.Members.{HoldsMap, map_if};
 
+use crate::lists::triple;
 use crate::objects::{FromJson, Slots, object};
 use crate::slots::{Slot, flat, member, or_empty};
 use json::Reader;
@@ -57,19 +58,32 @@ impl MapSlots {
     fn part(self, alloc: Global) -> Option<MapParts>
         ensures { result ≡ map_if self }
     {
-        if !self.known {
-            return None;
-        }
+        let first = triple(
+            flat(self.version),
+            flat(self.epoch),
+            flat(self.max_osd),
+            self.known,
+        );
+        let second = triple(flat(self.buckets), flat(self.rules), flat(self.pools), true);
+        let third = triple(
+            flat(self.osds),
+            or_empty(alloc, self.pg_upmap),
+            or_empty(alloc, self.pg_upmap_items),
+            true,
+        );
+        let (version, epoch, max_osd) = first?;
+        let (buckets, rules, pools) = second?;
+        let (osds, pg_upmap, pg_upmap_items) = third?;
         Some(MapParts {
-            version: flat(self.version)?,
-            epoch: flat(self.epoch)?,
-            max_osd: flat(self.max_osd)?,
-            buckets: flat(self.buckets)?,
-            rules: flat(self.rules)?,
-            pools: flat(self.pools)?,
-            osds: flat(self.osds)?,
-            pg_upmap: or_empty(alloc, self.pg_upmap)?,
-            pg_upmap_items: or_empty(alloc, self.pg_upmap_items)?,
+            version,
+            epoch,
+            max_osd,
+            buckets,
+            rules,
+            pools,
+            osds,
+            pg_upmap,
+            pg_upmap_items,
         })
     }
 }
