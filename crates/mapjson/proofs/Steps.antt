@@ -60,7 +60,7 @@ none_is d no_items = refl
 none_is d (item e ds) = rw (two_or_more (count_of ds)) (not_none (number_of e) (entries_of number_of ds))
 
 module _ (mode : Mode) (to_leaf : Bool) where
-  chosen : ℤ → ℤ → StepPart
+  abbrev chosen : ℤ → ℤ → StepPart
   chosen count level = part.Choose (record { mode = mode; to_leaf = to_leaf; count = count; level = level })
 
   first_alone : (o : Option ℤ) → None ≡ option_and_then (choose_with mode to_leaf) (option_and_then (λ x. option_map (λ xs. x ∷ xs) (Some [])) o)

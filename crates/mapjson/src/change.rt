@@ -1,10 +1,11 @@
 //! Changes as JSON texts state them.
 
-ghost use Rattle.std.specs.Prelude.{◌≡◌};
+ghost use Rattle.std.specs.Prelude.{◌≡◌, option_map};
 ghost use Rattle.serde_json.specs.Data.{no_members};
 ghost use Rattle.refusal.specs.Outcomes.{Makes};
 ghost use Rattle.mapjson.specs.ChangeTexts.{reweight_of, growth_of, crush_of, stated_change, change_fault, IsChangeOf};
 ghost use Rattle.mapjson.specs.Members.{HoldsCrush, HoldsChange, crush_if, change_if};
+ghost use Rattle.mapjson.specs.Places.{reweight_at, growth_at};
 
 mod limits;
 mod within;
@@ -62,6 +63,14 @@ pub(crate) struct RawReweight {
     pub weight: i128,
 }
 
+/// A reweight of the numbers at its places.
+fn reweight_of_places(places: Option<(i128, i128)>) -> Option<RawReweight>
+    ensures { result ≡ option_map reweight_at places }
+{
+    let (osd, weight) = places?;
+    Some(RawReweight { osd, weight })
+}
+
 impl FromJson for RawReweight {
     ghost stated = { reweight_of };
 
@@ -71,11 +80,20 @@ impl FromJson for RawReweight {
         depth: usize,
     ) -> Result<Option<RawReweight>, Refusal> {
         let places: Option<(i128, i128)> = FromJson::read(alloc, reader, depth)?;
-        let Some((osd, weight)) = places else {
-            return Ok(None);
-        };
-        Ok(Some(RawReweight { osd, weight }))
+        Ok(reweight_of_places(places))
     }
+}
+
+/// A growth of the numbers at its places.
+fn growth_of_places(places: Option<(i128, i128, i128)>) -> Option<GrowPart>
+    ensures { result ≡ option_map growth_at places }
+{
+    let (pool, pg_num, pgp_num) = places?;
+    Some(GrowPart {
+        pool,
+        pg_num,
+        pgp_num,
+    })
 }
 
 impl FromJson for GrowPart {
@@ -87,14 +105,7 @@ impl FromJson for GrowPart {
         depth: usize,
     ) -> Result<Option<GrowPart>, Refusal> {
         let places: Option<(i128, i128, i128)> = FromJson::read(alloc, reader, depth)?;
-        let Some((pool, pg_num, pgp_num)) = places else {
-            return Ok(None);
-        };
-        Ok(Some(GrowPart {
-            pool,
-            pg_num,
-            pgp_num,
-        }))
+        Ok(growth_of_places(places))
     }
 }
 

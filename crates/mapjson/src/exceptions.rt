@@ -1,7 +1,9 @@
 //! Exceptions as JSON texts state them.
 
+ghost use Rattle.std.specs.Prelude.{◌≡◌, option_map};
 ghost use Rattle.stated.specs.PgText.{parts_in};
 ghost use Rattle.mapjson.specs.MapTexts.{pg_of, pair_of, exception_of};
+ghost use Rattle.mapjson.specs.Places.{pair_at};
 
 use crate::objects::FromJson;
 use crate::words::{FromWord, word};
@@ -31,6 +33,14 @@ impl FromJson for PgParts {
     }
 }
 
+/// A pair of the numbers at its places.
+fn pair_of_places(places: Option<(i128, i128)>) -> Option<PairPart>
+    ensures { result ≡ option_map pair_at places }
+{
+    let (from, to) = places?;
+    Some(PairPart { from, to })
+}
+
 impl FromJson for PairPart {
     ghost stated = { pair_of };
 
@@ -40,10 +50,7 @@ impl FromJson for PairPart {
         depth: usize,
     ) -> Result<Option<PairPart>, Refusal> {
         let places: Option<(i128, i128)> = FromJson::read(alloc, reader, depth)?;
-        let Some((from, to)) = places else {
-            return Ok(None);
-        };
-        Ok(Some(PairPart { from, to }))
+        Ok(pair_of_places(places))
     }
 }
 

@@ -1,9 +1,10 @@
 //! The forest as JSON texts state it.
 
-ghost use Rattle.std.specs.Prelude.{◌≡◌};
+ghost use Rattle.std.specs.Prelude.{◌≡◌, option_map};
 ghost use Rattle.serde_json.specs.Data.{no_members};
 ghost use Rattle.mapjson.specs.MapTexts.{bucket_kind, bucket_kind_of, item_of, bucket_of};
 ghost use Rattle.mapjson.specs.Members.{HoldsBucket, bucket_if};
+ghost use Rattle.mapjson.specs.Places.{item_at};
 
 use crate::objects::{FromJson, Slots, object};
 use crate::slots::{Slot, flat, member};
@@ -41,6 +42,14 @@ impl FromJson for BucketKind {
     }
 }
 
+/// An item of the numbers at its places.
+fn item_of_places(places: Option<(i128, i128)>) -> Option<ItemPart>
+    ensures { result ≡ option_map item_at places }
+{
+    let (id, weight) = places?;
+    Some(ItemPart { id, weight })
+}
+
 impl FromJson for ItemPart {
     ghost stated = { item_of };
 
@@ -50,10 +59,7 @@ impl FromJson for ItemPart {
         depth: usize,
     ) -> Result<Option<ItemPart>, Refusal> {
         let places: Option<(i128, i128)> = FromJson::read(alloc, reader, depth)?;
-        let Some((id, weight)) = places else {
-            return Ok(None);
-        };
-        Ok(Some(ItemPart { id, weight }))
+        Ok(item_of_places(places))
     }
 }
 

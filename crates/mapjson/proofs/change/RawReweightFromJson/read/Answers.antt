@@ -1,20 +1,17 @@
-use Rattle.std.proofs.Common.{◌≡◌, Some, None, option_map, ap, ◌∙◌}
+use Rattle.std.proofs.Common.{◌≡◌, Some, option_map, sym, ap, ◌∙◌, arith}
 use Rattle.jsonstream.specs.Json.{number_of, both_of}
 use Rattle.jsonstream.proofs.Taken.{read_on, refused_on}
 use Rattle.mapjson.specs.ChangeTexts.{reweight_of}
+use Rattle.mapjson.specs.Places.{reweight_at}
 use Rattle.mapjson.proofs.change.RawReweightFromJson.read.Goals as goal
 
 pub returns-in_err-places : goal.returns-in_err-places
-returns-in_err-places c = refused_on (both_of number_of number_of) reweight_of _ _ c.in_err-places.ensures
-
-pub returns-in_default : goal.returns-in_default
-unfolding reweight_of
-returns-in_default c =
-    let r = c.read.new.reader in
-    read_on (both_of number_of number_of) (option_map (λ x. record { osd = x.0; weight = x.1 })) _ None r (c.in_ok-places.ensures ∙ ap (λ p. Some (p, r)) c.in_default.is)
+returns-in_err-places c =
+    let still = refused_on (both_of number_of number_of) reweight_of _ _ c.in_err-places.ensures in
+    grind (arith, still)
 
 pub returns : goal.returns
 unfolding reweight_of
 returns c =
     let r = c.read.new.reader in
-    read_on (both_of number_of number_of) (option_map (λ x. record { osd = x.0; weight = x.1 })) _ (Some (c.in-Some.osd, c.in-Some.weight)) r (c.in_ok-places.ensures ∙ ap (λ p. Some (p, r)) c.in-Some.is)
+    read_on (both_of number_of number_of) (option_map reweight_at) _ c.in_ok-places.places r c.in_ok-places.ensures ∙ ap (λ x. Some (x, r)) (sym c.reweight_of_places.ensures)

@@ -1,11 +1,13 @@
-use Rattle.std.proofs.Common.{◌≡◌, Some, None, option_map, ap, ◌∙◌}
+use Rattle.std.proofs.Common.{◌≡◌, Some, None, option_map, ap, ◌∙◌, arith}
 use Rattle.jsonstream.specs.Json.{list_of, both_of}
 use Rattle.jsonstream.proofs.Taken.{read_on, refused_on}
 use Rattle.mapjson.specs.MapTexts.{exception_of, pg_of}
 use Rattle.mapjson.proofs.exceptions.ExceptionPartFromJson.read.Goals as goal
 
 pub returns-in_err-places : goal.returns-in_err-places
-returns-in_err-places g c = refused_on (both_of pg_of (list_of g.E.FromJson.stated)) (exception_of g.E.FromJson.stated) _ _ c.in_err-places.ensures
+returns-in_err-places g c =
+    let still = refused_on (both_of pg_of (list_of g.E.FromJson.stated)) (exception_of g.E.FromJson.stated) _ _ c.in_err-places.ensures in
+    grind (arith, still)
 
 pub returns-in_default : goal.returns-in_default
 unfolding exception_of

@@ -1,10 +1,12 @@
-use Rattle.std.proofs.Common.{◌≡◌, Some, None, option_and_then, sym, ap, ◌∙◌}
+use Rattle.std.proofs.Common.{◌≡◌, Some, None, option_and_then, sym, ap, ◌∙◌, arith}
 use Rattle.jsonstream.proofs.Taken.{read_on, refused_on}
 use Rattle.mapjson.specs.MapTexts.{map_of, in_its_version, stated_map}
 use Rattle.mapjson.proofs.map.MapPartsFromJson.read.Goals as goal
 
 pub returns-in_err-parts : goal.returns-in_err-parts
-returns-in_err-parts c = refused_on map_of stated_map _ _ c.in_err-parts.ensures
+returns-in_err-parts c =
+    let still = refused_on map_of stated_map _ _ c.in_err-parts.ensures in
+    grind (arith, still)
 
 pub returns-in_default : goal.returns-in_default
 unfolding stated_map
