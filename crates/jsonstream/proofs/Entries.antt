@@ -20,6 +20,7 @@ use Rattle.jsonstream.proofs.Streams.{converted_some, item_read, item_refused, i
 abbrev pub joined : {X : Type 0} → (Data → Option X) → Option (List X) → Items → Option (List X)
 joined stated found ds = option_and_then (λ xs. option_map (λ ys. xs ++ ys) (entries_of stated ds)) found
 
+-- nothing in front changes nothing
 with_none : {X : Type 0} (o : Option (List X)) → option_map (λ ys. [] ++ ys) o ≡ o
 with_none None = refl
 with_none (Some xs) = refl
@@ -29,10 +30,12 @@ pub joined_first : {X : Type 0} (stated : Data → Option X) (o : Option (Items 
 joined_first stated None = refl
 joined_first stated (Some p) = ap (λ x. Some (x, p.1)) (sym (with_none (entries_of stated p.0)))
 
+-- one entry more in front is one entry less behind
 one_more : {X : Type 0} (xs : List X) (x : X) (o : Option (List X)) → option_map (λ ys. xs ++ ys) (option_map (λ ys. x ∷ ys) o) ≡ option_map (λ ys. (xs ++ x ∷ []) ++ ys) o
 one_more xs x None = refl
 one_more xs x (Some ys) = ap (λ zs. Some zs) (sym (append_assoc xs (x ∷ []) ys))
 
+-- so it is where the entries found or the entry may be none
 item_joined : {X : Type 0} (found : Option (List X)) (x : Option X) (o : Option (List X)) → option_and_then (λ xs. option_map (λ ys. xs ++ ys) (option_and_then (λ y. option_map (λ ys. y ∷ ys) o) x)) found ≡ option_and_then (λ xs. option_map (λ ys. xs ++ ys) o) (added found x)
 item_joined None x o = refl
 item_joined (Some xs) None o = refl
@@ -48,10 +51,12 @@ pub joined_all : {X : Type 0} (stated : Data → Option X) (found : Option (List
 joined_all stated None = refl
 joined_all stated (Some xs) = ap (λ ys. Some ys) (append-nil xs)
 
+-- the tokens behind what was read, or others
 abbrev pick_rest : {B : Type 0} → List Token → Option (B × List Token) → List Token
 pick_rest r None = r
 pick_rest r (Some p) = p.1
 
+-- what was read, or another
 abbrev pick_first : {B : Type 0} → B → Option (B × List Token) → B
 pick_first b None = b
 pick_first b (Some p) = p.0
@@ -90,6 +95,7 @@ still_refused e o p f (inr h) = inr (h.0, f h.1)
 
 -- ---- one turn more
 
+-- a list read with either number of turns, by what comes next
 enough_at : (p : Parse json.Json) → (n m : ℕ) (ts : List Token) → length ts ≤ n → length ts ≤ m
     → ((j : json.Json) (r : List Token) → p ts ≡ Some (j, r) → length r < length ts)
     → ((r : List Token) → length r < length ts → json.items p (n - 1) r ≡ json.items p (m - 1) r)
@@ -107,6 +113,7 @@ items_enough p sh zero m ts a b = enough_at p zero m ts a b (sh ts) (λ r less. 
   never r ts less a = omega (arith, less, a)
 items_enough p sh (suc n) m ts a b = enough_at p (suc n) m ts a b (sh ts) (λ r less. let one : suc n - 1 ≡ n = omega arith in ap (λ k. json.items p k r) one ∙ items_enough p sh n (m - 1) r (omega (arith, less, a)) (omega (arith, less, b))) (after_end_array ts) refl (p ts) refl
 
+-- a value takes at least one token
 value-shorter : (depth : ℕ) (ts : List Token) (j : json.Json) (r : List Token) → value depth ts ≡ Some (j, r) → length r < length ts
 value-shorter depth ts j r e = skip_value-shorter depth ts r (ap left e)
 
@@ -125,9 +132,11 @@ list_refused depth ts going e = item_refused (value depth) (length ts) ts going 
 pub list_over : (depth : ℕ) (ts r : List Token) → after_end_array ts ≡ Some r → rest_of_list depth ts ≡ Some (no_items, r)
 list_over depth ts r e = items_over (value depth) (length ts) ts r (omega arith) e
 
+-- a number and one is not 0
 no_zero : (n : ℕ) → (suc n == 0) ≡ false
 no_zero n = eqb-suc-zero n
 
+-- a list that is not at its end has values to come, by its next value
 begun_at : (depth : ℕ) (ts : List Token) (ds : Items) (r : List Token) → after_end_array ts ≡ None → (q : Option (Data × List Token)) → next depth ts ≡ q → rest_of_list depth ts ≡ Some (ds, r) → (count_of ds == 0) ≡ false
 begun_at depth ts ds r going None is e = let none = list_refused depth ts going is in absurd (cc)
 begun_at depth ts ds r going (Some q) is e =
@@ -138,6 +147,7 @@ begun_at depth ts ds r going (Some q) is e =
 pub list_begun : (depth : ℕ) (ts : List Token) (ds : Items) (r : List Token) → after_end_array ts ≡ None → rest_of_list depth ts ≡ Some (ds, r) → (count_of ds == 0) ≡ false
 list_begun depth ts ds r going e = begun_at depth ts ds r going (next depth ts) refl e
 
+-- two more than none are two, and no other
 two_more : (n : ℕ) → (suc (suc n) == 2) ≡ (n == 0)
 two_more zero = refl
 two_more (suc n) = ne_eqb (suc (suc (suc n))) 2 (λ e. omega (arith, e)) ∙ sym (no_zero n)
@@ -146,6 +156,7 @@ two_more (suc n) = ne_eqb (suc (suc (suc n))) 2 (λ e. omega (arith, e)) ∙ sym
 pub both_made : {X Y : Type 0} (s : Data → Option X) (t : Data → Option Y) (x : Option X) (y : Option Y) (d e : Data) (ds : Items) → s d ≡ x → t e ≡ y → both_of s t (array (item d (item e ds))) ≡ pair_if (count_of ds == 0) x y
 both_made s t x y d e ds is also = rw (two_more (count_of ds), is, also) refl
 
+-- three more than none are three, and no other
 three_more : (n : ℕ) → (suc (suc (suc n)) == 3) ≡ (n == 0)
 three_more zero = refl
 three_more (suc n) = ne_eqb (suc (suc (suc (suc n)))) 3 (λ e. omega (arith, e)) ∙ sym (no_zero n)

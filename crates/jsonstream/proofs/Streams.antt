@@ -11,10 +11,12 @@ use Rattle.serde_json.specs.Find.{as_integer}
 use Rattle.refusal.specs.declared.refused.Refusal.{Refusal}
 use Rattle.jsonstream.specs.Stream.{next, rest_of_list, rest_of_object, Passes}
 
+-- what is there, or another
 abbrev pick : {A : Type 0} → A → Option A → A
 pick d None = d
 pick d (Some a) = a
 
+-- a value found stands before the tokens that are left
 found : {A B : Type 0} (a : A) (r s : List Token) (x : Option B) (b : B) → option_map {U = B × List Token} (λ y. (y, r)) x ≡ Some (b, s) → (r ≡ s) × (x ≡ Some b)
 found a r s None b e = absurd (cc)
 found a r s (Some y) b e = let same = ap (pick (y, r)) e in (ap (λ p. p.1) same, ap (λ p. Some p.0) same)
@@ -24,10 +26,12 @@ pub converted_some : {A B : Type 0} (f : A → Option B) (o : Option (A × List 
 converted_some f None b r e = absurd (cc)
 converted_some f (Some p) b r e = let both = found p.0 p.1 r (f p.0) b e in (p.0, ap (λ s. Some (p.0, s)) both.0, both.1)
 
+-- a value refused is none
 refused : {B : Type 0} (r : List Token) (x : Option B) → option_map {U = B × List Token} (λ y. (y, r)) x ≡ None → x ≡ None
 refused r None e = refl
 refused r (Some y) e = absurd (cc)
 
+-- one thing made of another, in two ways
 twice : {A B : Type 0} (g : A → B) (r : List Token) (x : Option A) → option_map (λ b. (b, r)) (option_map g x) ≡ parse_map g (option_map (λ a. (a, r)) x)
 twice g r None = refl
 twice g r (Some a) = refl
@@ -42,19 +46,23 @@ pub converted_object : (o : Option (json.Members × List Token)) → converted o
 converted_object None = refl
 converted_object (Some p) = twice object p.1 (of_members p.0 no_members)
 
+-- a value in front of a list is converted with it
 with_item : (j : json.Json) (d : Data) → of_json j ≡ Some d → (o : Option (json.Items × List Token)) → converted of_items (parse_map (json.item j) o) ≡ parse_map (item d) (converted of_items o)
 with_item j d e None = refl
 with_item j d e (Some p) = rw e (twice (item d) p.1 (of_items p.0))
 
+-- a value that converts to nothing leaves no list
 without_item : (j : json.Json) → of_json j ≡ None → (o : Option (json.Items × List Token)) → converted of_items (parse_map (json.item j) o) ≡ None
 without_item j e None = refl
 without_item j e (Some p) = rw e
 
+-- a member in front of an object is put in first
 with_member : (k : List ℕ) (j : json.Json) (d : Data) (old : Members) → of_json j ≡ Some d → (o : Option (json.Members × List Token))
     → converted (λ ms. of_members ms old) (parse_map (json.member k j) o) ≡ converted (λ ms. of_members ms (put k d old)) o
 with_member k j d old e None = refl
 with_member k j d old e (Some p) = rw e
 
+-- a member whose value converts to nothing leaves no object
 without_member : (k : List ℕ) (j : json.Json) (old : Members) → of_json j ≡ None → (o : Option (json.Members × List Token)) → converted (λ ms. of_members ms old) (parse_map (json.member k j) o) ≡ None
 without_member k j old e None = refl
 without_member k j old e (Some p) = rw e
@@ -65,6 +73,7 @@ module _ (p : Parse json.Json) where
       → converted of_items (items p n ts) ≡ parse_map (item d) (converted of_items (items p (n - 1) r))
   item_read n ts r d some going e = let j = converted_some of_json (p ts) d r e in ap (converted of_items) (items_more p n ts r j.0 some going j.1) ∙ with_item j.0 d j.2 _
 
+  -- a list whose next value converts to nothing
   no_item : (more : Parse json.Items) (o : Option (json.Json × List Token)) → converted of_json o ≡ None → converted of_items (option_and_then (λ q. parse_map (json.item q.0) (more q.1)) o) ≡ None
   no_item more None e = refl
   no_item more (Some q) e = without_item q.0 (refused q.1 (of_json q.0) e) (more q.1)
@@ -92,6 +101,7 @@ module _ (p : Parse json.Json) where
         let j = converted_some of_json (p s) d r e in
         ap (converted (λ ms. of_members ms old)) (members_more p n k ts s r j.0 some key j.1) ∙ with_member k j.0 d old j.2 _
 
+    -- an object whose next value converts to nothing
     no_member : (k : List ℕ) (more : Parse json.Members) (o : Option (json.Json × List Token)) → converted of_json o ≡ None
         → converted (λ ms. of_members ms old) (option_and_then (λ q. parse_map (json.member k q.0) (more q.1)) o) ≡ None
     no_member k more None e = refl
@@ -139,6 +149,7 @@ next_too_deep (Token.boolean b) ts e = absurd (cc)
 next_too_deep Token.null ts e = absurd (cc)
 next_too_deep Token.bad ts e = absurd (cc)
 
+-- a number that is there is passed
 number_passed_at : (o : Option Num) (n : Option ℤ) (ts : List Token) → option_map as_integer o ≡ Some n → left (option_map {U = Data × List Token} (λ d. (d, ts)) (option_map number o)) ≡ Some ts
 number_passed_at None n ts e = absurd (cc)
 number_passed_at (Some x) n ts e = refl
@@ -147,6 +158,7 @@ number_passed_at (Some x) n ts e = refl
 pub number_passed : (depth : ℕ) (s : List ℕ) (n : Option ℤ) (ts : List Token) → option_map as_integer (number_of s) ≡ Some n → left (next depth (Token.number s ∷ ts)) ≡ Some ts
 number_passed depth s n ts e = ap left (next_number depth s ts) ∙ number_passed_at (number_of s) n ts e
 
+-- a number that is not there is refused
 number_refused_at : (o : Option Num) (ts : List Token) → option_map as_integer o ≡ None → option_map {U = Data × List Token} (λ d. (d, ts)) (option_map number o) ≡ None
 number_refused_at None ts e = refl
 number_refused_at (Some x) ts e = absurd (cc)

@@ -13,6 +13,7 @@ use Rattle.jsonstream.proofs.Entries.{mapped_none, still_refused}
 
 -- ---- one thing after another
 
+-- one thing made of another, at once or in turn
 twice : {A B C : Type 0} (f : A → B) (g : B → C) (o : Option (A × List Token)) → parse_map (λ a. g (f a)) o ≡ parse_map g (parse_map f o)
 twice f g None = refl
 twice f g (Some p) = refl
@@ -31,14 +32,17 @@ read_is f o a b r e is = ap (parse_map f) e ∙ ap (λ x. Some (x, r)) is
 
 -- ---- fields by their slots
 
+-- what a value states, where it has to be there
 flat_map : {X : Type 0} (stated : Data → Option X) (o : Option Data) → option_and_then stated o ≡ flat (option_map stated o)
 flat_map stated None = refl
 flat_map stated (Some d) = refl
 
+-- what a list states that may be missing
 empty_map : {X : Type 0} (stated : Data → Option X) (o : Option Data) → option_map_or (list_of stated) o (Some []) ≡ or_empty (option_map (list_of stated) o)
 empty_map stated None = refl
 empty_map stated (Some d) = refl
 
+-- what a value states that may be missing
 there_map : {X : Type 0} (stated : Data → Option X) (o : Option Data) → option_map_or (λ v. option_map (λ x. Some x) (stated v)) o (Some None) ≡ if_there (option_map stated o)
 there_map stated None = refl
 there_map stated (Some d) = refl

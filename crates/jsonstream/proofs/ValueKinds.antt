@@ -42,12 +42,14 @@ json_kind (json.number n) = 4
 json_kind (json.boolean b) = 5
 json_kind json.null = 6
 
+-- equal values are of one kind
 same_data : (e d : Data) → Some e ≡ Some d → data_kind d ≡ data_kind e
 same_data e d is = ap (λ o. option_kind o) (sym is) where
   option_kind : Option Data → ℕ
   option_kind None = 0
   option_kind (Some x) = data_kind x
 
+-- what is made of a thing is of the kind that is made
 made : {A : Type 0} (f : A → Data) (k : ℕ) → ((a : A) → data_kind (f a) ≡ k) → (o : Option A) (d : Data) → option_map f o ≡ Some d → data_kind d ≡ k
 made f k each None d e = absurd (cc)
 made f k each (Some a) d e = same_data (f a) d e ∙ each a
@@ -61,10 +63,12 @@ converted_kind (json.string s) d e = same_data (string s) d e
 converted_kind (json.array js) d e = made array 2 (λ ds. refl) (of_items js) d e
 converted_kind (json.object ms) d e = made object 1 (λ ds. refl) (of_members ms _) d e
 
+-- the kind of a value that was read
 abbrev json_kind_of : Option (json.Json × List Token) → ℕ
 json_kind_of None = 0
 json_kind_of (Some p) = json_kind p.0
 
+-- what is read and made is of the kind that is made
 read_made : {A : Type 0} (f : A → json.Json) (k : ℕ) → ((a : A) → json_kind (f a) ≡ k) → (o : Option (A × List Token)) (j : json.Json) (r : List Token) → parse_map f o ≡ Some (j, r) → json_kind j ≡ k
 read_made f k each None j r e = absurd (cc)
 read_made f k each (Some p) j r e = ap json_kind_of (sym e) ∙ each p.0
@@ -90,6 +94,7 @@ next_kind depth t ts d r e =
 
 -- ---- what a value is not
 
+-- a value of another kind than a number is no number
 unlike : (t : Token) (d : Data) → token_number t ≡ None → data_kind d ≡ token_kind t → number_in_data d ≡ None
 unlike t null n e = refl
 unlike t (boolean b) n e = refl
@@ -198,6 +203,7 @@ no_list depth t ts d r n e = no_array t d n (next_kind depth t ts d r e)
 pub no_members : (depth : ℕ) (t : Token) (ts : List Token) (d : Data) (r : List Token) → opens_object t ≡ false → next depth (t ∷ ts) ≡ Some (d, r) → as_object d ≡ None
 no_members depth t ts d r n e = no_object t d n (next_kind depth t ts d r e)
 
+-- a number that was read states what its digits do
 number_taken_at : (o : Option Num) (ts : List Token) → parse_map number_in_data (option_map {U = Data × List Token} (λ d. (d, ts)) (option_map number o)) ≡ option_map (λ n. (n, ts)) (option_map as_integer o)
 number_taken_at None ts = refl
 number_taken_at (Some x) ts = refl
@@ -208,6 +214,7 @@ number_taken depth s ts = ap (parse_map number_in_data) (next_number depth s ts)
 
 -- ---- texts and flags
 
+-- a value of another kind than a text is no text
 untext : (t : Token) (d : Data) → token_text t ≡ None → data_kind d ≡ token_kind t → as_str d ≡ None
 untext t null n e = refl
 untext t (boolean b) n e = refl
@@ -249,6 +256,7 @@ is_text Token.bad s e = absurd (cc)
 pub text_taken : (depth : ℕ) (s : List ℕ) (ts : List Token) → parse_map as_str (next depth (Token.string s ∷ ts)) ≡ Some (Some s, ts)
 text_taken depth s ts = ap (λ j. parse_map as_str (converted of_json j)) (value_is depth (Token.string s ∷ ts))
 
+-- a value of another kind than a flag is no flag
 unflag : (t : Token) (d : Data) → token_flag t ≡ None → data_kind d ≡ token_kind t → as_bool d ≡ None
 unflag t null n e = refl
 unflag Token.begin_object (boolean b) n e = absurd (cc)

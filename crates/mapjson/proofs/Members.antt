@@ -129,6 +129,7 @@ map_chain s = if s.known then (do
     pg_upmap_items = pg_upmap_items;
   })) else None
 
+-- an object states the map that its members make one after another
 map_each : (s : MapSlots) (ms : Members) → HoldsMap s ms → map_of (object ms) ≡ map_chain s
 unfolding map_of
 map_each s ms h = rw (
@@ -144,6 +145,7 @@ map_each s ms h = rw (
   field_held number_of (codes "version") ms s.version h.9,
 ) refl
 
+-- which is the one that they make by threes
 map_grouped : (s : MapSlots) → map_chain s ≡ map_if s
 map_grouped s = by_three_if s.known (flat s.version) (flat s.epoch) (flat s.max_osd) _ _ (λ x0 x1 x2. by_three (flat s.buckets) (flat s.rules) (flat s.pools) _ _ (λ y0 y1 y2. by_three (flat s.osds) (or_empty s.pg_upmap) (or_empty s.pg_upmap_items) _ _ (λ a b c. refl)))
 
@@ -200,6 +202,7 @@ change_chain s = if s.known then (do
     new_items = new_items;
   })) else None
 
+-- an object states the change that its members make one after another
 change_each : (s : ChangeSlots) (ms : Members) → HoldsChange s ms → stated_change (object ms) ≡ change_chain s
 unfolding stated_change
 change_each s ms h = rw (
@@ -218,6 +221,7 @@ change_each s ms h = rw (
   list_held reweight_of (codes "weight") ms s.weight h.12,
 ) refl
 
+-- which is the one that they make by threes
 change_grouped : (s : ChangeSlots) → change_chain s ≡ change_if s
 change_grouped s = by_three_if s.known (flat s.base) (or_empty s.old_pools) (if_there s.new_crush) _ _ (λ x0 x1 x2. by_three (or_empty s.new_pools) (or_empty s.grow_pool) (or_empty s.down) _ _ (λ y0 y1 y2. by_three (or_empty s.up) (or_empty s.weight) (or_empty s.old_upmap) _ _ (λ z0 z1 z2. by_three (or_empty s.old_items) (or_empty s.new_upmap) (or_empty s.new_items) _ _ (λ a b c. refl))))
 

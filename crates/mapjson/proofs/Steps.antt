@@ -25,16 +25,19 @@ no_step (object ms) e = refl
 
 -- ---- numbers behind a word
 
+-- one number behind a word
 one_at : (make : ℤ → StepPart) (o : Option ℤ) → option_and_then (λ n. Some (make n)) o ≡ option_and_then (λ ns. option_map make (one_number ns)) (option_and_then (λ x. option_map (λ xs. x ∷ xs) (Some [])) o)
 one_at make None = refl
 one_at make (Some x) = refl
 
+-- two numbers or more are not one
 not_one : (make : ℤ → StepPart) (o p : Option ℤ) (q : Option (List ℤ)) → None ≡ option_and_then (λ ns. option_map make (one_number ns)) (option_and_then (λ x. option_map (λ xs. x ∷ xs) (option_and_then (λ y. option_map (λ ys. y ∷ ys) q) p)) o)
 not_one make None p q = refl
 not_one make (Some x) None q = refl
 not_one make (Some x) (Some y) None = refl
 not_one make (Some x) (Some y) (Some ys) = refl
 
+-- three or more are not two
 three_or_more : (n : ℕ) → (suc (suc (suc n)) == 2) ≡ false
 three_or_more n = ne_eqb (suc (suc (suc n))) 2 (λ e. omega (arith, e))
 
@@ -46,11 +49,13 @@ one_is make d no_items = refl
 one_is make d (item e no_items) = one_at make (number_of e)
 one_is make d (item e (item f ds)) = rw (three_or_more (count_of ds)) (not_one make (number_of e) (number_of f) (entries_of number_of ds))
 
+-- one number or more are not none
 not_none : (o : Option ℤ) (q : Option (List ℤ)) → None ≡ option_and_then emit_with (option_and_then (λ x. option_map (λ xs. x ∷ xs) q) o)
 not_none None q = refl
 not_none (Some x) None = refl
 not_none (Some x) (Some xs) = refl
 
+-- two or more are not one
 two_or_more : (n : ℕ) → (suc (suc n) == 1) ≡ false
 two_or_more n = ne_eqb (suc (suc n)) 1 (λ e. omega (arith, e))
 
@@ -60,19 +65,23 @@ none_is d no_items = refl
 none_is d (item e ds) = rw (two_or_more (count_of ds)) (not_none (number_of e) (entries_of number_of ds))
 
 module _ (mode : Mode) (to_leaf : Bool) where
+  -- the choose step of a count and a type
   abbrev chosen : ℤ → ℤ → StepPart
   chosen count level = part.Choose (record { mode = mode; to_leaf = to_leaf; count = count; level = level })
 
+  -- one number is not two
   first_alone : (o : Option ℤ) → None ≡ option_and_then (choose_with mode to_leaf) (option_and_then (λ x. option_map (λ xs. x ∷ xs) (Some [])) o)
   first_alone None = refl
   first_alone (Some x) = refl
 
+  -- two numbers behind a word
   two_at : (o p : Option ℤ) → option_and_then (λ c. option_and_then (λ l. Some (chosen c l)) p) o
       ≡ option_and_then (choose_with mode to_leaf) (option_and_then (λ x. option_map (λ xs. x ∷ xs) (option_and_then (λ y. option_map (λ ys. y ∷ ys) (Some [])) p)) o)
   two_at None p = refl
   two_at (Some x) None = refl
   two_at (Some x) (Some y) = refl
 
+  -- three numbers or more are not two
   not_two : (o p r : Option ℤ) (q : Option (List ℤ)) → None
       ≡ option_and_then (choose_with mode to_leaf) (option_and_then (λ x. option_map (λ xs. x ∷ xs) (option_and_then (λ y. option_map (λ ys. y ∷ ys) (option_and_then (λ z. option_map (λ zs. z ∷ zs) q) r)) p)) o)
   not_two None p r q = refl
@@ -81,6 +90,7 @@ module _ (mode : Mode) (to_leaf : Bool) where
   not_two (Some x) (Some y) (Some z) None = refl
   not_two (Some x) (Some y) (Some z) (Some zs) = refl
 
+  -- four or more are not three
   four_or_more : (n : ℕ) → (suc (suc (suc (suc n))) == 3) ≡ false
   four_or_more n = ne_eqb (suc (suc (suc (suc n)))) 3 (λ e. omega (arith, e))
 
@@ -99,6 +109,7 @@ picked : (f : StepWord → Option StepPart) (b : Bool) (w : StepWord) (x rest : 
 picked f true w x rest others is later = is
 picked f false w x rest others is later = later
 
+-- what a list states is picked by its word
 by_word : (d : Data) (ds : Items) (o : Option (List ℕ)) → option_and_then (λ w. step_by w (array (item d ds))) o ≡ step_if (option_and_then step_word o) (entries_of number_of ds)
 unfolding step_by take_of emit_of tries_of leaf_tries_of
 by_word d ds None = refl
