@@ -8,7 +8,7 @@ use Rattle.stated.specs.Parts.{is_between, is_osd_id, pool_fits, pair_fits, exce
 use Rattle.stated.proofs.Within.{word_between}
 use Rattle.mapjson.specs.declared.change.RawChange.{RawChange}
 use Rattle.mapjson.specs.ChangeTexts.{is_pool_id, reweight_fits, change_fits}
-use Rattle.mapjson.proofs.Lists.{all_from_test}
+use Rattle.mapjson.proofs.Tests.{all_from_test}
 
 -- what is asked of the parts that become values
 pub record ChangeFits (c : RawChange) : Type 0 where

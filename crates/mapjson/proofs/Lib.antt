@@ -1,5 +1,7 @@
-pub mod Lists
-pub mod Texts
+pub mod Tests
+pub mod Steps
+pub mod Held
+pub mod Members
 pub mod Listed
 pub mod ReadBack
 pub mod Named

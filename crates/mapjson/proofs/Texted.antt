@@ -15,10 +15,10 @@ use Rattle.stated.specs.Exceptions.{target, sides, is_set, are_pairs}
 use Rattle.stated.specs.Parts.{is_osd_id, pair_fits, osd_fits, pool_fits, exception_fits, exceptions_fit, parts_fit, pool_of, pair_of}
 use Rattle.osdmap.specs.Stated.{buckets_of, rules_ok, pools_ok, osds_ok, is_listed, exceptions_ok, explicit_of, all_exceptions_ok, map_fault, IsStated}
 use Rattle.osdmap.specs.PartsOf.{parts_of}
-use Rattle.mapjson.specs.Json.{stated_by}
+use Rattle.jsonstream.specs.Json.{stated_by}
 use Rattle.mapjson.specs.MapTexts.{in_its_version, stated_map}
 use Rattle.mapjson.specs.Written.{AreNamed, map_data, written}
-use Rattle.mapjson.proofs.Texts.{json_of_some}
+use Rattle.jsonstream.proofs.Texts.{json_of_some}
 use Rattle.mapjson.proofs.Readable.{read-compact_text, IsUtf8-compact_text}
 use Rattle.mapjson.proofs.ReadableMaps.{map_readable}
 use Rattle.mapjson.proofs.Shallow.{map_whole, map_flat}

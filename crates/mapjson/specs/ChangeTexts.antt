@@ -19,7 +19,7 @@ use Rattle.stated.specs.Ordered.{IsOrdered}
 use Rattle.stated.specs.Parts.{has_enough_groups, is_between, has_between, is_osd_id, pool_fits, pg_fits, pair_fits, exceptions_fit, pool_of, pg_of, pair_of, exception_of}
 use Rattle.mapjson.specs.declared.change.RawChange.{RawChange}
 use Rattle.mapjson.specs.declared.change.RawReweight.{RawReweight}
-use Rattle.mapjson.specs.Json.{◌>>=◌, number_of, list_of, both_of, three_of, has_only, field, optional, optional_list, stated_by}
+use Rattle.jsonstream.specs.Json.{◌>>=◌, number_of, list_of, both_of, three_of, has_only, field, optional, optional_list, stated_by}
 use Rattle.mapjson.specs.MapTexts as texts
 
 -- ---- what is stated

@@ -26,7 +26,7 @@ use Rattle.stated.specs.PgText.{parts_in}
 use Rattle.refusal.specs.declared.refused.Refusal.{Refusal}
 use Rattle.osdmap.specs.Maps.{ClusterMap}
 use Rattle.osdmap.specs.Stated.{map_fault, IsStated}
-use Rattle.mapjson.specs.Json.{◌>>=◌, number_of, list_of, has_count, place, both_of, has_only, field, optional_list, stated_by}
+use Rattle.jsonstream.specs.Json.{◌>>=◌, number_of, list_of, has_count, place, both_of, has_only, field, optional_list, stated_by}
 
 -- ---- the forest
 

@@ -1,20 +1,27 @@
 //! Changes as JSON texts state them.
 
-ghost use Rattle.std.specs.Prelude.{◌≡◌};
-ghost use Rattle.serde_json.specs.View.{view};
+ghost use Rattle.std.specs.Prelude.{◌≡◌, option_map};
+ghost use Rattle.serde_json.specs.Data.{no_members};
 ghost use Rattle.refusal.specs.Outcomes.{Makes};
 ghost use Rattle.mapjson.specs.ChangeTexts.{reweight_of, growth_of, crush_of, stated_change, change_fault, IsChangeOf};
+ghost use Rattle.mapjson.specs.Members.{HoldsCrush, HoldsChange, crush_if, change_if};
+ghost use Rattle.mapjson.specs.Places.{reweight_at, growth_at};
 
 mod limits;
 mod within;
 
-use crate::fault::Fault;
-use crate::values::{FromJson, field, has_only, optional, optional_list};
+use crate::lists::triple;
+use crate::objects::{FromJson, Slots, object};
+use crate::slots::{Slot, flat, if_there, member, or_empty};
+use json::Reader;
+use jsonstream::tokens::skip;
 use keylist::Entries;
 use limits::change_fits;
 use refusal::Refusal;
-use serde_json::Value;
-use stated::{ChangeParts, CrushParts, ExceptionPart, GrowPart, PairPart, PgParts, PoolPart};
+use stated::{
+    BucketPart, ChangeParts, CrushParts, ExceptionPart, GrowPart, PairPart, PgParts, PoolPart,
+    RulePart,
+};
 use std::alloc::Global;
 use within::{base_within, crush_within, parts_within, pools_within};
 
@@ -56,84 +63,196 @@ pub(crate) struct RawReweight {
     pub weight: i128,
 }
 
+/// A reweight of the numbers at its places.
+fn reweight_of_places(places: Option<(i128, i128)>) -> Option<RawReweight>
+    ensures { result ≡ option_map reweight_at places }
+{
+    let (osd, weight) = places?;
+    Some(RawReweight { osd, weight })
+}
+
 impl FromJson for RawReweight {
     ghost stated = { reweight_of };
 
-    #[tactic(auto, unfolding(crate::specs::ChangeTexts::reweight_of))]
-    fn from_json(alloc: Global, value: &Value) -> Result<RawReweight, Fault> {
-        let (osd, weight) = FromJson::from_json(alloc, value)?;
-        Ok(RawReweight { osd, weight })
+    fn read(
+        alloc: Global,
+        reader: &mut Reader<'_>,
+        depth: usize,
+    ) -> Result<Option<RawReweight>, Refusal> {
+        let places: Option<(i128, i128)> = FromJson::read(alloc, reader, depth)?;
+        Ok(reweight_of_places(places))
     }
+}
+
+/// A growth of the numbers at its places.
+fn growth_of_places(places: Option<(i128, i128, i128)>) -> Option<GrowPart>
+    ensures { result ≡ option_map growth_at places }
+{
+    let (pool, pg_num, pgp_num) = places?;
+    Some(GrowPart {
+        pool,
+        pg_num,
+        pgp_num,
+    })
 }
 
 impl FromJson for GrowPart {
     ghost stated = { growth_of };
 
-    #[tactic(auto, unfolding(crate::specs::ChangeTexts::growth_of))]
-    fn from_json(alloc: Global, value: &Value) -> Result<GrowPart, Fault> {
-        let (pool, pg_num, pgp_num) = FromJson::from_json(alloc, value)?;
-        Ok(GrowPart {
-            pool,
-            pg_num,
-            pgp_num,
+    fn read(
+        alloc: Global,
+        reader: &mut Reader<'_>,
+        depth: usize,
+    ) -> Result<Option<GrowPart>, Refusal> {
+        let places: Option<(i128, i128, i128)> = FromJson::read(alloc, reader, depth)?;
+        Ok(growth_of_places(places))
+    }
+}
+
+/// The members of a CRUSH map that have come.
+#[derive(Drop)]
+struct CrushSlots {
+    known: bool,
+    buckets: Slot<Entries<BucketPart>>,
+    rules: Slot<Entries<RulePart>>,
+}
+
+impl CrushSlots {
+    /// None has come.
+    fn new() -> CrushSlots
+        ensures { HoldsCrush result no_members }
+    {
+        CrushSlots {
+            known: true,
+            buckets: None,
+            rules: None,
+        }
+    }
+
+    /// A CRUSH map of these members: none where a key is missing or too much, or a value states nothing.
+    fn part(self) -> Option<CrushParts>
+        ensures { result ≡ crush_if self }
+    {
+        if !self.known {
+            return None;
+        }
+        Some(CrushParts {
+            buckets: flat(self.buckets)?,
+            rules: flat(self.rules)?,
         })
     }
 }
 
-/// The keys that a CRUSH map has.
-const CRUSH_KEYS: [&str; 2] = ["buckets", "rules"];
+impl Slots for CrushSlots {
+    ghost hold = { HoldsCrush };
+
+    fn take(
+        &mut self,
+        alloc: Global,
+        key: &str,
+        reader: &mut Reader<'_>,
+        depth: usize,
+    ) -> Result<(), Refusal> {
+        match key {
+            "buckets" => member(alloc, reader, depth, &mut self.buckets),
+            "rules" => member(alloc, reader, depth, &mut self.rules),
+            _ => {
+                self.known = false;
+                skip(reader, depth)
+            }
+        }
+    }
+}
 
 impl FromJson for CrushParts {
     ghost stated = { crush_of };
 
-    #[tactic(auto, unfolding(crate::specs::ChangeTexts::crush_of))]
-    fn from_json(alloc: Global, value: &Value) -> Result<CrushParts, Fault> {
-        if !has_only(value, &CRUSH_KEYS) {
-            return Err(Fault::Field);
+    fn read(
+        alloc: Global,
+        reader: &mut Reader<'_>,
+        depth: usize,
+    ) -> Result<Option<CrushParts>, Refusal> {
+        let mut slots = CrushSlots::new();
+        if !object(alloc, reader, depth, &mut slots)? {
+            return Ok(None);
         }
-        let buckets = field(alloc, value, "buckets")?;
-        let rules = field(alloc, value, "rules")?;
-        Ok(CrushParts { buckets, rules })
+        Ok(slots.part())
     }
 }
 
-/// The keys that a change may have.
-const CHANGE_KEYS: [&str; 12] = [
-    "base",
-    "down",
-    "grow_pool",
-    "new_crush",
-    "new_items",
-    "new_pools",
-    "new_upmap",
-    "old_items",
-    "old_pools",
-    "old_upmap",
-    "up",
-    "weight",
-];
+/// The members of a change that have come.
+#[derive(Drop)]
+struct ChangeSlots {
+    known: bool,
+    base: Slot<i128>,
+    down: Slot<Entries<i128>>,
+    grow_pool: Slot<Entries<GrowPart>>,
+    new_crush: Slot<CrushParts>,
+    new_items: Slot<Entries<ExceptionPart<PairPart>>>,
+    new_pools: Slot<Entries<PoolPart>>,
+    new_upmap: Slot<Entries<ExceptionPart<i128>>>,
+    old_items: Slot<Entries<PgParts>>,
+    old_pools: Slot<Entries<i128>>,
+    old_upmap: Slot<Entries<PgParts>>,
+    up: Slot<Entries<i128>>,
+    weight: Slot<Entries<RawReweight>>,
+}
 
-impl FromJson for RawChange {
-    ghost stated = { stated_change };
-
-    #[tactic(auto, unfolding(crate::specs::ChangeTexts::stated_change))]
-    fn from_json(alloc: Global, value: &Value) -> Result<RawChange, Fault> {
-        if !has_only(value, &CHANGE_KEYS) {
-            return Err(Fault::Field);
+impl ChangeSlots {
+    /// None has come.
+    fn new() -> ChangeSlots
+        ensures { HoldsChange result no_members }
+    {
+        ChangeSlots {
+            known: true,
+            base: None,
+            down: None,
+            grow_pool: None,
+            new_crush: None,
+            new_items: None,
+            new_pools: None,
+            new_upmap: None,
+            old_items: None,
+            old_pools: None,
+            old_upmap: None,
+            up: None,
+            weight: None,
         }
-        let base = field(alloc, value, "base")?;
-        let old_pools = optional_list(alloc, value, "old_pools")?;
-        let new_crush = optional(alloc, value, "new_crush")?;
-        let new_pools = optional_list(alloc, value, "new_pools")?;
-        let grow_pool = optional_list(alloc, value, "grow_pool")?;
-        let down = optional_list(alloc, value, "down")?;
-        let up = optional_list(alloc, value, "up")?;
-        let weight = optional_list(alloc, value, "weight")?;
-        let old_upmap = optional_list(alloc, value, "old_upmap")?;
-        let old_items = optional_list(alloc, value, "old_items")?;
-        let new_upmap = optional_list(alloc, value, "new_upmap")?;
-        let new_items = optional_list(alloc, value, "new_items")?;
-        Ok(RawChange {
+    }
+
+    /// A change of these members: none where a key is missing or too much, or a value states nothing.
+    fn part(self, alloc: Global) -> Option<RawChange>
+        ensures { result ≡ change_if self }
+    {
+        let first = triple(
+            flat(self.base),
+            or_empty(alloc, self.old_pools),
+            if_there(self.new_crush),
+            self.known,
+        );
+        let second = triple(
+            or_empty(alloc, self.new_pools),
+            or_empty(alloc, self.grow_pool),
+            or_empty(alloc, self.down),
+            true,
+        );
+        let third = triple(
+            or_empty(alloc, self.up),
+            or_empty(alloc, self.weight),
+            or_empty(alloc, self.old_upmap),
+            true,
+        );
+        let fourth = triple(
+            or_empty(alloc, self.old_items),
+            or_empty(alloc, self.new_upmap),
+            or_empty(alloc, self.new_items),
+            true,
+        );
+        let (base, old_pools, new_crush) = first?;
+        let (new_pools, grow_pool, down) = second?;
+        let (up, weight, old_upmap) = third?;
+        let (old_items, new_upmap, new_items) = fourth?;
+        Some(RawChange {
             base,
             old_pools,
             new_crush,
@@ -147,6 +266,53 @@ impl FromJson for RawChange {
             new_upmap,
             new_items,
         })
+    }
+}
+
+impl Slots for ChangeSlots {
+    ghost hold = { HoldsChange };
+
+    fn take(
+        &mut self,
+        alloc: Global,
+        key: &str,
+        reader: &mut Reader<'_>,
+        depth: usize,
+    ) -> Result<(), Refusal> {
+        match key {
+            "base" => member(alloc, reader, depth, &mut self.base),
+            "down" => member(alloc, reader, depth, &mut self.down),
+            "grow_pool" => member(alloc, reader, depth, &mut self.grow_pool),
+            "new_crush" => member(alloc, reader, depth, &mut self.new_crush),
+            "new_items" => member(alloc, reader, depth, &mut self.new_items),
+            "new_pools" => member(alloc, reader, depth, &mut self.new_pools),
+            "new_upmap" => member(alloc, reader, depth, &mut self.new_upmap),
+            "old_items" => member(alloc, reader, depth, &mut self.old_items),
+            "old_pools" => member(alloc, reader, depth, &mut self.old_pools),
+            "old_upmap" => member(alloc, reader, depth, &mut self.old_upmap),
+            "up" => member(alloc, reader, depth, &mut self.up),
+            "weight" => member(alloc, reader, depth, &mut self.weight),
+            _ => {
+                self.known = false;
+                skip(reader, depth)
+            }
+        }
+    }
+}
+
+impl FromJson for RawChange {
+    ghost stated = { stated_change };
+
+    fn read(
+        alloc: Global,
+        reader: &mut Reader<'_>,
+        depth: usize,
+    ) -> Result<Option<RawChange>, Refusal> {
+        let mut slots = ChangeSlots::new();
+        if !object(alloc, reader, depth, &mut slots)? {
+            return Ok(None);
+        }
+        Ok(slots.part(alloc))
     }
 }
 

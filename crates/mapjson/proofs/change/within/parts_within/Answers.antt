@@ -1,7 +1,7 @@
 use Rattle.std.proofs.Common.{arith}
 use Rattle.mapjson.specs.ChangeTexts.{reweight_fits}
 use Rattle.mapjson.proofs.ChangeFits.{change_fits_each, pool_ids_are_words, osds_are_words}
-use Rattle.mapjson.proofs.Lists.{all_from_test}
+use Rattle.mapjson.proofs.Tests.{all_from_test}
 use Rattle.mapjson.proofs.change.within.parts_within.Goals as goal
 
 pub words-requires : goal.words-requires

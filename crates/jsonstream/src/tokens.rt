@@ -1,0 +1,268 @@
+//! The tokens of a text.
+
+ghost use Rattle.std.specs.Prelude.{◌≡◌, ◌-◌, ◌≤◌, ◌<◌, ◌==◌, [], ◌∷◌, true, false, length, slice_index, Some, None, MatchResult, OnOk, IsTrue, option_map};
+ghost use Rattle.json.specs.Reads.{token_of};
+ghost use Rattle.json.specs.Json.{after_end_array, read_key, parse_map};
+ghost use Rattle.std.specs.Bool.{MatchBool};
+ghost use Rattle.serde_json.specs.Data.{Data, array, object};
+ghost use Rattle.serde_json.specs.Find.{as_array, as_bool, as_object, as_str, as_integer};
+ghost use Rattle.serde_json.specs.Read.{number_of, number_from, float_of};
+ghost use Rattle.jsonstream.specs.Stream.{next, rest_of_list, rest_of_object, Passes, Takes, token_number, token_text, token_flag, opens_list, opens_object};
+ghost use Rattle.jsonstream.specs.Json.{number_of as number_in_data};
+
+use fast_float::Numeral;
+use json::{Reader, Token};
+use refusal::Refusal;
+
+/// The number of digits that may be a fraction: none where it is past every float.
+fn fraction(negative: bool, numeral: &Numeral<'_>) -> Option<Option<i128>>
+    ensures { result ≡ option_map as_integer (float_of negative numeral.now) }
+{
+    if numeral.to_float::<f64>(negative).is_finite() {
+        Some(None)
+    } else {
+        None
+    }
+}
+
+/// A number without a sign.
+fn unsigned(numeral: &Numeral<'_>) -> Option<Option<i128>>
+    ensures { result ≡ option_map as_integer (number_from false numeral.now) }
+{
+    match numeral.to_u64() {
+        Some(number) => Some(Some(i128::from(number))),
+        None => fraction(false, numeral),
+    }
+}
+
+/// A number behind its sign.
+fn negative(numeral: &Numeral<'_>) -> Option<Option<i128>>
+    ensures { result ≡ option_map as_integer (number_from true numeral.now) }
+{
+    if let Some(number) = numeral.to_i64(true) {
+        if number < 0 {
+            return Some(Some(i128::from(number)));
+        }
+    }
+    fraction(true, numeral)
+}
+
+/// Whether a number has a sign.
+fn has_minus(bytes: &[u8]) -> bool
+    ensures value { result ≡ (slice_index bytes.now 0 == 45) }
+    ensures len { IsTrue result → 0 < length bytes.now }
+{
+    !bytes.is_empty() && bytes[0] == b'-'
+}
+
+/// The whole number that a number's text states, `Some(None)` where it states another: none where it is past every
+/// float.
+fn number_in(text: &str) -> Option<Option<i128>>
+    ensures { result ≡ option_map as_integer (number_of text.now) }
+{
+    let bytes = text.as_bytes();
+    if has_minus(bytes) {
+        negative(&Numeral::scan(&bytes[1..]))
+    } else {
+        unsigned(&Numeral::scan(bytes))
+    }
+}
+
+/// The next token: `BadJson` (10) where there is none.
+pub fn next_token<'a>(reader: &mut Reader<'a>) -> Result<Token<'a>, Refusal>
+    ensures { MatchResult result (λ t. reader.old ≡ token_of t ∷ reader.new)
+        (λ e. (e ≡ Refusal.BadJson) × (reader.old ≡ [])) }
+{
+    reader.next().ok_or(Refusal::BadJson)
+}
+
+/// The next key, or none at the end of the object: `BadJson` (10) where neither comes.
+pub fn next_key<'a>(reader: &mut Reader<'a>) -> Result<Option<&'a str>, Refusal>
+    ensures { MatchResult result
+        (λ k. read_key reader.old ≡ Some (option_map (λ s. s.now) k, reader.new))
+        (λ e. (e ≡ Refusal.BadJson) × (read_key reader.old ≡ None)) }
+{
+    reader.next_key().map_err(|_| Refusal::BadJson)
+}
+
+/// Passes the value that begins with a token: `BadJson` (10) where none does.
+#[cycle(skip)]
+pub fn finish(token: Token<'_>, reader: &mut Reader<'_>, depth: usize) -> Result<(), Refusal>
+    ensures value { Passes (next depth (token_of token.entry ∷ reader.old)) result reader.new }
+    ensures shorter { OnOk result (length reader.new ≤ length reader.old) }
+{
+    match token {
+        Token::String(_) | Token::Bool(_) | Token::Null => Ok(()),
+        Token::Number(text) => match number_in(text) {
+            Some(_) => Ok(()),
+            None => Err(Refusal::BadJson),
+        },
+        Token::EndObject | Token::EndArray | Token::Key(_) | Token::Bad => Err(Refusal::BadJson),
+        Token::BeginArray => if depth == 0 {
+            Err(Refusal::BadJson)
+        } else {
+            skip_list(reader, depth - 1)
+        },
+        Token::BeginObject => if depth == 0 {
+            Err(Refusal::BadJson)
+        } else {
+            skip_object(reader, depth - 1)
+        },
+    }
+}
+
+/// Passes what is left of a list: `BadJson` (10) where it does not end.
+#[cycle(skip)]
+pub fn skip_list(reader: &mut Reader<'_>, depth: usize) -> Result<(), Refusal>
+    ensures value { Passes (rest_of_list depth reader.old) result reader.new }
+    ensures shorter { OnOk result (length reader.new < length reader.old) }
+{
+    'items: while !reader.take_end_array() {
+        let token = next_token(reader)?;
+        finish(token, reader, depth)?;
+    }
+    Ok(())
+}
+
+/// Passes what is left of an object: `BadJson` (10) where it does not end.
+#[cycle(skip)]
+pub fn skip_object(reader: &mut Reader<'_>, depth: usize) -> Result<(), Refusal>
+    ensures value { Passes (rest_of_object depth reader.old) result reader.new }
+    ensures shorter { OnOk result (length reader.new < length reader.old) }
+{
+    'members: while let Some(_) = next_key(reader)? {
+        let token = next_token(reader)?;
+        finish(token, reader, depth)?;
+    }
+    Ok(())
+}
+
+/// Passes a value: `BadJson` (10) where none comes.
+pub fn skip(reader: &mut Reader<'_>, depth: usize) -> Result<(), Refusal>
+    ensures { MatchResult result (λ _. (d : Data) × (next depth reader.old ≡ Some (d, reader.new)))
+        (λ e. (e ≡ Refusal.BadJson) × (next depth reader.old ≡ None)) }
+{
+    let token = next_token(reader)?;
+    finish(token, reader, depth)?;
+    Ok(())
+}
+
+/// The digits of a token that is a number.
+fn digits<'a>(token: &Token<'a>) -> Option<&'a str>
+    ensures { option_map (λ s. s.now) result ≡ token_number (token_of token.now) }
+{
+    match token {
+        Token::Number(text) => Some(*text),
+        _ => None,
+    }
+}
+
+/// The whole number that a value is, `None` where it is another value: `BadJson` (10) where none comes.
+pub fn number(reader: &mut Reader<'_>, depth: usize) -> Result<Option<i128>, Refusal>
+    ensures { Takes (parse_map number_in_data (next depth reader.old)) result reader.new }
+{
+    let token = next_token(reader)?;
+    let Some(text) = digits(&token) else {
+        finish(token, reader, depth)?;
+        return Ok(None);
+    };
+    number_in(text).ok_or(Refusal::BadJson)
+}
+
+/// Whether a token opens a list.
+fn is_list(token: &Token<'_>) -> bool
+    ensures { result ≡ opens_list (token_of token.now) }
+{
+    matches!(token, Token::BeginArray)
+}
+
+/// Whether a list begins, whose values come then; any other value is passed: `BadJson` (10) where no value comes.
+pub fn list_begins(reader: &mut Reader<'_>, depth: usize) -> Result<bool, Refusal>
+    ensures { MatchResult result
+        (λ begins. MatchBool begins
+        ((0 < depth) × (next depth reader.old ≡ parse_map array (rest_of_list (depth - 1) reader.new)))
+        (parse_map as_array (next depth reader.old) ≡ Some (None, reader.new)))
+        (λ e. (e ≡ Refusal.BadJson) × (next depth reader.old ≡ None)) }
+{
+    let token = next_token(reader)?;
+    if !is_list(&token) {
+        finish(token, reader, depth)?;
+        return Ok(false);
+    }
+    if depth == 0 {
+        return Err(Refusal::BadJson);
+    }
+    Ok(true)
+}
+
+/// Whether a token opens an object.
+fn is_object(token: &Token<'_>) -> bool
+    ensures { result ≡ opens_object (token_of token.now) }
+{
+    matches!(token, Token::BeginObject)
+}
+
+/// Whether an object begins, whose members come then; any other value is passed: `BadJson` (10) where no value comes.
+pub fn object_begins(reader: &mut Reader<'_>, depth: usize) -> Result<bool, Refusal>
+    ensures { MatchResult result
+        (λ begins. MatchBool begins
+        ((0 < depth) × (next depth reader.old ≡ parse_map object (rest_of_object (depth - 1) reader.new)))
+        (parse_map as_object (next depth reader.old) ≡ Some (None, reader.new)))
+        (λ e. (e ≡ Refusal.BadJson) × (next depth reader.old ≡ None)) }
+{
+    let token = next_token(reader)?;
+    if !is_object(&token) {
+        finish(token, reader, depth)?;
+        return Ok(false);
+    }
+    if depth == 0 {
+        return Err(Refusal::BadJson);
+    }
+    Ok(true)
+}
+
+/// The text of a token that is one.
+fn quoted<'a>(token: &Token<'a>) -> Option<&'a str>
+    ensures { option_map (λ s. s.now) result ≡ token_text (token_of token.now) }
+{
+    match token {
+        Token::String(text) => Some(*text),
+        _ => None,
+    }
+}
+
+/// The text that a value is, `None` where it is another value: `BadJson` (10) where none comes.
+pub fn text<'a>(reader: &mut Reader<'a>, depth: usize) -> Result<Option<&'a str>, Refusal>
+    ensures { MatchResult result
+        (λ t. parse_map as_str (next depth reader.old) ≡ Some (option_map (λ s. s.now) t, reader.new))
+        (λ e. (e ≡ Refusal.BadJson) × (next depth reader.old ≡ None)) }
+{
+    let token = next_token(reader)?;
+    let Some(text) = quoted(&token) else {
+        finish(token, reader, depth)?;
+        return Ok(None);
+    };
+    Ok(Some(text))
+}
+
+/// The truth of a token that is true or false.
+fn truth(token: &Token<'_>) -> Option<bool>
+    ensures { result ≡ token_flag (token_of token.now) }
+{
+    match token {
+        Token::Bool(flag) => Some(*flag),
+        _ => None,
+    }
+}
+
+/// Whether a value is true or false, `None` where it is another value: `BadJson` (10) where none comes.
+pub fn flag(reader: &mut Reader<'_>, depth: usize) -> Result<Option<bool>, Refusal>
+    ensures { Takes (parse_map as_bool (next depth reader.old)) result reader.new }
+{
+    let token = next_token(reader)?;
+    let Some(flag) = truth(&token) else {
+        finish(token, reader, depth)?;
+        return Ok(None);
+    };
+    Ok(Some(flag))
+}
