@@ -6,7 +6,7 @@ use Rattle.stated.specs.CrushMaps.{crush_fits}
 use Rattle.stated.specs.Growth.{growth_fits}
 use Rattle.stated.specs.Parts.{is_between, is_osd_id, pool_fits, pair_fits, exceptions_fit}
 use Rattle.stated.proofs.Within.{word_between}
-use Rattle.mapjson.specs.declared.change.RawChange.{RawChange}
+use Rattle.partjson.specs.declared.change.RawChange.{RawChange}
 use Rattle.mapjson.specs.ChangeTexts.{is_pool_id, reweight_fits, change_fits}
 use Rattle.mapjson.proofs.Tests.{all_from_test}
 

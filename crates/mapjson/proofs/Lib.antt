@@ -1,7 +1,4 @@
 pub mod Tests
-pub mod Steps
-pub mod Held
-pub mod Members
 pub mod Listed
 pub mod ReadBack
 pub mod Named

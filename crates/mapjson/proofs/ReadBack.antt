@@ -19,7 +19,7 @@ use Rattle.stated.specs.declared.parts.OsdPart.{OsdPart}
 use Rattle.stated.specs.declared.parts.ExceptionPart.{ExceptionPart}
 use Rattle.stated.specs.declared.parts.PairPart.{PairPart}
 use Rattle.jsonstream.specs.Json.{number_of, list_of}
-use Rattle.mapjson.specs.MapTexts.{item_of, bucket_kind_of, bucket_of, rule_kind_of, step_of, step_by, take_of, choose_of, emit_of, tries_of, leaf_tries_of, rule_of, pool_of, osd_of, pair_of, exception_of, map_of, in_its_version, stated_map}
+use Rattle.partjson.specs.StatedMaps.{item_of, bucket_kind_of, bucket_of, rule_kind_of, step_of, step_by, take_of, choose_of, emit_of, tries_of, leaf_tries_of, rule_of, pool_of, osd_of, pair_of, exception_of, map_of, in_its_version, stated_map}
 use Rattle.mapjson.specs.Written.{number_data, list_data, item_data, kind_word, bucket_data, use_word, step_data, rule_data, pool_data, osd_data, IsNamed, AreNamed, pair_data, exception_data, map_data}
 
 -- ---- values

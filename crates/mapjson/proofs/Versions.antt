@@ -8,7 +8,7 @@ use Rattle.crush.specs.Grammar as grammar
 use Rattle.stated.specs.declared.rules.NumberedRule.{NumberedRule}
 use Rattle.osdmap.specs.Maps.{ClusterMap}
 use Rattle.osdmap.specs.PartsOf.{step_part, rule_part, version_of, parts_of}
-use Rattle.mapjson.specs.MapTexts.{sets_tries, in_its_version}
+use Rattle.partjson.specs.StatedMaps.{sets_tries, in_its_version}
 
 -- a part sets tries where its step does
 step_same : (s : Step) → sets_tries (step_part s) ≡ grammar.sets_tries s

@@ -1,80 +1,23 @@
--- The change that a JSON text (RFC 8259) states, and the limits of its numbers. The form is this program's own.
-use Rattle.std.specs.Prelude.{◌≡◌, ℕ, ℤ, pos, nat_abs, ◌&&◌, Bool, true, not, List, [], ◌∷◌, map, codes, Option, Some, None, option_map, option_and_then, Result, Ok, Err, IfOk, if◌then◌else◌}
+-- The change that a JSON text (RFC 8259) states, and the limits of its numbers.
+use Rattle.std.specs.Prelude.{◌≡◌, ℕ, ℤ, pos, nat_abs, ◌&&◌, Bool, true, not, List, map, Option, Some, None, option_and_then, Result, Ok, Err, IfOk, if◌then◌else◌}
 use Rattle.std.specs.List.{list_all}
 use Rattle.std.specs.Option.{option_map_or, option_or, IsSomeAnd}
 use Rattle.crush.specs.Limits.{max_devices}
 use Rattle.refusal.specs.Outcomes.{refused_unless}
-use Rattle.stated.specs.declared.parts.GrowPart.{GrowPart}
 use Rattle.stated.specs.declared.parts.CrushParts.{CrushParts}
 use Rattle.stated.specs.CrushMaps.{CrushFacts, crush_fits, crush_fault, IsCrushOf}
 use Rattle.stated.specs.Growth.{growth_fits, grows_evenly, growth_of as within_growth}
-use Rattle.serde_json.specs.Data.{Data}
 use Rattle.stated.specs.declared.change.ChangeParts.{ChangeParts}
 use Rattle.stated.specs.declared.change.Reweight.{Reweight}
-use Rattle.stated.specs.declared.parts.PoolPart.{PoolPart}
 use Rattle.refusal.specs.declared.refused.Refusal.{Refusal}
 use Rattle.refusal.specs.declared.refused.Refusal.TheVariants.{BadLimit, BadPool}
 use Rattle.stated.specs.Limits.{max_pool_id, max_entries}
 use Rattle.stated.specs.Ordered.{IsOrdered}
 use Rattle.stated.specs.Parts.{has_enough_groups, is_between, has_between, is_osd_id, pool_fits, pg_fits, pair_fits, exceptions_fit, pool_of, pg_of, pair_of, exception_of}
-use Rattle.mapjson.specs.declared.change.RawChange.{RawChange}
-use Rattle.mapjson.specs.declared.change.RawReweight.{RawReweight}
-use Rattle.jsonstream.specs.Json.{◌>>=◌, number_of, list_of, both_of, three_of, has_only, field, optional, optional_list, stated_by}
-use Rattle.mapjson.specs.MapTexts as texts
-
--- ---- what is stated
-
--- an OSD and its new reweight: [osd, reweight]
-unfoldable pub reweight_of : Data → Option RawReweight
-reweight_of d = option_map (λ one. record { osd = one.0; weight = one.1 }) (both_of number_of number_of d)
-
--- a pool and its new numbers of groups: [pool, pg_num, pgp_num]
-unfoldable pub growth_of : Data → Option GrowPart
-growth_of d =
-    option_map (λ three. record { pool = three.0; pg_num = three.1; pgp_num = three.2 })
-    (three_of number_of number_of number_of d)
-
--- a forest and rules, both required; steps that set tries are always allowed
-unfoldable pub crush_of : Data → Option CrushParts
-crush_of d = if has_only (codes "buckets" ∷ codes "rules" ∷ []) d then (do
-  buckets ← field (list_of texts.bucket_of) (codes "buckets") d
-  rules ← field (list_of texts.rule_of) (codes "rules") d
-  Some (record { buckets = buckets; rules = rules })) else None
-
-abbrev pub change_keys : List (List ℕ)
-change_keys =
-    codes "base" ∷ codes "down" ∷ codes "grow_pool" ∷ codes "new_crush" ∷ codes "new_items" ∷ codes "new_pools"
-    ∷ codes "new_upmap" ∷ codes "old_items" ∷ codes "old_pools" ∷ codes "old_upmap" ∷ codes "up" ∷ codes "weight" ∷ []
-
--- the parts of a change: the base, which is required, lists, which may be missing, and a CRUSH map, which may be
-unfoldable pub stated_change : Data → Option RawChange
-stated_change d = if has_only change_keys d then (do
-  base ← field number_of (codes "base") d
-  old_pools ← optional_list number_of (codes "old_pools") d
-  new_crush ← optional crush_of (codes "new_crush") d
-  new_pools ← optional_list texts.pool_of (codes "new_pools") d
-  grow_pool ← optional_list growth_of (codes "grow_pool") d
-  down ← optional_list number_of (codes "down") d
-  up ← optional_list number_of (codes "up") d
-  weight ← optional_list reweight_of (codes "weight") d
-  old_upmap ← optional_list texts.pg_of (codes "old_upmap") d
-  old_items ← optional_list texts.pg_of (codes "old_items") d
-  new_upmap ← optional_list (texts.exception_of number_of) (codes "new_upmap") d
-  new_items ← optional_list (texts.exception_of texts.pair_of) (codes "new_items") d
-  Some (record {
-    base = base;
-    old_pools = old_pools;
-    new_crush = new_crush;
-    new_pools = new_pools;
-    grow_pool = grow_pool;
-    down = down;
-    up = up;
-    weight = weight;
-    old_upmap = old_upmap;
-    old_items = old_items;
-    new_upmap = new_upmap;
-    new_items = new_items;
-  })) else None
+use Rattle.partjson.specs.declared.change.RawChange.{RawChange}
+use Rattle.partjson.specs.declared.change.RawReweight.{RawReweight}
+use Rattle.jsonstream.specs.Json.{stated_by}
+use Rattle.partjson.specs.StatedChanges.{stated_change}
 
 -- ---- limits
 

@@ -6,28 +6,18 @@ ghost use Rattle.std.specs.Str.{IsUtf8};
 ghost use Rattle.refusal.specs.Outcomes.{Makes};
 ghost use Rattle.osdmap.specs.PartsOf.{parts_of};
 ghost use Rattle.jsonstream.specs.Json.{stated_by};
-ghost use Rattle.mapjson.specs.MapTexts.{stated_map, map_text_fault, StatesMap};
+ghost use Rattle.partjson.specs.StatedMaps.{stated_map};
+ghost use Rattle.mapjson.specs.MapTexts.{map_text_fault, StatesMap};
 ghost use Rattle.mapjson.specs.ChangeTexts.{change_text_fault, StatesChange};
 ghost use Rattle.mapjson.specs.Written.{written};
 
 mod change;
-mod exceptions;
-mod forest;
-mod lists;
-mod map;
-mod objects;
-mod pools;
-mod rules;
-mod slots;
-mod values;
-mod whole;
-mod words;
 mod written;
 
-use crate::change::{RawChange, change_within};
-use crate::whole::stated_by;
+use crate::change::change_within;
 use crate::written::ToJson;
-use osdmap::{Change, MapParts, OsdMap};
+use osdmap::{Change, OsdMap};
+use partjson::{read_change_parts, read_map_parts};
 use refusal::{Memory, Refusal};
 use std::alloc::Global;
 
@@ -37,8 +27,7 @@ use std::alloc::Global;
 pub fn read_map(alloc: Global, bytes: &[u8]) -> Result<OsdMap, Refusal>
     ensures { Makes result (map_text_fault bytes.now) (λ m. StatesMap bytes.now m.map) }
 {
-    let parts: MapParts = stated_by(alloc, bytes)?;
-    OsdMap::new(alloc, parts)
+    OsdMap::new(alloc, read_map_parts(alloc, bytes)?)
 }
 
 /// The base and the change that a text states: `BadJson` (10) where the text is not UTF-8, is no JSON or nests deeper
@@ -53,7 +42,7 @@ pub fn read_map(alloc: Global, bytes: &[u8]) -> Result<OsdMap, Refusal>
 pub fn read_change(alloc: Global, bytes: &[u8]) -> Result<(u64, Change), Refusal>
     ensures { Makes result (change_text_fault bytes.now) (StatesChange bytes.now) }
 {
-    let stated: RawChange = stated_by(alloc, bytes)?;
+    let stated = read_change_parts(alloc, bytes)?;
     let (base, parts) = change_within(alloc, &stated)?;
     let change = Change::new(parts)?;
     Ok((base, change))

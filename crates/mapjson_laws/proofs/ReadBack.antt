@@ -16,7 +16,7 @@ use Rattle.stated.specs.Parts.{is_osd_id, pair_fits, osd_fits, pool_fits, except
 use Rattle.osdmap.specs.Stated.{buckets_of, rules_ok, pools_ok, osds_ok, is_listed, exceptions_ok, explicit_of, all_exceptions_ok, map_fault, IsStated}
 use Rattle.osdmap.specs.PartsOf.{parts_of}
 use Rattle.jsonstream.specs.Json.{stated_by}
-use Rattle.mapjson.specs.MapTexts.{in_its_version, stated_map}
+use Rattle.partjson.specs.StatedMaps.{in_its_version, stated_map}
 use Rattle.mapjson.specs.Written.{AreNamed, map_data, written}
 use Rattle.jsonstream.proofs.Texts.{json_of_some}
 use Rattle.mapjson.proofs.Readable.{read-compact_text, IsUtf8-compact_text}

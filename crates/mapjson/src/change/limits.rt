@@ -8,7 +8,7 @@ ghost use Rattle.stated.specs.Limits.{max_entries};
 ghost use Rattle.stated.specs.Parts.{has_between, is_osd_id, pg_fits, pool_fits};
 ghost use Rattle.mapjson.specs.ChangeTexts.{is_pool_id, reweight_fits, entries_fit, change_fits};
 
-use super::{RawChange, RawReweight};
+use partjson::{RawChange, RawReweight};
 use stated::fits::crush_fits;
 use stated::grow::all_growths_fit;
 use stated::limits::{MAX_ENTRIES, MAX_POOL_ID};

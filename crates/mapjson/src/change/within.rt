@@ -11,9 +11,9 @@ ghost use Rattle.stated.specs.Parts.{has_enough_groups, is_between, is_osd_id, p
 ghost use Rattle.refusal.specs.Outcomes.{Makes};
 ghost use Rattle.mapjson.specs.ChangeTexts.{reweight_fits, change_fits, reweight_within, parts_within, new_crush_fault, IsCrushStated, are_even};
 
-use super::{RawChange, RawReweight};
 use crush::limits::MAX_DEVICES;
 use keylist::Entries;
+use partjson::{RawChange, RawReweight};
 use refusal::{Memory, Refusal};
 use stated::numbers::word;
 use stated::{

@@ -1,0 +1,16 @@
+use Rattle.std.proofs.Common.{◌≡◌, sym, ap, ◌∙◌}
+use Rattle.jsonstream.proofs.Taken.{read_is}
+use Rattle.partjson.specs.StatedChanges.{stated_change}
+use Rattle.partjson.proofs.Members.{no_change, change_made}
+use Rattle.partjson.proofs.change.RawChangeFromJson.read.Goals as goal
+
+pub returns-then-not-branch : goal.returns-then-not-branch
+returns-then-not-branch c =
+    let e = c.in_ok-object.ensures in
+    read_is stated_change _ e.0 _ c.object.new.reader e.1 (no_change e.0 (e.3 c.if-not-branch.true))
+
+pub returns : goal.returns
+returns c =
+    let e = c.in_ok-object.ensures in
+    let m = e.2 c.if-not-branch.false in
+    read_is stated_change _ e.0 _ c.object.new.reader e.1 (ap stated_change m.1 ∙ change_made c.object.new.slots m.0 m.2 ∙ sym c.part.ensures)

@@ -1,0 +1,5 @@
+pub mod StatedMaps
+pub mod StatedChanges
+pub mod Steps
+pub mod Members
+pub mod Places

@@ -1,0 +1,22 @@
+-- Parts that are lists of a fixed form, from the values at their places.
+use Rattle.std.specs.Prelude.{ℤ}
+use Rattle.stated.specs.declared.parts.ItemPart.{ItemPart}
+use Rattle.stated.specs.declared.parts.PairPart.{PairPart}
+use Rattle.stated.specs.declared.parts.GrowPart.{GrowPart}
+use Rattle.partjson.specs.declared.change.RawReweight.{RawReweight}
+
+-- an item: [id, weight]
+abbrev pub item_at : ℤ × ℤ → ItemPart
+item_at p = record { id = p.0; weight = p.1 }
+
+-- a pair: [from, to]
+abbrev pub pair_at : ℤ × ℤ → PairPart
+pair_at p = record { from = p.0; to = p.1 }
+
+-- a reweight: [osd, weight]
+abbrev pub reweight_at : ℤ × ℤ → RawReweight
+reweight_at p = record { osd = p.0; weight = p.1 }
+
+-- a growth: [pool, pg_num, pgp_num]
+abbrev pub growth_at : ℤ × ℤ × ℤ → GrowPart
+growth_at p = record { pool = p.0; pg_num = p.1; pgp_num = p.2 }

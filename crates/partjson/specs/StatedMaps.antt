@@ -1,0 +1,204 @@
+-- The parts of a map that a JSON text (RFC 8259) states. The form is this program's own.
+use Rattle.std.specs.Prelude.{ℕ, pos, Bool, true, false, not, ◌&&◌, List, [], ◌∷◌, codes, Option, Some, None, option_map, if◌then◌else◌}
+use Rattle.std.specs.List.{list_any}
+use Rattle.std.specs.Ordering.{int_eq}
+use Rattle.std.specs.Str.{bytes_eq}
+use Rattle.serde_json.specs.Data.{Data}
+use Rattle.serde_json.specs.Find.{as_bool, as_str}
+use Rattle.crush.specs.declared.bucket.BucketKind.{BucketKind}
+use Rattle.crush.specs.declared.bucket.BucketKind.TheVariants.{Uniform, List as Listed, Tree}
+use Rattle.crush.specs.declared.step.Mode.{Mode}
+use Rattle.crush.specs.declared.step.Mode.TheVariants.{Firstn, Indep}
+use Rattle.crush.specs.declared.step.RuleKind.{RuleKind}
+use Rattle.crush.specs.declared.step.RuleKind.TheVariants.{Replicated, Erasure}
+use Rattle.stated.specs.declared.parts.MapParts.{MapParts}
+use Rattle.stated.specs.declared.parts.BucketPart.{BucketPart}
+use Rattle.stated.specs.declared.parts.ItemPart.{ItemPart}
+use Rattle.stated.specs.declared.parts.RulePart.{RulePart}
+use Rattle.stated.specs.declared.parts.StepPart.{StepPart}
+use Rattle.stated.specs.declared.parts.StepPart.TheVariants.{SetChooseTries, SetChooseleafTries, Take, Choose, Emit}
+use Rattle.stated.specs.declared.parts.PoolPart.{PoolPart}
+use Rattle.stated.specs.declared.parts.OsdPart.{OsdPart}
+use Rattle.stated.specs.declared.parts.ExceptionPart.{ExceptionPart}
+use Rattle.stated.specs.declared.parts.PairPart.{PairPart}
+use Rattle.stated.specs.declared.pg_text.PgParts.{PgParts}
+use Rattle.stated.specs.PgText.{parts_in}
+use Rattle.jsonstream.specs.Json.{◌>>=◌, number_of, list_of, has_count, place, both_of, has_only, field, optional_list}
+
+-- ---- the forest
+
+-- how a bucket picks, by its word
+abbrev pub bucket_kind : List ℕ → Option BucketKind
+bucket_kind word =
+    if bytes_eq word (codes "uniform") then Some Uniform
+    else if bytes_eq word (codes "list") then Some Listed
+    else if bytes_eq word (codes "tree") then Some Tree
+    else None
+
+abbrev pub bucket_kind_of : Data → Option BucketKind
+bucket_kind_of d = as_str d >>= bucket_kind
+
+-- an item: [item, weight]
+unfoldable pub item_of : Data → Option ItemPart
+item_of d = option_map (λ item. record { id = item.0; weight = item.1 }) (both_of number_of number_of d)
+
+-- a bucket: id, items, kind and type
+unfoldable pub bucket_of : Data → Option BucketPart
+bucket_of d = if has_only (codes "id" ∷ codes "items" ∷ codes "kind" ∷ codes "type" ∷ []) d then (do
+  id ← field number_of (codes "id") d
+  level ← field number_of (codes "type") d
+  kind ← field bucket_kind_of (codes "kind") d
+  items ← field (list_of item_of) (codes "items") d
+  Some (record { id = id; level = level; kind = kind; items = items })) else None
+
+-- ---- rules
+
+-- what a rule or a pool is for, by its word
+abbrev pub rule_kind : List ℕ → Option RuleKind
+rule_kind word =
+    if bytes_eq word (codes "replicated") then Some Replicated
+    else if bytes_eq word (codes "erasure") then Some Erasure
+    else None
+
+abbrev pub rule_kind_of : Data → Option RuleKind
+rule_kind_of d = as_str d >>= rule_kind
+
+-- ["emit"]
+unfoldable pub emit_of : Data → Option StepPart
+emit_of d = if has_count 1 d then Some Emit else None
+
+-- ["take", bucket]
+unfoldable pub take_of : Data → Option StepPart
+take_of d = if has_count 2 d then (do
+  id ← place number_of 1 d
+  Some (Take id)) else None
+
+-- [word, count, type], where the word gives the mode and whether a device is taken below
+unfoldable pub choose_of : Mode → Bool → Data → Option StepPart
+choose_of mode to_leaf d = if has_count 3 d then (do
+  count ← place number_of 1 d
+  level ← place number_of 2 d
+  Some (Choose (record { mode = mode; to_leaf = to_leaf; count = count; level = level }))) else None
+
+-- ["set_choose_tries", n] and ["set_chooseleaf_tries", n]
+unfoldable pub tries_of : Data → Option StepPart
+tries_of d = if has_count 2 d then (do
+  tries ← place number_of 1 d
+  Some (SetChooseTries tries)) else None
+
+unfoldable pub leaf_tries_of : Data → Option StepPart
+leaf_tries_of d = if has_count 2 d then (do
+  tries ← place number_of 1 d
+  Some (SetChooseleafTries tries)) else None
+
+-- a step, by its word
+unfoldable pub step_by : List ℕ → Data → Option StepPart
+step_by word d =
+    if bytes_eq word (codes "take") then take_of d
+    else if bytes_eq word (codes "choose_firstn") then choose_of Firstn false d
+    else if bytes_eq word (codes "choose_indep") then choose_of Indep false d
+    else if bytes_eq word (codes "chooseleaf_firstn") then choose_of Firstn true d
+    else if bytes_eq word (codes "chooseleaf_indep") then choose_of Indep true d
+    else if bytes_eq word (codes "emit") then emit_of d
+    else if bytes_eq word (codes "set_choose_tries") then tries_of d
+    else if bytes_eq word (codes "set_chooseleaf_tries") then leaf_tries_of d
+    else None
+
+-- a step, whose word stands first
+unfoldable pub step_of : Data → Option StepPart
+step_of d = do
+  word ← place as_str 0 d
+  step_by word d
+
+-- a rule: id, kind and steps
+unfoldable pub rule_of : Data → Option RulePart
+rule_of d = if has_only (codes "id" ∷ codes "kind" ∷ codes "steps" ∷ []) d then (do
+  id ← field number_of (codes "id") d
+  kind ← field rule_kind_of (codes "kind") d
+  steps ← field (list_of step_of) (codes "steps") d
+  Some (record { id = id; kind = kind; steps = steps })) else None
+
+-- ---- pools and OSDs
+
+abbrev pub pool_keys : List (List ℕ)
+pool_keys = codes "id" ∷ codes "kind" ∷ codes "pg_num" ∷ codes "pgp_num" ∷ codes "rule" ∷ codes "size" ∷ []
+
+unfoldable pub pool_of : Data → Option PoolPart
+pool_of d = if has_only pool_keys d then (do
+  id ← field number_of (codes "id") d
+  kind ← field rule_kind_of (codes "kind") d
+  pg_num ← field number_of (codes "pg_num") d
+  pgp_num ← field number_of (codes "pgp_num") d
+  rule ← field number_of (codes "rule") d
+  size ← field number_of (codes "size") d
+  Some (record { id = id; kind = kind; pg_num = pg_num; pgp_num = pgp_num; rule = rule; size = size })) else None
+
+unfoldable pub osd_of : Data → Option OsdPart
+osd_of d = if has_only (codes "exists" ∷ codes "id" ∷ codes "up" ∷ codes "weight" ∷ []) d then (do
+  id ← field number_of (codes "id") d
+  exists ← field as_bool (codes "exists") d
+  up ← field as_bool (codes "up") d
+  weight ← field number_of (codes "weight") d
+  Some (record { id = id; exists = exists; up = up; weight = weight })) else None
+
+-- ---- exceptions
+
+-- a group, by its text
+abbrev pub pg_of : Data → Option PgParts
+pg_of d = as_str d >>= parts_in
+
+-- a pair: [from, to]
+unfoldable pub pair_of : Data → Option PairPart
+pair_of d = option_map (λ pair. record { from = pair.0; to = pair.1 }) (both_of number_of number_of d)
+
+-- an exception: [group, [entry, ..]], by what states an entry
+unfoldable pub exception_of : {X : Type 0} → (Data → Option X) → Data → Option (ExceptionPart X)
+exception_of stated d = option_map (λ said. record { pg = said.0; entries = said.1 }) (both_of pg_of (list_of stated) d)
+
+-- ---- the map
+
+abbrev pub map_keys : List (List ℕ)
+map_keys =
+    codes "buckets" ∷ codes "epoch" ∷ codes "max_osd" ∷ codes "osds" ∷ codes "pg_upmap" ∷ codes "pg_upmap_items"
+    ∷ codes "pools" ∷ codes "rules" ∷ codes "version" ∷ []
+
+-- whether a step sets tries
+abbrev pub sets_tries : StepPart → Bool
+sets_tries (SetChooseTries _) = true
+sets_tries (SetChooseleafTries _) = true
+sets_tries (Take _) = false
+sets_tries (Choose _) = false
+sets_tries Emit = false
+
+-- the parts of a map: all are required but the exceptions, which may be missing
+unfoldable pub map_of : Data → Option MapParts
+map_of d = if has_only map_keys d then (do
+  version ← field number_of (codes "version") d
+  epoch ← field number_of (codes "epoch") d
+  max_osd ← field number_of (codes "max_osd") d
+  buckets ← field (list_of bucket_of) (codes "buckets") d
+  rules ← field (list_of rule_of) (codes "rules") d
+  pools ← field (list_of pool_of) (codes "pools") d
+  osds ← field (list_of osd_of) (codes "osds") d
+  pg_upmap ← optional_list (exception_of number_of) (codes "pg_upmap") d
+  pg_upmap_items ← optional_list (exception_of pair_of) (codes "pg_upmap_items") d
+  Some (record {
+    version = version;
+    epoch = epoch;
+    max_osd = max_osd;
+    buckets = buckets;
+    rules = rules;
+    pools = pools;
+    osds = osds;
+    pg_upmap = pg_upmap;
+    pg_upmap_items = pg_upmap_items;
+  })) else None
+
+-- rules set tries in maps of version 2 alone
+abbrev pub in_its_version : MapParts → Option MapParts
+in_its_version p =
+    if not (int_eq p.version (pos 2)) && list_any (λ r. list_any sets_tries r.steps) p.rules then None else Some p
+
+-- the parts of a map of its version
+unfoldable pub stated_map : Data → Option MapParts
+stated_map d = map_of d >>= in_its_version
