@@ -8,7 +8,7 @@ use Rattle.monitor.specs.Members.{Monitored, Shares}
 
 -- the first map of the state that it lends
 abbrev pub first_of_look : Look → ClusterMap
-first_of_look look = (first_of_read look.guard).state.first
+first_of_look look = (first_of_read look.guard).state.value.first
 
 -- the look shares this monitor's lock; its pass is of the monitor's row, with a history that is lawful from the first
 -- map

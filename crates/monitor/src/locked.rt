@@ -15,14 +15,15 @@ use ticketlock::Fact;
 /// a pass of the same row; what else holds of it holds of every state.
 #[derive(Drop)]
 pub(crate) struct Locked {
-    pub(crate) state: State,
+    pub(crate) state: Box<State>,
 }
 
 impl Fact for Locked {
     ghost use Rattle.std.specs.Prelude.{◌≡◌};
 
     ghost fact = { λ made now.
-        (now.state.first ≡ made.state.first) × (now.state.pass.row ≡ made.state.pass.row) };
+        (now.state.value.first ≡ made.state.value.first)
+        × (now.state.value.pass.row ≡ made.state.value.pass.row) };
 }
 
 /// Whether a pass has seen more than a state.
@@ -60,14 +61,14 @@ impl Locked {
         base: u64,
         change: Change,
     ) -> Result<(u64, usize), Refusal>
-        requires row { self.old.state.pass.row ≡ row.now }
-        requires pass { pass.old ≡ self.old.state.pass }
-        ensures commits { Commits self.old.state.first (length row.now.cells)
+        requires row { self.old.state.value.pass.row ≡ row.now }
+        requires pass { pass.old ≡ self.old.state.value.pass }
+        ensures commits { Commits self.old.state.value.first (length row.now.cells)
             pass.old.history pass.new.history base change result }
         ensures unspent { IfErr result (λ e. e ≢ SeatSpent) }
-        ensures pass { pass.new ≡ self.new.state.pass }
-        ensures first { self.new.state.first ≡ self.old.state.first }
-        ensures row { self.new.state.pass.row ≡ row.now }
+        ensures pass { pass.new ≡ self.new.state.value.pass }
+        ensures first { self.new.state.value.first ≡ self.old.state.value.first }
+        ensures row { self.new.state.value.pass.row ≡ row.now }
     {
         let _ = self.state.map();
         let answer = self.state.commit(alloc, row, pass, base, change);
@@ -84,16 +85,16 @@ impl Locked {
         pool: u32,
         limit: u32,
     ) -> Result<(u64, usize), Refusal>
-        requires row { self.old.state.pass.row ≡ row.now }
-        requires pass { pass.old ≡ self.old.state.pass }
+        requires row { self.old.state.value.pass.row ≡ row.now }
+        requires pass { pass.old ≡ self.old.state.value.pass }
         requires some { 1 ≤ limit }
         requires few { limit ≤ 1024 }
-        ensures balances { Balances self.old.state.first
+        ensures balances { Balances self.old.state.value.first
             (length row.now.cells) pass.old.history pass.new.history pool limit result }
         ensures unspent { IfErr result (λ e. e ≢ SeatSpent) }
-        ensures pass { pass.new ≡ self.new.state.pass }
-        ensures first { self.new.state.first ≡ self.old.state.first }
-        ensures row { self.new.state.pass.row ≡ row.now }
+        ensures pass { pass.new ≡ self.new.state.value.pass }
+        ensures first { self.new.state.value.first ≡ self.old.state.value.first }
+        ensures row { self.new.state.value.pass.row ≡ row.now }
     {
         let _ = self.state.map();
         let answer = self.state.balance(alloc, row, pass, pool, limit);

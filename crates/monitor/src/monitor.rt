@@ -25,5 +25,5 @@ impl Model for Monitor {
 
     ghost view = { λ m. monitored m.first.map m.row m.lock.words };
 
-    ghost invariant = { λ m. IsOpened (monitored m.first.map m.row m.lock.words) (first_of m.lock).state };
+    ghost invariant = { λ m. IsOpened (monitored m.first.map m.row m.lock.words) (first_of m.lock).state.value };
 }

@@ -40,8 +40,9 @@ fn locked(
     draws: u64,
 ) -> Result<(Lock<Locked>, Vec<Seat>), Memory>
     ensures seats { IfOk result (λ r. (length r.1.items ≡ seats) × All (IsNewOf r.0) r.1.items) }
-    ensures lock { IfOk result (λ r. ((first_of r.0).state ≡ state) × (limit_of r.0 ≡ draws)) }
+    ensures lock { IfOk result (λ r. ((first_of r.0).state.value ≡ state) × (limit_of r.0 ≡ draws)) }
 {
+    let state = Box::new(alloc, state)?;
     Lock::with_limit(alloc, Locked { state }, seats, draws).map_err(|_error| Memory)
 }
 

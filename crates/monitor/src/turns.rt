@@ -16,11 +16,11 @@ use ticketlock::{ReadGuard, WriteGuard};
 /// The state that a guard lends.
 pub(crate) fn state_of<'g>(guard: &'g ReadGuard<'_, Locked>) -> &'g State
     ensures lends { result.now ≡ lent guard.now }
-    ensures first { result.now.first ≡ (first_of_read guard.now).state.first }
-    ensures row { result.now.pass.row ≡ (first_of_read guard.now).state.pass.row }
+    ensures first { result.now.first ≡ (first_of_read guard.now).state.value.first }
+    ensures row { result.now.pass.row ≡ (first_of_read guard.now).state.value.pass.row }
     ensures map { result.now.map ≡ after result.now.first result.now.pass.history }
 {
-    let state = &guard.value().state;
+    let state: &State = &guard.value().state;
     let _ = state.map();
     state
 }
@@ -78,7 +78,7 @@ impl Monitor {
         ensures row { member.new.pass.row ≡ self.now.row }
         ensures goes_on { GoesOn self.now.first member.old.pass.history member.new.pass.history }
         ensures holds { IfOk result (λ guard. Holds self.now guard
-            × (guard.value.state.first ≡ self.now.first) × (guard.value.state.pass ≡ member.new.pass)) }
+            × (guard.value.state.value.first ≡ self.now.first) × (guard.value.state.value.pass ≡ member.new.pass)) }
         ensures spent { IfErr result (λ e.
             (e ≡ SeatSpent) × IsMemberOf self.now member.new × IsSpent self.now member.new) }
         ensures same { OnErr result (member.new.pass ≡ member.old.pass) }
@@ -90,7 +90,7 @@ impl Monitor {
         for _ in rt.forever() {
             match self.lock.wait_write(rt, seat) {
                 Ok(guard) => {
-                    let state = &guard.value().state;
+                    let state: &State = &guard.value().state;
                     if !is_behind(state, &member.pass) {
                         see(&mut member.pass, state);
                         return Ok(guard);
@@ -129,7 +129,7 @@ impl Monitor {
     /// A member that had the lock alone has its seat again.
     pub(crate) fn put_back(&self, guard: WriteGuard<'_, Locked>, member: &mut Member)
         requires holds { Holds self.now guard }
-        requires state { IsStateOf self.now guard.value.state }
+        requires state { IsStateOf self.now guard.value.state.value }
         requires row { member.old.pass.row ≡ self.now.row }
         requires lawful { IsLawful self.now.first member.old.pass.history }
         ensures member { IsMemberOf self.now member.new }

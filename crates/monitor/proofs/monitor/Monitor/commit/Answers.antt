@@ -7,10 +7,10 @@ use Rattle.monitor.proofs.monitor.Monitor.commit.Goals as goal
 pub returns-clause-commits : goal.returns-clause-commits
 returns-clause-commits g c =
     let lent = c.value_mut-locked in
-    let first = lent.result.now.state.first in
+    let first = lent.result.now.state.value.first in
     let rows : c.self.inside.row ≡ c.args.self.now.row = ap (λ (m : Monitored). m.row) c.self.view_is in
     let firsts : first ≡ c.args.self.now.first =
-    ap (λ (l : Locked). l.state.first) lent.ensures.value ∙ c.in_ok-guard.ensures.holds.1 in
+    ap (λ (l : Locked). l.state.value.first) lent.ensures.value ∙ c.in_ok-guard.ensures.holds.1 in
     let done = commits_from first (length c.self.inside.row.cells) c.args.member.now.pass.history
     c.hold.new.member.pass.history c.commit-answer.new.pass.history c.args.base c.args.change c.commit-answer.result
     c.hold.ensures.goes_on.begins c.commit-answer.ensures.commits in
