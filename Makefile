@@ -12,7 +12,7 @@ help:
 	@echo 'make test   the gate: every proof from nothing, the edits that must not prove, the tests, then runs of the built program'
 	@echo 'make gate   the gate without the runs'
 	@echo 'make runs   the runs of the built program alone (a minute or two)'
-	@echo 'make bench  what the built program costs, as tables: placements beside plain C (cc, and valgrind for instructions), table, sessions, balancer'
+	@echo 'make bench  what the built program costs, as tables: placements beside plain C (cc, and valgrind for instructions), table, sessions, balancer, reading'
 
 # Runs with checks in place of proofs.
 try:
@@ -41,3 +41,4 @@ bench: prove
 	@python3 bench/tables.py $(PROGRAM)
 	@python3 bench/sessions.py $(PROGRAM)
 	@python3 bench/balancer.py $(PROGRAM)
+	@python3 bench/reading.py $(PROGRAM)

@@ -5,6 +5,7 @@ import os
 import re
 import shutil
 import subprocess
+import sys
 import tempfile
 import time
 
@@ -79,6 +80,16 @@ def watched(words):
 def peak(words):
     """The most bytes that a run had in memory at once, by `watched`."""
     return watched(words)[1]
+
+
+ASKED = "import resource, subprocess, sys; subprocess.run(sys.argv[1:], stdout=subprocess.DEVNULL, stderr=subprocess.DEVNULL); " \
+        "print(resource.getrusage(resource.RUSAGE_CHILDREN).ru_maxrss)"
+
+
+def greatest(words):
+    """The most bytes that a run had in memory at once, however it ends. A small process asks, since the system counts with a run what its
+    parent held."""
+    return int(subprocess.run([sys.executable, "-c", ASKED] + words, stdout=subprocess.PIPE, check=True).stdout) * 1024
 
 
 def heading(text):
