@@ -123,7 +123,6 @@ impl Monitor {
     pub fn commit<R: Wait>(
         &self,
         rt: &R,
-        alloc: Global,
         member: &mut Member,
         base: u64,
         change: Change,
@@ -137,7 +136,7 @@ impl Monitor {
     {
         let mut guard = self.hold(rt, member)?;
         let locked = guard.value_mut();
-        let answer = locked.commit(alloc, &self.row, &mut member.pass, base, change);
+        let answer = locked.commit(&self.row, &mut member.pass, base, change);
         self.put_back(guard, member);
         answer
     }
@@ -152,7 +151,6 @@ impl Monitor {
     pub fn balance<R: Wait>(
         &self,
         rt: &R,
-        alloc: Global,
         member: &mut Member,
         pool: u32,
         limit: u32,
@@ -169,7 +167,7 @@ impl Monitor {
         let mut held = self.hold(rt, member)?;
         let answer = held
             .value_mut()
-            .balance(alloc, &self.row, &mut member.pass, pool, limit);
+            .balance(&self.row, &mut member.pass, pool, limit);
         self.put_back(held, member);
         answer
     }

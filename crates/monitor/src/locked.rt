@@ -8,7 +8,6 @@ use epochlog::{Pass, Row};
 use osdmap::Change;
 use refusal::Refusal;
 use state::State;
-use std::alloc::Global;
 use ticketlock::Fact;
 
 /// A state under the lock. Each that is lent or put back has the first map of the one that the lock was made with, and
@@ -55,7 +54,6 @@ impl Locked {
     /// Commits a change, by one who has seen all that the state has.
     pub(crate) fn commit(
         &mut self,
-        alloc: Global,
         row: &Row,
         pass: &mut Pass,
         base: u64,
@@ -71,7 +69,7 @@ impl Locked {
         ensures row { self.new.state.value.pass.row ≡ row.now }
     {
         let _ = self.state.map();
-        let answer = self.state.commit(alloc, row, pass, base, change);
+        let answer = self.state.commit(row, pass, base, change);
         let _ = self.state.map();
         answer
     }
@@ -79,7 +77,6 @@ impl Locked {
     /// Plans and commits the moves that balance a pool, by one who has seen all that the state has.
     pub(crate) fn balance(
         &mut self,
-        alloc: Global,
         row: &Row,
         pass: &mut Pass,
         pool: u32,
@@ -97,7 +94,7 @@ impl Locked {
         ensures row { self.new.state.value.pass.row ≡ row.now }
     {
         let _ = self.state.map();
-        let answer = self.state.balance(alloc, row, pass, pool, limit);
+        let answer = self.state.balance(row, pass, pool, limit);
         let _ = self.state.map();
         answer
     }

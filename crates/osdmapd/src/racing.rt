@@ -38,7 +38,7 @@ fn commit_now<R: Wait>(
 {
     let base = monitor.epoch(rt, member)?;
     let (_, change) = read_change(alloc, text.as_bytes())?;
-    monitor.commit(rt, alloc, member, base, change)?;
+    monitor.commit(rt, member, base, change)?;
     Ok(())
 }
 

@@ -264,7 +264,7 @@ fn commit<R: Wait>(rt: &R, alloc: Global, monitor: &Monitor, member: &mut Member
     let Ok((base, change)) = read_change(alloc, DOWN.as_bytes()) else {
         return false;
     };
-    monitor.commit(rt, alloc, member, base, change).is_ok()
+    monitor.commit(rt, member, base, change).is_ok()
 }
 
 /// The epochs that two looks show which are held at the same time.

@@ -193,8 +193,7 @@ impl<'a, R: Wait> Desk<'a, R> {
             member.old.pass.history member.new.pass.history text.now result }
     {
         let (base, change) = read_change(self.alloc, text)?;
-        self.monitor
-            .commit(self.rt, self.alloc, member, base, change)
+        self.monitor.commit(self.rt, member, base, change)
     }
 
     /// The epoch, once it is at least the one wanted: `AwaitSpent` (34) after 1,000,000 turns without it. Each turn
@@ -223,7 +222,7 @@ impl<'a, R: Wait> Desk<'a, R> {
             member.old.pass.history member.new.pass.history plan.pool plan.limit result }
     {
         self.monitor
-            .balance(self.rt, self.alloc, member, plan.pool, plan.limit)
+            .balance(self.rt, member, plan.pool, plan.limit)
     }
 
     /// Does a command; `None` is a line that is no command.

@@ -4,7 +4,6 @@ use crate::state::State;
 use balancer::plan;
 use epochlog::{Pass, Row};
 use refusal::Refusal;
-use std::alloc::Global;
 
 impl State {
     ghost use Rattle.std.specs.Prelude.{◌≡◌, ◌≤◌};
@@ -18,7 +17,6 @@ impl State {
     /// `JournalFull` (28) or `NotSealed` (32) as in `commit`. After a refusal all is as before.
     pub fn balance(
         &mut self,
-        alloc: Global,
         row: &Row,
         pass: &mut Pass,
         pool: u32,
@@ -31,12 +29,12 @@ impl State {
         ensures balances { Balances self.old self.new pool limit result }
         ensures pass { pass.new ≡ self.new.pass }
     {
-        let (change, moves) = plan(alloc, &self.map, &self.table, pool, limit)?;
+        let (change, moves) = plan(self.alloc, &self.map, &self.table, pool, limit)?;
         let current = self.map.epoch();
         if moves == 0 {
             return Ok((current, 0));
         }
-        let (epoch, _) = self.commit(alloc, row, pass, current, change)?;
+        let (epoch, _) = self.commit(row, pass, current, change)?;
         Ok((epoch, moves))
     }
 }

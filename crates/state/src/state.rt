@@ -14,9 +14,10 @@ use refusal::{Memory, Refusal};
 use std::alloc::Global;
 use std::marker::Model;
 
-/// The state of a monitor.
+/// The state of a monitor, and where it takes memory.
 #[derive(Drop)]
 pub struct State {
+    pub(crate) alloc: Global,
     pub(crate) first: OsdMap,
     pub(crate) pass: Pass,
     pub(crate) map: OsdMap,
@@ -84,6 +85,7 @@ impl State {
         let table = PgTable::build(alloc, &map)?;
         let pass = row.pass(alloc)?;
         Ok(State {
+            alloc,
             first,
             pass,
             map,
@@ -126,7 +128,6 @@ impl State {
     /// the epoch. After a refusal all is as before. All memory is taken before the seal; after it nothing can fail.
     pub fn commit(
         &mut self,
-        alloc: Global,
         row: &Row,
         pass: &mut Pass,
         base: u64,
@@ -138,7 +139,7 @@ impl State {
         ensures pass { pass.new ≡ self.new.pass }
     {
         self.accepts(row, base, &change)?;
-        let (patch, step) = prepared(alloc, &mut self.map, &self.table, base + 1, change)?;
+        let (patch, step) = prepared(self.alloc, &mut self.map, &self.table, base + 1, change)?;
         let Ok(epoch) = row.seal(pass, step) else {
             return Err(Refusal::NotSealed);
         };
