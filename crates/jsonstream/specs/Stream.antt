@@ -23,8 +23,8 @@ abbrev pub rest_of_object : ℕ → List Token → Option (Members × List Token
 rest_of_object depth ts = converted (λ ms. of_members ms no_members) (members (value depth) (length ts) ts)
 
 -- a call takes this off the tokens and leaves those behind it; or no such thing comes, or a growth was refused
-abbrev pub Takes : {X : Type 0} → Option (X × List Token) → Result X Refusal → List Token → Type 0
-Takes there r left =
+abbrev pub TakesValue : {X : Type 0} → Option (X × List Token) → Result X Refusal → List Token → Type 0
+TakesValue there r left =
     MatchResult r (λ x. there ≡ Some (x, left)) (λ e. (e ≡ OutOfMemory) ⊎ ((e ≡ BadJson) × (there ≡ None)))
 
 -- the tokens behind what was read
@@ -55,9 +55,9 @@ if_there None = Some None
 if_there (Some x) = option_map (λ y. Some y) x
 
 -- a call takes one member into what is held
-abbrev pub Holds : {U S : Type 0} → (S → Members → Type 0) → List ℕ → Option (Data × List Token) → S → Result U Refusal
+abbrev pub TakesMember : {U S : Type 0} → (S → Members → Type 0) → List ℕ → Option (Data × List Token) → S → Result U Refusal
     → S → List Token → Type 0
-Holds hold key there before r after rest = MatchResult r
+TakesMember hold key there before r after rest = MatchResult r
     (λ _. (d : Data) × (there ≡ Some (d, rest)) × ((ms : Members) → hold before ms → hold after (put key d ms)))
     (λ e. (e ≡ OutOfMemory) ⊎ ((e ≡ BadJson) × (there ≡ None)))
 

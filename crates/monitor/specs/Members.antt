@@ -57,7 +57,8 @@ IsSpent monitor member = IsSomeAnd member.seat (λ seat. seat.place.draws ≡ dr
 -- the state that a guard lends: while it lends none, the one that the lock was made with
 abbrev pub lent : ReadGuard Locked → Kept
 lent guard =
-    unwrap_or (option_and_then (option_map (λ kept. kept.value.state.value)) guard.claim.value) (first_of_read guard).state.value
+    unwrap_or (option_and_then (option_map (λ kept. kept.value.state.value)) guard.claim.value)
+    (first_of_read guard).state.value
 
 -- the guard shares this monitor's lock
 pub record Shares (monitor : Monitored) (guard : ReadGuard Locked) : Type 0 where

@@ -6,7 +6,7 @@ use Rattle.serde_json.specs.Data.{Data, Members, put}
 use Rattle.refusal.specs.declared.refused.Refusal.{Refusal}
 use Rattle.refusal.specs.declared.refused.Refusal.TheVariants.{BadJson, Memory as OutOfMemory}
 use Rattle.jsonstream.specs.Json.{has_only_keys}
-use Rattle.jsonstream.specs.Stream.{slot, Holds}
+use Rattle.jsonstream.specs.Stream.{slot, TakesMember}
 use Rattle.jsonstream.proofs.Puts.{slot_put, known_put}
 
 -- whether all keys are known, after one more
@@ -20,13 +20,13 @@ slot_held stated q k d ms s e = ap (λ x. if bytes_eq q k then Some (stated d) e
 -- a call that reads a member holds it
 pub held_by : {U S : Type 0} (hold : S → Members → Type 0) (key : List ℕ) (there : Option (Data × List Token)) (before : S) (r : Result U Refusal) (after : S) (rest : List Token) (says : Data → Type 0)
     → MatchResult r (λ u. (d : Data) × (there ≡ Some (d, rest)) × says d) (λ e. (e ≡ OutOfMemory) ⊎ ((e ≡ BadJson) × (there ≡ None)))
-    → ((d : Data) → says d → (ms : Members) → hold before ms → hold after (put key d ms)) → Holds hold key there before r after rest
+    → ((d : Data) → says d → (ms : Members) → hold before ms → hold after (put key d ms)) → TakesMember hold key there before r after rest
 held_by hold key there before (Ok u) after rest says h f = (h.0, h.1, f h.0 h.2)
 held_by hold key there before (Err e) after rest says h f = h
 
 -- so does one that passes a member
 pub held_past : {U S : Type 0} (hold : S → Members → Type 0) (key : List ℕ) (there : Option (Data × List Token)) (before : S) (r : Result U Refusal) (after : S) (rest : List Token)
     → MatchResult r (λ u. (d : Data) × (there ≡ Some (d, rest))) (λ e. (e ≡ BadJson) × (there ≡ None))
-    → ((d : Data) (ms : Members) → hold before ms → hold after (put key d ms)) → Holds hold key there before r after rest
+    → ((d : Data) (ms : Members) → hold before ms → hold after (put key d ms)) → TakesMember hold key there before r after rest
 held_past hold key there before (Ok u) after rest h f = (h.0, h.1, f h.0)
 held_past hold key there before (Err e) after rest h f = inr h

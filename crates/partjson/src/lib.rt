@@ -1,5 +1,5 @@
-//! The parts of maps and changes as JSON texts (RFC 8259) state them, read from the tokens of a text with no tree of its
-//! values; their numbers are untested.
+//! The parts of maps and changes as JSON texts (RFC 8259) state them, read from the tokens of a text with no tree of
+//! its values; their numbers are untested.
 #![tactic(auto)]
 
 ghost use Rattle.jsonstream.specs.Json.{Answers, stated_by};

@@ -4,7 +4,7 @@ ghost use Rattle.std.specs.Prelude.{◌≡◌};
 ghost use Rattle.std.specs.List.{list_any};
 ghost use Rattle.json.specs.Json.{parse_map};
 ghost use Rattle.serde_json.specs.Data.{no_members};
-ghost use Rattle.jsonstream.specs.Stream.{next, Takes};
+ghost use Rattle.jsonstream.specs.Stream.{next, TakesValue};
 ghost use Rattle.partjson.specs.StatedMaps.{sets_tries, map_of, in_its_version, stated_map};
 ghost use Rattle.partjson.specs.Members.{HoldsMap, map_if};
 
@@ -118,7 +118,7 @@ impl Slots for MapSlots {
 
 /// The parts of a map, whatever its version.
 fn map_of(alloc: Global, reader: &mut Reader<'_>, depth: usize) -> Result<Option<MapParts>, Refusal>
-    ensures { Takes (parse_map map_of (next depth reader.old)) result reader.new }
+    ensures { TakesValue (parse_map map_of (next depth reader.old)) result reader.new }
 {
     let mut slots = MapSlots::new();
     if !object(alloc, reader, depth, &mut slots)? {

@@ -4,7 +4,7 @@ ghost use Rattle.std.specs.Prelude.{Option, ◌≡◌, ◌⊎◌, true, false, S
 ghost use Rattle.json.specs.Json.{parse_map};
 ghost use Rattle.serde_json.specs.Data.{Data, Members, no_members, object};
 ghost use Rattle.serde_json.specs.Find.{as_object};
-ghost use Rattle.jsonstream.specs.Stream.{next, rest_of_object, Takes, Holds};
+ghost use Rattle.jsonstream.specs.Stream.{next, rest_of_object, TakesValue, TakesMember};
 
 use json::Reader;
 use jsonstream::tokens::{next_key, object_begins};
@@ -17,7 +17,7 @@ pub(crate) trait FromJson: Drop {
 
     /// What the next value states: `None` where that is nothing of the kind.
     fn read(alloc: Global, reader: &mut Reader<'_>, depth: usize) -> Result<Option<Self>, Refusal>
-        ensures { Takes (parse_map stated (next depth reader.old)) result reader.new };
+        ensures { TakesValue (parse_map stated (next depth reader.old)) result reader.new };
 }
 
 /// The members of an object that have come.
@@ -32,7 +32,7 @@ pub(crate) trait Slots: Drop {
         reader: &mut Reader<'_>,
         depth: usize,
     ) -> Result<(), Refusal>
-        ensures { Holds hold key.now (next depth reader.old) self.old result self.new reader.new };
+        ensures { TakesMember hold key.now (next depth reader.old) self.old result self.new reader.new };
 }
 
 /// Reads the members that are left of an object.

@@ -3,7 +3,7 @@
 ghost use Rattle.std.specs.Prelude.{◌≡◌, option_map};
 ghost use Rattle.json.specs.Json.{parse_map};
 ghost use Rattle.serde_json.specs.Data.{array, no_members};
-ghost use Rattle.jsonstream.specs.Stream.{rest_of_list, Takes};
+ghost use Rattle.jsonstream.specs.Stream.{rest_of_list, TakesValue};
 ghost use Rattle.partjson.specs.StatedMaps.{rule_kind, rule_kind_of, step_of, rule_of};
 ghost use Rattle.partjson.specs.Members.{HoldsRule, rule_if};
 ghost use Rattle.partjson.specs.Steps.{step_word, step_word_of, one_number, emit_with, choose_with, step_with, step_if};
@@ -154,7 +154,7 @@ fn rest_of_step(
     reader: &mut Reader<'_>,
     depth: usize,
 ) -> Result<Option<StepPart>, Refusal>
-    ensures { Takes (parse_map (λ ds. step_of (array ds)) (rest_of_list depth reader.old)) result reader.new }
+    ensures { TakesValue (parse_map (λ ds. step_of (array ds)) (rest_of_list depth reader.old)) result reader.new }
 {
     let Some(word) = next_entry(alloc, reader, depth)? else {
         return Ok(None);
