@@ -5,7 +5,7 @@ use Rattle.json.specs.Json as json
 use Rattle.json.specs.Reads.{opens}
 use Rattle.json.specs.Json.{Parse, value, parse_map, after_end_array, read_key, items_step, items, members}
 use Rattle.json.proofs.Grammar.{left, left_some, left-parse_map, value_is, value-begin_array, value-begin_object, items_end, items_more, members_end, members_no_key, members_more}
-use Rattle.serde_json.specs.Data.{Num, Data, number, array, object, Items, no_items, item, Members, no_members, put}
+use Rattle.serde_json.specs.Data.{Num, Data, number, array, object, no_items, item, Members, no_members, put}
 use Rattle.serde_json.specs.Read.{number_of, of_json, of_items, of_members, converted}
 use Rattle.serde_json.specs.Find.{as_integer}
 use Rattle.refusal.specs.declared.refused.Refusal.{Refusal}

@@ -1,12 +1,12 @@
 -- The first token of a value tells what kind of value it is.
-use Rattle.std.proofs.Common.{◌≡◌, ℕ, ℤ, Bool, true, false, List, [], ◌∷◌, Option, Some, None, option_map, option_and_then, refl, sym, ap, ◌∙◌}
+use Rattle.std.proofs.Common.{◌≡◌, ℕ, Bool, true, false, List, [], ◌∷◌, Option, Some, None, option_map, refl, sym, ap, ◌∙◌}
 use Rattle.json.specs.Token.{Token}
 use Rattle.json.specs.Json as json
 use Rattle.json.specs.Json.{Parse, value, value_with, parse_map}
-use Rattle.json.proofs.Grammar.{left, value_is}
+use Rattle.json.proofs.Grammar.{value_is}
 use Rattle.serde_json.specs.Data.{Num, Data, null, boolean, number, string, array, object}
 use Rattle.serde_json.specs.Read.{number_of, of_json, of_items, of_members, converted}
-use Rattle.serde_json.specs.Find.{as_number, as_integer, as_bool, as_str, as_array, as_object}
+use Rattle.serde_json.specs.Find.{as_integer, as_bool, as_str, as_array, as_object}
 use Rattle.jsonstream.specs.Stream.{next, token_number, token_text, token_flag, opens_list, opens_object}
 use Rattle.jsonstream.specs.Json.{number_of as number_in_data}
 use Rattle.jsonstream.proofs.Streams.{converted_some, next_number}

@@ -1,11 +1,9 @@
 -- Values as they come from the tokens of a text (RFC 8259).
-use Rattle.std.specs.Prelude.{◌≡◌, ◌&&◌, ◌++◌, ℤ, Bool, true, false, List, [], ◌∷◌, codes, ◌⊎◌, ℕ, length, Option, Some, None, option_and_then, Result, MatchResult, option_map, if◌then◌else◌}
-use Rattle.std.specs.List.{list_any}
-use Rattle.std.specs.Str.{bytes_eq}
-use Rattle.serde_json.specs.Find.{as_array, as_number, as_integer, get_member}
+use Rattle.std.specs.Prelude.{◌≡◌, ◌++◌, Bool, true, false, List, [], ◌∷◌, ◌⊎◌, ℕ, length, Option, Some, None, option_and_then, Result, MatchResult, option_map, if◌then◌else◌}
+use Rattle.serde_json.specs.Find.{get_member}
 use Rattle.json.specs.Token.{Token}
 use Rattle.json.specs.Json.{value, items, members, parse_map, if_last}
-use Rattle.serde_json.specs.Data.{Data, Items, no_items, item, Members, no_members, member, put}
+use Rattle.serde_json.specs.Data.{Data, Items, no_items, item, Members, no_members, put}
 use Rattle.serde_json.specs.Read.{of_json, of_items, of_members, converted, max_depth}
 use Rattle.refusal.specs.declared.refused.Refusal.{Refusal}
 use Rattle.refusal.specs.declared.refused.Refusal.TheVariants.{BadJson, Memory as OutOfMemory}

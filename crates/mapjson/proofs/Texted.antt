@@ -1,29 +1,20 @@
 -- The text that is written of a map, and what it is read as.
-use Rattle.std.proofs.Common.{◌≡◌, ℕ, ◌≤◌, nat_abs, map, List, Bool, true, false, not, if◌then◌else◌, Some, None, Ok, Err, IfOk, refl, sym, ap, subst, ◌∙◌, arith}
-use Rattle.std.specs.List.{list_all}
+use Rattle.std.proofs.Common.{◌≡◌, ℕ, ◌≤◌, List, false, Some, Ok, Err, sym, ap, subst, ◌∙◌, arith}
 use Rattle.std.specs.Option.{option_map_or}
 use Rattle.std.specs.Str.{IsUtf8}
-use Rattle.std.proofs.lemmas.Bool.{and_parts}
 use Rattle.serde_json.specs.Data.{Data, depth}
 use Rattle.serde_json.specs.Read.{read, max_depth}
 use Rattle.serde_json.specs.Written.{has_float, compact_text}
 use Rattle.stated.specs.declared.parts.MapParts.{MapParts}
-use Rattle.refusal.specs.declared.refused.Refusal.TheVariants.{BadJson, BadField, BadLimit, BadForest, BadRule, BadPool, BadOsd, BadException}
+use Rattle.refusal.specs.declared.refused.Refusal.TheVariants.{BadJson, BadField}
 use Rattle.osdmap.specs.Maps.{ClusterMap}
-use Rattle.crush.specs.WellFormed.{forest_ok}
-use Rattle.stated.specs.Exceptions.{target, sides, is_set, are_pairs}
-use Rattle.stated.specs.Parts.{is_osd_id, pair_fits, osd_fits, pool_fits, exception_fits, exceptions_fit, parts_fit, pool_of, pair_of}
-use Rattle.osdmap.specs.Stated.{buckets_of, rules_ok, pools_ok, osds_ok, is_listed, exceptions_ok, explicit_of, all_exceptions_ok, map_fault, IsStated}
 use Rattle.osdmap.specs.PartsOf.{parts_of}
 use Rattle.jsonstream.specs.Json.{stated_by}
 use Rattle.partjson.specs.StatedMaps.{in_its_version, stated_map}
 use Rattle.mapjson.specs.Written.{AreNamed, map_data, written}
 use Rattle.jsonstream.proofs.Texts.{json_of_some}
-use Rattle.mapjson.proofs.Readable.{read-compact_text, IsUtf8-compact_text}
-use Rattle.mapjson.proofs.ReadableMaps.{map_readable}
 use Rattle.mapjson.proofs.Shallow.{map_whole, map_flat}
 use Rattle.mapjson.proofs.ReadBack.{map_back}
-use Rattle.mapjson.proofs.Named.{exceptions_named}
 
 -- a value of a map's parts has the map's text
 pub is_written : (m : ClusterMap) (d : Data) (bytes : List ℕ) → d ≡ map_data (parts_of m) → (has_float d ≡ false → bytes ≡ compact_text d) → bytes ≡ written m

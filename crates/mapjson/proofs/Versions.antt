@@ -1,5 +1,5 @@
 -- The version of a map's own parts.
-use Rattle.std.proofs.Common.{◌≡◌, ◌∙◌, Bool, true, false, cond, not, ◌&&◌, ◌||◌, List, [], ◌∷◌, map, Some, None, pos, ap, sym, refl}
+use Rattle.std.proofs.Common.{◌≡◌, Bool, true, false, cond, not, ◌&&◌, List, [], ◌∷◌, map, Some, pos, refl}
 use Rattle.std.specs.List.{list_any}
 use Rattle.std.specs.Ordering.{int_eq}
 use Rattle.crush.specs.declared.step.Step.{Step}
@@ -7,7 +7,7 @@ use Rattle.crush.specs.declared.step.Step.TheVariants as step
 use Rattle.crush.specs.Grammar as grammar
 use Rattle.stated.specs.declared.rules.NumberedRule.{NumberedRule}
 use Rattle.osdmap.specs.Maps.{ClusterMap}
-use Rattle.osdmap.specs.PartsOf.{step_part, rule_part, version_of, parts_of}
+use Rattle.osdmap.specs.PartsOf.{step_part, rule_part, parts_of}
 use Rattle.partjson.specs.StatedMaps.{sets_tries, in_its_version}
 
 -- a part sets tries where its step does

@@ -1,5 +1,5 @@
 -- What is written of a map: its parts as a JSON value (RFC 8259), each object with all its keys, in compact text.
-use Rattle.std.specs.Prelude.{◌≡◌, ℕ, ℤ, Bool, true, false, List, [], ◌∷◌, map, codes, Some, None}
+use Rattle.std.specs.Prelude.{◌≡◌, ℕ, ℤ, Bool, true, false, List, [], ◌∷◌, map, codes, Some}
 use Rattle.std.specs.List.{All}
 use Rattle.serde_json.specs.Data.{Data, boolean, number, string, array, object, Members, no_members, member}
 use Rattle.serde_json.specs.Find.{of_integer}

@@ -1,5 +1,5 @@
 -- What slots hold after one member more.
-use Rattle.std.proofs.Common.{◌≡◌, ◌&&◌, ℕ, Bool, List, bytes_eq, Result, Ok, Err, MatchResult, Option, Some, None, if◌then◌else◌, sym, ap, ◌∙◌, ◌⊎◌, inl, inr}
+use Rattle.std.proofs.Common.{◌≡◌, ◌&&◌, ℕ, Bool, List, bytes_eq, Result, Ok, Err, MatchResult, Option, Some, None, if◌then◌else◌, sym, ap, ◌∙◌, ◌⊎◌, inr}
 use Rattle.std.specs.List.{list_any}
 use Rattle.json.specs.Token.{Token}
 use Rattle.serde_json.specs.Data.{Data, Members, put}

@@ -1,5 +1,5 @@
 -- The parts of a change that a JSON text (RFC 8259) states, their numbers untested. The form is this program's own.
-use Rattle.std.specs.Prelude.{ℕ, List, [], ◌∷◌, map, codes, Option, Some, None, option_map, if◌then◌else◌}
+use Rattle.std.specs.Prelude.{ℕ, List, [], ◌∷◌, codes, Option, Some, None, option_map, if◌then◌else◌}
 use Rattle.stated.specs.declared.parts.GrowPart.{GrowPart}
 use Rattle.stated.specs.declared.parts.CrushParts.{CrushParts}
 use Rattle.serde_json.specs.Data.{Data}

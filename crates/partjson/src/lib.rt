@@ -20,7 +20,6 @@ mod whole;
 mod words;
 
 pub use crate::change::{RawChange, RawReweight};
-
 use crate::whole::stated_by;
 use refusal::Refusal;
 use stated::MapParts;

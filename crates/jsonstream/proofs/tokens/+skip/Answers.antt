@@ -1,10 +1,9 @@
-use Rattle.std.proofs.Common.{◌≡◌, ℕ, ◌-◌, ◌<◌, [], ◌∷◌, length, Some, None, refl, sym, ap, ap₂, ◌∙◌, arith}
+use Rattle.std.proofs.Common.{◌≡◌, ◌-◌, ◌<◌, [], ◌∷◌, length, Some, None, refl, sym, ap, ap₂, ◌∙◌, arith}
 use Rattle.json.specs.Token.{Token}
 use Rattle.json.specs.Json.{after_end_array, read_key, value}
 use Rattle.json.specs.Reads.{token_of}
 use Rattle.json.proofs.Grammar.{left, left_some, left_none, value_is, read_key-shorter}
 use Rattle.serde_json.specs.Data.{array, object, no_members, put}
-use Rattle.serde_json.specs.Read.{of_json, converted}
 use Rattle.jsonstream.specs.Stream.{next}
 use Rattle.jsonstream.proofs.Streams.{next_list, next_object, next_too_deep, number_passed, number_refused, next_nothing, passes_made, item_passed, item_refused, items_over, member_read, member_refused, key_refused, members_over}
 use Rattle.jsonstream.proofs.tokens.+skip.Goals as goal

@@ -1,4 +1,4 @@
-use Rattle.std.proofs.Common.{◌≡◌, Some, sym, ap, ◌∙◌, subst}
+use Rattle.std.proofs.Common.{Some, sym, ap, ◌∙◌, subst}
 use Rattle.json.specs.Json.{parse_map}
 use Rattle.serde_json.specs.Data.{array, item}
 use Rattle.jsonstream.specs.Stream.{IsEntry, pair_if}

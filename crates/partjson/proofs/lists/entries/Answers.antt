@@ -1,6 +1,5 @@
-use Rattle.std.proofs.Common.{◌≡◌, ◌-◌, ◌<◌, length, None, Some, option_map, refl, sym, ap, ◌∙◌, arith}
+use Rattle.std.proofs.Common.{◌≡◌, ◌-◌, length, None, Some, option_map, sym, ap, ◌∙◌, arith}
 use Rattle.json.specs.Json.{after_end_array, parse_map, items, value}
-use Rattle.serde_json.specs.Data.{item}
 use Rattle.serde_json.specs.Read.{of_items, converted}
 use Rattle.jsonstream.specs.Stream.{next, rest_of_list, added}
 use Rattle.jsonstream.specs.Json.{entries_of}

@@ -1,4 +1,4 @@
-use Rattle.std.proofs.Common.{◌≡◌, None, Some, refl, sym, ap, ◌∙◌, arith}
+use Rattle.std.proofs.Common.{◌≡◌, None, refl, sym, ap, ◌∙◌, arith}
 use Rattle.json.specs.Json.{after_end_array}
 use Rattle.json.proofs.Grammar.{left_some}
 use Rattle.serde_json.specs.Data.{no_items}

@@ -1,4 +1,4 @@
-use Rattle.std.proofs.Common.{◌≡◌, None, Some, sym, ap, ◌∙◌, arith}
+use Rattle.std.proofs.Common.{◌≡◌, None, sym, ap, ◌∙◌, arith}
 use Rattle.json.specs.Json.{after_end_array, parse_map}
 use Rattle.jsonstream.specs.Stream.{next, rest_of_list}
 use Rattle.jsonstream.proofs.Entries.{mapped_some, mapped_none, still_refused, list_more, list_refused, list_over}

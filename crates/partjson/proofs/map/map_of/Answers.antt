@@ -1,4 +1,4 @@
-use Rattle.std.proofs.Common.{◌≡◌, sym, ap, ◌∙◌}
+use Rattle.std.proofs.Common.{sym, ap, ◌∙◌}
 use Rattle.jsonstream.proofs.Taken.{read_is}
 use Rattle.partjson.specs.StatedMaps.{map_of}
 use Rattle.partjson.proofs.Members.{no_map, map_made}

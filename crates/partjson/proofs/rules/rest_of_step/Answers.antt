@@ -1,4 +1,4 @@
-use Rattle.std.proofs.Common.{◌≡◌, Some, sym, ap, ap₂, ◌∙◌, subst}
+use Rattle.std.proofs.Common.{Some, sym, ap, ap₂, ◌∙◌, subst}
 use Rattle.json.specs.Json.{parse_map}
 use Rattle.serde_json.specs.Data.{array, item}
 use Rattle.jsonstream.specs.Json.{number_of, entries_of}

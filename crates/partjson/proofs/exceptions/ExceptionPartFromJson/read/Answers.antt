@@ -1,4 +1,4 @@
-use Rattle.std.proofs.Common.{◌≡◌, Some, None, option_map, ap, ◌∙◌, arith}
+use Rattle.std.proofs.Common.{Some, None, option_map, ap, ◌∙◌, arith}
 use Rattle.jsonstream.specs.Json.{list_of, both_of}
 use Rattle.jsonstream.proofs.Taken.{read_on, refused_on}
 use Rattle.partjson.specs.StatedMaps.{exception_of, pg_of}

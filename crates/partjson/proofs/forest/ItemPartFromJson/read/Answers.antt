@@ -1,4 +1,4 @@
-use Rattle.std.proofs.Common.{◌≡◌, Some, option_map, sym, ap, ◌∙◌, arith}
+use Rattle.std.proofs.Common.{Some, option_map, sym, ap, ◌∙◌, arith}
 use Rattle.jsonstream.specs.Json.{number_of, both_of}
 use Rattle.jsonstream.proofs.Taken.{read_on, refused_on}
 use Rattle.partjson.specs.StatedMaps.{item_of}

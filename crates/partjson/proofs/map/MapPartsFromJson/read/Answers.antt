@@ -1,4 +1,4 @@
-use Rattle.std.proofs.Common.{◌≡◌, Some, None, option_and_then, sym, ap, ◌∙◌, arith}
+use Rattle.std.proofs.Common.{Some, None, option_and_then, sym, ap, ◌∙◌, arith}
 use Rattle.jsonstream.proofs.Taken.{read_on, refused_on}
 use Rattle.partjson.specs.StatedMaps.{map_of, in_its_version, stated_map}
 use Rattle.partjson.proofs.map.MapPartsFromJson.read.Goals as goal

@@ -1,4 +1,4 @@
-use Rattle.std.proofs.Common.{◌≡◌, sym, ap, ◌∙◌}
+use Rattle.std.proofs.Common.{sym, ap, ◌∙◌}
 use Rattle.jsonstream.proofs.Taken.{read_is}
 use Rattle.partjson.specs.StatedMaps.{pool_of}
 use Rattle.partjson.proofs.Members.{no_pool, pool_made}
