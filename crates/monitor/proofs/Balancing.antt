@@ -1,5 +1,5 @@
 -- Balancing: what is answered by a state is answered by its journal.
-use Rattle.std.proofs.Common.{◌≡◌, ◌≢◌, ◌∙◌, Bool, true, false, not, if◌then◌else◌, IfErr, sym, ap, subst, ℕ, ◌+◌, List, [], ◌∷◌, ◌++◌, length, Option, Some, None, Result, Ok, Err, inl, inr}
+use Rattle.std.proofs.Common.{◌≡◌, ◌≢◌, ◌∙◌, Bool, true, false, IfErr, sym, ap, subst, ℕ, ◌+◌, List, [], ◌∷◌, ◌++◌, length, Option, Some, None, Result, Ok, Err, inl, inr}
 use Rattle.refusal.specs.declared.refused.Refusal.{Refusal}
 use Rattle.refusal.specs.declared.refused.Refusal.TheVariants.{UnknownPool, BalanceRule, Memory as OutOfMemory, SeatSpent, NotSealed}
 use Rattle.refusal.specs.Outcomes.{refused_unless}
@@ -13,9 +13,9 @@ use Rattle.epochlog.specs.Epochs.{Begins}
 use Rattle.sealed.proofs.Beginnings.{begins_itself, begins_on}
 use Rattle.balancer.specs.Shares.{has_one_block}
 use Rattle.balancer.specs.Plans.{plan_fault, plan_fault_of, plan_change}
-use Rattle.state.specs.States.{Kept, committed, next_step, commit_fault, fault_in, IsRefusedBy}
-use Rattle.state.specs.Balances.{moves_in, IsBalanced, IsUnbalanced, Balances as TakesPlan}
-use Rattle.monitor.specs.Balances.{Balances, IsPlanned, IsEven, IsUnplanned}
+use Rattle.state.specs.States.{Kept, next_step, commit_fault, fault_in, IsRefusedBy}
+use Rattle.state.specs.Balances.{moves_in, IsUnbalanced, Balances as TakesPlan}
+use Rattle.monitor.specs.Balances.{Balances, IsEven, IsUnplanned}
 use Rattle.monitor.proofs.Histories.{IsLed, commit_unspent}
 
 -- balancing after a history that goes on from this one is balancing from here too

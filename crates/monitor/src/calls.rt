@@ -1,10 +1,12 @@
 //! What a member asks of its monitor, and what it commits.
 
+use crate::locked::{balance, commit};
 use crate::member::Member;
 use crate::monitor::Monitor;
 use mapjson::write_map;
 use osdmap::{Change, Pg, UpSet};
 use refusal::Refusal;
+use state::State;
 use std::alloc::Global;
 use std::sync::Wait;
 
@@ -135,8 +137,8 @@ impl Monitor {
         ensures refused { IsSpent self.now member.old → result ≡ Err SeatSpent }
     {
         let mut guard = self.hold(rt, member)?;
-        let locked = guard.value_mut();
-        let answer = locked.commit(&self.row, &mut member.pass, base, change);
+        let state: &mut State = &mut guard.value_mut().state;
+        let answer = commit(state, &self.row, &mut member.pass, base, change);
         self.put_back(guard, member);
         answer
     }
@@ -165,9 +167,8 @@ impl Monitor {
         ensures refused { IsSpent self.now member.old → result ≡ Err SeatSpent }
     {
         let mut held = self.hold(rt, member)?;
-        let answer = held
-            .value_mut()
-            .balance(&self.row, &mut member.pass, pool, limit);
+        let state: &mut State = &mut held.value_mut().state;
+        let answer = balance(state, &self.row, &mut member.pass, pool, limit);
         self.put_back(held, member);
         answer
     }

@@ -1,8 +1,11 @@
 //! What lies under the lock of a monitor.
 
-ghost use Rattle.std.specs.Prelude.{◌≡◌, ◌≤◌, length, nat_lt};
+ghost use Rattle.std.specs.Prelude.{◌≡◌, ◌≢◌, ◌≤◌, IfErr, length, nat_lt};
+ghost use Rattle.refusal.specs.declared.refused.Refusal.TheVariants.{SeatSpent};
 ghost use Rattle.osdmap.specs.Changes.{IsLawful, after};
 ghost use Rattle.epochlog.specs.Epochs.{Begins};
+ghost use Rattle.monitor.specs.Histories.{Commits};
+ghost use Rattle.monitor.specs.Balances.{Balances};
 
 use epochlog::{Pass, Row};
 use osdmap::Change;
@@ -45,57 +48,50 @@ pub(crate) fn see(pass: &mut Pass, state: &State)
     let _ = state.map();
 }
 
-impl Locked {
-    ghost use Rattle.std.specs.Prelude.{◌≡◌, ◌≢◌, ◌≤◌, IfErr, length};
-    ghost use Rattle.refusal.specs.declared.refused.Refusal.TheVariants.{SeatSpent};
-    ghost use Rattle.monitor.specs.Histories.{Commits};
-    ghost use Rattle.monitor.specs.Balances.{Balances};
+/// Commits a change to a state, by one who has seen all that it has.
+pub(crate) fn commit(
+    state: &mut State,
+    row: &Row,
+    pass: &mut Pass,
+    base: u64,
+    change: Change,
+) -> Result<(u64, usize), Refusal>
+    requires row { state.old.pass.row ≡ row.now }
+    requires pass { pass.old ≡ state.old.pass }
+    ensures commits { Commits state.old.first (length row.now.cells)
+        pass.old.history pass.new.history base change result }
+    ensures unspent { IfErr result (λ e. e ≢ SeatSpent) }
+    ensures pass { pass.new ≡ state.new.pass }
+    ensures first { state.new.first ≡ state.old.first }
+    ensures row { state.new.pass.row ≡ row.now }
+{
+    let _ = state.map();
+    let answer = state.commit(row, pass, base, change);
+    let _ = state.map();
+    answer
+}
 
-    /// Commits a change, by one who has seen all that the state has.
-    pub(crate) fn commit(
-        &mut self,
-        row: &Row,
-        pass: &mut Pass,
-        base: u64,
-        change: Change,
-    ) -> Result<(u64, usize), Refusal>
-        requires row { self.old.state.value.pass.row ≡ row.now }
-        requires pass { pass.old ≡ self.old.state.value.pass }
-        ensures commits { Commits self.old.state.value.first (length row.now.cells)
-            pass.old.history pass.new.history base change result }
-        ensures unspent { IfErr result (λ e. e ≢ SeatSpent) }
-        ensures pass { pass.new ≡ self.new.state.value.pass }
-        ensures first { self.new.state.value.first ≡ self.old.state.value.first }
-        ensures row { self.new.state.value.pass.row ≡ row.now }
-    {
-        let _ = self.state.map();
-        let answer = self.state.commit(row, pass, base, change);
-        let _ = self.state.map();
-        answer
-    }
-
-    /// Plans and commits the moves that balance a pool, by one who has seen all that the state has.
-    pub(crate) fn balance(
-        &mut self,
-        row: &Row,
-        pass: &mut Pass,
-        pool: u32,
-        limit: u32,
-    ) -> Result<(u64, usize), Refusal>
-        requires row { self.old.state.value.pass.row ≡ row.now }
-        requires pass { pass.old ≡ self.old.state.value.pass }
-        requires some { 1 ≤ limit }
-        requires few { limit ≤ 1024 }
-        ensures balances { Balances self.old.state.value.first
-            (length row.now.cells) pass.old.history pass.new.history pool limit result }
-        ensures unspent { IfErr result (λ e. e ≢ SeatSpent) }
-        ensures pass { pass.new ≡ self.new.state.value.pass }
-        ensures first { self.new.state.value.first ≡ self.old.state.value.first }
-        ensures row { self.new.state.value.pass.row ≡ row.now }
-    {
-        let _ = self.state.map();
-        let answer = self.state.balance(row, pass, pool, limit);
-        let _ = self.state.map();
-        answer
-    }
+/// Plans and commits the moves that balance a pool of a state, by one who has seen all that it has.
+pub(crate) fn balance(
+    state: &mut State,
+    row: &Row,
+    pass: &mut Pass,
+    pool: u32,
+    limit: u32,
+) -> Result<(u64, usize), Refusal>
+    requires row { state.old.pass.row ≡ row.now }
+    requires pass { pass.old ≡ state.old.pass }
+    requires some { 1 ≤ limit }
+    requires few { limit ≤ 1024 }
+    ensures balances { Balances state.old.first
+        (length row.now.cells) pass.old.history pass.new.history pool limit result }
+    ensures unspent { IfErr result (λ e. e ≢ SeatSpent) }
+    ensures pass { pass.new ≡ state.new.pass }
+    ensures first { state.new.first ≡ state.old.first }
+    ensures row { state.new.pass.row ≡ row.now }
+{
+    let _ = state.map();
+    let answer = state.balance(row, pass, pool, limit);
+    let _ = state.map();
+    answer
 }

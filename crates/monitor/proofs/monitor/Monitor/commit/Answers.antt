@@ -1,4 +1,5 @@
 use Rattle.std.proofs.Common.{◌≡◌, ◌∙◌, ap, length}
+use Rattle.state.specs.States.{Kept}
 use Rattle.monitor.specs.Members.{Monitored}
 use Rattle.monitor.specs.declared.locked.Locked.{Locked}
 use Rattle.monitor.proofs.Histories.{commits_from}
@@ -6,11 +7,10 @@ use Rattle.monitor.proofs.monitor.Monitor.commit.Goals as goal
 
 pub returns-clause-commits : goal.returns-clause-commits
 returns-clause-commits g c =
-    let lent = c.value_mut-locked in
-    let first = lent.result.now.state.value.first in
+    let first = c.deref_mut-state.result.now.first in
     let rows : c.self.inside.row ≡ c.args.self.now.row = ap (λ (m : Monitored). m.row) c.self.view_is in
     let firsts : first ≡ c.args.self.now.first =
-    ap (λ (l : Locked). l.state.value.first) lent.ensures.value ∙ c.in_ok-guard.ensures.holds.1 in
+    ap (λ (k : Kept). k.first) c.deref_mut-state.ensures.value ∙ ap (λ (l : Locked). l.state.value.first) c.value_mut.ensures.value ∙ c.in_ok-guard.ensures.holds.1 in
     let done = commits_from first (length c.self.inside.row.cells) c.args.member.now.pass.history
     c.hold.new.member.pass.history c.commit-answer.new.pass.history c.args.base c.args.change c.commit-answer.result
     c.hold.ensures.goes_on.begins c.commit-answer.ensures.commits in

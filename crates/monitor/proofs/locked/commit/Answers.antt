@@ -1,9 +1,9 @@
 use Rattle.monitor.proofs.Histories.{committed_by, unspent}
-use Rattle.monitor.proofs.locked.Locked.commit.Goals as goal
+use Rattle.monitor.proofs.locked.commit.Goals as goal
 
 pub returns-clause-commits : goal.returns-clause-commits
 returns-clause-commits c =
-    let old = c.args.self.now.state.value in
+    let old = c.args.state.now in
     let new = c.commit-answer.new.self in
     let was = c.map.ensures in
     let is = c.map-2.ensures in
@@ -15,4 +15,4 @@ returns-clause-commits c =
 
 pub returns-clause-unspent : goal.returns-clause-unspent
 returns-clause-unspent c =
-    unspent c.args.self.now.state.value c.commit-answer.new.self c.args.base c.args.change c.commit-answer.result c.commit-answer.ensures.commits
+    unspent c.args.state.now c.commit-answer.new.self c.args.base c.args.change c.commit-answer.result c.commit-answer.ensures.commits

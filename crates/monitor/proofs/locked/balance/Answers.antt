@@ -1,9 +1,9 @@
 use Rattle.monitor.proofs.Balancing.{balanced_by, never_spent}
-use Rattle.monitor.proofs.locked.Locked.balance.Goals as goal
+use Rattle.monitor.proofs.locked.balance.Goals as goal
 
 pub returns-clause-balances : goal.returns-clause-balances
 returns-clause-balances c =
-    let old = c.args.self.now.state.value in
+    let old = c.args.state.now in
     let new = c.balance-answer.new.self in
     let was = c.map.ensures in
     let is = c.map-2.ensures in
@@ -14,4 +14,4 @@ returns-clause-balances c =
 
 pub returns-clause-unspent : goal.returns-clause-unspent
 returns-clause-unspent c =
-    never_spent c.args.self.now.state.value c.balance-answer.new.self c.args.pool c.args.limit c.balance-answer.result c.balance-answer.ensures.balances
+    never_spent c.args.state.now c.balance-answer.new.self c.args.pool c.args.limit c.balance-answer.result c.balance-answer.ensures.balances
