@@ -12,7 +12,7 @@ pub mod limits;
 mod met;
 mod parents;
 mod pick;
-mod placement;
+pub mod placement;
 pub mod rule;
 mod run;
 mod search;
@@ -22,6 +22,7 @@ pub mod work;
 
 pub use bucket::{Bucket, BucketKind, Item};
 pub use forest::Forest;
+pub use placement::Placement;
 pub use rule::Rule;
 pub use step::{Choose, Mode, RuleKind, Step};
 pub use work::Work;

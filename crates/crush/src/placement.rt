@@ -64,9 +64,12 @@ impl<'a> Start<'a> {
 
 /// What a placement goes by.
 #[derive(Clone, Copy)]
-pub(crate) struct Placement<'a> {
+pub struct Placement<'a> {
+    /// The forest.
     pub forest: &'a Forest,
+    /// The reweights by OSD: 65,536 for all of one and 0 for none; an OSD without one is out.
     pub weights: &'a [u32],
+    /// The input.
     pub x: u32,
 }
 

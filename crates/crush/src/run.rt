@@ -6,7 +6,6 @@ ghost use Rattle.crush.specs.Run.{numrep_of};
 use crate::bucket::Bucket;
 use crate::choose::{Choice, Position};
 use crate::chooser::Chooser;
-use crate::forest::Forest;
 use crate::limits::MAX_SIZE;
 use crate::placement::Placement;
 use crate::rule::Rule;
@@ -193,29 +192,24 @@ impl Placement<'_> {
 impl Rule {
     ghost use Rattle.std.specs.Prelude.{◌≡◌, ◌+◌, ◌-◌, ◌^◌, ◌≤◌, min, OnOk, OnErr};
     ghost use Rattle.crush.specs.Limits.{max_size};
-    ghost use Rattle.crush.specs.World.{world_of};
+    ghost use Rattle.crush.specs.Placed.{world};
     ghost use Rattle.crush.specs.Run.{run_of};
 
-    /// Places `x` by the rule in a pool of `size` places, 1 to 10, as many as a pool may have. A reweight is 65,536 for
-    /// all of an OSD and 0 for none; an OSD without one is out. The one error is `Memory` (30): after it the result is
-    /// open, and the run is not counted.
+    /// Places an input by the rule in a pool of `size` places, 1 to 10, as many as a pool may have. The one error is
+    /// `Memory` (30): after it the result is open, and the run is not counted.
     #[tactic(auto, unfolding(crate::specs::Run::run_of))]
     pub fn run(
         &self,
-        forest: &Forest,
-        weights: &[u32],
-        x: u32,
+        placement: &Placement<'_>,
         size: u8,
         work: &mut Work,
     ) -> Result<(), Memory>
         requires some { 1 ≤ size }
         requires few { size ≤ max_size }
-        ensures placed { let world = world_of forest.now weights.now x in
-            OnOk result (work.new.result ≡ run_of world self.now.steps size) }
+        ensures placed { OnOk result (work.new.result ≡ run_of (world placement.now) self.now.steps size) }
         ensures counted { OnOk result (work.new.runs ≡ min (work.old.runs + 1) (2 ^ 64 - 1)) }
         ensures uncounted { OnErr result (work.new.runs ≡ work.old.runs) }
     {
-        let placement = Placement { forest, weights, x };
         placement.steps(self.steps(), size, &mut work.lists)?;
         work.runs = work.runs.saturating_add(1);
         Ok(())

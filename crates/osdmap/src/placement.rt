@@ -7,7 +7,7 @@ ghost use Rattle.osdmap.specs.Placement.{mask_of, stable_mod};
 
 use crate::map::OsdMap;
 use crate::up_set::UpSet;
-use crush::{Rule, Work};
+use crush::{Placement, Rule, Work};
 use refusal::{Memory, Refusal};
 use rjenkins::hash2;
 use stated::{Pair, Pg, Pool};
@@ -78,9 +78,12 @@ impl Placing<'_> {
         ensures run { RunsOnce work.old work.new result }
     {
         let map = self.map;
-        let input = self.input(number);
-        self.rule
-            .run(map.forest(), &map.weights, input, self.pool.size(), work)?;
+        let placement = Placement {
+            forest: map.forest(),
+            weights: &map.weights,
+            x: self.input(number),
+        };
+        self.rule.run(&placement, self.pool.size(), work)?;
         Ok(map.existing_set(&self.pool, work.result()))
     }
 
