@@ -25,6 +25,10 @@ abbrev pub TakesValue : {X : Type 0} → Option (X × List Token) → Result X R
 TakesValue there r left =
     MatchResult r (λ x. there ≡ Some (x, left)) (λ e. (e ≡ OutOfMemory) ⊎ ((e ≡ BadJson) × (there ≡ None)))
 
+-- the same of a call that takes no memory
+abbrev pub TakesPlain : {X : Type 0} → Option (X × List Token) → Result X Refusal → List Token → Type 0
+TakesPlain there r left = MatchResult r (λ x. there ≡ Some (x, left)) (λ e. (e ≡ BadJson) × (there ≡ None))
+
 -- the tokens behind what was read
 abbrev pub left : {A : Type 0} → Option (A × List Token) → Option (List Token)
 left read = option_map (λ p. p.1) read

@@ -7,7 +7,7 @@ ghost use Rattle.std.specs.Bool.{MatchBool};
 ghost use Rattle.serde_json.specs.Data.{Data, array, object};
 ghost use Rattle.serde_json.specs.Find.{as_array, as_bool, as_object, as_str, as_integer};
 ghost use Rattle.serde_json.specs.Read.{number_of, number_from, float_of};
-ghost use Rattle.jsonstream.specs.Stream.{next, rest_of_list, rest_of_object, Passes, TakesValue, token_number, token_text, token_flag, opens_list, opens_object};
+ghost use Rattle.jsonstream.specs.Stream.{next, rest_of_list, rest_of_object, Passes, TakesPlain, token_number, token_text, token_flag, opens_list, opens_object};
 ghost use Rattle.jsonstream.specs.Json.{number_of as number_in_data};
 
 use fast_float::Numeral;
@@ -157,9 +157,9 @@ fn digits<'a>(token: &Token<'a>) -> Option<&'a str>
     }
 }
 
-/// The whole number that a value is, `None` where it is another value: `BadJson` (10) where none comes.
+/// The whole number that a value is, `None` where it is another value: `BadJson` (10) where none comes. It takes no memory.
 pub fn number(reader: &mut Reader<'_>, depth: usize) -> Result<Option<i128>, Refusal>
-    ensures { TakesValue (parse_map number_in_data (next depth reader.old)) result reader.new }
+    ensures { TakesPlain (parse_map number_in_data (next depth reader.old)) result reader.new }
 {
     let token = next_token(reader)?;
     let Some(text) = digits(&token) else {
@@ -255,9 +255,9 @@ fn truth(token: &Token<'_>) -> Option<bool>
     }
 }
 
-/// Whether a value is true or false, `None` where it is another value: `BadJson` (10) where none comes.
+/// Whether a value is true or false, `None` where it is another value: `BadJson` (10) where none comes. It takes no memory.
 pub fn flag(reader: &mut Reader<'_>, depth: usize) -> Result<Option<bool>, Refusal>
-    ensures { TakesValue (parse_map as_bool (next depth reader.old)) result reader.new }
+    ensures { TakesPlain (parse_map as_bool (next depth reader.old)) result reader.new }
 {
     let token = next_token(reader)?;
     let Some(flag) = truth(&token) else {

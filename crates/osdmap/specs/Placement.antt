@@ -78,7 +78,7 @@ mapped_set m p n = mapped_with (said_of m.explicit (group_of p n)) (said_of m.it
 unfoldable pub up_set : ClusterMap → PoolFacts → ℕ → List (Option ℕ)
 up_set m p n = kept p.kind (map (option_and_then (upward m)) (mapped_set m p n))
 
--- a set of the group is the one that a definition gives, where the group is there, and else a refusal
+-- a set of the group is the one that a definition gives, where the group's pool is there
 pub record Places (set : ClusterMap → PoolFacts → ℕ → List (Option ℕ)) (m : ClusterMap) (pg : Pg)
     (places : List (Option ℕ)) : Type 0 where
   pub is : IfSome (pool_at m.pools pg.pool) (λ p. places ≡ set m p pg.number)

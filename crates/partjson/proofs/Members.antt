@@ -17,9 +17,9 @@ use Rattle.partjson.specs.declared.pools.OsdSlots.{OsdSlots}
 use Rattle.partjson.specs.declared.map.MapSlots.{MapSlots}
 use Rattle.partjson.specs.declared.change.CrushSlots.{CrushSlots}
 use Rattle.partjson.specs.declared.change.ChangeSlots.{ChangeSlots}
-use Rattle.partjson.specs.StatedMaps.{bucket_kind_of, item_of, bucket_of, rule_kind_of, step_of, rule_of, pool_keys, pool_of, osd_of, pg_of, pair_of, exception_of, map_keys, map_of}
-use Rattle.partjson.specs.StatedChanges.{reweight_of, growth_of, crush_of, change_keys, stated_change}
-use Rattle.partjson.specs.Members.{bucket_keys, rule_keys, osd_keys, crush_keys, HoldsBucket, HoldsRule, HoldsPool, HoldsOsd, HoldsMap, HoldsCrush, HoldsChange, bucket_if, rule_if, pool_if, osd_if, map_if, crush_if, change_if}
+use Rattle.partjson.specs.StatedMaps.{bucket_keys, bucket_kind_of, item_of, bucket_of, rule_keys, rule_kind_of, step_of, rule_of, osd_keys, pool_keys, pool_of, osd_of, pg_of, pair_of, exception_of, map_keys, map_of}
+use Rattle.partjson.specs.StatedChanges.{reweight_of, growth_of, crush_keys, crush_of, change_keys, stated_change}
+use Rattle.partjson.specs.Members.{HoldsBucket, HoldsRule, HoldsPool, HoldsOsd, HoldsMap, HoldsCrush, HoldsChange, bucket_if, rule_if, pool_if, osd_if, map_if, crush_if, change_if}
 
 -- three things one after another are three at once
 by_three : {A B C R : Type 0} (a : Option A) (b : Option B) (c : Option C) (j : A → B → C → Option R) (k : A × B × C → Option R) → ((x : A) (y : B) (z : C) → j x y z ≡ k (x, y, z))

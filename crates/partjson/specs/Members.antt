@@ -18,21 +18,8 @@ use Rattle.partjson.specs.declared.map.MapSlots.{MapSlots}
 use Rattle.partjson.specs.declared.change.CrushSlots.{CrushSlots}
 use Rattle.partjson.specs.declared.change.ChangeSlots.{ChangeSlots}
 use Rattle.partjson.specs.declared.change.RawChange.{RawChange}
-use Rattle.partjson.specs.StatedMaps.{bucket_kind_of, item_of, bucket_of, rule_kind_of, step_of, rule_of, pool_keys, pool_of, osd_of, pg_of, pair_of, exception_of, map_keys}
-use Rattle.partjson.specs.StatedChanges.{reweight_of, growth_of, crush_of, change_keys}
-
--- the keys of a bucket, a rule, an OSD and a CRUSH map
-abbrev pub bucket_keys : List (List ℕ)
-bucket_keys = codes "id" ∷ codes "items" ∷ codes "kind" ∷ codes "type" ∷ []
-
-abbrev pub rule_keys : List (List ℕ)
-rule_keys = codes "id" ∷ codes "kind" ∷ codes "steps" ∷ []
-
-abbrev pub osd_keys : List (List ℕ)
-osd_keys = codes "exists" ∷ codes "id" ∷ codes "up" ∷ codes "weight" ∷ []
-
-abbrev pub crush_keys : List (List ℕ)
-crush_keys = codes "buckets" ∷ codes "rules" ∷ []
+use Rattle.partjson.specs.StatedMaps.{bucket_keys, bucket_kind_of, item_of, bucket_of, rule_keys, rule_kind_of, step_of, rule_of, osd_keys, pool_keys, pool_of, osd_of, pg_of, pair_of, exception_of, map_keys}
+use Rattle.partjson.specs.StatedChanges.{reweight_of, growth_of, crush_keys, crush_of, change_keys}
 
 -- the members of a bucket that have come
 abbrev pub HoldsBucket : BucketSlots → Members → Type 0

@@ -18,13 +18,18 @@ growth_of d =
     option_map (λ three. record { pool = three.0; pg_num = three.1; pgp_num = three.2 })
     (three_of number_of number_of number_of d)
 
+-- the keys of a CRUSH map
+abbrev pub crush_keys : List (List ℕ)
+crush_keys = codes "buckets" ∷ codes "rules" ∷ []
+
 -- a forest and rules, both required; steps that set tries are always allowed
 unfoldable pub crush_of : Data → Option CrushParts
-crush_of d = if has_only (codes "buckets" ∷ codes "rules" ∷ []) d then (do
+crush_of d = if has_only crush_keys d then (do
   buckets ← field (list_of texts.bucket_of) (codes "buckets") d
   rules ← field (list_of texts.rule_of) (codes "rules") d
   Some (record { buckets = buckets; rules = rules })) else None
 
+-- the keys of a change
 abbrev pub change_keys : List (List ℕ)
 change_keys =
     codes "base" ∷ codes "down" ∷ codes "grow_pool" ∷ codes "new_crush" ∷ codes "new_items" ∷ codes "new_pools"

@@ -42,9 +42,13 @@ bucket_kind_of d = as_str d >>= bucket_kind
 unfoldable pub item_of : Data → Option ItemPart
 item_of d = option_map (λ item. record { id = item.0; weight = item.1 }) (both_of number_of number_of d)
 
+-- the keys of a bucket
+abbrev pub bucket_keys : List (List ℕ)
+bucket_keys = codes "id" ∷ codes "items" ∷ codes "kind" ∷ codes "type" ∷ []
+
 -- a bucket: id, items, kind and type
 unfoldable pub bucket_of : Data → Option BucketPart
-bucket_of d = if has_only (codes "id" ∷ codes "items" ∷ codes "kind" ∷ codes "type" ∷ []) d then (do
+bucket_of d = if has_only bucket_keys d then (do
   id ← field number_of (codes "id") d
   level ← field number_of (codes "type") d
   kind ← field bucket_kind_of (codes "kind") d
@@ -110,9 +114,13 @@ step_of d = do
   word ← place as_str 0 d
   step_by word d
 
+-- the keys of a rule
+abbrev pub rule_keys : List (List ℕ)
+rule_keys = codes "id" ∷ codes "kind" ∷ codes "steps" ∷ []
+
 -- a rule: id, kind and steps
 unfoldable pub rule_of : Data → Option RulePart
-rule_of d = if has_only (codes "id" ∷ codes "kind" ∷ codes "steps" ∷ []) d then (do
+rule_of d = if has_only rule_keys d then (do
   id ← field number_of (codes "id") d
   kind ← field rule_kind_of (codes "kind") d
   steps ← field (list_of step_of) (codes "steps") d
@@ -120,9 +128,11 @@ rule_of d = if has_only (codes "id" ∷ codes "kind" ∷ codes "steps" ∷ []) d
 
 -- ---- pools and OSDs
 
+-- the keys of a pool
 abbrev pub pool_keys : List (List ℕ)
 pool_keys = codes "id" ∷ codes "kind" ∷ codes "pg_num" ∷ codes "pgp_num" ∷ codes "rule" ∷ codes "size" ∷ []
 
+-- a pool: id, kind, pg_num, pgp_num, rule and size
 unfoldable pub pool_of : Data → Option PoolPart
 pool_of d = if has_only pool_keys d then (do
   id ← field number_of (codes "id") d
@@ -133,8 +143,13 @@ pool_of d = if has_only pool_keys d then (do
   size ← field number_of (codes "size") d
   Some (record { id = id; kind = kind; pg_num = pg_num; pgp_num = pgp_num; rule = rule; size = size })) else None
 
+-- the keys of an OSD
+abbrev pub osd_keys : List (List ℕ)
+osd_keys = codes "exists" ∷ codes "id" ∷ codes "up" ∷ codes "weight" ∷ []
+
+-- an OSD: exists, id, up and weight
 unfoldable pub osd_of : Data → Option OsdPart
-osd_of d = if has_only (codes "exists" ∷ codes "id" ∷ codes "up" ∷ codes "weight" ∷ []) d then (do
+osd_of d = if has_only osd_keys d then (do
   id ← field number_of (codes "id") d
   exists ← field as_bool (codes "exists") d
   up ← field as_bool (codes "up") d
@@ -157,6 +172,7 @@ exception_of stated d = option_map (λ said. record { pg = said.0; entries = sai
 
 -- ---- the map
 
+-- the keys of a map
 abbrev pub map_keys : List (List ℕ)
 map_keys =
     codes "buckets" ∷ codes "epoch" ∷ codes "max_osd" ∷ codes "osds" ∷ codes "pg_upmap" ∷ codes "pg_upmap_items"

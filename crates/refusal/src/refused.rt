@@ -22,7 +22,7 @@ pub enum Refusal {
     /// 14: a rule's id twice, steps outside the grammar, or a take of an unknown bucket.
     BadRule,
     /// 15: a pool's id twice, no such rule, a rule of the other kind, or more groups for placement than groups; in a
-    /// change also more than 32 pools after it.
+    /// change also more than 32 pools after it, or a pool that would grow to fewer groups than it has.
     BadPool,
     /// 16: an OSD's id twice, an id not below `max_osd`, or an OSD that is up but does not exist.
     BadOsd,

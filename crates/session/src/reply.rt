@@ -133,6 +133,7 @@ fn push_list(text: &mut String, groups: &[Pg]) -> Result<(), AllocError>
     Ok(())
 }
 
+/// Adds the line of a group's set.
 #[tactic(auto, unfolding(crate::specs::Texts::set_text))]
 fn push_set(
     text: &mut String,
@@ -150,6 +151,7 @@ fn push_set(
     text.push_str("\n")
 }
 
+/// Adds the line of an OSD's groups.
 #[tactic(auto, unfolding(crate::specs::Texts::groups_text))]
 fn push_groups(text: &mut String, epoch: u64, osd: u32, groups: &[Pg]) -> Result<(), AllocError>
     ensures { OnOk result (string_bytes text.new ≡ string_bytes text.old ++ groups_text epoch osd groups.now) }
@@ -159,6 +161,7 @@ fn push_groups(text: &mut String, epoch: u64, osd: u32, groups: &[Pg]) -> Result
     text.push_str("]\n")
 }
 
+/// Adds the line of a refusal.
 #[tactic(auto, unfolding(crate::specs::Texts::refusal_text))]
 fn push_refusal(text: &mut String, refusal: Refusal) -> Result<(), AllocError>
     ensures { OnOk result (string_bytes text.new ≡ string_bytes text.old ++ refusal_text refusal) }

@@ -103,6 +103,7 @@ impl Limited for OsdPart {
     }
 }
 
+/// Whether the version, the epoch and `max_osd` are within their limits.
 #[tactic(auto, unfolding(crate::specs::Parts::head_fits))]
 fn head_fits(parts: &MapParts) -> bool
     ensures { result ≡ head_fits parts.now }
@@ -112,6 +113,7 @@ fn head_fits(parts: &MapParts) -> bool
         && is_between(1, MAX_OSDS, parts.max_osd)
 }
 
+/// Whether the lists of buckets, rules and pools are as long as they may be.
 #[tactic(auto, unfolding(crate::specs::Parts::lists_fit))]
 fn lists_fit(parts: &MapParts) -> bool
     ensures { result ≡ lists_fit parts.now }

@@ -63,9 +63,9 @@ pub struct RulePart {
 /// A step as a text states it.
 #[derive(Clone, Copy, Debug, PartialEq, Eq)]
 pub enum StepPart {
-    /// How often later choose steps try: 1 to 200. Only in a map of version 2.
+    /// How often later choose steps try: 1 to 200. A map's text has it in version 2 alone.
     SetChooseTries(i128),
-    /// How often later choose steps try for a leaf: 1 to 200. Only in a map of version 2.
+    /// How often later choose steps try for a leaf: 1 to 200. A map's text has it in version 2 alone.
     SetChooseleafTries(i128),
     /// A bucket: -1 down to -65,536.
     Take(i128),

@@ -12,6 +12,7 @@ use crate::write_guard::WriteGuard;
 use std::sync::Wait;
 
 impl<T: Fact + Drop> Lock<T> {
+    /// Looks until it is a reader's turn.
     fn wait_turn_read<R: Wait>(&self, rt: &R, queued: QueuedRead) -> TurnRead
         requires { IsQueuedReadOf self.now queued }
         ensures own { IsTurnReadOf self.now result }
@@ -29,6 +30,7 @@ impl<T: Fact + Drop> Lock<T> {
         unreachable!()
     }
 
+    /// Tries until a reader's guard has the value.
     fn wait_hold_read<R: Wait>(&self, rt: &R, turn: TurnRead) -> ReadGuard<'_, T>
         requires { IsTurnReadOf self.now turn }
         ensures { (result.turn ≡ turn) × IsReadOf self.now result }
@@ -45,6 +47,7 @@ impl<T: Fact + Drop> Lock<T> {
         unreachable!()
     }
 
+    /// Looks until it is a writer's turn.
     fn wait_turn_write<R: Wait>(&self, rt: &R, queued: QueuedWrite) -> TurnWrite
         requires { IsQueuedWriteOf self.now queued }
         ensures own { IsTurnWriteOf self.now result }
@@ -62,6 +65,7 @@ impl<T: Fact + Drop> Lock<T> {
         unreachable!()
     }
 
+    /// Tries until a writer's guard has the value.
     fn wait_hold_write<R: Wait>(&self, rt: &R, turn: TurnWrite) -> WriteGuard<'_, T>
         requires { IsTurnWriteOf self.now turn }
         ensures same { (result.turn ≡ turn) × IsWriteOf self.now result }

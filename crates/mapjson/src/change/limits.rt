@@ -36,6 +36,7 @@ fn is_pool_id(number: i128) -> bool
     is_between(1, MAX_POOL_ID, number)
 }
 
+/// Whether an OSD and its new reweight are within their limits.
 #[tactic(auto, unfolding(crate::specs::ChangeTexts::reweight_fits))]
 fn reweight_fits(reweight: &RawReweight) -> bool
     ensures { result ≡ reweight_fits reweight.now }
@@ -43,24 +44,28 @@ fn reweight_fits(reweight: &RawReweight) -> bool
     is_osd_id(reweight.osd) && is_between(0, MAX_WEIGHT, reweight.weight)
 }
 
+/// Whether each number can be a pool's id.
 fn all_are_pool_ids(ids: &[i128]) -> bool
     ensures { result ≡ list_all is_pool_id ids.now }
 {
     ids.iter().all(|id| is_pool_id(*id))
 }
 
+/// Whether each number can be an OSD's id.
 fn all_are_osds(osds: &[i128]) -> bool
     ensures { result ≡ list_all is_osd_id osds.now }
 {
     osds.iter().all(|osd| is_osd_id(*osd))
 }
 
+/// Whether each OSD and its new reweight are within their limits.
 fn all_reweights_fit(reweights: &[RawReweight]) -> bool
     ensures { result ≡ list_all reweight_fits reweights.now }
 {
     reweights.iter().all(|reweight| reweight_fits(reweight))
 }
 
+/// Whether each group's pool and number are within their limits.
 fn all_groups_fit(groups: &[PgParts]) -> bool
     ensures { result ≡ list_all pg_fits groups.now }
 {

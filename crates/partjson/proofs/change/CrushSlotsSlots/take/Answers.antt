@@ -2,7 +2,8 @@ use Rattle.std.proofs.Common.{◌≡◌, codes, Some, sym, ◌∙◌}
 use Rattle.jsonstream.specs.Json.{list_of}
 use Rattle.jsonstream.proofs.Puts.{slot_kept, unknown_put}
 use Rattle.partjson.specs.StatedMaps.{bucket_of, rule_of}
-use Rattle.partjson.specs.Members.{crush_keys, HoldsCrush}
+use Rattle.partjson.specs.StatedChanges.{crush_keys}
+use Rattle.partjson.specs.Members.{HoldsCrush}
 use Rattle.partjson.proofs.Held.{held_by, held_past}
 use Rattle.partjson.proofs.Members.{crush_put}
 use Rattle.partjson.proofs.change.CrushSlotsSlots.take.Goals as goal

@@ -1,8 +1,8 @@
 use Rattle.std.proofs.Common.{◌≡◌, codes, Some, sym, ◌∙◌}
 use Rattle.jsonstream.specs.Json.{list_of, number_of}
 use Rattle.jsonstream.proofs.Puts.{slot_kept, unknown_put}
-use Rattle.partjson.specs.StatedMaps.{bucket_kind_of, item_of}
-use Rattle.partjson.specs.Members.{bucket_keys, HoldsBucket}
+use Rattle.partjson.specs.StatedMaps.{bucket_keys, bucket_kind_of, item_of}
+use Rattle.partjson.specs.Members.{HoldsBucket}
 use Rattle.partjson.proofs.Held.{held_by, held_past}
 use Rattle.partjson.proofs.Members.{bucket_put}
 use Rattle.partjson.proofs.forest.BucketSlotsSlots.take.Goals as goal

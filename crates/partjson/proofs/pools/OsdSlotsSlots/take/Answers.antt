@@ -2,7 +2,8 @@ use Rattle.std.proofs.Common.{◌≡◌, codes, Some, sym, ◌∙◌}
 use Rattle.serde_json.specs.Find.{as_bool}
 use Rattle.jsonstream.specs.Json.{number_of}
 use Rattle.jsonstream.proofs.Puts.{slot_kept, unknown_put}
-use Rattle.partjson.specs.Members.{osd_keys, HoldsOsd}
+use Rattle.partjson.specs.StatedMaps.{osd_keys}
+use Rattle.partjson.specs.Members.{HoldsOsd}
 use Rattle.partjson.proofs.Held.{held_by, held_past}
 use Rattle.partjson.proofs.Members.{osd_put}
 use Rattle.partjson.proofs.pools.OsdSlotsSlots.take.Goals as goal

@@ -1,8 +1,8 @@
 use Rattle.std.proofs.Common.{◌≡◌, codes, Some, sym, ◌∙◌}
 use Rattle.jsonstream.specs.Json.{list_of, number_of}
 use Rattle.jsonstream.proofs.Puts.{slot_kept, unknown_put}
-use Rattle.partjson.specs.StatedMaps.{rule_kind_of, step_of}
-use Rattle.partjson.specs.Members.{rule_keys, HoldsRule}
+use Rattle.partjson.specs.StatedMaps.{rule_keys, rule_kind_of, step_of}
+use Rattle.partjson.specs.Members.{HoldsRule}
 use Rattle.partjson.proofs.Held.{held_by, held_past}
 use Rattle.partjson.proofs.Members.{rule_put}
 use Rattle.partjson.proofs.rules.RuleSlotsSlots.take.Goals as goal
