@@ -15,12 +15,17 @@ use std::sync::Wait;
 /// How often `await` asks for the epoch.
 const MAX_TURNS: u32 = 1_000_000;
 
-/// Where a session asks: its monitor, and what the monitor's calls need.
+/// Where sessions ask: their monitor, what its calls need, and the gate of their lines.
 #[derive(Drop)]
-pub(crate) struct Desk<'a, R> {
-    pub(crate) alloc: Global,
-    pub(crate) rt: &'a R,
-    pub(crate) monitor: &'a Monitor,
+pub struct Desk<'a, R, G> {
+    /// Where answers and followers take memory.
+    pub alloc: Global,
+    /// What the waits for the monitor's lock need.
+    pub rt: &'a R,
+    /// The monitor.
+    pub monitor: &'a Monitor,
+    /// What each session asks before a line.
+    pub gate: &'a G,
 }
 
 /// The text that bytes are.
@@ -34,7 +39,7 @@ fn text_of(bytes: Vec<u8>) -> String
     }
 }
 
-impl<'a, R> Desk<'a, R> {
+impl<'a, R, G> Desk<'a, R, G> {
     ghost use Rattle.std.specs.Prelude.{◌≡◌, None, Some, IfOk, OnOk, OnErr, IsSomeAnd, IsUtf8};
     ghost use Rattle.refusal.specs.Outcomes.{Makes};
     ghost use Rattle.osdmap.specs.Changes.{after};
@@ -139,7 +144,7 @@ impl<'a, R> Desk<'a, R> {
     }
 }
 
-impl<'a, R: Wait> Desk<'a, R> {
+impl<'a, R: Wait, G> Desk<'a, R, G> {
     ghost use Rattle.std.specs.Prelude.{length};
     ghost use Rattle.std.specs.Option.{option_map};
     ghost use Rattle.monitor.specs.Members.{IsMemberOf};

@@ -9,6 +9,7 @@ mod reply;
 mod session;
 mod sink;
 
+pub use desk::Desk;
 pub use gate::{Gate, Open};
-pub use session::{SessionError, run};
+pub use session::SessionError;
 pub use sink::{Buffer, Sink, WriteFailed, write_whole};

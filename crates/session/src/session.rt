@@ -1,20 +1,17 @@
 //! A session: each line of a script in turn, and its answer to a sink.
-ghost use Rattle.std.specs.Prelude.{◌≡◌, ◌++◌, ℕ, List, None, false, length, OnOk, IfErr};
+ghost use Rattle.std.specs.Prelude.{◌≡◌, false, length};
 ghost use Rattle.session.specs.declared.session.SessionError.TheVariants.{Write as CannotWrite};
 ghost use Rattle.monitor.specs.Members.{IsMemberOf};
-ghost use Rattle.session.specs.Commands.{lines_in};
-ghost use Rattle.session.specs.Answers.{Sight, IsAnswered};
-ghost use Rattle.session.specs.Sessions.{seen_by, sight_of, session_of, IsFollowerOf};
-ghost use Rattle.session.specs.Transcripts.{IsTranscript, Stops};
-ghost use Rattle.session.specs.Ends.{Ends, Halts, has_sink_failed};
+ghost use Rattle.session.specs.Answers.{IsAnswered};
+ghost use Rattle.session.specs.Sessions.{seen_by, IsFollowerOf};
+ghost use Rattle.session.specs.Ends.{Ends, has_sink_failed};
 
 use crate::command::{first_line, read_command};
 use crate::desk::Desk;
 use crate::gate::Gate;
 use crate::reply::push_line;
 use crate::sink::{Sink, WriteFailed, write_whole};
-use monitor::{Follower, Member, Monitor};
-use std::alloc::Global;
+use monitor::{Follower, Member};
 use std::sync::Wait;
 
 /// Why a session stops before its script ends.
@@ -44,8 +41,8 @@ struct Room {
 }
 
 /// Does the command of a line, and puts its answer to a sink.
-fn answer_line<R: Wait, W: Sink>(
-    desk: &Desk<'_, R>,
+fn answer_line<R: Wait, G, W: Sink>(
+    desk: &Desk<'_, R, G>,
     member: &mut Member,
     room: &mut Room,
     line: &[u8],
@@ -71,56 +68,66 @@ fn answer_line<R: Wait, W: Sink>(
     Ok(())
 }
 
-/// Runs a script for a member of a monitor: does the command of each line in order, and writes its answer whole before
-/// the next command. A line that is no command answers `BadCommand` (33), a refused one its number and name, and the
-/// session goes on. Before each line that is not empty it asks the gate, by the line's number in the script, from 1.
-///
-/// What is written is a transcript: each line is answered by one history, that of the member after it, which is lawful
-/// from the first map and goes on from the one that the line before it left; the first goes on from what the member had
-/// seen before. The lines of the session's follower are answered by the follower's history, which is empty at first.
-///
-/// It stops with `Write` only where the sink has failed, which is not written to again; with `Memory` only where the
-/// text of an answer found no memory and the sink has not failed; and with `Held` only where the gate
-/// answered `false`, with nothing done for that line. What is out is then a beginning of the answers up to the last
-/// command done.
-pub fn run<R: Wait, W: Sink, G: Gate>(
-    alloc: Global,
-    rt: &R,
-    monitor: &Monitor,
-    member: &mut Member,
-    script: &[u8],
-    sink: &mut W,
-    gate: &G,
-) -> Result<(), SessionError>
-    requires member { IsMemberOf monitor.now member.old }
-    requires unfailed { W.has_failed sink.old ≡ false }
-    ensures member { IsMemberOf monitor.now member.new }
-    ensures ok { OnOk result ((bytes : List ℕ) × (last : Sight)
-        × IsTranscript (session_of monitor.now (G.lets gate.now)) 1 (sight_of member.old) (lines_in script.now) bytes last
-        × (last.member ≡ member.new.pass.history) × (W.written sink.new ≡ W.written sink.old ++ bytes)) }
-    ensures err { IfErr result (λ error. (out : List ℕ) × (last : Sight)
-        × Stops (session_of monitor.now (G.lets gate.now)) (Halts (session_of monitor.now (G.lets gate.now)) error)
-        (sight_of member.old) (lines_in script.now) out last
-        × (last.member ≡ member.new.pass.history) × (W.written sink.new ≡ W.written sink.old ++ out)) }
-    ensures failed { W.has_failed sink.new ≡ has_sink_failed result }
-{
-    let desk = Desk { alloc, rt, monitor };
-    let mut room = Room {
-        follower: None,
-        text: String::new(alloc),
-    };
-    let mut rest = script;
-    let mut number = 0;
-    while !rest.is_empty() {
-        let (line, others) = first_line(rest);
-        number += 1;
-        if !line.is_empty() {
-            if !gate.pass(number) {
-                return Err(SessionError::Held);
+impl<'a, R: Wait, G: Gate> Desk<'a, R, G> {
+    ghost use Rattle.std.specs.Prelude.{◌≡◌, ◌++◌, ℕ, List, false, OnOk, IfErr};
+    ghost use Rattle.monitor.specs.Members.{IsMemberOf};
+    ghost use Rattle.session.specs.Commands.{lines_in};
+    ghost use Rattle.session.specs.Answers.{Sight};
+    ghost use Rattle.session.specs.Sessions.{sight_of, session_of};
+    ghost use Rattle.session.specs.Transcripts.{IsTranscript, Stops};
+    ghost use Rattle.session.specs.Ends.{Halts, has_sink_failed};
+
+    /// Runs a script for a member of the monitor: does the command of each line in order, and writes its answer whole
+    /// before the next command. A line that is no command answers `BadCommand` (33), a refused one its number and name,
+    /// and the session goes on. Before each line that is not empty it asks the gate, by the line's number in the
+    /// script, from 1.
+    ///
+    /// What is written is a transcript: each line is answered by one history, that of the member after it, which is
+    /// lawful from the first map and goes on from the one that the line before it left; the first goes on from what the
+    /// member had seen before. The lines of the session's follower are answered by the follower's history, which is
+    /// empty at first.
+    ///
+    /// It stops with `Write` only where the sink has failed, which is not written to again; with `Memory` only where
+    /// the text of an answer found no memory and the sink has not failed; and with `Held` only where the gate answered
+    /// `false`, with nothing done for that line. What is out is then a beginning of the answers up to the last command
+    /// done.
+    pub fn run<W: Sink>(
+        &self,
+        member: &mut Member,
+        script: &[u8],
+        sink: &mut W,
+    ) -> Result<(), SessionError>
+        requires member { IsMemberOf self.now.monitor.now member.old }
+        requires unfailed { W.has_failed sink.old ≡ false }
+        ensures member { IsMemberOf self.now.monitor.now member.new }
+        ensures ok { OnOk result ((bytes : List ℕ) × (last : Sight)
+            × IsTranscript (session_of self.now.monitor.now (G.lets self.now.gate.now)) 1 (sight_of member.old)
+            (lines_in script.now) bytes last
+            × (last.member ≡ member.new.pass.history) × (W.written sink.new ≡ W.written sink.old ++ bytes)) }
+        ensures err { IfErr result (λ error. (out : List ℕ) × (last : Sight)
+            × Stops (session_of self.now.monitor.now (G.lets self.now.gate.now))
+            (Halts (session_of self.now.monitor.now (G.lets self.now.gate.now)) error)
+            (sight_of member.old) (lines_in script.now) out last
+            × (last.member ≡ member.new.pass.history) × (W.written sink.new ≡ W.written sink.old ++ out)) }
+        ensures failed { W.has_failed sink.new ≡ has_sink_failed result }
+    {
+        let mut room = Room {
+            follower: None,
+            text: String::new(self.alloc),
+        };
+        let mut rest = script;
+        let mut number = 0;
+        while !rest.is_empty() {
+            let (line, others) = first_line(rest);
+            number += 1;
+            if !line.is_empty() {
+                if !self.gate.pass(number) {
+                    return Err(SessionError::Held);
+                }
+                answer_line(self, member, &mut room, line, sink)?;
             }
-            answer_line(&desk, member, &mut room, line, sink)?;
+            rest = others;
         }
-        rest = others;
+        Ok(())
     }
-    Ok(())
 }
