@@ -5,7 +5,7 @@ use Rattle.session.specs.declared.session.SessionError.{SessionError}
 use Rattle.session.specs.declared.session.SessionError.TheVariants.{Write, Memory, Held}
 use Rattle.session.specs.Transcripts.{Manner, TakesLine, IsTranscript, Breaks, Stopping, Stops}
 use Rattle.std.specs.Result.{IsErrAnd}
-use Rattle.session.specs.Ends.{Ends, Halts}
+use Rattle.session.specs.Ends.{IsOut, Halts}
 use Rattle.session.proofs.Replies.{takes_line}
 
 -- as many lines as this, which stand before the rest, are answered by these bytes
@@ -96,31 +96,30 @@ stops_held m first last lines count (c ∷ cs) others before put bytes reached i
 
 -- the same where the answer to the next line is cut off
 pub stops_at : {S : Type 0} (m : Manner S) (first between last : S) (lines : List (List ℕ)) (count : ℕ) (line : List ℕ)
-    (others : List (List ℕ)) (before put after bytes : List ℕ) (e : SessionError)
+    (others : List (List ℕ)) (before put after bytes answer : List ℕ) (e : SessionError)
     → Reaches m first lines count (line ∷ others) bytes between → put ≡ before ++ bytes → 0 < length line
-    → m.lets (count + 1) true → Ends (m.answers between line) last put after (Err e)
+    → m.lets (count + 1) true → m.answers between line answer last → IsOut answer put after (Err e)
     → (out : List ℕ) × Stops m (Halts m e) first lines out last × (after ≡ before ++ out)
-stops_at m first between last lines count line others before put after bytes e reached is some lets ends = by_error e ends
+stops_at m first between last lines count line others before put after bytes answer e reached is some lets answered out = by_error e out
   where
-    cut_off : (answer rest part : List ℕ) → m.answers between line answer last → answer ≡ part ++ rest
-        → Breaks m (count + 1) between (line ∷ others) bytes (bytes ++ part) last
-    cut_off answer rest part answered cut =
+    cut_off : (rest part : List ℕ) → answer ≡ part ++ rest → Breaks m (count + 1) between (line ∷ others) bytes (bytes ++ part) last
+    cut_off rest part cut =
         (line, others, answer, part, rest, refl, takes_line m (count + 1) between last line answer some lets answered, cut, refl)
 
     all_out : (part : List ℕ) → after ≡ put ++ part → after ≡ before ++ (bytes ++ part)
     all_out part more = rw (more, is, append_assoc before bytes part) refl
 
-    by_error : (f : SessionError) → Ends (m.answers between line) last put after (Err f)
+    by_error : (f : SessionError) → IsOut answer put after (Err f)
         → (out : List ℕ) × Stops m (Halts m f) first lines out last × (after ≡ before ++ out)
-    by_error Write (answer, rest, answered, (part, cut, more)) = (
+    by_error Write (rest, (part, cut, more)) = (
       bytes ++ part,
-      stops m (Halts m Write) first between last lines count (line ∷ others) bytes (bytes ++ part) reached (cut_off answer rest part answered cut),
+      stops m (Halts m Write) first between last lines count (line ∷ others) bytes (bytes ++ part) reached (cut_off rest part cut),
       all_out part more,
     )
-    by_error Memory (answer, rest, answered, (part, cut, more)) = (
+    by_error Memory (rest, (part, cut, more)) = (
       bytes ++ part,
       stops m (Halts m Memory) first between last lines count (line ∷ others) bytes (bytes ++ part) reached
-          (inr (cut_off answer rest part answered cut)),
+          (inr (cut_off rest part cut)),
       all_out part more,
     )
-    by_error Held ends = absurd ends
+    by_error Held out = absurd out

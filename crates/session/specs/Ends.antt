@@ -1,4 +1,4 @@
--- How much of a line's answer is out, how a session ends, and what an end says of the sink.
+-- How much of an answer is out, how a session ends, and what an end says of the sink.
 use Rattle.std.specs.Prelude.{◌≡◌, ◌⊎◌, ℕ, true, false, Bool, List, ◌++◌, Result, Ok, Err}
 use Rattle.session.specs.declared.session.SessionError.{SessionError}
 use Rattle.session.specs.declared.session.SessionError.TheVariants.{Write, Memory, Held}
@@ -12,18 +12,16 @@ has_sink_failed (Err Write) = true
 has_sink_failed (Err Memory) = false
 has_sink_failed (Err Held) = false
 
--- a line is answered, and a beginning of the answer is out
-abbrev pub IsCutOff : {S : Type 0} → (List ℕ → S → Type 0) → S → List ℕ → List ℕ → Type 0
-IsCutOff answers left before after =
-    (answer : List ℕ) × (rest : List ℕ) × answers answer left × HasPut before answer rest after
+-- a beginning of an answer is out
+abbrev pub IsCutOff : List ℕ → List ℕ → List ℕ → Type 0
+IsCutOff answer before after = (rest : List ℕ) × HasPut before answer rest after
 
--- a line is answered, and the answer is out whole where nothing fails, and else a beginning of it; the gate holds no
--- line that is being answered
-abbrev pub Ends : {S : Type 0} → (List ℕ → S → Type 0) → S → List ℕ → List ℕ → Result Unit SessionError → Type 0
-Ends answers left before after (Ok done) = (answer : List ℕ) × answers answer left × (after ≡ before ++ answer)
-Ends answers left before after (Err Write) = IsCutOff answers left before after
-Ends answers left before after (Err Memory) = IsCutOff answers left before after
-Ends answers left before after (Err Held) = ⊥
+-- an answer is out whole where nothing fails, and else a beginning of it; the gate holds no line that is being answered
+abbrev pub IsOut : List ℕ → List ℕ → List ℕ → Result Unit SessionError → Type 0
+IsOut answer before after (Ok done) = after ≡ before ++ answer
+IsOut answer before after (Err Write) = IsCutOff answer before after
+IsOut answer before after (Err Memory) = IsCutOff answer before after
+IsOut answer before after (Err Held) = ⊥
 
 -- the way in which a session stops, by its error: at a failed write the next answer is cut off; where memory is short
 -- it is, or no other line has begun; where the gate holds a line, that line has not

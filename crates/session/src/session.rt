@@ -1,17 +1,17 @@
 //! A session: each line of a script in turn, and its answer to a sink.
-ghost use Rattle.std.specs.Prelude.{◌≡◌, false, length};
+ghost use Rattle.std.specs.Prelude.{◌≡◌, false};
 ghost use Rattle.session.specs.declared.session.SessionError.TheVariants.{Write as CannotWrite};
-ghost use Rattle.monitor.specs.Members.{IsMemberOf};
-ghost use Rattle.session.specs.Answers.{IsAnswered};
-ghost use Rattle.session.specs.Sessions.{seen_by, IsFollowerOf};
-ghost use Rattle.session.specs.Ends.{Ends, has_sink_failed};
+ghost use Rattle.session.specs.Texts.{line_of};
+ghost use Rattle.session.specs.Replies.{reply_text};
+ghost use Rattle.session.specs.Ends.{IsOut, has_sink_failed};
 
 use crate::command::{first_line, read_command};
 use crate::desk::Desk;
 use crate::gate::Gate;
-use crate::reply::push_line;
+use crate::reply::{Reply, push_line};
 use crate::sink::{Sink, WriteFailed, write_whole};
 use monitor::{Follower, Member};
+use refusal::Refusal;
 use std::sync::Wait;
 
 /// Why a session stops before its script ends.
@@ -40,31 +40,21 @@ struct Room {
     text: String,
 }
 
-/// Does the command of a line, and puts its answer to a sink.
-fn answer_line<R: Wait, G, W: Sink>(
-    desk: &Desk<'_, R, G>,
-    member: &mut Member,
-    room: &mut Room,
-    line: &[u8],
+/// Puts the line of what a command answers to a sink, by way of a text.
+fn put_answer<W: Sink>(
+    answer: Result<Reply, Refusal>,
+    text: &mut String,
     sink: &mut W,
 ) -> Result<(), SessionError>
-    requires member { IsMemberOf desk.now.monitor.now member.old }
-    requires follower { IsFollowerOf desk.now.monitor.now room.old.follower }
-    requires unfailed { W.has_failed sink.old ≡ false }
-    ensures member { IsMemberOf desk.now.monitor.now member.new }
-    ensures follower { IsFollowerOf desk.now.monitor.now room.new.follower }
-    ensures out { Ends
-        (IsAnswered desk.now.monitor.now.first (length desk.now.monitor.now.row.cells)
-        (seen_by member.old room.old.follower) line.now)
-        (seen_by member.new room.new.follower) (W.written sink.old) (W.written sink.new) result }
+    requires { W.has_failed sink.old ≡ false }
+    ensures out { IsOut (line_of reply_text answer) (W.written sink.old) (W.written sink.new) result }
     ensures failed { W.has_failed sink.new ≡ has_sink_failed result }
 {
-    let reply = desk.obey(member, &mut room.follower, read_command(line));
-    room.text.clear();
-    if push_line(&mut room.text, &reply).is_err() {
+    text.clear();
+    if push_line(text, &answer).is_err() {
         return Err(SessionError::Memory);
     }
-    write_whole(sink, room.text.as_bytes())?;
+    write_whole(sink, text.as_bytes())?;
     Ok(())
 }
 
@@ -124,7 +114,8 @@ impl<'a, R: Wait, G: Gate> Desk<'a, R, G> {
                 if !self.gate.pass(number) {
                     return Err(SessionError::Held);
                 }
-                answer_line(self, member, &mut room, line, sink)?;
+                let answer = self.obey(member, &mut room.follower, read_command(line));
+                put_answer(answer, &mut room.text, sink)?;
             }
             rest = others;
         }
