@@ -73,11 +73,10 @@ fn work<'a, R: Files + AllocGlobal + Print + Threads + Wait + Sync>(
     requires few { vec_len options.now.scripts ≤ max_scripts }
     ensures { IfErr result (λ e. 2 ≤ status_of e) }
 {
-    let alloc = rt.alloc();
     let map = read(rt, options.map.as_str())?;
     let scripts = read_all(rt, options.scripts.as_slice())?;
-    let mut out = Buffer::new(alloc);
-    if let Err(fault) = serving::serve(alloc, rt, options.journal, &map, &scripts, &mut out) {
+    let mut out = Buffer::new(rt.alloc());
+    if let Err(fault) = serving::serve(rt, options.journal, &map, &scripts, &mut out) {
         return Err(Ending::of_fault(fault));
     }
     io::Write::write_all(&mut io::writer(rt), out.bytes()).map_err(|_| Ending::Output)

@@ -7,7 +7,7 @@ ghost use Rattle.osdmapd.specs.Serving.{IsTextBy};
 ghost use Rattle.osdmapd.specs.Players.{IsStartedFor, Keeps};
 
 use monitor::{Member, Monitor};
-use session::{Buffer, Open, write_whole};
+use session::{Buffer, Desk, Open, write_whole};
 use std::alloc::{AllocError, Global};
 use std::sync::Wait;
 use std::thread;
@@ -42,16 +42,13 @@ fn play<R: Wait>(rt: &R, alloc: Global, member: Member, part: TextOf<'_>) -> Opt
     let mut text = Buffer::new(alloc);
     let heading = format!(in alloc; "session {}\n", part.number).ok()?;
     write_whole(&mut text, heading.as_bytes()).ok()?;
-    session::run(
+    let desk = Desk {
         alloc,
         rt,
-        part.monitor,
-        &mut member,
-        part.script,
-        &mut text,
-        &Open,
-    )
-    .ok()?;
+        monitor: part.monitor,
+        gate: &Open,
+    };
+    desk.run(&mut member, part.script, &mut text).ok()?;
     Some(text)
 }
 

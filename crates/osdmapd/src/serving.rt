@@ -102,8 +102,7 @@ fn put<W: Sink>(out: &mut W, texts: &[Buffer]) -> Result<(), WriteFailed>
 /// Where the map is refused (10 to 17), nothing is put, nor at `Memory`: a growth was refused (30) before the sessions
 /// or for one of their texts, or a thread could not be made. `Output` comes only where the map is not refused and the
 /// sink has failed, which then has a beginning of the texts; at every other end it has not failed.
-pub fn serve<R: Threads + Wait + Sync, W: Sink>(
-    alloc: Global,
+pub fn serve<R: AllocGlobal + Threads + Wait + Sync, W: Sink>(
     rt: &R,
     journal: u32,
     map: &[u8],
@@ -118,7 +117,7 @@ pub fn serve<R: Threads + Wait + Sync, W: Sink>(
     ensures served { Serves journal map.now scripts.now (W.written out.old) (W.written out.new) result }
     ensures failed { W.has_failed out.new ≡ has_output_failed result }
 {
-    let texts = answered(alloc, rt, journal, map, scripts)?;
+    let texts = answered(rt.alloc(), rt, journal, map, scripts)?;
     put(out, &texts)?;
     Ok(())
 }

@@ -8,7 +8,7 @@ use crate::playing::next;
 use crossbeam_utils::Backoff;
 use mapjson::{read_change, read_map};
 use monitor::{Look, Member, Monitor};
-use session::{Buffer, Gate, Open, SessionError, Sink, WriteFailed};
+use session::{Buffer, Desk, Gate, Open, SessionError, Sink, WriteFailed};
 use std::alloc::Global;
 use std::sync::Wait;
 use std::sync::atomic::{AtomicU64, Ordering};
@@ -89,7 +89,13 @@ fn cut_off<R: Wait>(
         failed: false,
     };
     let script = b"change {\"base\":1,\"down\":[2]}\nup 1.0\n";
-    let ended = session::run(alloc, rt, &monitor, &mut member, script, &mut slow, &Open);
+    let desk = Desk {
+        alloc,
+        rt,
+        monitor: &monitor,
+        gate: &Open,
+    };
+    let ended = desk.run(&mut member, script, &mut slow);
     let stands = monitor.epoch(rt, &mut other) == Ok(2);
     Some((ended, slow, stands))
 }
@@ -127,15 +133,13 @@ fn spent<R: Wait>(rt: &R, alloc: Global) -> Option<(Result<(), SessionError>, Bu
     let (monitor, mut member, _) = opened(alloc, FOUR_DEVICES, 2)?;
     let mut answers = Buffer::new(alloc);
     let script = b"epoch\nepoch\nepoch\nhello\nfup 1.0\n";
-    let ended = session::run(
+    let desk = Desk {
         alloc,
         rt,
-        &monitor,
-        &mut member,
-        script,
-        &mut answers,
-        &Open,
-    );
+        monitor: &monitor,
+        gate: &Open,
+    };
+    let ended = desk.run(&mut member, script, &mut answers);
     Some((ended, answers))
 }
 
@@ -201,7 +205,13 @@ fn met<R: Wait>(
     } else {
         b"epoch\nepoch\n"
     };
-    session::run(alloc, rt, monitor, &mut member, script, &mut answers, &gate)
+    let desk = Desk {
+        alloc,
+        rt,
+        monitor,
+        gate: &gate,
+    };
+    desk.run(&mut member, script, &mut answers)
 }
 
 /// Whether both of two sessions end well that run at once.
