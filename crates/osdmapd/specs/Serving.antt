@@ -51,14 +51,6 @@ AreTextsOf journal stated scripts texts =
     (m : ClusterMap) × StatesMap stated m
     × Pairs (λ number (script : Vec ℕ Global) text. IsTextOf m journal number script.items text) 1 scripts texts
 
--- the texts where the map is not refused, or why there are none
-abbrev pub Answered : ℕ → List ℕ → List (Vec ℕ Global) → Result (Vec Buffer Global) Fault → Type 0
-Answered journal stated scripts (Ok texts) =
-    (map_text_fault stated ≡ None) × AreTextsOf journal stated scripts (map buffered texts.items)
-Answered journal stated scripts (Err (Map refusal)) = map_text_fault stated ≡ Some refusal
-Answered journal stated scripts (Err Output) = ⊥
-Answered journal stated scripts (Err Memory) = Unit {0}
-
 -- what is out at the end: the texts of a map that is not refused, one after the other, or where the output fails a
 -- beginning of them; nothing where the map is refused, or memory is short
 abbrev pub Serves : ℕ → List ℕ → List (Vec ℕ Global) → List ℕ → List ℕ → Result Unit Fault → Type 0

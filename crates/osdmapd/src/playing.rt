@@ -147,28 +147,28 @@ fn join_all<'s, R: Threads>(
 /// one of the members, who have seen nothing. All threads are started before one is joined, and all have ended when it
 /// returns. The one error is that memory is short, or that a thread cannot be made.
 pub fn texts<R: Threads + Wait + Sync>(
-    alloc: Global,
     rt: &R,
-    monitor: &Monitor,
+    monitor: Monitor,
     members: Vec<Member>,
     scripts: &[Vec<u8>],
 ) -> Result<Vec<Buffer>, AllocError>
-    requires members { All (IsNewMemberOf monitor.now) members.items }
+    requires members { All (IsNewMemberOf monitor) members.items }
     requires count { vec_len members ≡ length scripts.now }
-    ensures { IfOk result (λ texts. Pairs (λ number script text. IsTextBy monitor.now number script.items
-        (buffered text))
+    ensures { IfOk result (λ texts. Pairs (λ number script text. IsTextBy monitor number script.items (buffered text))
         1 scripts.now texts.items) }
 {
+    let alloc = *members.allocator();
+    let shared = &monitor;
     thread::scope(
         thread::scope_env(),
         rt,
         move |scope| -> Result<Vec<Buffer>, AllocError>
-            requires { All (IsNewMemberOf monitor.now) members.items × (vec_len members ≡ length scripts.now) }
-            ensures { IfOk result (λ texts. Pairs (λ number script text. IsTextBy monitor.entry.now number script.items
+            requires { All (IsNewMemberOf shared.now) members.items × (vec_len members ≡ length scripts.now) }
+            ensures { IfOk result (λ texts. Pairs (λ number script text. IsTextBy shared.entry.now number script.items
                 (buffered text))
                 1 scripts.entry.now texts.items) }
         {
-            let players = start_all(scope, rt, monitor, members, scripts)?;
+            let players = start_all(scope, rt, shared, members, scripts)?;
             join_all(rt, alloc, players)
         },
     )

@@ -8,14 +8,14 @@ ghost use Rattle.epochlog.specs.Epochs.{max_capacity};
 ghost use Rattle.session.specs.Sinks.{HasPut};
 ghost use Rattle.session.specs.Buffers.{buffered};
 ghost use Rattle.osdmapd.specs.CommandLine.{max_scripts};
-ghost use Rattle.osdmapd.specs.Serving.{Answered, Serves, has_output_failed};
+ghost use Rattle.osdmapd.specs.Serving.{Serves, has_output_failed};
 
 use crate::playing::texts;
 use mapjson::read_map;
 use monitor::Monitor;
 use refusal::Refusal;
 use session::{Buffer, Sink, WriteFailed, write_whole};
-use std::alloc::{AllocError, Global};
+use std::alloc::AllocError;
 use std::sync::Wait;
 use std::thread::Threads;
 
@@ -57,29 +57,6 @@ fn fault_of(refusal: Refusal) -> Fault
     }
 }
 
-/// The texts of the sessions of scripts from a map, in memory.
-fn answered<R: Threads + Wait + Sync>(
-    alloc: Global,
-    rt: &R,
-    journal: u32,
-    map: &[u8],
-    scripts: &[Vec<u8>],
-) -> Result<Vec<Buffer>, Fault>
-    requires few { length scripts.now ≤ max_scripts }
-    ensures { Answered journal map.now scripts.now result }
-{
-    let map = match read_map(alloc, map) {
-        Ok(map) => map,
-        Err(refusal) => return Err(fault_of(refusal)),
-    };
-    // The epoch of a map that was read, the journal and the number of scripts are within their limits, so that only
-    // memory can be short.
-    let Ok((monitor, members)) = Monitor::open(alloc, map, journal, scripts.len() as u32) else {
-        return Err(Fault::Memory);
-    };
-    Ok(texts(alloc, rt, &monitor, members, scripts)?)
-}
-
 /// Puts texts to a sink, one after the other. At an `Err` the sink has failed, and has a beginning of them.
 fn put<W: Sink>(out: &mut W, texts: &[Buffer]) -> Result<(), WriteFailed>
     requires { W.has_failed out.old ≡ false }
@@ -117,7 +94,17 @@ pub fn serve<R: AllocGlobal + Threads + Wait + Sync, W: Sink>(
     ensures served { Serves journal map.now scripts.now (W.written out.old) (W.written out.new) result }
     ensures failed { W.has_failed out.new ≡ has_output_failed result }
 {
-    let texts = answered(rt.alloc(), rt, journal, map, scripts)?;
+    let alloc = rt.alloc();
+    let map = match read_map(alloc, map) {
+        Ok(map) => map,
+        Err(refusal) => return Err(fault_of(refusal)),
+    };
+    // The epoch of a map that was read, the journal and the number of scripts are within their limits, so that only
+    // memory can be short.
+    let Ok((monitor, members)) = Monitor::open(alloc, map, journal, scripts.len() as u32) else {
+        return Err(Fault::Memory);
+    };
+    let texts = texts(rt, monitor, members, scripts)?;
     put(out, &texts)?;
     Ok(())
 }

@@ -14,12 +14,12 @@ pub returns : goal.returns
 returns g c = go c.join_all.result c.join_all.ensures
   where
     go : (r : Result (Vec Buffer Global) AllocError) → IfOk r (λ texts. Pairs Keeps 1 c.in_ok-players.players.items texts.items)
-        → IfOk r (λ texts. Pairs (λ number script text. IsTextBy c.captures.monitor.now number (vec_items script) (buffered text))
+        → IfOk r (λ texts. Pairs (λ number script text. IsTextBy c.captures.shared.now number (vec_items script) (buffered text))
         1 c.captures.scripts.now texts.items)
     go (Err e) kept = tt
     go (Ok texts) kept =
-        pairs_through (IsStartedFor c.captures.monitor.now) Keeps
-        (λ number script text. IsTextBy c.captures.monitor.now number (vec_items script) (buffered text))
+        pairs_through (IsStartedFor c.captures.shared.now) Keeps
+        (λ number script text. IsTextBy c.captures.shared.now number (vec_items script) (buffered text))
         (λ number player script text started keeps.
         text_for _ _ _ _ _ _ (buffered text) started.0 started.1 started.2 keeps)
         1 _ _ _ c.in_ok-players.ensures kept
