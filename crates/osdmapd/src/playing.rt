@@ -1,9 +1,9 @@
 //! The sessions of a run, each in a thread of its own.
-ghost use Rattle.std.specs.Prelude.{◌≡◌, ◌+◌, All, IfOk, IfSome, MatchOption, length, vec_len};
+ghost use Rattle.std.specs.Prelude.{◌≡◌, ◌+◌, false, All, IfOk, IfSome, MatchOption, length, vec_len};
 ghost use Rattle.monitor.specs.Members.{IsNewMemberOf};
-ghost use Rattle.session.specs.Buffers.{buffered};
+ghost use Rattle.session.specs.Buffers.{buffered, is_short};
 ghost use Rattle.osdmapd.specs.Pairs.{Pairs};
-ghost use Rattle.osdmapd.specs.Serving.{IsTextBy};
+ghost use Rattle.osdmapd.specs.Serving.{heading, IsTextBy};
 ghost use Rattle.osdmapd.specs.Players.{IsStartedFor, Keeps};
 
 use monitor::{Member, Monitor};
@@ -32,57 +32,15 @@ impl<'a> Promise<Option<Buffer>> for TextOf<'a> {
 /// A thread that plays a session.
 type Player<'a> = PromisedHandle<Option<Buffer>, TextOf<'a>>;
 
-/// The text of a session: its heading, and the answers of its script. `None` where memory is short.
-fn play<R: Wait>(rt: &R, alloc: Global, member: Member, part: TextOf<'_>) -> Option<Buffer>
-    requires { IsNewMemberOf part.monitor.now member }
-    ensures { IfSome result (λ t. IsTextBy part.entry.monitor.now part.entry.number part.entry.script.now
-        (buffered t)) }
+/// A text that begins with the heading of the session of a number. `None` where memory is short.
+fn headed(alloc: Global, number: usize) -> Option<Buffer>
+    ensures heading { IfSome result (λ text. buffered text ≡ heading number) }
+    ensures whole { IfSome result (λ text. is_short text ≡ false) }
 {
-    let mut member = member;
     let mut text = Buffer::new(alloc);
-    let heading = format!(in alloc; "session {}\n", part.number).ok()?;
+    let heading = format!(in alloc; "session {number}\n").ok()?;
     write_whole(&mut text, heading.as_bytes()).ok()?;
-    let desk = Desk {
-        alloc,
-        rt,
-        monitor: part.monitor,
-        gate: &Open,
-    };
-    desk.run(&mut member, part.script, &mut text).ok()?;
     Some(text)
-}
-
-/// Starts the thread of a session. The one error is that no thread can be made.
-fn start<'s, E, R: Wait + Sync>(
-    scope: &'s Scope<'s, E>,
-    rt: &'s R,
-    alloc: Global,
-    member: Member,
-    part: TextOf<'s>,
-) -> Result<Player<'s>, AllocError>
-    requires { IsNewMemberOf part.monitor.now member }
-    ensures { IfOk result (λ player. player.promise ≡ part.entry) }
-{
-    let TextOf {
-        monitor,
-        number,
-        script,
-    } = part;
-    let player = scope.spawn_with(
-        part,
-        move || -> Option<Buffer>
-            requires { IsNewMemberOf monitor.now member }
-            ensures { IfSome result (λ t. IsTextBy monitor.entry.now number script.entry.now (buffered t)) }
-        {
-            let own = TextOf {
-                monitor,
-                number,
-                script,
-            };
-            play(rt, alloc, member, own)
-        },
-    )?;
-    Ok(player)
 }
 
 /// The next of the members.
@@ -96,7 +54,8 @@ pub fn next(monitor: &Monitor, members: &mut Vec<Member>) -> Option<Member>
     members.pop()
 }
 
-/// Starts the threads of the sessions of these scripts, in their order.
+/// Starts the threads of the sessions of these scripts, in their order. A thread makes the text of its session: the
+/// heading, and the answers of the script. The one error is that memory is short, or that a thread cannot be made.
 fn start_all<'s, E, R: Wait + Sync>(
     scope: &'s Scope<'s, E>,
     rt: &'s R,
@@ -115,12 +74,32 @@ fn start_all<'s, E, R: Wait + Sync>(
         let Some(member) = next(monitor, &mut free) else {
             unreachable!()
         };
+        let number = players.len() + 1;
+        let script = script.as_slice();
         let part = TextOf {
             monitor,
-            number: players.len() + 1,
-            script: script.as_slice(),
+            number,
+            script,
         };
-        players.push(start(scope, rt, alloc, member, part)?)?;
+        let player = scope.spawn_with(
+            part,
+            move || -> Option<Buffer>
+                requires { IsNewMemberOf monitor.now member }
+                ensures { IfSome result (λ t. IsTextBy monitor.entry.now number script.entry.now (buffered t)) }
+            {
+                let desk = Desk {
+                    alloc,
+                    rt,
+                    monitor,
+                    gate: &Open,
+                };
+                let mut member = member;
+                let mut text = headed(alloc, number)?;
+                desk.run(&mut member, script, &mut text).ok()?;
+                Some(text)
+            },
+        )?;
+        players.push(player)?;
     }
     Ok(players)
 }

@@ -8,11 +8,11 @@ use Rattle.osdmapd.proofs.playing.start_all.Goals as goal
 pub loop-script-preserved : goal.loop-script-preserved
 loop-script-preserved g c =
     let (members, count, many, paired) = c.loop-script.invariant in
-    let numbered : c.len.result + 1 ≡ 1 + length c.loop-script.players.items = omega (arith, c.len.ensures, c.loop-script.players.ok.0) in
-    let started = started_for c.args.monitor.now (1 + length c.loop-script.players.items) c.in_ok-start.field-0 c.script-item.result
-    (ap (λ p. p.monitor.now) c.in_ok-start.ensures) (ap (λ p. p.number) c.in_ok-start.ensures ∙ numbered)
-    (ap (λ p. p.script.now) c.in_ok-start.ensures ∙ c.as_slice.ensures.value) in
-    let more = pairs_more (IsStartedFor c.args.monitor.now) 1 _ _ c.in_ok-start.field-0 c.script-item.result paired started in
+    let numbered : c.len-number.result + 1 ≡ 1 + length c.loop-script.players.items = omega (arith, c.len-number.ensures, c.loop-script.players.ok.0) in
+    let started = started_for c.args.monitor.now (1 + length c.loop-script.players.items) c.in_ok-player.player c.script-item.result
+    (ap (λ p. p.monitor.now) c.in_ok-player.ensures.ok) (ap (λ p. p.number) c.in_ok-player.ensures.ok ∙ numbered)
+    (ap (λ p. p.script.now) c.in_ok-player.ensures.ok ∙ c.as_slice-script.ensures.value) in
+    let more = pairs_more (IsStartedFor c.args.monitor.now) 1 _ _ c.in_ok-player.player c.script-item.result paired started in
     let taken = take_more c.args.scripts.now c.loop-script.script-index c.script-item.result c.loop-script-test.true in (
       c.next.ensures.rest,
       omega (arith, c.in-Some.ensures.next.1),
