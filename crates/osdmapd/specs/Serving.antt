@@ -1,5 +1,5 @@
 -- What a run of the program writes.
-use Rattle.std.specs.Prelude.{◌≡◌, ℕ, Bool, true, false, List, [], ◌++◌, codes, length, map, Some, None, Result, Ok, Err}
+use Rattle.std.specs.Prelude.{◌≡◌, ℕ, Bool, true, false, List, [], ◌++◌, codes, length, Some, None, Result, Ok, Err}
 use Rattle.std.specs.Fmt.{decimal}
 use Rattle.std.specs.List.{concat}
 use Rattle.std.specs.declared.vec.Vec.{Vec}
@@ -11,8 +11,6 @@ use Rattle.session.specs.Commands.{lines_in}
 use Rattle.session.specs.Answers.{Sight, session_with}
 use Rattle.session.specs.Transcripts.{IsTranscript}
 use Rattle.session.specs.Sinks.{HasPut}
-use Rattle.session.specs.declared.sink.Buffer.{Buffer}
-use Rattle.session.specs.Buffers.{buffered}
 use Rattle.osdmapd.specs.Pairs.{Pairs}
 use Rattle.osdmapd.specs.declared.serving.Fault.{Fault}
 use Rattle.osdmapd.specs.declared.serving.Fault.TheVariants.{Map, Output, Memory}

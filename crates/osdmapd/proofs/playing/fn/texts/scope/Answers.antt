@@ -1,4 +1,4 @@
-use Rattle.std.proofs.Common.{◌≡◌, ℕ, List, IfOk, Result, Ok, Err, Global, vec_items}
+use Rattle.std.proofs.Common.{IfOk, Result, Ok, Err, Global, vec_items}
 use Rattle.std.specs.declared.alloc.AllocError.{AllocError}
 use Rattle.std.specs.declared.vec.Vec.{Vec}
 use Rattle.session.specs.declared.sink.Buffer.{Buffer}
