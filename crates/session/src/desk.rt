@@ -226,8 +226,7 @@ impl<'a, R: Wait, G> Desk<'a, R, G> {
         ensures balances { Balances self.now.monitor.now.first (length self.now.monitor.now.row.cells)
             member.old.pass.history member.new.pass.history plan.pool plan.limit result }
     {
-        self.monitor
-            .balance(self.rt, member, plan.pool, plan.limit)
+        self.monitor.balance(self.rt, member, plan.pool, plan.limit)
     }
 
     /// Does a command; `None` is a line that is no command.
