@@ -4,9 +4,8 @@ ghost use Rattle.std.specs.Prelude.{IfSome};
 ghost use Rattle.monitor.specs.Members.{IsMemberOf};
 ghost use Rattle.monitor.specs.Followers.{Follows};
 
-use crate::tests::{FOUR_DEVICES, opened};
+use crate::tests::{FOUR_DEVICES, commit_now, opened};
 use crossbeam_utils::Backoff;
-use mapjson::read_change;
 use monitor::{Follower, Member, Monitor};
 use osdmap::{Pg, UpSet};
 use refusal::Refusal;
@@ -25,24 +24,7 @@ const MAX_DRAWS: u64 = 1_000_000;
 /// How often a follower looks.
 const MAX_LOOKS: u32 = 1_000_000;
 
-/// Commits the change of a text at the present epoch; or why it is refused.
-fn commit_now<R: Wait>(
-    rt: &R,
-    alloc: Global,
-    monitor: &Monitor,
-    member: &mut Member,
-    text: &str,
-) -> Result<(), Refusal>
-    requires { IsMemberOf monitor.now member.old }
-    ensures { IsMemberOf monitor.now member.new }
-{
-    let base = monitor.epoch(rt, member)?;
-    let (_, change) = read_change(alloc, text.as_bytes())?;
-    monitor.commit(rt, member, base, change)?;
-    Ok(())
-}
-
-/// The same, again where another change came first; whether it is accepted.
+/// Commits the change of a text at the present epoch, again where another change came first; whether it is accepted.
 fn commit<R: Wait>(
     rt: &R,
     alloc: Global,

@@ -8,6 +8,7 @@ use crate::playing::next;
 use crossbeam_utils::Backoff;
 use mapjson::{read_change, read_map};
 use monitor::{Look, Member, Monitor};
+use refusal::Refusal;
 use session::{Buffer, Desk, Gate, Open, SessionError, Sink, WriteFailed};
 use std::alloc::Global;
 use std::sync::Wait;
@@ -266,15 +267,21 @@ fn sessions_run_at_once(rt: HostRuntime) -> Result<(), Fail> {
 /// An OSD goes down.
 const DOWN: &str = r#"{"base":1,"down":[0]}"#;
 
-/// Commits this change at epoch 1; whether it is accepted.
-fn commit<R: Wait>(rt: &R, alloc: Global, monitor: &Monitor, member: &mut Member) -> bool
+/// Commits the change of a text at the present epoch; or why it is refused.
+pub fn commit_now<R: Wait>(
+    rt: &R,
+    alloc: Global,
+    monitor: &Monitor,
+    member: &mut Member,
+    text: &str,
+) -> Result<(), Refusal>
     requires { IsMemberOf monitor.now member.old }
     ensures { IsMemberOf monitor.now member.new }
 {
-    let Ok((base, change)) = read_change(alloc, DOWN.as_bytes()) else {
-        return false;
-    };
-    monitor.commit(rt, member, base, change).is_ok()
+    let base = monitor.epoch(rt, member)?;
+    let (_, change) = read_change(alloc, text.as_bytes())?;
+    monitor.commit(rt, member, base, change)?;
+    Ok(())
 }
 
 /// The epochs that two looks show which are held at the same time.
@@ -314,7 +321,7 @@ fn looks<R: Wait>(rt: &R, monitor: &Monitor, one: Member, other: Member) -> Opti
 /// The epochs of the looks of two members, after a commit of the one.
 fn looked<R: Wait>(rt: &R, alloc: Global) -> Option<(u64, u64)> {
     let (monitor, mut one, other) = opened(alloc, FOUR_DEVICES, 1024)?;
-    let _ = commit(rt, alloc, &monitor, &mut one);
+    let _ = commit_now(rt, alloc, &monitor, &mut one, DOWN);
     looks(rt, &monitor, one, other)
 }
 
