@@ -4,6 +4,7 @@ use Rattle.ticketlock.specs.declared.table.Words.{Words}
 use Rattle.ticketlock.specs.declared.read_guard.ReadGuard.{ReadGuard}
 use Rattle.ticketlock.specs.declared.write_guard.WriteGuard.{WriteGuard}
 use Rattle.ticketlock.specs.Standing.{IsAt}
+use Rattle.ticketlock.specs.Callers.{IsNewAt}
 use Rattle.ticketlock.specs.Guards.{first_of_read, first_of_write}
 use Rattle.osdmap.specs.Maps.{ClusterMap}
 use Rattle.osdmap.specs.Changes.{IsLawful}
@@ -40,9 +41,10 @@ pub record IsMemberOf (monitor : Monitored) (member : Member) : Type 0 where
   pub row : member.pass.row ≡ monitor.row
   pub lawful : IsLawful monitor.first member.pass.history
 
--- the member is one of this monitor that has seen nothing
+-- the member is one of this monitor that has seen nothing, and its seat has made no step
 abbrev pub IsNewMemberOf : Monitored → Member → Type 0
-IsNewMemberOf monitor member = IsMemberOf monitor member × (member.pass.history ≡ [])
+IsNewMemberOf monitor member =
+    IsMemberOf monitor member × (member.pass.history ≡ []) × IsSomeAnd member.seat (IsNewAt monitor.words)
 
 -- how often a seat of the monitor may draw
 abbrev pub draws_of : Monitored → ℕ
