@@ -365,8 +365,8 @@ impl PgTable {
         Ok(up)
     }
 
-    /// All that a change makes of the table of a map that does not refuse it; or `Memory` (30). It runs a rule for each
-    /// of the evaluations of the change, and for nothing else.
+    /// All that a change makes of the table of a map that does not refuse it; or `Memory` (30). Its work counts a rule
+    /// run for each of the evaluations of the change, and no other.
     pub fn prepare(&self, alloc: Global, map: &OsdMap, change: &Change) -> Result<Patch, Memory>
         requires table { IsTableOf self.now map.now.map }
         requires lawful { change_fault map.now.map change.now ≡ None }
