@@ -198,12 +198,7 @@ impl Rule {
     /// Places an input by the rule in a pool of `size` places, 1 to 10, as many as a pool may have. The one error is
     /// `Memory` (30): after it the result is open, and the run is not counted.
     #[tactic(auto, unfolding(crate::specs::Run::run_of))]
-    pub fn run(
-        &self,
-        placement: &Placement<'_>,
-        size: u8,
-        work: &mut Work,
-    ) -> Result<(), Memory>
+    pub fn run(&self, placement: &Placement<'_>, size: u8, work: &mut Work) -> Result<(), Memory>
         requires some { 1 ≤ size }
         requires few { size ≤ max_size }
         ensures placed { OnOk result (work.new.result ≡ run_of (world placement.now) self.now.steps size) }

@@ -1,9 +1,8 @@
 -- A map that was built has what its parts state, and holds together.
-use Rattle.std.proofs.Common.{cond, ◌≡◌, ◌∙◌, ℕ, ◌≤◌, Bool, true, false, not, ◌==◌, nat_lt, List, [], ◌∷◌, map, length, Option, Some, None, Result, pos, nat_abs, refl, sym, ap, inl, inr, arith, ◌⊎◌}
+use Rattle.std.proofs.Common.{cond, ◌≡◌, ◌∙◌, ℕ, ◌≤◌, Bool, true, false, not, ◌==◌, nat_lt, List, [], ◌∷◌, map, length, Option, Some, None, pos, nat_abs, refl, sym, ap, arith}
 use Rattle.std.specs.Prelude.{◌||◌, nat_le, int_le}
 use Rattle.std.specs.List.{list_all, range_with_len, All}
 use Rattle.std.specs.Option.{option_map, option_map_or}
-use Rattle.std.specs.Result.{IsErrAnd}
 use Rattle.std.proofs.lemmas.Bool.Decides.{nat_tests}
 use Rattle.std.proofs.lemmas.List.{length-map}
 use Rattle.std.proofs.lemmas.Int.{ints}
@@ -11,20 +10,14 @@ use Rattle.std.proofs.lemmas.List.Elements.{All-nil, All-cons}
 use Rattle.std.proofs.lemmas.List.Sorted.{length_permutation, IsPermutation-refl, All-permutation}
 use Rattle.std.proofs.lemmas.List.Folds.{list_all-map}
 use Rattle.std.proofs.lemmas.List.FromFn.{length-range_with_len}
-use Rattle.crush.specs.declared.bucket.Bucket.{Bucket}
-use Rattle.crush.specs.declared.step.Step.{Step}
-use Rattle.crush.specs.declared.step.Step.TheVariants as step
-use Rattle.crush.specs.WellFormed.{forest_ok, IsForest}
-use Rattle.crush.specs.Grammar.{takes_known}
+use Rattle.crush.specs.WellFormed.{forest_ok}
 use Rattle.crush.proofs.Sorted.{forest_ok-moved}
 use Rattle.stated.specs.declared.parts.MapParts.{MapParts}
-use Rattle.stated.specs.declared.parts.RulePart.{RulePart}
 use Rattle.stated.specs.declared.parts.PoolPart.{PoolPart}
 use Rattle.stated.specs.declared.parts.OsdPart.{OsdPart}
 use Rattle.stated.specs.declared.rules.NumberedRule.{NumberedRule}
 use Rattle.refusal.specs.declared.refused.Refusal.{Refusal}
 use Rattle.refusal.specs.declared.refused.Refusal.TheVariants.{BadLimit, BadForest, BadRule, BadPool, BadOsd, BadException}
-use Rattle.stated.specs.CrushMaps.{is_rule_over}
 use Rattle.osdmap.specs.Maps.{ClusterMap, has_rule, is_kind, is_presence, HoldsTogether}
 use Rattle.stated.specs.Parts.{is_between, has_between, bucket_fits, rule_fits, pool_fits, osd_fits, is_osd_id, pair_fits, exceptions_fit, head_fits, lists_fit, parts_fit, pool_of}
 use Rattle.stated.specs.Pools.{PoolFacts, IsWithinLimits}
@@ -32,11 +25,11 @@ use Rattle.keylist.specs.Keys.{is_distinct}
 use Rattle.osdmap.specs.Stated.{buckets_of, rules_ok, pool_ok, pools_ok, osd_ok, osds_ok, explicit_of, items_of, all_exceptions_ok, map_fault, listed, presence_in, weight_in, IsStated}
 use Rattle.refusal.specs.Outcomes.{refused_unless}
 use Rattle.keylist.specs.Order.{Rises}
-use Rattle.stated.specs.CrushMaps.{IsForestOf, rule_of, rules_fit, crush_fault, IsCrushMap, IsCrushOf}
+use Rattle.stated.specs.CrushMaps.{rule_of, rules_fit, crush_fault, IsCrushMap, IsCrushOf}
 use Rattle.osdmap.specs.Built.{pools_fit, osds_fit, state_of, rows_of, row_presence, row_weight}
 use Rattle.keylist.proofs.Tests.{and_first, and_second}
 use Rattle.stated.proofs.Within.{natural_between, pool_fits_each, pool_within}
-use Rattle.stated.proofs.Narrowed.{rule_id_fits, rule_limits, osd_weight_fits}
+use Rattle.stated.proofs.Narrowed.{osd_weight_fits}
 use Rattle.osdmap.proofs.PlacementLemmas.{found_passes}
 use Rattle.keylist.proofs.Distinct.{distinct-moved, rising_distinct, find-moved, list_all-moved}
 use Rattle.stated.proofs.Judged.{passed, refused}

@@ -1,5 +1,5 @@
 -- A list of which one entry after another is changed where it stands.
-use Rattle.std.proofs.Common.{◌≡◌, ◌∙◌, ℕ, suc, add-one, ◌+◌, ◌<◌, List, [], ◌∷◌, ◌++◌, map, take, drop, length, get_or, set, refl, sym, ap, arith}
+use Rattle.std.proofs.Common.{◌≡◌, ◌∙◌, ℕ, suc, add-one, ◌+◌, ◌<◌, List, [], ◌∷◌, map, take, drop, length, get_or, set, sym, ap, arith}
 use Rattle.std.proofs.lemmas.List.{get_or-drop, map-append, take_more, take_more_set, drop-set-lt}
 use Rattle.std.proofs.Math.Seq.{drop-cons}
 

@@ -1,26 +1,25 @@
 -- Pools that have grown: they keep their ids, kinds, rules and sizes, and have no fewer groups.
-use Rattle.std.proofs.Common.{◌≡◌, ◌∙◌, ℕ, ◌<◌, ◌≤◌, Bool, true, false, ◌&&◌, not, cond, List, [], ◌∷◌, map, length, reverse, Option, Some, None, IfSome, refl, sym, ap, arith, nat_lt, nat_le, ◌==◌, eqb, inl, inr}
+use Rattle.std.proofs.Common.{◌≡◌, ◌∙◌, ℕ, ◌<◌, ◌≤◌, Bool, true, false, List, [], ◌∷◌, map, reverse, Option, Some, None, refl, arith, nat_lt, ◌==◌, eqb, inl, inr}
 use mathlib.Core.Bool.{false≢true}
-use Rattle.std.specs.List.{All, list_all, find}
+use Rattle.std.specs.List.{All, list_all}
 use Rattle.std.specs.Option.{option_map, option_map_or}
 use Rattle.std.proofs.lemmas.Bool.{cases_Bool, eqb-true}
 use Rattle.std.proofs.lemmas.Bool.Decides.{nat_tests}
-use Rattle.std.proofs.lemmas.List.Elements.{All-nil, All-cons, All-head, All-tail}
-use Rattle.keylist.specs.Keys.{has_key, entry_at}
+use Rattle.std.proofs.lemmas.List.Elements.{All-cons, All-head, All-tail}
+use Rattle.keylist.specs.Keys.{entry_at}
 use Rattle.keylist.specs.Order.{IsRising}
 use Rattle.keylist.proofs.Counts.{find-place}
-use Rattle.keylist.proofs.Each.{list_all-at, list_all-agree}
+use Rattle.keylist.proofs.Each.{list_all-at}
 use Rattle.keylist.proofs.Distinct.{list_all-moved}
 use Rattle.keylist.proofs.KeyedOrder.{rising_head, rising_tail, rising_from}
 use Rattle.std.proofs.lemmas.List.Sorted.{IsPermutation-reverse, All-permutation}
-use Rattle.std.proofs.lemmas.List.Sums.{AllPass-from_list_all}
 use Rattle.stated.specs.declared.exception.Exception.{Exception}
 use Rattle.stated.specs.declared.pg.Pg.{Pg}
 use Rattle.stated.specs.declared.rules.NumberedRule.{NumberedRule}
-use Rattle.stated.specs.Exceptions.{has_pool, has_group, says_soundly, is_sound, is_exception, all_named}
+use Rattle.stated.specs.Exceptions.{has_group, says_soundly, is_sound, is_exception}
 use Rattle.stated.specs.Growth.{Growth, IsGrowth, grown, grown_to}
 use Rattle.stated.specs.Pools.{PoolFacts, IsWithinLimits}
-use Rattle.osdmap.specs.Maps.{has_rule, pool_at}
+use Rattle.osdmap.specs.Maps.{has_rule}
 use Rattle.osdmap.specs.Changes.{grows_from}
 
 -- a pool that has grown, by whether some growth is of it

@@ -1,6 +1,6 @@
 -- The map of a cluster as callers see it, and the look-ups in it. A map is finite: rules and pools by id, OSDs by
 -- number.
-use Rattle.std.specs.Prelude.{◌≡◌, length, ℕ, ◌==◌, nat_le, Bool, true, false, not, ◌&&◌, ◌||◌, List, Option, slice_get, slice_index, ◌≤◌}
+use Rattle.std.specs.Prelude.{◌≡◌, length, ℕ, ◌==◌, nat_le, Bool, true, false, not, ◌||◌, List, Option, slice_get, slice_index, ◌≤◌}
 use Rattle.std.specs.List.{find, list_all, All}
 use Rattle.std.specs.Option.{option_map, option_map_or}
 use Rattle.crush.specs.declared.bucket.Bucket.{Bucket}

@@ -1,5 +1,5 @@
 -- The map that parts state, or what is wrong with them.
-use Rattle.std.specs.Prelude.{◌≡◌, ℕ, ◌<◌, ◌==◌, Bool, false, not, ◌&&◌, ◌||◌, int_le, nat_lt, nat_abs, List, map, Option, Some, None, Result, MatchResult, ◌⊎◌, if◌then◌else◌}
+use Rattle.std.specs.Prelude.{◌≡◌, ℕ, ◌<◌, ◌==◌, Bool, false, not, ◌&&◌, ◌||◌, int_le, nat_lt, nat_abs, List, map, Option, Some, None, if◌then◌else◌}
 use Rattle.std.specs.List.{find, list_all, range_with_len, AllPairs}
 use Rattle.std.specs.List.Sorted.{IsPermutation}
 use Rattle.std.specs.Option.{option_map_or}
@@ -8,13 +8,12 @@ use Rattle.crush.specs.WellFormed.{forest_ok, IsDescending}
 use Rattle.crush.specs.Grammar.{rule_ok}
 use Rattle.stated.specs.declared.osd.Presence.{Presence}
 use Rattle.stated.specs.declared.parts.MapParts.{MapParts}
-use Rattle.stated.specs.declared.parts.RulePart.{RulePart}
 use Rattle.stated.specs.declared.parts.PoolPart.{PoolPart}
 use Rattle.stated.specs.declared.parts.OsdPart.{OsdPart}
 use Rattle.stated.specs.declared.rules.NumberedRule.{NumberedRule}
 use Rattle.refusal.specs.declared.refused.Refusal.{Refusal}
-use Rattle.refusal.specs.declared.refused.Refusal.TheVariants.{BadLimit, BadForest, BadRule, BadPool, BadOsd, BadException, Memory as OutOfMemory}
-use Rattle.stated.specs.Parts.{parts_fit, bucket_of, step_of, recipe_of, pool_of, exception_of, pair_of}
+use Rattle.refusal.specs.declared.refused.Refusal.TheVariants.{BadLimit, BadForest, BadRule, BadPool, BadOsd, BadException}
+use Rattle.stated.specs.Parts.{parts_fit, bucket_of, step_of, pool_of, exception_of, pair_of}
 use Rattle.stated.specs.declared.exception.Exception.{Exception}
 use Rattle.stated.specs.declared.exception.Pair.{Pair}
 use Rattle.stated.specs.Pools.{PoolFacts}

@@ -1,5 +1,5 @@
 -- The members of an object that have come, key by key, and the part that they make.
-use Rattle.std.specs.Prelude.{◌≡◌, List, ℕ, true, [], ◌∷◌, codes, Option, Some, None, if◌then◌else◌}
+use Rattle.std.specs.Prelude.{◌≡◌, true, codes, Option, Some, None, if◌then◌else◌}
 use Rattle.serde_json.specs.Data.{Members}
 use Rattle.serde_json.specs.Find.{as_bool}
 use Rattle.stated.specs.declared.parts.BucketPart.{BucketPart}

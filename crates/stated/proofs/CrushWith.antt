@@ -1,5 +1,5 @@
 -- A forest and rules over it are a CRUSH map.
-use Rattle.std.proofs.Common.{◌≡◌, ◌∙◌, ℕ, ◌≤◌, nat_le, true, ◌&&◌, List, [], ◌∷◌, map, length, IsTrue, refl, arith}
+use Rattle.std.proofs.Common.{◌≡◌, ◌∙◌, ◌≤◌, nat_le, true, ◌&&◌, List, [], ◌∷◌, length, refl, arith}
 use Rattle.std.specs.List.{All, list_all}
 use Rattle.std.proofs.lemmas.Bool.Decides.{nat_tests}
 use Rattle.std.proofs.lemmas.List.Elements.{All-head, All-tail}
@@ -7,7 +7,6 @@ use Rattle.std.proofs.lemmas.List.Sorted.{length_permutation}
 use Rattle.crush.specs.declared.bucket.Bucket.{Bucket}
 use Rattle.crush.specs.WellFormed.{IsForest}
 use Rattle.crush.specs.Grammar.{rule_limits_ok, rule_ok, IsLawful}
-use Rattle.keylist.specs.Keys.{is_distinct}
 use Rattle.keylist.specs.Order.{Rises}
 use Rattle.keylist.proofs.Distinct.{list_all-moved}
 use Rattle.keylist.proofs.Each.{all_both}

@@ -1,5 +1,5 @@
 -- A row of ten places with one more filled.
-use Rattle.std.proofs.Common.{◌≡◌, sym, ap, ◌∙◌, ℕ, zero, suc, ◌+◌, ◌-◌, ◌<◌, List, [], ◌∷◌, length, take, drop, set, refl, replicate, arith, drop-drop}
+use Rattle.std.proofs.Common.{◌≡◌, sym, ap, ◌∙◌, ℕ, zero, suc, ◌+◌, ◌-◌, ◌<◌, List, [], ◌∷◌, take, drop, set, refl, replicate, arith, drop-drop}
 use Rattle.std.proofs.lemmas.List.{length-set, drop-set-lt, drop-replicate}
 use Rattle.stated.specs.Shorts.{IsFilled}
 

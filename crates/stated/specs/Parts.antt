@@ -1,5 +1,5 @@
 -- The parts of a map as a text states them: their limits, what is wrong with them, and the values that they stand for.
-use Rattle.std.specs.Prelude.{ℕ, is_some, unwrap_or, ℤ, pos, negsuc, nat_abs, int_le, nat_le, Bool, true, false, not, ◌&&◌, List, length, map, Option, Some, None, if◌then◌else◌}
+use Rattle.std.specs.Prelude.{ℕ, is_some, unwrap_or, ℤ, pos, negsuc, nat_abs, int_le, nat_le, Bool, true, false, not, ◌&&◌, List, length, map, Option, Some, if◌then◌else◌}
 use Rattle.std.specs.List.{list_all}
 use Rattle.std.specs.Option.{option_map_or}
 use Rattle.crush.specs.declared.bucket.Item.{Item}

@@ -1,9 +1,9 @@
-use Rattle.std.proofs.Common.{◌≡◌, ◌∙◌, ap, not, rules, arith, ℕ}
+use Rattle.std.proofs.Common.{◌∙◌, ap, not, rules, arith, ℕ}
 use Rattle.std.specs.List.{fold, filter}
 use Rattle.keylist.specs.Keys.{has_key}
 use Rattle.keylist.specs.Puts.{put}
 use Rattle.keylist.proofs.KeyedOrder.{rising-filter}
-use Rattle.stated.specs.Exceptions.{place_of, key_of, stays, exceptions_after}
+use Rattle.stated.specs.Exceptions.{place_of, key_of, exceptions_after}
 use Rattle.osdmap.proofs.Leaving.{filter_twice}
 use Rattle.osdmap.proofs.in_place.change_exceptions.Goals as goal
 

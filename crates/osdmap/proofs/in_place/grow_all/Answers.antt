@@ -1,4 +1,4 @@
-use Rattle.std.proofs.Common.{◌≡◌, ◌<◌, length, arith}
+use Rattle.std.proofs.Common.{◌<◌, length, arith}
 use Rattle.std.proofs.Math.ListN.{length-set}
 use Rattle.stated.specs.Growth.{grown}
 use Rattle.osdmap.proofs.Growing.{grew_more, rest_same}

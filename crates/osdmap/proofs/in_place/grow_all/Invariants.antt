@@ -1,4 +1,4 @@
-use Rattle.std.proofs.Common.{◌≡◌, ◌++◌, map, take, drop, length}
+use Rattle.std.proofs.Common.{◌≡◌, map, take, drop, length}
 use Rattle.stated.specs.Growth.{grown}
 use Rattle.osdmap.proofs.in_place.grow_all.Given as goal
 

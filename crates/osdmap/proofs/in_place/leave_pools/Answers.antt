@@ -1,4 +1,4 @@
-use Rattle.std.proofs.Common.{not, ◌≡◌, rules, sym, ℕ}
+use Rattle.std.proofs.Common.{not, rules, ℕ}
 use Rattle.std.proofs.lemmas.Fn.{filter_same}
 use Rattle.keylist.specs.Keys.{has_key}
 use Rattle.osdmap.proofs.Leaving.{none_leave}

@@ -1,9 +1,7 @@
-use Rattle.std.proofs.Common.{◌≡◌, map, rules}
+use Rattle.std.proofs.Common.{rules}
 use Rattle.std.proofs.lemmas.Int.{to_z-of_z}
 use mir.Syntax.{w128}
 use mir.Val.{SFits}
-use Rattle.stated.specs.Parts.{step_of}
-use Rattle.stated.specs.CrushMaps.{rule_of}
 use Rattle.stated.proofs.Narrowed.{rule_id, rule_steps, rule_limits}
 use Rattle.stated.proofs.crush_map.rule_of.Goals as goal
 

@@ -9,7 +9,7 @@ use Rattle.osdmap.proofs.Accepted.{accepted}
 use Rattle.osdmap.proofs.AfterLemmas.{length-with_up}
 use Rattle.osdmap.proofs.Coming.{comes}
 use Rattle.osdmap.proofs.Named.{all_below}
-use Rattle.osdmap.proofs.Kept.{Changed, HoldsTogether-after, assembled, buckets-ready, rules-ready}
+use Rattle.osdmap.proofs.Kept.{HoldsTogether-after, assembled, buckets-ready, rules-ready}
 use Rattle.osdmap.proofs.map.OsdMap.change_to.Goals as goal
 
 pub change_pools-requires-clause-new : goal.change_pools-requires-clause-new

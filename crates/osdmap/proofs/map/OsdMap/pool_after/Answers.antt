@@ -1,6 +1,4 @@
-use Rattle.std.proofs.Common.{rules, ◌∙◌, sym, ap}
-use Rattle.std.specs.Option.{option_map}
-use Rattle.stated.specs.Growth.{grown}
+use Rattle.std.proofs.Common.{rules}
 use Rattle.osdmap.specs.Changes.{pools_there, pools_after}
 use Rattle.osdmap.proofs.Grown.{entry-grown}
 use Rattle.osdmap.proofs.map.OsdMap.pool_after.Goals as goal

@@ -1,8 +1,6 @@
-use Rattle.std.proofs.Common.{◌∙◌, map}
-use Rattle.stated.specs.Parts.{bucket_of}
 use Rattle.stated.specs.CrushMaps.{crush_fault, IsCrushOf}
 use Rattle.stated.proofs.Judged.{passed, stops}
-use Rattle.stated.proofs.CrushFits.{fault_forest, fault_rules, no_fault, is_crush_map}
+use Rattle.stated.proofs.CrushFits.{fault_rules, no_fault, is_crush_map}
 use Rattle.stated.proofs.crush_map.CrushMap.stated.Goals as goal
 
 pub returns-in_err-rules : goal.returns-in_err-rules
