@@ -3,11 +3,11 @@
 ghost use Rattle.std.specs.Prelude.{◌≡◌, codes};
 
 use refusal::Refusal;
-use std::error::Error;
 use std::fmt;
+use thiserror::Error;
 
 /// 32: the cell of the epoch did not take the incremental.
-#[derive(Clone, Copy, Debug, PartialEq, Eq)]
+#[derive(Clone, Copy, Debug, PartialEq, Eq, Error)]
 pub struct NotSealed;
 
 impl NotSealed {
@@ -35,8 +35,6 @@ impl fmt::Display for NotSealed {
         f.write_str(self.name())
     }
 }
-
-impl Error for NotSealed {}
 
 impl From<NotSealed> for Refusal {
     ghost use Rattle.std.specs.Prelude.{◌≡◌};

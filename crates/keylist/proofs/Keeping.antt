@@ -1,5 +1,5 @@
 -- A list from which entries are taken away from the front on: those that stay stand in front, the others are still to be looked at.
-use Rattle.std.proofs.Common.{◌≡◌, ◌∙◌, ℕ, suc, ◌+◌, ◌≤◌, ◌<◌, Bool, true, false, cond, List, [], ◌∷◌, ◌++◌, take, drop, length, set, get_or, refl, sym, ap, arith, add-one, append_assoc}
+use Rattle.std.proofs.Common.{◌≡◌, ◌∙◌, ℕ, zero, suc, Option, Some, slice_get, ◌+◌, ◌≤◌, ◌<◌, Bool, true, false, cond, List, [], ◌∷◌, ◌++◌, take, drop, length, set, get_or, refl, sym, ap, arith, add-one, append_assoc}
 use Rattle.std.proofs.Math.Seq.{drop-cons, drop-length}
 use Rattle.std.proofs.Math.ListN.{length-set}
 use Rattle.std.proofs.lemmas.List.{drop-set-lt, take_more_set, append-nil}
@@ -7,7 +7,9 @@ use Rattle.std.specs.List.Sorted.{IsNonDecreasingBy}
 use Rattle.keylist.specs.Order.{IsRising}
 use Rattle.keylist.specs.Walks.{rest_from, begins_at}
 use Rattle.keylist.proofs.KeyedOrder.{rising_tail}
-use Rattle.keylist.proofs.Walking.{staying, next_stays, rest_ascends}
+use Rattle.keylist.proofs.Walking.{staying, next_stays, none_below, rest_ascends}
+use Rattle.std.proofs.lemmas.Bool.{ne_eqb}
+use Rattle.std.proofs.lemmas.Option.{same_Some}
 
 -- so many stay of those before a place; the rest of the others is to be looked for from there on
 pub record Keeping {K G : Type 0} (own : K → ℕ) (key : G → ℕ) (whole list : List K) (rest : List G) (so_far at : ℕ) : Type 0 where
@@ -48,6 +50,35 @@ module _ {K G : Type 0} (own : K → ℕ) (key : G → ℕ) where
           order = rest_ascends key rest (own e) k.order;
         }
       ] whole_is
+
+  -- what rises goes on rising from a place on
+  rising_drop : (n : ℕ) (xs : List K) → IsRising own xs → IsRising own (drop n xs)
+  rising_drop zero xs rises = rises
+  rising_drop (suc n) [] rises = rises
+  rising_drop (suc n) (x ∷ xs) rises = rising_drop n xs (rising_tail own x xs rises)
+
+  -- those whose keys are below the first of the others stay
+  stay_below : (g : G) (gs : List G) (n : ℕ) (xs : List K) → IsNonDecreasingBy key (g ∷ gs) → ((k : ℕ) (d : K) → k < n → own (get_or xs k d) < key g)
+      → n ≤ length xs → take n xs ++ staying key own (g ∷ gs) (drop n xs) ≡ staying key own (g ∷ gs) xs
+  stay_below g gs zero xs up below within = refl
+  stay_below g gs (suc n) [] up below within = refl
+  stay_below g gs (suc n) (x ∷ xs) up below within =
+      let less : own x < key g = below 0 x (omega arith) in
+      rw (ne_eqb (key g) (own x) (λ same. omega arith), none_below key g gs (own x) up less)
+      (ap (λ es. x ∷ es) (stay_below g gs n xs up (λ k d low. below (suc k) d (omega arith)) (omega arith)))
+
+  -- so the walk may begin behind them
+  pub keeping_from : (list : List K) (gone : List G) (g : G) (start : ℕ) → slice_get gone 0 ≡ Some g → IsRising own list → IsNonDecreasingBy key gone → start ≤ length list
+      → ((k : ℕ) (d : K) → k < start → own (get_or list k d) < key g) → Keeping own key (staying key own gone list) list gone start start
+  keeping_from list [] g start first rises up within below = absurd (cc first)
+  keeping_from list (h ∷ gs) g start first rises up within below =
+      let same : h ≡ g = same_Some h g first in
+      record {
+        kept = stay_below h gs start list up (λ k d low. rw same (below k d low)) within;
+        within = omega arith;
+        rising = rising_drop start list rises;
+        order = up;
+      }
 
   -- at last those that stay stand in front
   pub keeping_last : (whole list : List K) (rest : List G) (kept at : ℕ) → Keeping own key whole list rest kept at → at ≡ length list → take kept list ≡ whole

@@ -91,6 +91,10 @@ module _ {X : Type 0} (key : X → ℕ) where
   has-sought (x ∷ xs) k (Ok i) within found rises = sym (list_any_at (λ y. key y == k) (x ∷ xs) i x within (eq-eqb _ _ (is_equal _ k (found x))))
   has-sought xs k (Err i) within found rises = sym (list_any_none (λ y. key y == k) xs (apart_from xs k i found rises))
 
+  -- what a binary search finds has the key
+  pub key-sought : (xs : List X) (k i : ℕ) (d : X) → IsBinarySearchResult (λ y. nat_cmp (key y) k) xs (Ok i) → key (get_or xs i d) ≡ k
+  key-sought xs k i d found = is_equal _ k (found d)
+
   pub entry-absent : (xs : List X) (k i : ℕ) → IsBinarySearchResult (λ y. nat_cmp (key y) k) xs (Err i) → IsRising key xs → entry_at key xs k ≡ None
   entry-absent xs k i found rises = find-none (λ y. key y == k) xs (apart_from xs k i found (rising_ascends key xs rises))
 

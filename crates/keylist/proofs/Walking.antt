@@ -1,10 +1,10 @@
 -- What a walk beside rising entries finds of others in ascending order.
-use Rattle.std.proofs.Common.{◌≡◌, ap, refl, arith, ℕ, zero, suc, ◌+◌, ◌<◌, ◌≤◌, Bool, true, false, not, cond, eqb, List, [], ◌∷◌, ◌++◌, length, get_or, drop, add-one, inl, inr}
-use Rattle.std.specs.Prelude.{nat_lt}
-use Rattle.std.specs.List.{filter, prefix_len, All}
+use Rattle.std.proofs.Common.{◌≡◌, ◌∙◌, sym, rules, ◌==◌, ap, refl, arith, ℕ, zero, suc, ◌+◌, ◌<◌, ◌≤◌, Bool, true, false, not, cond, eqb, eq-eqb, List, [], ◌∷◌, ◌++◌, length, get_or, drop, add-one, inl, inr}
+use Rattle.std.specs.Prelude.{nat_lt, ◌||◌}
+use Rattle.std.specs.List.{filter, prefix_len, list_any, All}
 use Rattle.std.specs.List.Sorted.{IsNonDecreasingBy}
 use Rattle.std.proofs.Math.Seq.{drop-cons}
-use Rattle.std.proofs.lemmas.Bool.{cases_Bool}
+use Rattle.std.proofs.lemmas.Bool.{cases_Bool, eqb-true}
 use Rattle.std.proofs.lemmas.Bool.Decides.{nat_tests}
 use Rattle.std.proofs.lemmas.List.Elements.{All-head, All-tail, All-weaker}
 use Rattle.std.proofs.lemmas.List.Sorted.{IsNonDecreasingBy-drop}
@@ -33,7 +33,7 @@ module _ {G : Type 0} (key : G → ℕ) where
   ascending_tail g gs up = IsNonDecreasingBy-drop key 1 (g ∷ gs) up
 
   -- no key is found below the first
-  none_below : (g : G) (gs : List G) (k : ℕ) → IsNonDecreasingBy key (g ∷ gs) → k < key g → has_key key gs k ≡ false
+  pub none_below : (g : G) (gs : List G) (k : ℕ) → IsNonDecreasingBy key (g ∷ gs) → k < key g → has_key key gs k ≡ false
   none_below g [] k up below = refl
   none_below g (h ∷ gs) k up below =
       let order : key g ≤ key h = up 0 1 g (omega arith) (omega arith) in
@@ -78,3 +78,29 @@ module _ {G : Type 0} (key : G → ℕ) where
         turn : (named : Bool) (rest : List K) → cond (not named) (e ∷ rest) rest ≡ cond named [] (e ∷ []) ++ rest
         turn true rest = refl
         turn false rest = refl
+
+-- what no element passes none passes that asks for more
+weaker_none : {G : Type 0} (p q : G → Bool) → ((g : G) → q g ≡ true → p g ≡ true) → (gs : List G) → list_any p gs ≡ false → list_any q gs ≡ false
+weaker_none p q gives [] none = refl
+weaker_none p q gives (g ∷ gs) none = elim (cases_Bool (p g)) [
+  | inl passes ↦ let both : true ≡ false = rw passes at none in cc
+  | inr fails ↦ elim (cases_Bool (q g)) [
+    | inl is ↦ let both : false ≡ true = sym fails ∙ gives g is in cc
+    | inr other ↦ rw other (weaker_none p q gives gs (rw fails at none))
+  ]
+]
+
+-- where no entry has the key of another, all stay
+pub all_stay : {G K : Type 0} (key : G → ℕ) (own : K → ℕ) (gs : List G) (es : List K) → list_any (λ g. has_key own es (key g)) gs ≡ false → staying key own gs es ≡ es
+all_stay key own gs [] none = refl
+all_stay key own gs (e ∷ es) none =
+    let apart = weaker_none (λ g. has_key own (e ∷ es) (key g)) (λ g. key g == own e) (λ g same. here (own e) (key g) (has_key own es (key g)) same) gs none in
+    let rest = weaker_none (λ g. has_key own (e ∷ es) (key g)) (λ g. has_key own es (key g)) (λ g there. behind (own e == key g) (has_key own es (key g)) there) gs none in
+    rw apart (ap (λ xs. e ∷ xs) (all_stay key own gs es rest))
+  where
+    here : (a b : ℕ) (c : Bool) → (b == a) ≡ true → ((a == b) || c) ≡ true
+    here a b c same = rw (eq-eqb a b (sym (eqb-true b a same))) refl
+
+    behind : (b c : Bool) → c ≡ true → (b || c) ≡ true
+    behind true c there = refl
+    behind false c there = there

@@ -44,7 +44,7 @@ pub fn last_of<K: Keyed>(entries: &[K], key: u64) -> Option<&K>
 }
 
 /// Whether some entry's key is that of one of the others, which are in ascending order.
-fn share_key<K: Keyed, L: Keyed>(some: &[K], others: &[L]) -> bool
+pub(crate) fn share_key<K: Keyed, L: Keyed>(some: &[K], others: &[L]) -> bool
     requires { IsNonDecreasingBy L.key_of others.now }
     ensures { result ≡ list_any (λ e. has_key L.key_of others.now (K.key_of e)) some.now }
 {

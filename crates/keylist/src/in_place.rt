@@ -1,6 +1,6 @@
 //! Lists with keys changed where they stand, in the room that they have.
 
-ghost use Rattle.std.specs.Prelude.{◌≡◌, ◌+◌, ◌≤◌, ◌<◌, [], not, cond, take, length, slice_set, vec_len, vec_capacity, MatchOption};
+ghost use Rattle.std.specs.Prelude.{◌≡◌, ◌+◌, ◌≤◌, ◌<◌, [], ℕ, not, cond, take, length, slice_index_or, slice_set, vec_len, vec_capacity, MatchOption};
 ghost use Rattle.std.specs.List.{fold, filter};
 ghost use Rattle.std.specs.List.Sorted.{IsNonDecreasingBy};
 ghost use Rattle.keylist.specs.Keys.{has_key};
@@ -8,8 +8,10 @@ ghost use Rattle.keylist.specs.Order.{IsRising};
 ghost use Rattle.keylist.specs.Puts.{put, ComesLast};
 ghost use Rattle.keylist.specs.Walks.{rest_from, begins_at};
 
+use crate::find::share_key;
 use crate::key::Keyed;
 use crate::merge::put_count;
+use crate::replace::replace_all;
 use std::cmp::Ordering;
 
 /// What is left of entries in ascending order from a key on.
@@ -44,7 +46,17 @@ fn keep<K: Keyed + Copy>(list: &mut Vec<K>, place: usize, entry: K, goes: bool) 
     place + 1
 }
 
-/// Takes away the entries whose keys others have, these in ascending order; one walk over the two. It takes no memory.
+/// How many entries, in ascending order of their keys, come before a key; by halving.
+fn count_below<K: Keyed>(list: &[K], key: u64) -> usize
+    requires { IsNonDecreasingBy K.key_of list.now }
+    ensures within { result ≤ length list.now }
+    ensures below { (k : ℕ) (d : K) → k < result → K.key_of (slice_index_or list.now k d) < key }
+{
+    list.partition_point(|entry| entry.key() < key)
+}
+
+/// Takes away the entries whose keys others have, these in ascending order; one walk over the two, from the first that
+/// can go on. Where none has such a key nothing is walked over, and it takes no memory.
 pub fn take_away<K: Keyed + Copy, G: Keyed>(list: &mut Vec<K>, gone: &[G])
     requires list { IsRising K.key_of list.old.items }
     requires gone { IsNonDecreasingBy G.key_of gone.now }
@@ -52,9 +64,16 @@ pub fn take_away<K: Keyed + Copy, G: Keyed>(list: &mut Vec<K>, gone: &[G])
     ensures fewer { vec_len list.new ≤ vec_len list.old }
     ensures room { vec_capacity list.new ≡ vec_capacity list.old }
 {
+    if !share_key(gone, list) {
+        return;
+    }
+    let Some(first) = gone.first() else {
+        return;
+    };
+    let start = count_below(list, first.key());
     let mut rest = gone;
-    let mut kept = 0;
-    for at in 0..list.len() {
+    let mut kept = start;
+    for at in start..list.len() {
         let entry = list[at];
         rest = from(rest, entry.key());
         kept = keep(list, kept, entry, begins_at(rest, entry.key()));
@@ -94,7 +113,8 @@ fn lengthen<K: Keyed + Copy>(list: &mut Vec<K>, len: usize, entry: K)
 }
 
 /// Puts the entries of a list with rising keys into another, each in place of one with its key. It takes no memory, as
-/// there is room, and moves no entry that stands before all that come.
+/// there is room, and moves only what stands behind a key that comes: where no key comes, each entry is put where the
+/// one with its key stands, which is found by halving.
 pub fn put_all<K: Keyed + Copy>(list: &mut Vec<K>, new: &[K])
     requires old { IsRising K.key_of list.old.items }
     requires new { IsRising K.key_of new.now }
@@ -109,9 +129,13 @@ pub fn put_all<K: Keyed + Copy>(list: &mut Vec<K>, new: &[K])
     let mut at = put_count(list, new);
     lengthen(list, at, *first);
     let mut news = new;
-    while let Some(last) = last_of_both(&list[..olds], news) {
+    while at > olds {
+        let Some(last) = last_of_both(&list[..olds], news) else {
+            unreachable!();
+        };
         at -= 1;
         list[at] = last.0;
         (olds, news) = (last.1, last.2);
     }
+    replace_all(list, olds, news);
 }

@@ -7,6 +7,7 @@ mod in_place;
 mod key;
 mod merge;
 mod order;
+mod replace;
 
 pub use entries::Entries;
 pub use find::{are_apart, entry_of, has, last_of};

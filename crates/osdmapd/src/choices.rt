@@ -1,5 +1,6 @@
 //! What a command line asks for.
 use std::alloc::AllocError;
+use thiserror::Error;
 
 /// What the command line asks for.
 #[derive(Debug, Drop)]
@@ -13,15 +14,19 @@ pub struct Options {
 }
 
 /// Why there are no options.
-#[derive(Debug, Drop)]
+#[derive(Debug, Drop, Error)]
 pub enum LineError {
     /// Help was asked for: its text.
+    #[error("{0}")]
     Help(String),
     /// The words are no command line: the parser's text.
+    #[error("{0}")]
     Usage(String),
     /// More scripts than can be run.
+    #[error("too many scripts")]
     TooMany,
     /// The parser found no memory.
+    #[error("memory")]
     Memory,
 }
 

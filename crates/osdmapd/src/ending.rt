@@ -4,9 +4,10 @@ use crate::choices::LineError;
 use crate::serving::Fault;
 use refusal::Refusal;
 use std::{fmt, io};
+use thiserror::Error;
 
 /// Why a run ends before all is done. Its text is what the run tells on standard error.
-#[derive(Debug, Drop)]
+#[derive(Debug, Drop, Error)]
 pub enum Ending<'a> {
     /// The words are no command line: the parser's text.
     Usage(&'a str),

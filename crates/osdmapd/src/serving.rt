@@ -18,15 +18,19 @@ use session::{Buffer, Sink, WriteFailed, write_whole};
 use std::alloc::AllocError;
 use std::sync::Wait;
 use std::thread::Threads;
+use thiserror::Error;
 
 /// Why nothing is served, or not all of it.
-#[derive(Clone, Copy, Debug, PartialEq, Eq)]
+#[derive(Clone, Copy, Debug, PartialEq, Eq, Error)]
 pub enum Fault {
     /// The map is refused.
+    #[error("map: {0}")]
     Map(Refusal),
     /// The sink has failed.
+    #[error("output")]
     Output,
     /// A growth was refused.
+    #[error("memory")]
     Memory,
 }
 

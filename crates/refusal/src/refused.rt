@@ -4,11 +4,11 @@ ghost use Rattle.std.specs.Prelude.{◌≡◌};
 
 use crate::memory::Memory;
 use std::alloc::{AllocError, AllocFailed};
-use std::error::Error;
 use std::fmt;
+use thiserror::Error;
 
 /// Why a text, a map, a change, a question or a line is refused. Each has a number and a name.
-#[derive(Clone, Copy, Debug, PartialEq, Eq)]
+#[derive(Clone, Copy, Debug, PartialEq, Eq, Error)]
 pub enum Refusal {
     /// 10: not UTF-8, not JSON, or nested deeper than 127.
     BadJson,
@@ -137,8 +137,6 @@ impl fmt::Display for Refusal {
         f.write_str(self.name())
     }
 }
-
-impl Error for Refusal {}
 
 impl From<Memory> for Refusal {
     ghost use Rattle.refusal.specs.declared.refused.Refusal.TheVariants.{Memory as OutOfMemory};

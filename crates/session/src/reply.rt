@@ -1,10 +1,11 @@
 //! What the commands of a script answer, and its line.
-ghost use Rattle.std.specs.Prelude.{◌≡◌, ◌++◌, OnOk};
+ghost use Rattle.std.specs.Prelude.{◌≡◌, ◌++◌, codes, decimal, OnOk};
 ghost use Rattle.std.specs.String.{string_bytes};
-ghost use Rattle.session.specs.Texts.{place_text, osd_text, list_text, set_text, groups_text, refusal_text, line_of};
+ghost use Rattle.session.specs.Texts.{place_text, osd_text, list_text, epoch_text, dump_text, set_text, groups_text, refusal_text, line_of};
 ghost use Rattle.session.specs.Replies.{up_word, epoch_word, dump_word, reply_text};
 ghost use Rattle.stated.specs.PgText.{group_text};
 
+use crate::number::{push_group, push_number};
 use osdmap::{Pg, UpSet};
 use refusal::Refusal;
 use std::alloc::AllocError;
@@ -99,7 +100,7 @@ fn push_osd(text: &mut String, osd: Option<u32>, word: &str) -> Result<(), Alloc
     ensures { OnOk result (string_bytes text.new ≡ string_bytes text.old ++ osd_text word.now osd) }
 {
     match osd {
-        Some(osd) => write!(text, "{osd}"),
+        Some(osd) => push_number(text, u64::from(osd)),
         None => text.push_str(word),
     }
 }
@@ -126,11 +127,52 @@ fn push_list(text: &mut String, groups: &[Pg]) -> Result<(), AllocError>
     let [first, others @ ..] = groups else {
         return Ok(());
     };
-    write!(text, "{first}")?;
+    push_group(text, *first)?;
     for group in others {
-        write!(text, ",{group}")?;
+        text.push_str(",")?;
+        push_group(text, *group)?;
     }
     Ok(())
+}
+
+/// Adds the first word of an answer and the epoch.
+fn push_word(text: &mut String, word: &str, epoch: u64) -> Result<(), AllocError>
+    ensures { OnOk result (string_bytes text.new ≡ string_bytes text.old ++ word.now ++ codes " " ++ decimal epoch) }
+{
+    text.push_str(word)?;
+    text.push_str(" ")?;
+    push_number(text, epoch)
+}
+
+/// Adds the line of an epoch.
+#[tactic(auto, unfolding(crate::specs::Texts::epoch_text))]
+fn push_epoch(text: &mut String, word: &str, epoch: u64) -> Result<(), AllocError>
+    ensures { OnOk result (string_bytes text.new ≡ string_bytes text.old ++ epoch_text word.now epoch) }
+{
+    push_word(text, word, epoch)?;
+    text.push_str("\n")
+}
+
+/// Adds the line of a map's text.
+#[tactic(auto, unfolding(crate::specs::Texts::dump_text))]
+fn push_dump(text: &mut String, word: &str, map: &str) -> Result<(), AllocError>
+    ensures { OnOk result (string_bytes text.new ≡ string_bytes text.old ++ dump_text word.now map.now) }
+{
+    text.push_str(word)?;
+    text.push_str(" ")?;
+    text.push_str(map)?;
+    text.push_str("\n")
+}
+
+/// Adds what stands before the places of a group's set.
+fn push_head(text: &mut String, word: &str, epoch: u64, pg: Pg) -> Result<(), AllocError>
+    ensures { OnOk result (string_bytes text.new ≡ string_bytes text.old
+        ++ (word.now ++ codes " " ++ decimal epoch ++ codes " " ++ group_text pg ++ codes " [")) }
+{
+    push_word(text, word, epoch)?;
+    text.push_str(" ")?;
+    push_group(text, pg)?;
+    text.push_str(" [")
 }
 
 /// Adds the line of a group's set.
@@ -144,7 +186,7 @@ fn push_set(
 ) -> Result<(), AllocError>
     ensures { OnOk result (string_bytes text.new ≡ string_bytes text.old ++ set_text word.now epoch pg set.now) }
 {
-    write!(text, "{word} {epoch} {pg} [")?;
+    push_head(text, word, epoch, pg)?;
     push_places(text, set.places())?;
     text.push_str("] ")?;
     push_osd(text, set.primary(), "-1")?;
@@ -175,7 +217,7 @@ fn push_refusal(text: &mut String, refusal: Refusal) -> Result<(), AllocError>
 
 impl Reply {
     /// Puts the reply's line behind a text. The one error is out of memory.
-    #[tactic(auto, unfolding(crate::specs::Texts::count_text, crate::specs::Texts::epoch_text, crate::specs::Texts::dump_text, crate::specs::Texts::ok_text, crate::specs::Texts::moved_text))]
+    #[tactic(auto, unfolding(crate::specs::Texts::count_text, crate::specs::Texts::ok_text, crate::specs::Texts::moved_text))]
     fn push_to(&self, text: &mut String) -> Result<(), AllocError>
         ensures { OnOk result (string_bytes text.new ≡ string_bytes text.old ++ reply_text self.now) }
     {
@@ -183,8 +225,8 @@ impl Reply {
             Reply::Up { by, epoch, pg, set } => push_set(text, by.up_word(), *epoch, *pg, set),
             Reply::Count { epoch, osd, count } => writeln!(text, "count {epoch} {osd} {count}"),
             Reply::Groups { epoch, osd, groups } => push_groups(text, *epoch, *osd, groups),
-            Reply::Epoch { by, epoch } => writeln!(text, "{} {epoch}", by.epoch_word()),
-            Reply::Dump { by, map } => writeln!(text, "{} {map}", by.dump_word()),
+            Reply::Epoch { by, epoch } => push_epoch(text, by.epoch_word(), *epoch),
+            Reply::Dump { by, map } => push_dump(text, by.dump_word(), map),
             Reply::Changed { epoch, evals } => writeln!(text, "ok {epoch} evals {evals}"),
             Reply::Moved { moves, epoch } => writeln!(text, "moved {moves} epoch {epoch}"),
         }

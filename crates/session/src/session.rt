@@ -13,15 +13,19 @@ use crate::sink::{Sink, WriteFailed, write_whole};
 use monitor::{Follower, Member};
 use refusal::Refusal;
 use std::sync::Wait;
+use thiserror::Error;
 
 /// Why a session stops before its script ends.
-#[derive(Clone, Copy, Debug, PartialEq, Eq)]
+#[derive(Clone, Copy, Debug, PartialEq, Eq, Error)]
 pub enum SessionError {
     /// The sink has failed.
+    #[error("the sink has failed")]
     Write,
     /// The text of an answer found no memory.
+    #[error("the text of an answer found no memory")]
     Memory,
     /// The gate did not let a line through.
+    #[error("the gate did not let a line through")]
     Held,
 }
 

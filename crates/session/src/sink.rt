@@ -3,9 +3,11 @@ ghost use Rattle.std.specs.Prelude.{◌≡◌, ◌++◌, ℕ, List, false, OnOk,
 ghost use Rattle.session.specs.Sinks.{HasPut};
 
 use std::alloc::Global;
+use thiserror::Error;
 
 /// A write that failed.
-#[derive(Clone, Copy, Debug, PartialEq, Eq)]
+#[derive(Clone, Copy, Debug, PartialEq, Eq, Error)]
+#[error("the write failed")]
 pub struct WriteFailed;
 
 /// Takes the bytes of answers.

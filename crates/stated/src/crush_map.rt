@@ -24,10 +24,11 @@ use refusal::{Memory, Refusal};
 use std::alloc::Global;
 use std::marker::Model;
 
-/// A CRUSH map: a forest, and 1 to 32 rules over it by id upwards (Ceph, CrushWrapper.h).
+/// A CRUSH map: a forest, and 1 to 32 rules over it by id upwards (Ceph, CrushWrapper.h). The forest, whose table of
+/// parents has 3 KB, stands apart, so that a change without one is moved and kept at little cost.
 #[derive(Debug, Drop)]
 pub struct CrushMap {
-    forest: Forest,
+    forest: Box<Forest>,
     rules: Vec<NumberedRule>,
 }
 
@@ -36,9 +37,9 @@ impl Model for CrushMap {
 
     ghost Value = { CrushFacts };
 
-    ghost view = { λ c. record { buckets = c.forest; rules = c.rules.items } };
+    ghost view = { λ c. record { buckets = c.forest.value; rules = c.rules.items } };
 
-    ghost invariant = { λ c. IsCrushMap (record { buckets = c.forest; rules = c.rules.items }) };
+    ghost invariant = { λ c. IsCrushMap (record { buckets = c.forest.value; rules = c.rules.items }) };
 }
 
 /// The forest that parts within the limits state: `BadForest` (13) where they are not well formed.
@@ -189,13 +190,17 @@ impl CrushMap {
     {
         let forest = forest_of(alloc, buckets, max_osd)?;
         let rules = rules_of(alloc, rules, &forest)?;
-        Ok(CrushMap { forest, rules })
+        let kept = Box::new(alloc, forest)?;
+        Ok(CrushMap {
+            forest: kept,
+            rules,
+        })
     }
 
     /// The CRUSH map of a forest and of rules over it: `BadLimit` (12) where there are none or more than 32, or an id
     /// is above 255; else `BadRule` (14) where an id stands twice, or a rule takes a bucket that the forest has not;
     /// `Memory` (30).
-    pub fn new(forest: Forest, rules: Vec<NumberedRule>) -> Result<CrushMap, Refusal>
+    pub fn new(alloc: Global, forest: Forest, rules: Vec<NumberedRule>) -> Result<CrushMap, Refusal>
         ensures { Makes result (rules_fault forest rules.items) (IsCrushWith forest rules.items) }
     {
         if !rule_ids_fit(&rules) {
@@ -203,7 +208,11 @@ impl CrushMap {
         }
         are_lawful(&rules);
         let rules = rules_over(rules, &forest)?;
-        Ok(CrushMap { forest, rules })
+        let kept = Box::new(alloc, forest)?;
+        Ok(CrushMap {
+            forest: kept,
+            rules,
+        })
     }
 
     /// The forest.
@@ -235,7 +244,7 @@ impl CrushMap {
     pub fn copy(&self, alloc: Global) -> Result<CrushMap, Memory>
         ensures { IfOk result (λ copy. copy ≡ self.now) }
     {
-        let forest = self.forest.copy(alloc)?;
+        let forest = Box::new(alloc, self.forest.copy(alloc)?)?;
         let rules = copied(alloc, &self.rules)?;
         Ok(CrushMap { forest, rules })
     }

@@ -3,9 +3,10 @@ ghost use Rattle.std.specs.Prelude.{◌≡◌};
 
 use std::alloc::AllocError;
 use std::fmt;
+use thiserror::Error;
 
 /// Why no lock is made. Each has a number and a name.
-#[derive(Clone, Copy, Debug, PartialEq, Eq)]
+#[derive(Clone, Copy, Debug, PartialEq, Eq, Error)]
 pub enum LockError {
     /// 12: the number of seats is outside 1 to 1,024, or the limit of draws outside 1 to 2^40.
     BadLimit,

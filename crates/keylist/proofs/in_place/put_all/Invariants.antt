@@ -5,11 +5,11 @@ use Rattle.keylist.proofs.Merging.{Merging}
 use Rattle.keylist.proofs.in_place.put_all.Given as goal
 
 -- what is in front and what is left to be put make, with what stands behind, all of it
-abbrev pub invariant-loop-last : goal.invariant-loop-last
-invariant-loop-last g l = record {
+abbrev pub invariant-loop-olds : goal.invariant-loop-olds
+invariant-loop-olds g l = record {
   merging : Merging g.K.Keyed.key_of (fold (put g.K.Keyed.key_of) l.fn.list.items l.fn.new) l.list.items l.olds l.at l.news;
   room : vec_capacity l.list ≡ vec_capacity l.fn.list;
 }
 
-abbrev pub decreases-loop-last : goal.decreases-loop-last
-decreases-loop-last g l = l.olds + length l.news
+abbrev pub decreases-loop-olds : goal.decreases-loop-olds
+decreases-loop-olds g l = l.olds + length l.news

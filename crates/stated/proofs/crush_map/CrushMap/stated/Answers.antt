@@ -11,10 +11,11 @@ returns-in_err-rules c =
 
 pub invariant_of-result : goal.invariant_of-result
 invariant_of-result c =
-    is_crush_map c.in_ok-forest.forest c.args.rules.now c.in_ok-rules.rules.items (rw c.forest.view_is at c.forest.invariant) c.requires.rules_fit c.requires.rule_count (passed _ _ c.in_ok-rules.ensures.0) c.in_ok-rules.ensures.1
+    rw c.in_ok-kept.ensures.ok
+    (is_crush_map c.in_ok-forest.forest c.args.rules.now c.in_ok-rules.rules.items (rw c.forest.view_is at c.forest.invariant) c.requires.rules_fit c.requires.rule_count (passed _ _ c.in_ok-rules.ensures.0) c.in_ok-rules.ensures.1)
 
 pub returns : goal.returns
 returns c = (
   no_fault c.args.buckets.now c.args.rules.now c.args.max_osd c.in_ok-forest.forest c.in_ok-forest.ensures.0 c.in_ok-forest.ensures.1 c.in_ok-rules.ensures.0,
-  record { buckets = c.in_ok-forest.ensures.1; rules = c.in_ok-rules.ensures.1 },
+  record { buckets = rw c.in_ok-kept.ensures.ok c.in_ok-forest.ensures.1; rules = c.in_ok-rules.ensures.1 },
 )
