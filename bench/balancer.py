@@ -8,10 +8,8 @@ commit. The greatest deviation is how many groups an OSD has more or fewer than 
 part of the gate.
 """
 
-import sys
-
 from maps import KINDS, few_hosts, levels
-from running import heading, in_folder, output, seconds, table
+from running import heading, in_folder, output, program, seconds, table
 
 LIMIT = 1024
 
@@ -47,9 +45,10 @@ def rows(runs):
 
 
 def main():
+    path = program(__doc__)
     heading(f"Balancing one pool of size 3, at most {LIMIT:,} moves")
     columns = ["map", "moves", "time, ms", "goal", "a move, µs", "greatest deviation before", "after"]
-    in_folder(sys.argv[1], lambda runs: table(columns, rows(runs)))
+    in_folder(path, lambda runs: table(columns, rows(runs)))
 
 
 if __name__ == "__main__":

@@ -19,7 +19,7 @@ import sys
 
 import ceph
 from maps import KINDS, SHAPES
-from running import HAS_VALGRIND, heading, in_folder, instructions, output, seconds, table
+from running import HAS_VALGRIND, heading, in_folder, instructions, output, program, seconds, table
 
 FEW, MANY = 1024, 4096
 MAPPED = "*Placing::mapped*"
@@ -98,10 +98,11 @@ def rows(runs):
 
 
 def main():
+    path = program(__doc__)
     heading(f"A placement of size 3, in {'instructions' if HAS_VALGRIND else 'microseconds'}")
     tool = ["`osdmaptool`", "to `osdmaptool`"] if ceph.is_installed() else []
     columns = ["map", "program", "of it the mapped set", "plain C", "to plain C", "goal", "the set to plain C"] + tool
-    in_folder(sys.argv[1], lambda runs: table(columns, rows(runs)))
+    in_folder(path, lambda runs: table(columns, rows(runs)))
     if not tool:
         print("\nNot beside Ceph: no `osdmaptool` and `crushtool` here.")
 

@@ -8,9 +8,7 @@ the text, what was read of it, and the two or three million of the program itsel
 """
 
 import json
-import sys
-
-from running import greatest, heading, in_folder, table
+from running import greatest, heading, in_folder, program, table
 
 GOAL = 12
 GROUPS = [f"{pool}.{number:x}" for pool in range(1, 33) for number in range(4096)]
@@ -50,8 +48,9 @@ def rows(runs):
 
 
 def main():
+    path = program(__doc__)
     heading("Memory of reading a map")
-    table(["map", "its text, MB", "the most at once, MB", "to the text", "goal"], in_folder(sys.argv[1], lambda runs: list(rows(runs))))
+    table(["map", "its text, MB", "the most at once, MB", "to the text", "goal"], in_folder(path, lambda runs: list(rows(runs))))
 
 
 if __name__ == "__main__":

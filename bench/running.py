@@ -35,15 +35,43 @@ class Folder:
         return [self.program, "--journal", "65536", stated] + [self.file(script) for script in scripts]
 
 
+def program(usage):
+    """The path of the program, which is the first word of the command line; without one the run ends, and says how it is used."""
+    if len(sys.argv) < 2 or sys.argv[1].startswith("-"):
+        sys.exit(usage.strip())
+    if not os.access(sys.argv[1], os.X_OK) or os.path.isdir(sys.argv[1]):
+        sys.exit(f"{sys.argv[1]} is no program: `make run` proves and builds crates/osdmapd/out/osdmapd")
+    return sys.argv[1]
+
+
 def in_folder(program, work):
     """What some work answers that is given a folder for runs of a program."""
     with tempfile.TemporaryDirectory() as folder:
         return work(Folder(program, folder))
 
 
+# The seconds that one run may take.
+LIMIT = 60
+
+
+def within(measure):
+    """What is measured, or that a run did not end in time."""
+    try:
+        return measure()
+    except subprocess.TimeoutExpired:
+        return f"above {LIMIT} s"
+
+
+def judged(value, goal):
+    """Whether what was measured meets its goal, where it has one."""
+    if goal in ("", None):
+        return ""
+    return "met" if not isinstance(value, str) and value <= float(goal) else "missed"
+
+
 def output(words):
     """What a run puts out, by lines, without the heading of its one session."""
-    return subprocess.run(words, stdout=subprocess.PIPE, text=True, check=True).stdout.splitlines()[1:]
+    return subprocess.run(words, stdout=subprocess.PIPE, text=True, check=True, timeout=LIMIT).stdout.splitlines()[1:]
 
 
 def seconds(words, runs=5):
@@ -51,7 +79,7 @@ def seconds(words, runs=5):
     times = []
     for _ in range(runs):
         begin = time.perf_counter()
-        subprocess.run(words, stdout=subprocess.DEVNULL, check=True)
+        subprocess.run(words, stdout=subprocess.DEVNULL, check=True, timeout=LIMIT)
         times.append(time.perf_counter() - begin)
     return min(times)
 
@@ -60,7 +88,7 @@ def instructions(words, inside=None):
     """The instructions of a run; where a pattern is given, those of the functions of such names and of all that they call."""
     inside = [f"--toggle-collect={inside}"] if inside else []
     done = subprocess.run(["valgrind", "--tool=callgrind", "--callgrind-out-file=/dev/null"] + inside + words,
-                          stdout=subprocess.DEVNULL, stderr=subprocess.PIPE, text=True, check=True)
+                          stdout=subprocess.DEVNULL, stderr=subprocess.PIPE, text=True, check=True, timeout=20 * LIMIT)
     return int(re.search(r"Collected : (\d+)", done.stderr).group(1))
 
 
@@ -89,7 +117,7 @@ ASKED = "import resource, subprocess, sys; subprocess.run(sys.argv[1:], stdout=s
 def greatest(words):
     """The most bytes that a run had in memory at once, however it ends. A small process asks, since the system counts with a run what its
     parent held."""
-    return int(subprocess.run([sys.executable, "-c", ASKED] + words, stdout=subprocess.PIPE, check=True).stdout) * 1024
+    return int(subprocess.run([sys.executable, "-c", ASKED] + words, stdout=subprocess.PIPE, check=True, timeout=LIMIT).stdout) * 1024
 
 
 def heading(text):

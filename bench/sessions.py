@@ -6,23 +6,26 @@
 *Look-ups* are `up` lines over one pool of 4,096 groups on 64 OSDs in 8 hosts; an empty script's time is taken off, and `epoch` lines show what a line costs
 that asks for nothing but the turn at the lock. *Changes* put one OSD down and up. A script cannot read an answer, so each of several sessions has a line
 for each base in turn: whichever comes first at an epoch makes the change, the others are refused as stale and try at the next one, as a client does that
-takes the epoch from the refusal. *Handed on* is the other extreme: each session waits for the epoch before its own, so that every change is another
+takes the epoch from the refusal. *Crowds* are the same number of look-ups by more sessions than there are processors: all of them on two processors beside
+one session alone on one; a run that does not end in time says so. *Handed on* is the other extreme: each session waits for the epoch before its own, so that every change is another
 session's turn. The *soak* plays 64 sessions of 1,000 lines over 32 pools, and then all their answers again by one session (tests/soak.py); its files stay in
 FOLDER if one is given. It is no part of the gate.
 """
 
 import os
 import pathlib
+import shutil
 import sys
 
 from maps import few_hosts
-from running import heading, in_folder, output, seconds, table, watched
+from running import heading, in_folder, output, program, seconds, table, watched, within
 
 sys.path.insert(0, os.path.join(os.path.dirname(os.path.dirname(os.path.abspath(__file__))), "tests"))
 import soak  # noqa: E402
 
 GROUPS, FIRST = 4096, 100_000
 LOOKS, CHANGES, TURNS = 500_000, 20_000, 2_000
+CROWD, CROWD_GOAL = 64_000, 1.3
 SEEDS = 3
 
 
@@ -60,6 +63,22 @@ def look_rows(runs, stated):
         yield [str(sessions), sessions / by_up, f"{alone / by_up * sessions:.2f}", by_up * 1e9, by_epoch * 1e9, (by_up - by_epoch) * 1e9]
 
 
+def crowd_rows(runs, stated):
+    """The same look-ups by 4, 16 and 64 sessions on two processors, to one session alone on one."""
+    def rate(sessions, processors):
+        text = "".join(f"up 1.{line % GROUPS:x}\n" for line in range(CROWD // sessions))
+        pinned = ["taskset", "-c", processors]
+        words = [pinned + runs.words(stated, *[script] * sessions) for script in (text, "")]
+        return CROWD / (seconds(words[0], 3) - seconds(words[1], 3))
+
+    alone = rate(1, "0")
+    for sessions in (4, 16, 64):
+        found = within(lambda: rate(sessions, "0,1"))
+        ratio = found if isinstance(found, str) else found / alone
+        met = "missed" if isinstance(ratio, str) or ratio < CROWD_GOAL else "met"
+        yield [str(sessions), found, ratio, str(CROWD_GOAL), met]
+
+
 def change_rows(runs, stated):
     """Changes of 1 and 4 sessions."""
     for name, form, count in (("each base in turn", in_turn, CHANGES), ("handed on", handed_on, TURNS)):
@@ -88,19 +107,23 @@ def soak_row(runs, seed):
 
 
 def main():
+    path = program(__doc__)
     def work(runs):
         runs.folder = sys.argv[2] if len(sys.argv) > 2 else runs.folder
         os.makedirs(runs.folder, exist_ok=True)
         stated = runs.map(few_hosts("list", GROUPS))
         heading("Look-ups of sessions side by side")
         table(["sessions", "`up` lines a second", "to one session", "an `up` line, ns", "an `epoch` line, ns", "beyond it, ns (goal 250)"], look_rows(runs, stated))
+        if shutil.which("taskset"):
+            heading("Crowds: 64,000 look-ups by more sessions than processors")
+            table(["sessions on two processors", "`up` lines a second", "to one session on one", "goal", ""], crowd_rows(runs, stated))
         heading("Changes: one OSD down and up, over 4,096 groups")
         table(["form", "sessions", "made", "refused as stale", "made a second", "to one session"], change_rows(runs, stated))
         heading("Soak: 64 sessions of 1,000 lines over 32 pools")
         table(["seed", "lines", "changes made", "refused as stale", "answers compared", "differences", "peak memory, MiB"],
               (soak_row(runs, seed) for seed in range(1, SEEDS + 1)))
 
-    in_folder(sys.argv[1], work)
+    in_folder(path, work)
 
 
 if __name__ == "__main__":

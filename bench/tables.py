@@ -12,7 +12,7 @@ same lines refused as stale, which are read and turned down: so it is what the c
 import sys
 
 from maps import KINDS, levels
-from running import heading, in_folder, output, peak, seconds, table
+from running import heading, in_folder, output, peak, program, seconds, table
 
 POOLS, GROUPS, FEW = 32, 4096, 1024
 FIRST, STALE = 100_000, 900_000
@@ -70,8 +70,9 @@ def column(runs, kind):
 
 
 def main():
+    path = program(__doc__)
     heading("The table: 32 pools of 4,096 groups of size 3 over 1,024 OSDs in 511 buckets")
-    columns = in_folder(sys.argv[1], lambda runs: [column(runs, kind) for kind in KINDS])
+    columns = in_folder(path, lambda runs: [column(runs, kind) for kind in KINDS])
     table(["what"] + [f"{kind} buckets" for kind in KINDS] + ["goal"], ([name, *cells, goal] for (name, goal), *cells in zip(ROWS, *columns)))
 
 
