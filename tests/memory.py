@@ -4,6 +4,7 @@
 
 A run with a growth refused ends with status 4, `memory` and nothing put out; or it puts out what a run without refusals
 does, of a script in which the line that answers `err 30 Memory` is left out. The last run is the first without a refusal.
+In a second round each line that may find no memory stands twice, so that after a refusal the same line has its exact answer.
 """
 
 import os
@@ -18,6 +19,7 @@ HERE = pathlib.Path(__file__).resolve().parent
 EXAMPLES = HERE.parent / "examples"
 REFUSED = b"err 30 Memory\n"
 SECONDS = 60
+TWICE = (b"change ", b"balance ", b"groups ", b"follow", b"dump")
 
 
 def refuser(folder):
@@ -32,10 +34,13 @@ def refuser(folder):
 class Example:
     """An example, and what a run of it may put out."""
 
-    def __init__(self, command, library, example, folder):
+    def __init__(self, command, library, example, folder, twice=False):
         self.command, self.library, self.example, self.folder = command, library, example, pathlib.Path(folder)
-        self.lines = (example / "script.txt").read_bytes().splitlines(keepends=True)
-        self.whole = (example / "answers.txt").read_bytes()
+        lines = (example / "script.txt").read_bytes().splitlines(keepends=True)
+        self.lines = [line for own in lines for line in [own] * (2 if twice and own.startswith(TWICE) else 1)]
+        self.script = self.folder / "script"
+        self.script.write_bytes(b"".join(self.lines))
+        self.whole = self.run(self.script)[0].stdout if twice else (example / "answers.txt").read_bytes()
         self.without = [self.left_out(place) for place in range(len(self.lines))]
 
     def run(self, script, refused=None):
@@ -60,7 +65,7 @@ class Example:
 
     def difference(self, number):
         """What is wrong with the run in which a growth is refused, or None; and whether it came to that growth."""
-        done, came = self.run(self.example / "script.txt", number)
+        done, came = self.run(self.script, number)
         got = (done.returncode, done.stdout, done.stderr)
         if got == (0, self.whole, b"") or (came and got == (4, b"", b"memory\n")):
             return None, came
@@ -91,9 +96,11 @@ def sweeps(command, pool):
             return None
         found = []
         for script in sorted(EXAMPLES.rglob("script.txt")):
-            own = pathlib.Path(folder) / script.parent.name
-            own.mkdir()
-            found.append((script.parent.name, *sweep(Example(command, library, script.parent, own), pool)))
+            for twice in (False, True):
+                name = script.parent.name + (", lines twice" if twice else "")
+                own = pathlib.Path(folder) / name
+                own.mkdir()
+                found.append((name, *sweep(Example(command, library, script.parent, own, twice), pool)))
         return found
 
 

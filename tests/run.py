@@ -1,7 +1,7 @@
 #!/usr/bin/env python3
 """Runs the built program over the tables beside this file and compares all that it puts out, byte by byte.
 
-    tests/run.py [--total] [--only TEXT] PROGRAM
+    tests/run.py [--total] [--table NAME] [--only TEXT] PROGRAM
 
 A table is a JSON file of rows. A row has a name, a map (one device where it has none), a script (`epoch` where it has
 none), and the answers, or by which name the map is refused. A map is a name of maps.json; or of such a map with values
@@ -15,13 +15,14 @@ a text, or a change as an object. Where a row stands for many runs, or for many 
 have their answers beside them. `plans` and `balanced` are plans of a balancer reckoned apart (plans.py, balanced.py), `soak`
 many sessions whose answers must be those of one history (soak.py), `patched` tables that random changes led to beside tables
 built anew (anew.py), and `apart` holds what reckons apart against Ceph's placements and the kept answers, and the kept picture
-against its numbers. At the end each growth of the examples' runs is refused in turn (memory.py).
+against its numbers. `clusters` are the tools over clusters of Ceph's (clusters.py). At the end each growth of the examples' runs is refused in turn (memory.py).
 """
 
 import argparse
 import json
 import os
 import pathlib
+import shlex
 import subprocess
 import sys
 import tempfile
@@ -29,6 +30,8 @@ from concurrent.futures import ThreadPoolExecutor, wait
 
 import anew
 import balanced
+import clusters
+import faulty
 import memory
 import model
 import soak
@@ -39,7 +42,7 @@ sys.path.insert(0, str(HERE.parent / "tools"))
 import chart  # noqa: E402
 
 TABLES = ["worked", "placements", "changes", "growth", "limits", "texts", "sessions", "balance", "plans", "balanced", "soak", "program", "examples",
-          "apart", "maxima", "patched"]
+          "apart", "maxima", "patched", "clusters"]
 SECONDS = 300
 
 
@@ -216,8 +219,8 @@ def differences(run, command):
     if isinstance(run, Check):
         try:
             return run.work(command)
-        except subprocess.SubprocessError as fault:
-            return [str(fault)[:300]]
+        except Exception as fault:  # An answer that a check cannot read is a failed row, and not the end of the run.
+            return [f"{type(fault).__name__}: {fault}"[:300]]
     with tempfile.TemporaryDirectory() as folder:
         for name, data in run.files.items():
             path = pathlib.Path(folder) / name
@@ -388,6 +391,7 @@ def maxima():
 
     yield Run("every maximum at once", {"map": written(cluster), "script": "\n".join(script) + "\n"},
               "\n".join(answers) + "\n", follow=read_back)
+    yield from greatest_answers()
     one, times = written(MAPS["one device"]), 150_000
     yield Run("a script of a megabyte", {"map": one, "script": "up 1.0\n" * times},
               "session 1\n" + "up 1 1.0 [0] 0\n" * times)
@@ -398,6 +402,44 @@ def maxima():
     long_lines = f'change{" " * 1_000_000}{{"base":1}}\n{"x" * 1_000_000}\nepoch'
     yield Run("lines of a megabyte", {"map": one, "script": long_lines},
               "session 1\nok 2 evals 0\nerr 33 BadCommand\nepoch 2\n")
+
+
+def of_one_device(pools, groups, size=1):
+    """The map of one device with so many pools of so many groups."""
+    one = MAPS["one device"]
+    return dict(one, pools=[dict(one["pools"][0], id=pool, pg_num=groups, pgp_num=groups, size=size) for pool in pools])
+
+
+def crowded(count):
+    """So many OSDs, 64 a bucket, and 4,096 groups that an explicit set each has put on OSD 0."""
+    state, hosts = {"exists": True, "up": True, "weight": 65536}, range(count // 64)
+    buckets = [{"id": -1, "items": [[-2 - h, 64 * 65536] for h in hosts], "kind": "list", "type": 2}]
+    buckets += [{"id": -2 - h, "items": [[64 * h + i, 65536] for i in range(64)], "kind": "list", "type": 1} for h in hosts]
+    return {"buckets": buckets, "epoch": 1, "max_osd": count, "osds": [dict(state, id=osd) for osd in range(count)],
+            "pg_upmap": [[f"1.{number:x}", [0]] for number in range(4096)], "pg_upmap_items": [],
+            "pools": [{"id": 1, "kind": "replicated", "pg_num": 4096, "pgp_num": 4096, "rule": 0, "size": 1}],
+            "rules": [{"id": 0, "kind": "replicated", "steps": [["take", -1], ["choose_firstn", 0, 0], ["emit"]]}], "version": 1}
+
+
+def greatest_answers():
+    """The longest answers and the longest plan, the most pools in a change, and the longest journal."""
+    groups = ",".join(f"{pool}.{number:x}" for pool in range(1, 33) for number in range(4096))
+    yield Run("an OSD in all 131,072 groups", {"map": written(of_one_device(range(1, 33), 4096)), "script": "count 0\ngroups 0\n"},
+              f"session 1\ncount 1 0 131072\ngroups 1 0 [{groups}]\n")
+    old, new = range(1, 33), range(33, 65)
+    parts = {"base": 1, "old_pools": list(old), "new_pools": of_one_device(new, 4096, 10)["pools"]}
+    yield Run("32 pools go and 32 come", {"map": written(of_one_device(old, 4096)), "script": f"change {written(parts)}\nup 32.fff\nup 64.fff\ncount 0\n"},
+              "session 1\nok 2 evals 131072\nerr 23 UnknownPool\nup 2 64.fff [0] 0\ncount 2 0 131072\n")
+    # All groups are on the first OSD, so each move goes from there to the next OSD that has fewest, and takes the lowest group.
+    for count in (128, 1024):
+        to = [1 + number % (count - 1) for number in range(1024)]
+        asked = "".join(f"up 1.{number:x}\n" for number in range(1025))
+        wanted = "".join(f"up 2 1.{number:x} [{osd}] {osd}\n" for number, osd in enumerate(to + [0]))
+        yield Run(f"1,024 moves over {count} OSDs", {"map": written(crowded(count)), "script": "balance 1 1024\n" + asked}, "session 1\nmoved 1024 epoch 2\n" + wanted)
+    filled_up = "".join(f'change {{"base":{base}}}\n' for base in range(1, 65_538))
+    made = "".join(f"ok {base + 1} evals 0\n" for base in range(1, 65_537))
+    yield Run("a journal of 65,536 filled to the end, and followed", {"map": written(MAPS["one device"]), "script": filled_up + "follow\nfup 1.0\nepoch\n"},
+              f"session 1\n{made}err 28 JournalFull\nfollow 65537\nfup 65537 1.0 [0] 0\nepoch 65537\n", arguments=["--journal", "65536", "map", "script"])
 
 
 def examples():
@@ -486,7 +528,15 @@ def patched():
     return (Check(f"{anew.CHANGES} tables that patches led to, seed {seed}", work_of(seed)) for seed in range(anew.SEED, anew.SEED + anew.HISTORIES))
 
 
-MADE = {"patched": patched, "plans": plans, "examples": examples, "maxima": maxima, "balanced": balanced_case, "soak": soaks, "apart": apart}
+def of_clusters():
+    """The tools over clusters as Ceph's tools dump them."""
+    yield Check("the places at fault that tools tell, beside the refusals of all tables", lambda _: faulty.faults(
+        run for name in ("worked", "changes", "growth", "limits", "texts") for run in table_of(name)))
+    for name, test in clusters.tests():
+        yield Check(name, lambda command, test=test: clusters.faults(command, test))
+
+
+MADE = {"clusters": of_clusters, "patched": patched, "plans": plans, "examples": examples, "maxima": maxima, "balanced": balanced_case, "soak": soaks, "apart": apart}
 
 
 def table_of(name):
@@ -502,13 +552,16 @@ def main():
     parser.add_argument("program", type=pathlib.Path)
     parser.add_argument("--total", action="store_true", help="end with a line 'N passed, M failed'")
     parser.add_argument("--only", default="", help="only runs whose name has this text")
+    parser.add_argument("--table", choices=TABLES, action="append", help="only this table")
     parser.add_argument("--show", type=int, default=10, help="how many failed runs of a table are shown")
     options = parser.parse_args()
-    command, total, wrong = options.program.resolve(), 0, 0
+    command, total, wrong, chosen = options.program.resolve(), 0, 0, options.table or TABLES
+    if not os.access(command, os.X_OK):
+        parser.error(f"there is no program at {options.program}: `make run` proves and builds it")
     with ThreadPoolExecutor(4) as pool, ThreadPoolExecutor(1) as alone:
         # The greatest runs begin first, since they take the longest.
-        tables, later = {name: [] for name in TABLES}, []
-        for name in reversed(TABLES):
+        tables, later = {name: [] for name in TABLES if name in chosen}, []
+        for name in reversed(list(tables)):
             for run in table_of(name):
                 if options.only in run.name and not run.alone:
                     tables[name].append((run, pool.submit(differences, run, command)))
@@ -520,10 +573,10 @@ def main():
         for name, runs in tables.items():
             failed = [(run, found.result()) for run, found in runs if found.result()]
             for run, found in failed[:options.show]:
-                print("\n    ".join([f"FAILED: {run.name}"] + found))
-            print(f"{name}: {len(runs) - len(failed)} of {len(runs)} runs passed")
+                print("\n    ".join([f"FAILED: {run.name}"] + found + [f"again: tests/run.py --table {name} --only {shlex.quote(run.name)} {options.program}"]))
+            print(f"{name}: {len(runs) - len(failed)} of {len(runs)} runs passed", flush=True)
             total, wrong = total + len(runs), wrong + len(failed)
-        swept = [] if options.only else memory.sweeps(command, pool)
+        swept = [] if options.only or options.table else memory.sweeps(command, pool)
     if swept is None:
         print("memory: NOT RUN, since there is no gcc to build tests/refuse_nth.c")
     for name, count, failed in swept or []:

@@ -1,0 +1,261 @@
+#!/usr/bin/env python3
+"""Runs the commands of tools/rekhuso over clusters that Ceph's own tools made and dumped (clusters.json.gz), and over maps.
+
+    tests/clusters.py PROGRAM
+
+The up sets of each cluster are Ceph's; what keeps a cluster out of the profile is written beside it by hand.
+"""
+
+import gzip
+import json
+import pathlib
+import random
+import subprocess
+import sys
+import tempfile
+
+HERE = pathlib.Path(__file__).resolve().parent
+CLUSTERS = json.loads(gzip.decompress((HERE / "clusters.json.gz").read_bytes()))
+SECONDS = 120
+
+
+class Tools:
+    """Runs of the commands in a folder, with the program."""
+
+    def __init__(self, program, folder):
+        self.program, self.folder = pathlib.Path(program).resolve(), pathlib.Path(folder)
+
+    def run(self, *words, stdin=None):
+        """A command's status, output and error."""
+        words = [sys.executable, "-B", str(HERE.parent / "tools" / "rekhuso"), *map(str, words), "--program", str(self.program)]
+        done = subprocess.run(words, cwd=self.folder, capture_output=True, text=True, timeout=SECONDS, input=stdin, check=False)
+        return done.returncode, done.stdout, done.stderr
+
+    def put(self, name, value):
+        """A file with a value as JSON, or a text."""
+        path = self.folder / name
+        path.write_text(value if isinstance(value, str) else json.dumps(value))
+        return path
+
+    def dumps(self, cluster):
+        """The two dumps of a cluster as files."""
+        own = CLUSTERS[cluster]
+        return self.put(f"{cluster}-osd", own["osd_dump"]), self.put(f"{cluster}-crush", own["crush_dump"])
+
+    def map(self, cluster):
+        """The map of a cluster inside the profile."""
+        status, output, error = self.run("import", *self.dumps(cluster))
+        assert status == 0, error
+        return json.loads(output)
+
+    def answers(self, value, lines):
+        """The program's answers to lines over a map."""
+        files = self.put("asked-map", value), self.put("asked-lines", "".join(line + "\n" for line in lines))
+        done = subprocess.run([self.program, *files], capture_output=True, text=True, timeout=SECONDS, check=True)
+        return done.stdout.splitlines()[1:]
+
+    def sets(self, value):
+        """The answers for all groups, the epoch aside."""
+        groups = [f"{pool['id']}.{number:x}" for pool in value["pools"] for number in range(pool["pg_num"])]
+        return {group: answer.split(" ", 3)[3] for group, answer in zip(groups, self.answers(value, [f"up {group}" for group in groups]))}
+
+
+def inside():
+    return [name for name, own in CLUSTERS.items() if "up" in own]
+
+
+def raised(value):
+    return dict(value, osds=[dict(osd, up=osd["exists"]) for osd in value["osds"]])
+
+
+def ceph_set(entry):
+    """A set as Ceph tells it, as the program writes it."""
+    places, primary = entry
+    return "[" + ",".join("none" if osd in (None, 2147483647) else str(osd) for osd in places) + f"] {primary}"
+
+
+def test_up_sets(tools):
+    """Every up set of every cluster inside the profile is Ceph's."""
+    for name in inside():
+        sets = tools.sets(tools.map(name))
+        wanted = {group: ceph_set(entry) for group, entry in CLUSTERS[name]["up"].items()}
+        unlike = [(group, wanted[group], sets.get(group)) for group in wanted if sets.get(group) != wanted[group]]
+        assert not unlike and len(sets) == len(wanted), (name, len(unlike), unlike[:3])
+
+
+def test_outside(tools):
+    """What keeps a cluster out is told whole, and nothing is put out."""
+    for name in CLUSTERS.keys() - inside():
+        status, output, error = tools.run("import", *tools.dumps(name))
+        lines = error.splitlines()
+        assert (status, output) == (1, ""), name
+        wanted = CLUSTERS[name]["outside"]
+        assert len(lines) == len(wanted) and all(reason in line for reason, line in zip(wanted, lines)), (lines, wanted)
+
+
+def test_all_reasons_at_once(tools):
+    """Several things that keep a cluster out are told at once."""
+    own = json.loads(json.dumps(CLUSTERS["001-built"]))
+    own["osd_dump"]["pools"][0].update(pg_num=5000, flags=0)
+    own["osd_dump"]["osds"][3]["weight"] = 1.5
+    own["crush_dump"]["tunables"]["chooseleaf_stable"] = 0
+    own["crush_dump"]["rules"][0]["steps"][1]["num"] = -1
+    own["crush_dump"]["buckets"][0]["items"][0]["weight"] = 0
+    status, output, error = tools.run("import", tools.put("o", own["osd_dump"]), tools.put("c", own["crush_dump"]))
+    assert (status, output) == (1, "")
+    for part in ("5000 groups, more than 4096", "without hashpspool", "osd.3 has reweight 1.5", "tunable chooseleaf_stable is 0, not 1",
+                 "negative count -1", "the weight of osd.0 is 0"):
+        assert part in error, (part, error)
+
+
+def test_names(tools):
+    """Names go into their own file."""
+    status, _, _ = tools.run("import", *tools.dumps("009-classes"), "--names", "names")
+    names = json.loads((tools.folder / "names").read_text())
+    assert status == 0 and names["osds"]["1"] == "osd.1" and names["buckets"]["-9"] == "default~ssd" and names["pools"]["1"] == "p1"
+
+
+def with_commands(value, lines):
+    """A map once some commands are given."""
+    explicit, items = dict(value["pg_upmap"]), dict(value["pg_upmap_items"])
+    for line in lines:
+        _, _, word, group, *osds = line.split(" ")
+        osds = list(map(int, osds))
+        if word == "pg-upmap-items":
+            items[group] = [list(pair) for pair in zip(osds[::2], osds[1::2])]
+        elif word == "rm-pg-upmap-items":
+            del items[group]
+        elif word == "pg-upmap":
+            explicit[group] = osds
+        else:
+            del explicit[group]
+    return dict(value, pg_upmap=sorted(map(list, explicit.items())), pg_upmap_items=sorted(map(list, items.items())))
+
+
+def test_plan(tools):
+    """The commands of a plan, put into the map, give the sets of the program's own plan, and nothing is left to move."""
+    for name in ("001-built", "002-built", "003-built"):
+        value = tools.map(name)
+        status, output, error = tools.run("plan", *tools.dumps(name))
+        assert status == 0 and output, error
+        after = with_commands(value, output.splitlines())
+        dump = json.loads(tools.answers(value, ["balance 1 1024", "dump"])[1].removeprefix("dump "))
+        assert tools.sets(after) == tools.sets(dump), name
+        assert tools.answers(after, ["balance 1 1024"])[0].startswith("moved 0 "), name
+        moves = int(error.split(" moves of ")[0].split(" ")[-1])
+        assert 0 < len(output.splitlines()) <= moves
+
+
+def test_net(tools):
+    """After rounds of failing, returning and balancing `net` keeps every set, and leaves no pair over another."""
+    rng, value = random.Random(7), tools.map("001-built")
+    for _ in range(12):
+        osd, base = rng.randrange(48), value["epoch"]
+        lines = [f'change {{"base":{base},"weight":[[{osd},0]]}}', "balance 1 1024", "dump"]
+        value = json.loads(tools.answers(value, lines)[-1].removeprefix("dump "))
+        lines = [f'change {{"base":{value["epoch"]},"weight":[[{osd},65536]]}}', "balance 1 1024", "dump"]
+        value = json.loads(tools.answers(value, lines)[-1].removeprefix("dump "))
+    for words, made in ((("net",), None), (("net", "--ceph"), with_commands)):
+        status, output, error = tools.run(*words, tools.put("many", value))
+        assert status == 0, error
+        if made:
+            after = made(value, output.splitlines())
+        else:
+            after = json.loads(tools.answers(value, [output.strip(), "dump"])[-1].removeprefix("dump "))
+        assert tools.sets(raised(after)) == tools.sets(raised(value))
+        assert len(after["pg_upmap_items"]) > 0
+        for group, pairs in after["pg_upmap_items"]:
+            assert not {pair[0] for pair in pairs} & {pair[1] for pair in pairs}, (group, pairs)
+        assert sum(len(pairs) for _, pairs in after["pg_upmap_items"]) < sum(len(pairs) for _, pairs in value["pg_upmap_items"])
+
+
+def test_df(tools):
+    """The groups of each OSD are those that the program counts."""
+    value = tools.map("001-built")
+    status, output, error = tools.run("df", "--json", tools.put("m", value))
+    assert status == 0, error
+    told = {row["id"]: row["groups"] for row in json.loads(output)["tree"] if row["id"] >= 0}
+    counts = [int(answer.split(" ")[3]) for answer in tools.answers(value, [f"count {osd}" for osd in range(48)])]
+    assert [told[osd] for osd in range(48)] == counts
+    status, output, _ = tools.run("df", tools.put("m", value))
+    assert status == 0 and len(output.splitlines()) == 1 + 11 + 48 + 2
+
+
+def test_diff(tools):
+    """The change between a map and the map after a change is that change, and leads there."""
+    value = tools.map("001-built")
+    change = {"base": value["epoch"], "down": [3], "weight": [[5, 0], [7, 32768]], "new_items": [["1.4", [[1, 40]]]], "new_upmap": [["1.5", [0, 20, 40]]]}
+    after = json.loads(tools.answers(value, [f"change {json.dumps(change)}", "dump"])[-1].removeprefix("dump "))
+    status, output, error = tools.run("diff", tools.put("a", value), tools.put("b", after))
+    assert status == 0, error
+    assert json.loads(output.splitlines()[0].removeprefix("change ")) == change
+    status, output, _ = tools.run("diff", tools.put("a", value), tools.put("b", value))
+    assert (status, output.splitlines()[-1]) == (0, "0 groups, 0 places and 0 OSDs move")
+
+
+def test_whatif(tools):
+    """What moves is what differs between the answers before and after; a bucket stands for its OSDs."""
+    value = tools.map("001-built")
+    host = next(bucket for bucket in value["buckets"] if bucket["type"] == 1)
+    osds = [item for item, _ in host["items"]]
+    status, output, error = tools.run("whatif", tools.put("m", value), "--out", host["id"], "--json")
+    assert status == 0, error
+    found = json.loads(output)
+    before = tools.sets(value)
+    after = tools.sets(dict(value, osds=[dict(osd, weight=0) if osd["id"] in osds else osd for osd in value["osds"]]))
+    assert found["groups"] == sum(before[group] != after[group] for group in before) and found["groups"] > 0
+    assert {flow[0] for flow in found["flows"]} >= set(osds) and not {flow[1] for flow in found["flows"]} & set(osds)
+    status, output, _ = tools.run("whatif", tools.put("m", value), "--each", "1")
+    assert status == 0 and len(output.splitlines()) == 8
+    status, output, _ = tools.run("whatif", tools.put("m", value), '{"down":[1]}')
+    assert status == 0 and "have fewer places than their pool's size" in output
+
+
+def test_explain(tools):
+    """The story of a group ends with the set that the program answers."""
+    value = dict(tools.map("001-built"), pg_upmap_items=[["1.4", [[99, 1]]]])
+    value["pg_upmap_items"] = [["1.4", [[0, 40], [47, 1]]]]
+    status, output, error = tools.run("explain", tools.put("m", value), "1.4")
+    assert status == 0, error
+    places = tools.sets(value)["1.4"]
+    assert output.splitlines()[-1].startswith(f"its up set is {places.split(' ')[0]}") and "its pair 47 to 1" in output
+
+
+def test_hostile(tools):
+    """Input that is none ends with a clear line and status 1."""
+    osd, crush = tools.dumps("001-built")
+    for words in (("import", osd, tools.put("x", "{")), ("import", tools.put("x", "[]"), crush), ("import", crush, osd), ("import", osd, "nowhere"),
+                  ("df", tools.put("x", '{"buckets":[]}')), ("explain", tools.put("m", tools.map("002-built")), "9.9"), ("plan", osd, crush, "--pool", "nobody"),
+                  ("diff", tools.put("x", ""), osd), ("whatif", tools.put("m", tools.map("002-built")), "--out", "nobody")):
+        status, output, error = tools.run(*words)
+        assert (status, output) == (1, "") and error and "Traceback" not in error, (words, status, error[-300:])
+
+
+def tests():
+    """Each test with its name."""
+    return [(test.__doc__.rstrip("."), test) for name, test in globals().items() if name.startswith("test_")]
+
+
+def faults(program, test):
+    """What is wrong by one test, which is a line or none."""
+    with tempfile.TemporaryDirectory() as folder:
+        try:
+            test(Tools(program, folder))
+        except Exception as fault:  # A test that breaks is a failed test, and the others are run.
+            return [f"{type(fault).__name__}: {fault}"[:600]]
+    return []
+
+
+def main():
+    if len(sys.argv) != 2:
+        sys.exit(__doc__.strip())
+    failed = 0
+    for name, test in tests():
+        found = faults(sys.argv[1], test)
+        failed += bool(found)
+        print(f"{'FAILED' if found else 'passed'}: {name}", *found, sep="\n    ", flush=True)
+    return 1 if failed else 0
+
+
+if __name__ == "__main__":
+    sys.exit(main())

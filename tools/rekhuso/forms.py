@@ -1,0 +1,157 @@
+"""The form of a map and of a change: which places of a text are at fault, each with its number.
+
+A number from 11 to 16 belongs to a place as docs/FORMATS.md has it. What only the whole map tells (17, and what a change
+is tested for against a map) is in `places`.
+"""
+
+import re
+from typing import Any, Callable, Iterator, NamedTuple
+
+NAMES = {10: "BadJson", 11: "BadField", 12: "BadLimit", 13: "BadForest", 14: "BadRule", 15: "BadPool", 16: "BadOsd", 17: "BadException",
+         20: "StaleEpoch", 21: "UnknownOsd", 22: "BadWeight", 23: "UnknownPool", 24: "PoolExists", 25: "UnknownGroup", 26: "BadException",
+         27: "DuplicatePart"}
+STEPS = {"take": 1, "emit": 0, "choose_firstn": 2, "choose_indep": 2, "chooseleaf_firstn": 2, "chooseleaf_indep": 2}
+TRIES = {"set_choose_tries": 1, "set_chooseleaf_tries": 1}
+GROUP = re.compile(r"(0|[1-9][0-9]*)\.(0|[1-9a-f][0-9a-f]*)")
+KINDS = ("replicated", "erasure")
+
+
+class Place(NamedTuple):
+    """A place that is at fault: the number of the refusal, the path to the place, and why."""
+
+    number: int
+    path: str
+    why: str
+
+    def __str__(self) -> str:
+        return f"{self.path}: {self.why} ({self.number} {NAMES[self.number]})"
+
+
+Places = Iterator[Place]
+Form = Callable[[Any, str], Places]
+
+
+def number(low: int, high: int) -> Form:
+    """A whole number from low to high."""
+    def form(value: Any, path: str) -> Places:
+        if isinstance(value, bool) or not isinstance(value, int) or not -2 ** 63 <= value < 2 ** 64:
+            yield Place(11, path, "no whole number of 64 bits")
+        elif not low <= value <= high:
+            yield Place(12, path, f"{value:,}, at {'least' if value < low else 'most'} {low if value < low else high:,}")
+    return form
+
+
+def flag(value: Any, path: str) -> Places:
+    """true or false."""
+    if not isinstance(value, bool):
+        yield Place(11, path, "neither true nor false")
+
+
+def word(*words: str) -> Form:
+    """One of some words."""
+    def form(value: Any, path: str) -> Places:
+        if value not in words:
+            yield Place(11, path, f"none of {', '.join(words)}")
+    return form
+
+
+def group(value: Any, path: str) -> Places:
+    """A group's text."""
+    match = GROUP.fullmatch(value) if isinstance(value, str) else None
+    if match is None:
+        yield Place(11, path, "no group; one is written as 1.1f")
+    elif not 1 <= int(match[1]) <= 65535 or int(match[2], 16) >= 2 ** 32:
+        yield Place(12, path, "the pool's id is outside 1 to 65,535, or the number has more than 32 bits")
+
+
+def listed(form: Form, least: int, most: int) -> Form:
+    """A list of so many entries of a form."""
+    def whole(value: Any, path: str) -> Places:
+        if not isinstance(value, list):
+            yield Place(11, path, "no list")
+            return
+        if not least <= len(value) <= most:
+            yield Place(12, path, f"{len(value):,} entries, at {'least' if len(value) < least else 'most'} {least if len(value) < least else most:,}")
+        for at, entry in enumerate(value):
+            yield from form(entry, f"{path}[{at}]")
+    return whole
+
+
+def tupled(*forms: Form) -> Form:
+    """A list with an entry of each form."""
+    def whole(value: Any, path: str) -> Places:
+        if not isinstance(value, list) or len(value) != len(forms):
+            yield Place(11, path, f"no list of {len(forms)}")
+            return
+        for at, (form, entry) in enumerate(zip(forms, value)):
+            yield from form(entry, f"{path}[{at}]")
+    return whole
+
+
+def keyed(required: dict[str, Form], optional: dict[str, Form] | None = None) -> Form:
+    """An object with these keys."""
+    forms = {**required, **(optional or {})}
+
+    def whole(value: Any, path: str) -> Places:
+        dot = f"{path}." if path else ""
+        if not isinstance(value, dict):
+            yield Place(11, path or "the text", "no object")
+            return
+        for key in required.keys() - value.keys():
+            yield Place(11, f"{dot}{key}", "missing")
+        for key in value.keys() - forms.keys():
+            yield Place(11, f"{dot}{key}", "an unknown key")
+        for key in forms.keys() & value.keys():
+            yield from forms[key](value[key], f"{dot}{key}")
+    return whole
+
+
+def step(has_tries: bool) -> Form:
+    """A step of a rule."""
+    words = {**STEPS, **(TRIES if has_tries else {})}
+
+    def form(value: Any, path: str) -> Places:
+        if not isinstance(value, list) or not value or not isinstance(value[0], str) or value[0] not in words or len(value) != 1 + words[value[0]]:
+            tries = "; steps of tries stand in maps of version 2" if isinstance(value, list) and value[:1] in [[op] for op in TRIES] else ""
+            yield Place(11, path, f"no step{tries}")
+            return
+        ranges = {"take": [(-65536, -1)], "emit": [], **{op: [(1, 200)] for op in TRIES}}.get(value[0], [(0, 10), (0, 15)])
+        for at, ((low, high), entry) in enumerate(zip(ranges, value[1:]), 1):
+            yield from number(low, high)(entry, f"{path}[{at}]")
+    return form
+
+
+def item_id(value: Any, path: str) -> Places:
+    """A device or a bucket."""
+    yield from number(-65536, 1023)(value, path)
+
+
+BUCKET = keyed({"id": number(-65536, -1), "type": number(1, 15), "kind": word("uniform", "list", "tree"),
+                "items": listed(tupled(item_id, number(1, 2 ** 32 - 1)), 1, 64)})
+POOL = keyed({"id": number(1, 65535), "kind": word(*KINDS), "pg_num": number(1, 4096), "pgp_num": number(1, 4096), "rule": number(0, 255),
+              "size": number(1, 10)})
+OSD = keyed({"id": number(0, 1023), "exists": flag, "up": flag, "weight": number(0, 65536)})
+OSD_ID = number(0, 1023)
+EXPLICIT = tupled(group, listed(OSD_ID, 0, 10))
+PAIRS = tupled(group, listed(tupled(OSD_ID, OSD_ID), 0, 10))
+MOST = 131072
+
+
+def rules(has_tries: bool) -> Form:
+    """The rules of a map."""
+    return listed(keyed({"id": number(0, 255), "kind": word(*KINDS), "steps": listed(step(has_tries), 1, 16)}), 1, 32)
+
+
+def map_form(has_tries: bool) -> Form:
+    """A map."""
+    return keyed({"version": number(1, 2), "epoch": number(1, 2 ** 31), "max_osd": number(1, 1024), "buckets": listed(BUCKET, 1, 512),
+                  "rules": rules(has_tries), "pools": listed(POOL, 0, 32), "osds": listed(OSD, 0, 2 ** 63)},
+                 {"pg_upmap": listed(EXPLICIT, 0, MOST), "pg_upmap_items": listed(PAIRS, 0, MOST)})
+
+
+CRUSH = keyed({"buckets": listed(BUCKET, 1, 512), "rules": rules(True)})
+CHANGE = keyed({"base": number(0, 2 ** 64 - 1)}, {
+    "old_pools": listed(number(1, 65535), 0, MOST), "new_crush": CRUSH, "new_pools": listed(POOL, 0, MOST),
+    "grow_pool": listed(tupled(number(1, 65535), number(1, 4096), number(1, 4096)), 0, MOST), "down": listed(OSD_ID, 0, MOST),
+    "up": listed(OSD_ID, 0, MOST), "weight": listed(tupled(OSD_ID, number(0, 2 ** 32 - 1)), 0, MOST), "old_upmap": listed(group, 0, MOST),
+    "old_items": listed(group, 0, MOST), "new_upmap": listed(EXPLICIT, 0, MOST), "new_items": listed(PAIRS, 0, MOST)})

@@ -1,0 +1,78 @@
+"""`net`: the fewest pairs that lead each group to the set that it has now.
+
+A balancer only appends pairs, so after many rounds a group's pairs may be chained over one another, or do nothing; Ceph's
+monitor cleans such pairs away, which gives other sets. Here each group with pairs gets, place by place, one pair from
+what stands without pairs to what stands with them; where an OSD only changes its place (a ring, or a chain), an explicit
+set. Groups with a place that is empty are left as they are. The program checks that every set stays.
+"""
+
+from typing import Any
+
+from faults import Fault
+from monitor import Monitor, groups_of
+from texts import json_of, written
+from unlike import change_of, commands, place_of
+
+
+def raised(value: dict[str, Any]) -> dict[str, Any]:
+    """The map with every OSD up that is there, so that up sets are the mapped ones."""
+    return dict(value, osds=[dict(osd, up=osd["exists"]) for osd in value["osds"]])
+
+
+def own_pairs(base: list[int | None], wanted: list[int | None]) -> list[list[int]] | None:
+    """One pair for each place that differs; None where pairs alone cannot say it."""
+    differ = [(was, now) for was, now in zip(base, wanted) if was != now]
+    if len(base) != len(wanted) or any(was is None or now is None or now in base for was, now in differ):
+        return None
+    return [[was, now] for was, now in differ if was is not None and now is not None]
+
+
+def netted(value: dict[str, Any], program: Any) -> dict[str, Any]:
+    """The map with the fewest pairs for the same sets."""
+    groups = [group for group, _ in value.get("pg_upmap_items", [])]
+    if not groups:
+        return value
+    wanted = Monitor(program, raised(value)).ups(groups)
+    base = Monitor(program, raised(dict(value, pg_upmap_items=[]))).ups(groups)
+    explicit, items = dict(value.get("pg_upmap", [])), {}
+    for group, pairs in value["pg_upmap_items"]:
+        found = own_pairs(base[group].places, wanted[group].places)
+        if found is not None:
+            if found:
+                items[group] = found
+        elif None not in wanted[group].places and len(set(wanted[group].places)) == len(wanted[group].places):
+            explicit[group] = wanted[group].places
+        else:
+            items[group] = pairs
+    return dict(value, pg_upmap=[[group, explicit[group]] for group in sorted(explicit, key=place_of)],
+                pg_upmap_items=[[group, items[group]] for group in sorted(items, key=place_of)])
+
+
+def checked(value: dict[str, Any], program: Any) -> dict[str, Any]:
+    """The netted map, once the program has answered that every set is as it was."""
+    new, groups = netted(value, program), groups_of(value)
+    before, after = (Monitor(program, raised(own)).ups(groups) for own in (value, new))
+    unlike = [group for group in groups if before[group].places != after[group].places]
+    if unlike:
+        raise Fault(f"{len(unlike)} groups would move, the first {unlike[0]}: nothing is put out")
+    return new
+
+
+def work(options: Any) -> None:
+    """Tells the change, or the commands."""
+    value = json_of(options.map, "buckets", "epoch", "max_osd", "osds", "pools", "rules")
+    new = checked(value, options.program)
+    if options.ceph:
+        for line in commands(value, new):
+            print(line)
+        return
+    change, _ = change_of(value, new)
+    print(f"change {written(change)}")
+
+
+def add_to(commands_of: Any) -> None:
+    """The subcommand."""
+    own = commands_of.add_parser("net", help="the fewest pairs for the same sets", description=__doc__)
+    own.add_argument("map", metavar="MAP")
+    own.add_argument("--ceph", action="store_true", help="as Ceph's commands")
+    own.set_defaults(work=work)

@@ -1,0 +1,104 @@
+"""`picture`: the OSDs of a map by host and rack, the share of each as its colour, as SVG; of two maps, side by side.
+
+Grey is an OSD's share, red more, blue less; a cross marks one that is out, a bar one that is down.
+"""
+
+import html
+from typing import Any
+
+from monitor import Monitor, groups_of
+from shares import Shares, named
+from texts import json_of
+
+CELL, GAP, ROW, LABEL, ACROSS = 14, 2, 18, 120, 32
+
+
+def colour(groups: int, wanted: float) -> str:
+    """Grey at the share, towards red at twice as much, towards blue at nothing; white where nothing is due."""
+    if wanted <= 0:
+        return "#ffffff" if groups == 0 else "#c0392b"
+    away = max(-1.0, min(1.0, groups / wanted - 1))
+    ends = (192, 57, 43) if away > 0 else (41, 98, 180)
+    return "#" + "".join(f"{round(208 + (end - 208) * abs(away)):02x}" for end in ends)
+
+
+def cell(shares: Shares, osd: int, left: int, top: int) -> str:
+    """The square of an OSD."""
+    row = shares.osd_row(osd)
+    told = f"osd.{osd}: {row['groups']} groups, share {row['share']}, {row['state']}"
+    marks = ""
+    if "out" in row["state"] or row["state"] == "absent":
+        marks += f'<path d="M{left} {top}l{CELL} {CELL}M{left + CELL} {top}l-{CELL} {CELL}" class="m"/>'
+    if "down" in row["state"]:
+        marks += f'<path d="M{left} {top + CELL // 2}h{CELL}" class="m"/>'
+    fill = colour(row["groups"], row["share"])
+    return f'<g><title>{html.escape(told)}</title><rect x="{left}" y="{top}" width="{CELL}" height="{CELL}" fill="{fill}" class="c"/>{marks}</g>'
+
+
+def hosts_of(shares: Shares) -> list[tuple[str | int, int]]:
+    """The buckets that hold devices, each behind the bucket above it, in the order of the tree."""
+    found: list[tuple[str | int, int]] = []
+
+    def walk(number: int, above: str | int) -> None:
+        items = [item for item, _ in shares.buckets[number]["items"]]
+        if any(item >= 0 for item in items):
+            found.append((above, number))
+        for item in items:
+            if item < 0:
+                walk(item, number)
+
+    for root in shares.roots():
+        walk(root, "")
+    return found
+
+
+def drawn(shares: Shares, names: dict[str, Any], left: int) -> tuple[list[str], int]:
+    """The parts of one map's picture, and its height."""
+    parts, top, last = [], 24, None
+    for above, host in hosts_of(shares):
+        if above != last and above != "":
+            parts.append(f'<text x="{left}" y="{top + 12}" class="r">{html.escape(named(names, "buckets", int(above)))}</text>')
+            top += ROW
+        last = above
+        parts.append(f'<text x="{left}" y="{top + 11}">{html.escape(named(names, "buckets", host))}</text>')
+        devices = [item for item, _ in shares.buckets[host]["items"] if item >= 0]
+        for at, osd in enumerate(devices):
+            parts.append(cell(shares, osd, left + LABEL + at % ACROSS * (CELL + GAP), top + at // ACROSS * (CELL + GAP)))
+        top += max(ROW, ((len(devices) + ACROSS - 1) // ACROSS) * (CELL + GAP) + GAP)
+    return parts, top
+
+
+def picture(maps: list[Shares], names: dict[str, Any], titles: list[str]) -> str:
+    """The SVG of one map or two."""
+    widest = max((len([item for item, _ in shares.buckets[host]["items"]]) for shares in maps for _, host in hosts_of(shares)), default=1)
+    width, parts, height = LABEL + min(widest, ACROSS) * (CELL + GAP) + 24, [], 0
+    for at, (shares, title) in enumerate(zip(maps, titles)):
+        own, tall = drawn(shares, names, 8 + at * width)
+        parts += [f'<text x="{8 + at * width}" y="16" class="r">{html.escape(title)}</text>'] + own
+        height = max(height, tall)
+    legend = "".join(f'<rect x="{8 + at * 24}" y="{height + 8}" width="24" height="10" fill="{colour(round(ratio * 100), 100)}"/>'
+                     for at, ratio in enumerate((0, 0.5, 1, 1.5, 2)))
+    style = "text{font:11px sans-serif;fill:#333}.r{font-weight:bold}.c{stroke:#999;stroke-width:.5}.m{stroke:#111;stroke-width:1.5;fill:none}"
+    return (f'<svg xmlns="http://www.w3.org/2000/svg" width="{width * len(maps)}" height="{height + 40}" viewBox="0 0 {width * len(maps)} {height + 40}">'
+            f'<style>{style}</style><rect width="100%" height="100%" fill="#fff"/>{"".join(parts)}{legend}'
+            f'<text x="136" y="{height + 17}">no groups .. the share .. twice as many; cross: out; bar: down</text></svg>\n')
+
+
+def shares_of(path: str, program: Any) -> Shares:
+    """The shares of a map in a file."""
+    value = json_of(path, "buckets", "osds", "pools", "rules")
+    return Shares(value, Monitor(program, value).ups(groups_of(value)))
+
+
+def work(options: Any) -> None:
+    """Writes the picture on standard output."""
+    names = json_of(options.names) if options.names else {}
+    print(picture([shares_of(path, options.program) for path in options.maps], names, options.maps), end="")
+
+
+def add_to(commands: Any) -> None:
+    """The subcommand."""
+    own = commands.add_parser("picture", help="the OSDs and their shares as SVG", description=__doc__)
+    own.add_argument("maps", metavar="MAP", nargs="+")
+    own.add_argument("--names", metavar="FILE", help="names, as `import --names` wrote them")
+    own.set_defaults(work=work)

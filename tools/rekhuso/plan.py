@@ -1,0 +1,90 @@
+"""`plan`: the plan of the proved balancer as the commands that Ceph takes, one line a group, on standard output.
+
+On standard error: what moves, and how even each pool is before and after. The commands are the difference of the two
+maps' exceptions, where each group has the fewest pairs that lead to its set (as `net` has them).
+"""
+
+import json
+import sys
+from typing import Any
+
+from bring import brought
+from faults import Fault
+from monitor import Monitor, Up, groups_of, up_of
+from net import checked
+from shares import Shares
+from texts import json_of
+from unlike import commands, place_of
+
+MOST = 1024
+
+
+def stated(options: Any) -> tuple[dict[str, Any], dict[str, Any]]:
+    """The map of one file, or of two dumps, and the names of its pools."""
+    if len(options.files) == 1:
+        return json_of(options.files[0], "buckets", "epoch", "osds", "pools", "rules"), {}
+    cluster, value = brought(options.files[0], options.files[1], options.program)
+    return value, {pool["pool_name"]: pool["pool"] for pool in cluster.pools}
+
+
+def chosen(options: Any, value: dict[str, Any], names: dict[str, Any]) -> list[int]:
+    """The ids of the pools that are named, or of all."""
+    there = [pool["id"] for pool in value["pools"]]
+    found = []
+    for word in options.pool or []:
+        number = names.get(word, int(word) if word.isdigit() else None)
+        if number not in there:
+            raise Fault(f"no pool {word}")
+        found.append(number)
+    return found or there
+
+
+def spread(value: dict[str, Any], pool: dict[str, Any], ups: dict[str, Up]) -> str:
+    """The least and greatest number of groups of a pool that an OSD has, and the standard deviation from the shares."""
+    shares = Shares(value, ups)
+    wanted = shares.shares_in(pool)
+    counts = {osd: 0 for osd in wanted}
+    for number in range(pool["pg_num"]):
+        for osd in set(ups[f"{pool['id']}.{number:x}"].places) & counts.keys():
+            counts[osd] += 1
+    away = [counts[osd] - share for osd, share in wanted.items()]
+    deviation = (sum(gap * gap for gap in away) / len(away)) ** 0.5 if away else 0.0
+    return f"{min(counts.values(), default=0)} to {max(counts.values(), default=0)} groups an OSD, deviation {deviation:.2f}"
+
+
+def work(options: Any) -> None:
+    """Asks the program for its plans and tells them."""
+    if len(options.files) > 2:
+        raise Fault("plan takes one map, or two dumps")
+    value, names = stated(options)
+    pools, groups = chosen(options, value, names), groups_of(value)
+    asked = [f"up {group}" for group in groups]
+    balances = [f"balance {pool} {options.max}" for pool in pools]
+    answers = Monitor(options.program, value).raw(asked + balances + asked + ["dump"])
+    before = dict(zip(groups, map(up_of, answers[:len(groups)])))
+    plans = answers[len(groups):len(groups) + len(pools)]
+    after = dict(zip(groups, map(up_of, answers[len(groups) + len(pools):-1])))
+    new = checked(json.loads(answers[-1].removeprefix("dump ")), options.program)
+    for number, answer in zip(pools, plans):
+        pool = next(own for own in value["pools"] if own["id"] == number)
+        if answer.startswith("err "):
+            why = f"pool {number}: {answer.removeprefix('err ')}"
+            if options.pool:
+                raise Fault(why)
+            print(f"{why}: passed over", file=sys.stderr)
+            continue
+        own = [group for group in groups if place_of(group)[0] == number]
+        moved = sum(before[group].places != after[group].places for group in own)
+        print(f"pool {number}: {answer.split(' ')[1]} moves of {moved} groups; before {spread(value, pool, before)}; "
+              f"after {spread(value, pool, after)}", file=sys.stderr)
+    for line in commands(value, new):
+        print(line)
+
+
+def add_to(commands_of: Any) -> None:
+    """The subcommand."""
+    own = commands_of.add_parser("plan", help="a balancer's plan as Ceph's commands", description=__doc__)
+    own.add_argument("files", metavar="OSD_DUMP CRUSH_DUMP | MAP", nargs="+")
+    own.add_argument("--pool", metavar="ID|NAME", action="append", help="only this pool; as often as there are pools")
+    own.add_argument("--max", metavar="N", type=int, default=MOST, help="at most N moves a pool, 1 to 1024")
+    own.set_defaults(work=work)

@@ -1,0 +1,140 @@
+"""`df`: the tree of buckets with each OSD's weight, reweight, state, groups, share and deviation; and the pools."""
+
+import json
+import sys
+from typing import Any
+
+from monitor import Monitor, Up, groups_of
+from texts import json_of
+
+COLUMNS = ["ID", "WEIGHT", "REWEIGHT", "STATE", "PGS", "SHARE", "VAR", "NAME"]
+
+
+def named(names: dict[str, Any], kind: str, number: int) -> str:
+    """The name of a thing, or what stands for it."""
+    return names.get(kind, {}).get(str(number), f"osd.{number}" if kind == "osds" else f"{kind[:-1]} {number}")
+
+
+class Shares:
+    """How many places of up sets each OSD has, beside the share that its weight calls for."""
+
+    def __init__(self, value: dict[str, Any], ups: dict[str, Up]) -> None:
+        self.value, self.ups = value, ups
+        self.osds = {osd["id"]: osd for osd in value["osds"]}
+        self.counts: dict[int, int] = {}
+        for up in self.ups.values():
+            for osd in {osd for osd in up.places if osd is not None}:
+                self.counts[osd] = self.counts.get(osd, 0) + 1
+        self.buckets = {bucket["id"]: bucket for bucket in value["buckets"]}
+        self.items = {item: weight for bucket in value["buckets"] for item, weight in bucket["items"]}
+        self.wanted: dict[int, float] = {}
+        for pool in value["pools"]:
+            for osd, wanted in self.shares_in(pool).items():
+                self.wanted[osd] = self.wanted.get(osd, 0.0) + wanted
+
+    def weights_for(self, pool: dict[str, Any]) -> dict[int, int]:
+        """The weights of the OSDs that may have groups of a pool: they are below what its rule takes, up and in."""
+        steps = next(rule["steps"] for rule in self.value["rules"] if rule["id"] == pool["rule"])
+        osds = {osd for step in steps if step[0] == "take" for osd in self.below(step[1])}
+        own = {osd: self.osds[osd] for osd in osds if osd in self.osds}
+        return {osd: self.items[osd] * state["weight"] for osd, state in own.items() if state["exists"] and state["up"] and state["weight"]}
+
+    def shares_in(self, pool: dict[str, Any]) -> dict[int, float]:
+        """How many places of a pool the weights of the OSDs call for."""
+        weights = self.weights_for(pool)
+        groups = (self.ups[f"{pool['id']}.{number:x}"] for number in range(pool["pg_num"]))
+        places = sum(len({osd for osd in up.places if osd in weights}) for up in groups)
+        return {osd: places * weight / sum(weights.values()) for osd, weight in weights.items()}
+
+    def roots(self) -> list[int]:
+        """The buckets that stand in no other."""
+        return [number for number in sorted(self.buckets, reverse=True) if number not in self.items]
+
+    def state(self, osd: int) -> str:
+        """Whether an OSD is there, up and in."""
+        own = self.osds.get(osd)
+        if own is None or not own["exists"]:
+            return "absent"
+        return ("up" if own["up"] else "down") + ("" if own["weight"] else ",out")
+
+    def osd_row(self, osd: int) -> dict[str, Any]:
+        """What is told of an OSD."""
+        groups, wanted = self.counts.get(osd, 0), self.wanted.get(osd, 0.0)
+        return {"id": osd, "weight": self.items.get(osd, 0) / 65536, "reweight": self.osds.get(osd, {"weight": 0})["weight"] / 65536,
+                "state": self.state(osd), "groups": groups, "share": round(wanted, 2),
+                "deviation": round(groups - wanted, 2)}
+
+    def below(self, number: int) -> list[int]:
+        """The OSDs below an item."""
+        if number >= 0:
+            return [number]
+        return [osd for item, _ in self.buckets[number]["items"] for osd in self.below(item)]
+
+    def rows(self, number: int, depth: int = 0) -> list[tuple[int, dict[str, Any]]]:
+        """What is told of a bucket and all below it, each with its depth."""
+        if number >= 0:
+            return [(depth, self.osd_row(number))]
+        own = [self.osd_row(osd) for osd in self.below(number)]
+        total = {"id": number, "type": self.buckets[number]["type"], "weight": sum(row["weight"] for row in own),
+                 "groups": sum(row["groups"] for row in own), "share": round(sum(row["share"] for row in own), 2)}
+        return [(depth, total)] + [row for item, _ in self.buckets[number]["items"] for row in self.rows(item, depth + 1)]
+
+    def pools(self) -> list[dict[str, Any]]:
+        """What is told of each pool."""
+        found = []
+        for pool in self.value["pools"]:
+            own = [self.ups[f"{pool['id']}.{number:x}"] for number in range(pool["pg_num"])]
+            full = [len([osd for osd in up.places if osd is not None]) for up in own]
+            found.append({"id": pool["id"], "size": pool["size"], "groups": pool["pg_num"], "rule": pool["rule"],
+                          "places": sum(full), "short": sum(count < pool["size"] for count in full)})
+        return found
+
+
+def spread(shares: Shares) -> dict[str, Any]:
+    """How even the OSDs are that may have groups: least, greatest, and the standard deviation from their shares."""
+    counts = [shares.counts.get(osd, 0) for osd, wanted in shares.wanted.items() if wanted]
+    away = [shares.counts.get(osd, 0) - wanted for osd, wanted in shares.wanted.items() if wanted]
+    deviation = (sum(gap * gap for gap in away) / len(away)) ** 0.5 if away else 0.0
+    return {"least": min(counts, default=0), "greatest": max(counts, default=0), "deviation": round(deviation, 2)}
+
+
+def tree_lines(shares: Shares, names: dict[str, Any]) -> list[str]:
+    """The tree as a table of text."""
+    rows = [COLUMNS]
+    for root in shares.roots():
+        for depth, row in shares.rows(root):
+            name = "  " * depth + named(names, "osds" if row["id"] >= 0 else "buckets", row["id"])
+            if row["id"] < 0:
+                rows.append([str(row["id"]), f"{row['weight']:.5f}", "-", "-", str(row["groups"]), f"{row['share']:.2f}", "-", name])
+            else:
+                rows.append([str(row["id"]), f"{row['weight']:.5f}", f"{row['reweight']:.5f}", row["state"], str(row["groups"]),
+                             f"{row['share']:.2f}", f"{row['deviation']:+.2f}", name])
+    widths = [max(len(row[at]) for row in rows) for at in range(len(COLUMNS) - 1)]
+    return ["  ".join([cell.rjust(width) for cell, width in zip(row, widths)] + [row[-1]]) for row in rows]
+
+
+def work(options: Any) -> None:
+    """Tells the tree, the pools and the totals of a map."""
+    value = json_of(options.map, "buckets", "osds", "pools", "rules")
+    names = json_of(options.names) if options.names else {}
+    shares = Shares(value, Monitor(options.program, value).ups(groups_of(value)))
+    even = spread(shares)
+    if options.json:
+        tree = [dict(row, depth=depth) for root in shares.roots() for depth, row in shares.rows(root)]
+        json.dump({"tree": tree, "pools": shares.pools(), "spread": even}, sys.stdout, indent=1)
+        print()
+        return
+    print("\n".join(tree_lines(shares, names)))
+    for pool in shares.pools():
+        short = f", {pool['short']} with fewer places than its size" if pool["short"] else ""
+        print(f"{named(names, 'pools', pool['id'])}: {pool['groups']} groups of size {pool['size']} by rule {pool['rule']}{short}")
+    print(f"an OSD has {even['least']} to {even['greatest']} groups; standard deviation from the shares {even['deviation']}")
+
+
+def add_to(commands: Any) -> None:
+    """The subcommand."""
+    own = commands.add_parser("df", help="the tree with the groups of each OSD", description=__doc__)
+    own.add_argument("map", metavar="MAP")
+    own.add_argument("--names", metavar="FILE", help="names, as `import --names` wrote them")
+    own.add_argument("--json", action="store_true", help="as JSON")
+    own.set_defaults(work=work)

@@ -1,0 +1,118 @@
+"""`diff`: what differs between two maps, as a change where a change can say it, and what moves."""
+
+from typing import Any
+
+from faults import Refused
+from monitor import Monitor, Up, groups_of
+from texts import json_of, written
+
+
+def by_key(entries: list[Any], key: Any) -> dict[Any, Any]:
+    """The entries of a list by their key."""
+    return {entry[key]: entry for entry in entries}
+
+
+def place_of(group: str) -> tuple[int, int]:
+    """Where a group stands among all."""
+    pool, number = group.split(".")
+    return int(pool), int(number, 16)
+
+
+def pool_parts(old: dict[str, Any], new: dict[str, Any]) -> dict[str, Any]:
+    """The pools that go, come and grow. A pool that differs otherwise goes and comes, which no one change can say."""
+    before, after = by_key(old["pools"], "id"), by_key(new["pools"], "id")
+    grown, other = [], []
+    for number in sorted(before.keys() & after.keys()):
+        was, now = before[number], after[number]
+        same = dict(was, pg_num=now["pg_num"], pgp_num=now["pgp_num"]) == now
+        if was != now and same and was["pg_num"] <= now["pg_num"] and was["pgp_num"] <= now["pgp_num"]:
+            grown.append([number, now["pg_num"], now["pgp_num"]])
+        elif was != now:
+            other.append(number)
+    return {"old_pools": sorted(before.keys() - after.keys()), "new_pools": [after[n] for n in sorted(after.keys() - before.keys())],
+            "grow_pool": grown, "other": other}
+
+
+def exception_parts(old: dict[str, Any], new: dict[str, Any], key: str, gone: list[int]) -> tuple[list[str], list[Any]]:
+    """The groups whose exception goes, pools that go aside, and the exceptions that come or change."""
+    before, after = by_key(old.get(key, []), 0), by_key(new.get(key, []), 0)
+    lost = [group for group in before.keys() - after.keys() if place_of(group)[0] not in gone]
+    return sorted(lost, key=place_of), [after[group] for group in sorted(after, key=place_of) if before.get(group) != after[group]]
+
+
+def change_of(old: dict[str, Any], new: dict[str, Any]) -> tuple[dict[str, Any], list[str]]:
+    """The change that makes the one map of the other, and what no change can say."""
+    change: dict[str, Any] = {"base": old["epoch"]}
+    pools = pool_parts(old, new)
+    unsaid = [f"pool {number} differs in more than its numbers of groups" for number in pools.pop("other")]
+    change.update({key: value for key, value in pools.items() if value})
+    crush = [{key: sorted(value[key], key=lambda entry: -abs(entry["id"])) for key in ("buckets", "rules")} for value in (old, new)]
+    if crush[0] != crush[1]:
+        change["new_crush"] = {"buckets": new["buckets"], "rules": new["rules"]}
+    before, after = by_key(old["osds"], "id"), by_key(new["osds"], "id")
+    none = {"exists": False, "up": False, "weight": 0}
+    parts: dict[str, list[Any]] = {"down": [], "up": [], "weight": []}
+    for osd in sorted(before.keys() | after.keys()):
+        was, now = before.get(osd, none), after.get(osd, none)
+        if was["exists"] != now["exists"]:
+            unsaid.append(f"osd.{osd} {'comes' if now['exists'] else 'goes'}")
+            continue
+        if was["up"] != now["up"]:
+            parts["up" if now["up"] else "down"].append(osd)
+        if was["weight"] != now["weight"]:
+            parts["weight"].append([osd, now["weight"]])
+    for name, key in (("upmap", "pg_upmap"), ("items", "pg_upmap_items")):
+        parts[f"old_{name}"], parts[f"new_{name}"] = exception_parts(old, new, key, change.get("old_pools", []))
+    change.update({key: value for key, value in parts.items() if value})
+    if old["max_osd"] != new["max_osd"]:
+        unsaid.append(f"max_osd is {old['max_osd']}, then {new['max_osd']}")
+    return change, unsaid
+
+
+def commands(old: dict[str, Any], new: dict[str, Any]) -> list[str]:
+    """What Ceph is told so that the exceptions of one map become those of the other."""
+    found = []
+    for key, word in (("pg_upmap", "pg-upmap"), ("pg_upmap_items", "pg-upmap-items")):
+        before, after = (dict(value.get(key, [])) for value in (old, new))
+        for group in sorted(before.keys() | after.keys(), key=place_of):
+            if group not in after:
+                found.append(f"ceph osd rm-{word} {group}")
+            elif before.get(group) != after[group]:
+                entries = after[group] if word == "pg-upmap" else [osd for pair in after[group] for osd in pair]
+                found.append(f"ceph osd {word} {group} {' '.join(map(str, entries))}")
+    return found
+
+
+def moved(before: dict[str, Up], after: dict[str, Up]) -> dict[str, Any]:
+    """How many groups and places differ, and which OSDs take part."""
+    groups, places, osds = 0, 0, set()
+    for group in before.keys() & after.keys():
+        was, now = set(before[group].places) - {None}, set(after[group].places) - {None}
+        groups += before[group].places != after[group].places
+        places += len(now - was)
+        osds |= was ^ now
+    return {"groups": groups, "places": places, "osds": sorted(osds)}
+
+
+def work(options: Any) -> None:
+    """Tells the change between two maps and what it moves."""
+    old, new = (json_of(path, "buckets", "epoch", "max_osd", "osds", "pools", "rules") for path in (options.old, options.new))
+    change, unsaid = change_of(old, new)
+    before, after = (Monitor(options.program, value).ups(groups_of(value)) for value in (old, new))
+    print(f"change {written(change)}")
+    for line in unsaid:
+        print(f"no change says: {line}")
+    if not unsaid:
+        answer = Monitor(options.program, old).raw([f"change {written(change)}"])[0]
+        if not answer.startswith("ok "):
+            raise Refused(answer.split(" ")[2], int(answer.split(" ")[1]))
+    told = moved(before, after)
+    print(f"{told['groups']} groups, {told['places']} places and {len(told['osds'])} OSDs move")
+
+
+def add_to(commands: Any) -> None:
+    """The subcommand."""
+    own = commands.add_parser("diff", help="what differs between two maps", description=__doc__)
+    own.add_argument("old", metavar="MAP")
+    own.add_argument("new", metavar="MAP")
+    own.set_defaults(work=work)
