@@ -13,6 +13,7 @@ import random
 import subprocess
 import sys
 import tempfile
+import xml.etree.ElementTree
 
 HERE = pathlib.Path(__file__).resolve().parent
 CLUSTERS = json.loads(gzip.decompress((HERE / "clusters.json.gz").read_bytes()))
@@ -219,6 +220,48 @@ def test_explain(tools):
     assert status == 0, error
     places = tools.sets(value)["1.4"]
     assert output.splitlines()[-1].startswith(f"its up set is {places.split(' ')[0]}") and "its pair 47 to 1" in output
+
+
+def test_check(tools):
+    """A lawful map and change are told as such; of others each place at fault, all at once, behind the program's own answer."""
+    value = tools.map("001-built")
+    assert tools.run("check", tools.put("m", value)) == (0, f"{tools.folder / 'm'}: lawful\n", "")
+    wrong = json.loads(json.dumps(value))
+    wrong["pools"][0]["size"], wrong["max_osd"], wrong["buckets"][2]["items"][0][1] = 11, 0, "1"
+    status, output, error = tools.run("check", tools.put("w", wrong))
+    assert (status, output) == (1, "") and error.splitlines()[0].endswith("refused: 11 BadField"), error
+    for line in ("pools[0].size: 11, at most 10 (12 BadLimit)", "max_osd: 0, at least 1 (12 BadLimit)", "buckets[2].items[0][1]: no whole number of 64 bits (11 BadField)"):
+        assert line in error.splitlines(), (line, error)
+    change = {"base": 3, "down": [99], "new_items": [["1.0", [[1, 1]]], ["7.0", [[1, 2]]]]}
+    status, output, error = tools.run("check", tools.put("m", value), tools.put("c", change))
+    assert (status, output) == (1, "") and "20 StaleEpoch" in error.splitlines()[0]
+    for line in ("base: 3, the map's epoch is 9 (20 StaleEpoch)", "down[0]: osd.99 does not exist (21 UnknownOsd)",
+                 "new_items[0][1]: a pair of equal sides (26 BadException)", "new_items[1]: no pool 7 (23 UnknownPool)"):
+        assert line in error.splitlines(), (line, error)
+    status, output, _ = tools.run("check", tools.put("m", value), tools.put("c", '{"base":9,"down":[1]}'))
+    assert status == 0 and output.endswith("lawful: ok 10 evals 0\n")
+
+
+def test_add_host(tools):
+    """A host more takes groups from the others, by its weight and no other's."""
+    value = tools.map("001-built")
+    rack = next(str(bucket["id"]) for bucket in value["buckets"] if bucket["type"] == 2)
+    status, output, error = tools.run("whatif", tools.put("m", value), "--add-host", "new", "1,1,1,1,1,1", "--under", rack, "--json")
+    assert status == 0, error
+    found = json.loads(output)
+    assert {flow[1] for flow in found["flows"]} >= set(range(48, 54)) and not found["short"] and found["groups"] > 100
+
+
+def test_pictures(tools):
+    """A picture has a square for each OSD, and marks those that are out; a page has all of them too, and nothing from elsewhere."""
+    value = tools.map("001-built")
+    value["osds"][3].update(weight=0)
+    value["osds"][4].update(up=False)
+    status, output, error = tools.run("picture", tools.put("m", value), tools.put("n", dict(value, pools=[])))
+    assert status == 0 and output.count('class="c"') == 96 and output.count("up,out") == 2 and output.count("down</title>") == 2, error
+    xml.etree.ElementTree.fromstring(output)
+    status, output, error = tools.run("report", tools.put("m", value))
+    assert status == 0 and output.count('class="c"') == 48 and "http://" not in output.replace("http://www.w3.org/2000/svg", "") and "src=" not in output, error
 
 
 def test_hostile(tools):

@@ -27,7 +27,7 @@ class Up(NamedTuple):
 def up_of(answer: str) -> Up:
     """The up set that an answer tells."""
     _, epoch, _, places, primary = answer.split(" ")
-    words = [word for word in places[1:-1].split(",") if word]
+    words = places[1:-1].split(",") if len(places) > 2 else []
     return Up(int(epoch), [None if word == "none" else int(word) for word in words], None if primary == "-1" else int(primary))
 
 

@@ -9,7 +9,7 @@ set. Groups with a place that is empty are left as they are. The program checks 
 from typing import Any
 
 from faults import Fault
-from monitor import Monitor, groups_of
+from monitor import Monitor, Up
 from texts import json_of, written
 from unlike import change_of, commands, place_of
 
@@ -27,21 +27,16 @@ def own_pairs(base: list[int | None], wanted: list[int | None]) -> list[list[int
     return [[was, now] for was, now in differ if was is not None and now is not None]
 
 
-def netted(value: dict[str, Any], program: Any) -> dict[str, Any]:
-    """The map with the fewest pairs for the same sets."""
-    groups = [group for group, _ in value.get("pg_upmap_items", [])]
-    if not groups:
-        return value
-    wanted = Monitor(program, raised(value)).ups(groups)
-    base = Monitor(program, raised(dict(value, pg_upmap_items=[]))).ups(groups)
+def netted(value: dict[str, Any], wanted: dict[str, Up], base: dict[str, Up]) -> dict[str, Any]:
+    """The map with the fewest pairs, where some groups want these sets and have those without pairs."""
     explicit, items = dict(value.get("pg_upmap", [])), {}
-    for group, pairs in value["pg_upmap_items"]:
-        found = own_pairs(base[group].places, wanted[group].places)
+    for group, pairs in value.get("pg_upmap_items", []):
+        places = wanted[group].places
+        found = own_pairs(base[group].places, places)
         if found is not None:
-            if found:
-                items[group] = found
-        elif None not in wanted[group].places and len(set(wanted[group].places)) == len(wanted[group].places):
-            explicit[group] = wanted[group].places
+            items.update({group: found} if found else {})
+        elif None not in places and len(set(places)) == len(places):
+            explicit[group] = places
         else:
             items[group] = pairs
     return dict(value, pg_upmap=[[group, explicit[group]] for group in sorted(explicit, key=place_of)],
@@ -49,10 +44,14 @@ def netted(value: dict[str, Any], program: Any) -> dict[str, Any]:
 
 
 def checked(value: dict[str, Any], program: Any) -> dict[str, Any]:
-    """The netted map, once the program has answered that every set is as it was."""
-    new, groups = netted(value, program), groups_of(value)
-    before, after = (Monitor(program, raised(own)).ups(groups) for own in (value, new))
-    unlike = [group for group in groups if before[group].places != after[group].places]
+    """The map with the fewest pairs, once the program has answered that the set of each group with pairs is as it was."""
+    groups = [group for group, _ in value.get("pg_upmap_items", [])]
+    if not groups:
+        return value
+    wanted, base = (Monitor(program, raised(own)).ups(groups) for own in (value, dict(value, pg_upmap_items=[])))
+    new = netted(value, wanted, base)
+    after = Monitor(program, raised(new)).ups(groups)
+    unlike = [group for group in groups if wanted[group].places != after[group].places]
     if unlike:
         raise Fault(f"{len(unlike)} groups would move, the first {unlike[0]}: nothing is put out")
     return new

@@ -10,11 +10,11 @@ from typing import Any
 
 from bring import brought
 from faults import Fault
-from monitor import Monitor, Up, groups_of, up_of
+from monitor import Monitor, groups_of, up_of
 from net import checked
 from shares import Shares
 from texts import json_of
-from unlike import commands, place_of
+from unlike import commands
 
 MOST = 1024
 
@@ -39,17 +39,19 @@ def chosen(options: Any, value: dict[str, Any], names: dict[str, Any]) -> list[i
     return found or there
 
 
-def spread(value: dict[str, Any], pool: dict[str, Any], ups: dict[str, Up]) -> str:
+def spread(shares: Shares, pool: dict[str, Any]) -> str:
     """The least and greatest number of groups of a pool that an OSD has, and the standard deviation from the shares."""
-    shares = Shares(value, ups)
-    wanted = shares.shares_in(pool)
-    counts = {osd: 0 for osd in wanted}
-    for number in range(pool["pg_num"]):
-        for osd in set(ups[f"{pool['id']}.{number:x}"].places) & counts.keys():
-            counts[osd] += 1
+    wanted, counts = shares.shares_in(pool), shares.counts_in[pool["id"]]
     away = [counts[osd] - share for osd, share in wanted.items()]
     deviation = (sum(gap * gap for gap in away) / len(away)) ** 0.5 if away else 0.0
-    return f"{min(counts.values(), default=0)} to {max(counts.values(), default=0)} groups an OSD, deviation {deviation:.2f}"
+    own = [counts[osd] for osd in wanted]
+    return f"{min(own, default=0)} to {max(own, default=0)} groups an OSD, deviation {deviation:.2f}"
+
+
+def told(pool: dict[str, Any], answer: str, before: Shares, after: Shares) -> str:
+    """What is said of a pool's plan."""
+    moved = sum(was.places != now.places for was, now in zip(before.ups_in(pool), after.ups_in(pool)))
+    return f"pool {pool['id']}: {answer.split(' ')[1]} moves of {moved} groups; before {spread(before, pool)}; after {spread(after, pool)}"
 
 
 def work(options: Any) -> None:
@@ -61,22 +63,18 @@ def work(options: Any) -> None:
     asked = [f"up {group}" for group in groups]
     balances = [f"balance {pool} {options.max}" for pool in pools]
     answers = Monitor(options.program, value).raw(asked + balances + asked + ["dump"])
-    before = dict(zip(groups, map(up_of, answers[:len(groups)])))
     plans = answers[len(groups):len(groups) + len(pools)]
-    after = dict(zip(groups, map(up_of, answers[len(groups) + len(pools):-1])))
+    before, after = (Shares(value, dict(zip(groups, map(up_of, own)))) for own in (answers[:len(groups)], answers[len(groups) + len(pools):-1]))
     new = checked(json.loads(answers[-1].removeprefix("dump ")), options.program)
-    for number, answer in zip(pools, plans):
-        pool = next(own for own in value["pools"] if own["id"] == number)
-        if answer.startswith("err "):
-            why = f"pool {number}: {answer.removeprefix('err ')}"
-            if options.pool:
-                raise Fault(why)
-            print(f"{why}: passed over", file=sys.stderr)
+    for pool in (own for own in value["pools"] if own["id"] in pools):
+        answer = plans[pools.index(pool["id"])]
+        if answer.startswith("moved "):
+            print(told(pool, answer, before, after), file=sys.stderr)
             continue
-        own = [group for group in groups if place_of(group)[0] == number]
-        moved = sum(before[group].places != after[group].places for group in own)
-        print(f"pool {number}: {answer.split(' ')[1]} moves of {moved} groups; before {spread(value, pool, before)}; "
-              f"after {spread(value, pool, after)}", file=sys.stderr)
+        why = f"pool {pool['id']}: {answer.removeprefix('err ')}"
+        if options.pool:
+            raise Fault(why)
+        print(f"{why}: passed over", file=sys.stderr)
     for line in commands(value, new):
         print(line)
 

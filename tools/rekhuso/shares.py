@@ -2,6 +2,7 @@
 
 import json
 import sys
+from collections import Counter
 from typing import Any
 
 from monitor import Monitor, Up, groups_of
@@ -21,16 +22,26 @@ class Shares:
     def __init__(self, value: dict[str, Any], ups: dict[str, Up]) -> None:
         self.value, self.ups = value, ups
         self.osds = {osd["id"]: osd for osd in value["osds"]}
-        self.counts: dict[int, int] = {}
-        for up in self.ups.values():
-            for osd in {osd for osd in up.places if osd is not None}:
-                self.counts[osd] = self.counts.get(osd, 0) + 1
+        self.counts_in = {pool["id"]: self.counted(pool) for pool in value["pools"]}
+        self.counts: Counter[int] = sum(self.counts_in.values(), Counter())
         self.buckets = {bucket["id"]: bucket for bucket in value["buckets"]}
         self.items = {item: weight for bucket in value["buckets"] for item, weight in bucket["items"]}
         self.wanted: dict[int, float] = {}
         for pool in value["pools"]:
             for osd, wanted in self.shares_in(pool).items():
                 self.wanted[osd] = self.wanted.get(osd, 0.0) + wanted
+
+    def ups_in(self, pool: dict[str, Any]) -> list[Up]:
+        """The up sets of a pool's groups."""
+        return [self.ups[f"{pool['id']}.{number:x}"] for number in range(pool["pg_num"])]
+
+    def counted(self, pool: dict[str, Any]) -> Counter[int]:
+        """In how many groups of a pool each OSD stands."""
+        found: Counter[int] = Counter()
+        for up in self.ups_in(pool):
+            found.update(set(up.places))
+        del found[None]
+        return found
 
     def weights_for(self, pool: dict[str, Any]) -> dict[int, int]:
         """The weights of the OSDs that may have groups of a pool: they are below what its rule takes, up and in."""
@@ -42,9 +53,8 @@ class Shares:
     def shares_in(self, pool: dict[str, Any]) -> dict[int, float]:
         """How many places of a pool the weights of the OSDs call for."""
         weights = self.weights_for(pool)
-        groups = (self.ups[f"{pool['id']}.{number:x}"] for number in range(pool["pg_num"]))
-        places = sum(len({osd for osd in up.places if osd in weights}) for up in groups)
-        return {osd: places * weight / sum(weights.values()) for osd, weight in weights.items()}
+        places, total = sum(self.counts_in[pool["id"]][osd] for osd in weights), sum(weights.values())
+        return {osd: places * weight / total for osd, weight in weights.items()}
 
     def roots(self) -> list[int]:
         """The buckets that stand in no other."""
@@ -83,8 +93,7 @@ class Shares:
         """What is told of each pool."""
         found = []
         for pool in self.value["pools"]:
-            own = [self.ups[f"{pool['id']}.{number:x}"] for number in range(pool["pg_num"])]
-            full = [len([osd for osd in up.places if osd is not None]) for up in own]
+            full = [len([osd for osd in up.places if osd is not None]) for up in self.ups_in(pool)]
             found.append({"id": pool["id"], "size": pool["size"], "groups": pool["pg_num"], "rule": pool["rule"],
                           "places": sum(full), "short": sum(count < pool["size"] for count in full)})
         return found
