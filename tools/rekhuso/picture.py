@@ -10,7 +10,7 @@ from monitor import Monitor, groups_of
 from shares import Shares, named
 from texts import json_of
 
-CELL, GAP, ROW, LABEL, ACROSS = 14, 2, 18, 120, 32
+CELL, GAP, ROW, LABEL, ACROSS, TALL = 14, 2, 18, 90, 32, 640
 
 
 def colour(groups: int, wanted: float) -> str:
@@ -52,11 +52,16 @@ def hosts_of(shares: Shares) -> list[tuple[str | int, int]]:
     return found
 
 
-def drawn(shares: Shares, names: dict[str, Any], left: int) -> tuple[list[str], int]:
-    """The parts of one map's picture, and its height."""
-    parts, top, last = [], 24, None
-    for above, host in hosts_of(shares):
+def drawn(shares: Shares, names: dict[str, Any], left: int) -> tuple[list[str], int, int]:
+    """The parts of one map's picture, where it ends on the right, and its height. A rack that would begin far down begins a column."""
+    hosts = hosts_of(shares)
+    widest = max((len([item for item, _ in shares.buckets[host]["items"] if item >= 0]) for _, host in hosts), default=1)
+    column = LABEL + min(widest, ACROSS) * (CELL + GAP) + 24
+    parts, top, height, last = [], 24, 24, None
+    for above, host in hosts:
         if above != last and above != "":
+            if top > TALL:
+                left, top = left + column, 24
             parts.append(f'<text x="{left}" y="{top + 12}" class="r">{html.escape(named(names, "buckets", int(above)))}</text>')
             top += ROW
         last = above
@@ -65,21 +70,22 @@ def drawn(shares: Shares, names: dict[str, Any], left: int) -> tuple[list[str], 
         for at, osd in enumerate(devices):
             parts.append(cell(shares, osd, left + LABEL + at % ACROSS * (CELL + GAP), top + at // ACROSS * (CELL + GAP)))
         top += max(ROW, ((len(devices) + ACROSS - 1) // ACROSS) * (CELL + GAP) + GAP)
-    return parts, top
+        height = max(height, top)
+    return parts, left + column, height
 
 
 def picture(maps: list[Shares], names: dict[str, Any], titles: list[str]) -> str:
     """The SVG of one map or two."""
-    widest = max((len([item for item, _ in shares.buckets[host]["items"]]) for shares in maps for _, host in hosts_of(shares)), default=1)
-    width, parts, height = LABEL + min(widest, ACROSS) * (CELL + GAP) + 24, [], 0
-    for at, (shares, title) in enumerate(zip(maps, titles)):
-        own, tall = drawn(shares, names, 8 + at * width)
-        parts += [f'<text x="{8 + at * width}" y="16" class="r">{html.escape(title)}</text>'] + own
-        height = max(height, tall)
+    parts, left, height = [], 8, 0
+    for shares, title in zip(maps, titles):
+        own, right, tall = drawn(shares, names, left)
+        parts += [f'<text x="{left}" y="16" class="r">{html.escape(title)}</text>'] + own
+        left, height = right, max(height, tall)
+    width = max(left, 440)
     legend = "".join(f'<rect x="{8 + at * 24}" y="{height + 8}" width="24" height="10" fill="{colour(round(ratio * 100), 100)}"/>'
                      for at, ratio in enumerate((0, 0.5, 1, 1.5, 2)))
     style = "text{font:11px sans-serif;fill:#333}.r{font-weight:bold}.c{stroke:#999;stroke-width:.5}.m{stroke:#111;stroke-width:1.5;fill:none}"
-    return (f'<svg xmlns="http://www.w3.org/2000/svg" width="{width * len(maps)}" height="{height + 40}" viewBox="0 0 {width * len(maps)} {height + 40}">'
+    return (f'<svg xmlns="http://www.w3.org/2000/svg" width="{width}" height="{height + 40}" viewBox="0 0 {width} {height + 40}">'
             f'<style>{style}</style><rect width="100%" height="100%" fill="#fff"/>{"".join(parts)}{legend}'
             f'<text x="136" y="{height + 17}">no groups .. the share .. twice as many; cross: out; bar: down</text></svg>\n')
 
