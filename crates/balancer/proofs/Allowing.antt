@@ -1,15 +1,14 @@
 -- Which moves are allowed and good, by the tests that are made of a group.
-use Rattle.std.proofs.Common.{◌≡◌, ◌≢◌, ◌∙◌, refl, sym, ap, ℕ, ◌+◌, ◌<◌, ◌≤◌, Bool, true, false, not, ◌&&◌, ◌||◌, cond, eqb, ℤ, pos, List, [], ◌∷◌, length, Option, Some, None, inl, inr, arith}
+use Rattle.std.proofs.Common.{◌≡◌, ◌≢◌, ◌∙◌, refl, sym, ap, ℕ, Bool, true, false, not, ◌&&◌, cond, eqb, ℤ, pos, List, [], ◌∷◌, length, Option, inl, inr, arith}
 use mathlib.Core.Bool.{false≢true}
 use Rattle.std.specs.Prelude.{int_lt, nat_lt, ◌-ℤ◌}
 use Rattle.std.specs.List.{list_any, count_by}
-use Rattle.std.proofs.lemmas.Bool.{cases_Bool, eqb-true, and_parts, and_from}
-use Rattle.std.proofs.lemmas.Bool.Decides.{nat_tests}
+use Rattle.std.proofs.lemmas.Bool.{cases_Bool, eqb-true, and_parts}
 use Rattle.std.proofs.lemmas.Int.{ints}
 use Rattle.std.proofs.lemmas.List.Sums.{sum_by-cons}
 use Rattle.stated.specs.Pools.{PoolFacts}
-use Rattle.osdmap.specs.Maps.{ClusterMap, osd_is_up}
-use Rattle.osdmap.specs.Mapped.{is_of, is_weightless}
+use Rattle.osdmap.specs.Maps.{ClusterMap}
+use Rattle.osdmap.specs.Mapped.{is_of}
 use Rattle.osdmap.specs.Placement.{group_of, steps_of, mapped_set, up_set}
 use Rattle.placement_laws.specs.Standing.{stands}
 use Rattle.placement_laws.proofs.Standing.{up_are_mapped_and_up}
@@ -70,7 +69,8 @@ module _ (m : ClusterMap) (p : PoolFacts) (v : Move) where
 
   -- ---- good moves
 
-  apart_if : int_lt (pos (total m p)) (gap m p v.from v.to) ≡ true → v.from ≢ v.to
+  -- a wide pair is of two OSDs
+  pub apart_if : int_lt (pos (total m p)) (gap m p v.from v.to) ≡ true → v.from ≢ v.to
   apart_if wide same = let level : deviation m p v.from ≡ deviation m p v.to = ap (deviation m p) same in narrow (total m p) (deviation m p v.from) (deviation m p v.to) level wide
     where
       narrow : (t : ℕ) (x y : ℤ) → x ≡ y → int_lt (pos t) (x -ℤ y) ≡ true → ⊥

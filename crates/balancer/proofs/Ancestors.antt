@@ -1,7 +1,7 @@
 -- The bucket of a type above an item, by a search among all buckets.
 use Rattle.std.proofs.Common.{◌≡◌, ◌↔◌, ◌∙◌, refl, sym, ap, ℕ, zero, suc, ◌<◌, ◌≤◌, Bool, true, false, ◌&&◌, ℤ, pos, List, [], ◌∷◌, length, get_or, Option, Some, None, IsTrue, inl, inr, arith, eqb, eq-eqb}
 use mathlib.Core.Bool.{false≢true}
-use Rattle.std.specs.List.{find, All}
+use Rattle.std.specs.List.{find}
 use Rattle.std.specs.Option.{option_map}
 use Rattle.std.specs.Ordering.{int_eq}
 use Rattle.std.proofs.lemmas.Bool.{cases_Bool, and_parts, and_from, eqb-true}

@@ -1,10 +1,10 @@
 -- The change of a plan: nothing refuses it, and it leads to the map after the moves.
-use Rattle.std.proofs.Common.{◌≡◌, ◌≢◌, ◌∙◌, refl, sym, ap, subst, ℕ, zero, suc, ◌+◌, ◌*◌, ◌^◌, ◌<◌, ◌≤◌, Bool, true, false, not, ◌&&◌, ◌||◌, cond, eqb, List, [], ◌∷◌, ◌++◌, length, get_or, map, reverse, Option, Some, None, inl, inr, arith, eq-eqb}
+use Rattle.std.proofs.Common.{◌≡◌, ◌≢◌, ◌∙◌, refl, sym, ap, subst, ℕ, suc, ◌+◌, ◌<◌, ◌≤◌, Bool, true, false, not, ◌&&◌, eqb, List, [], ◌∷◌, length, get_or, map, Option, Some, None, arith, eq-eqb}
 use mathlib.Core.Bool.{false≢true}
-use Rattle.std.specs.Prelude.{nat_le, nat_lt, is_some, if◌then◌else◌}
-use Rattle.std.specs.List.{All, Contains, filter, find, fold, list_any, list_all, range_with_len}
+use Rattle.std.specs.Prelude.{nat_le, nat_lt, is_some}
+use Rattle.std.specs.List.{filter, find, fold, list_all, range_with_len}
 use Rattle.std.specs.Option.{option_map, option_map_or, option_or}
-use Rattle.std.proofs.lemmas.Bool.{cases_Bool, ne_eqb, eqb-true, and_parts}
+use Rattle.std.proofs.lemmas.Bool.{ne_eqb, eqb-true, and_parts}
 use Rattle.std.proofs.lemmas.Bool.Decides.{nat_tests}
 use Rattle.std.proofs.lemmas.List.{get_or-map, length-map}
 use Rattle.std.proofs.lemmas.List.Elements.{filter_passes}
@@ -15,19 +15,18 @@ use Rattle.keylist.specs.Order.{IsRising}
 use Rattle.keylist.specs.Puts.{put}
 use Rattle.keylist.proofs.Counts.{find-place}
 use Rattle.keylist.proofs.Distinct.{rising_distinct}
-use Rattle.keylist.proofs.Each.{all_more, all_so, list_all-at}
-use Rattle.keylist.proofs.KeyedFinds.{find-none}
+use Rattle.keylist.proofs.Each.{all_more, all_so}
 use Rattle.keylist.proofs.KeyedMaps.{has-entry, entry-put, entry-puts, entry-reverse, rising-puts, list_all-filter}
 use Rattle.keylist.proofs.KeyedOrder.{rising-filter}
 use Rattle.stated.specs.declared.change.ChangeParts.{ChangeParts}
 use Rattle.stated.specs.declared.exception.Exception.{Exception}
 use Rattle.stated.specs.declared.exception.Pair.{Pair}
 use Rattle.stated.specs.declared.pg.Pg.{Pg}
-use Rattle.stated.specs.Exceptions.{place_of, key_of, has_pool, has_pool_of, has_group, sides, are_pairs, all_named, is_sound, is_exception, stays, exceptions_after}
+use Rattle.stated.specs.Exceptions.{place_of, key_of, has_pool_of, has_group, sides, are_pairs, all_named, is_sound, is_exception, stays, exceptions_after}
 use Rattle.stated.specs.Growth.{grown}
 use Rattle.stated.specs.Limits.{max_pools}
 use Rattle.stated.specs.Pools.{PoolFacts}
-use Rattle.osdmap.specs.Maps.{ClusterMap, pool_at, osd_exists, has_rule, HoldsTogether}
+use Rattle.osdmap.specs.Maps.{ClusterMap, osd_exists, has_rule, HoldsTogether}
 use Rattle.osdmap.specs.Changes.{names_osds, weighs_rightly, pools_kept, pools_there, pools_after, all_groups, names_pools, brings_new, brings_forest, brings_rightly, names_groups, excepts_soundly, names_once, change_fault, apply}
 use Rattle.osdmap.specs.Placement.{group_of}
 use Rattle.osdmap.proofs.PlacementLemmas.{found_passes}

@@ -1,7 +1,7 @@
 -- Who is a candidate, and how great deviations are.
-use Rattle.std.proofs.Common.{◌≡◌, ◌∙◌, refl, sym, ap, subst, ℕ, zero, suc, ◌+◌, ◌*◌, ◌^◌, ◌<◌, ◌≤◌, Bool, true, false, not, ◌&&◌, cond, ℤ, pos, List, [], ◌∷◌, length, get_or, Option, Some, None, inl, inr, arith}
-use Rattle.std.specs.Prelude.{◌-ℤ◌, ◌<ℤ◌, neg_ℤ, nat_lt}
-use Rattle.std.specs.List.{filter, range_with_len, sum_by, All}
+use Rattle.std.proofs.Common.{◌≡◌, ◌∙◌, refl, ap, subst, ℕ, zero, suc, ◌*◌, ◌^◌, ◌<◌, ◌≤◌, Bool, true, false, not, ◌&&◌, ℤ, pos, List, [], ◌∷◌, length, get_or, Some, inl, inr, arith}
+use Rattle.std.specs.Prelude.{◌-ℤ◌, ◌<ℤ◌, neg_ℤ}
+use Rattle.std.specs.List.{filter, sum_by, All}
 use Rattle.std.proofs.lemmas.Bool.{cases_Bool}
 use Rattle.std.proofs.lemmas.Bool.Decides.{nat_tests}
 use Rattle.std.proofs.lemmas.Int.{ints}
@@ -23,7 +23,7 @@ use Rattle.balancer.specs.Shares.{osds_of, is_candidate, candidates, weight_of, 
 use Rattle.balancer.specs.Moves.{are_beside}
 use Rattle.balancer.specs.Greedy.{after_moves}
 use Rattle.balancer.specs.Boards.{IsBoardOf, IsReached, may_go}
-use Rattle.balancer.proofs.Stays.{with_pairs, moves_stay, candidate_stays, total_stays, beside_stays, goes_stays}
+use Rattle.balancer.proofs.Stays.{moves_stay, candidate_stays, total_stays, beside_stays, goes_stays}
 use Rattle.balancer.proofs.Counting.{count_small}
 use Rattle.balancer.proofs.Weighing.{few_filtered}
 

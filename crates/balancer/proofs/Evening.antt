@@ -1,8 +1,7 @@
 -- A good move makes the pool more even; and the state of a plan after one more move.
-use Rattle.std.proofs.Common.{◌≡◌, ◌≢◌, ◌∙◌, refl, sym, ap, subst, ℕ, zero, suc, ◌+◌, ◌*◌, ◌-◌, ◌<◌, ◌≤◌, Bool, true, false, ◌&&◌, ◌||◌, cond, eqb, ℤ, pos, List, [], ◌∷◌, ◌++◌, length, get_or, map, set, Option, Some, None, unwrap_or, inl, inr, arith, eq-eqb}
+use Rattle.std.proofs.Common.{◌≡◌, ◌≢◌, ◌∙◌, refl, sym, ap, subst, ℕ, ◌+◌, ◌*◌, ◌-◌, ◌<◌, ◌≤◌, Bool, true, false, ◌||◌, eqb, ℤ, pos, List, [], ◌∷◌, ◌++◌, length, get_or, set, Option, Some, unwrap_or, inl, inr, arith, eq-eqb}
 use mathlib.Core.Bool.{false≢true}
-use Rattle.std.specs.Prelude.{◌+ℤ◌, ◌-ℤ◌, ◌<ℤ◌, int_lt, nat_abs}
-use Rattle.std.specs.List.{list_any, sum_by, fold}
+use Rattle.std.specs.Prelude.{◌+ℤ◌, ◌-ℤ◌, int_lt, nat_abs}
 use Rattle.std.proofs.lemmas.Bool.{cases_Bool, cases_lt, ne_eqb, eqb-true}
 use Rattle.std.proofs.lemmas.Int.{ints}
 use Rattle.std.proofs.lemmas.List.{get_or-set_same, get_or-set_other, length-set, length_push}
@@ -22,14 +21,14 @@ use Rattle.osdmap.specs.Placement.{group_of}
 use Rattle.pgtable.specs.Index.{count_in}
 use Rattle.balancer.specs.declared.group.Group.{Group}
 use Rattle.balancer.specs.declared.moves.Move.{Move}
-use Rattle.balancer.specs.Shares.{osds_of, candidates, weight_of, total, places, deviation, square, unevenness}
+use Rattle.balancer.specs.Shares.{candidates, weight_of, total, places, deviation, square, unevenness}
 use Rattle.balancer.specs.Moves.{moved, pairs_in, pair_of, lengthened}
-use Rattle.balancer.specs.Greedy.{gap, after_moves}
+use Rattle.balancer.specs.Greedy.{after_moves}
 use Rattle.balancer.specs.Plans.{is_moved, items_at}
-use Rattle.balancer.specs.Boards.{IsGood, IsBoardOf, IsReached, groups_of, deviations_of, gone, group_at}
+use Rattle.balancer.specs.Boards.{IsGood, IsBoardOf, IsReached, deviations_of, gone, group_at}
 use Rattle.balancer.proofs.Moving.{said_moved, said_others}
-use Rattle.balancer.proofs.Deviating.{pool_now, total_now, candidate_below}
-use Rattle.balancer.proofs.Allowing.{good_candidates, good_apart, good_wide}
+use Rattle.balancer.proofs.Deviating.{pool_now, total_now}
+use Rattle.balancer.proofs.Allowing.{good_apart, good_wide}
 use Rattle.balancer.proofs.Stepping.{groups_moved, holds_moved}
 use Rattle.balancer.proofs.Shifting.{two_sum, candidates_rise, candidates_moved, total_moved, places_moved, weight_moved, from_in, to_in, count_from, count_to, deviation_from, deviation_to, deviation_other}
 

@@ -7,6 +7,7 @@ pub mod Deviating
 pub mod Ancestors
 pub mod Beating
 pub mod Allowing
+pub mod Marking
 pub mod Searching
 pub mod Choosing
 pub mod Stepping

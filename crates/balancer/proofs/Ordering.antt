@@ -1,5 +1,5 @@
 -- A change whose one part rises is made as it is stated.
-use Rattle.std.proofs.Common.{◌≡◌, ◌∙◌, refl, sym, ap, subst, ℕ, ◌<◌, List, [], length, Option, Some, None, arith}
+use Rattle.std.proofs.Common.{◌≡◌, ℕ, List, [], arith}
 use Rattle.keylist.specs.Order.{IsRising, SortsBy}
 use Rattle.stated.specs.declared.change.ChangeParts.{ChangeParts}
 use Rattle.stated.specs.declared.exception.Exception.{Exception}

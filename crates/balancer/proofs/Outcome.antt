@@ -1,5 +1,5 @@
 -- What a plan is worth: the epoch of a map does not matter.
-use Rattle.std.proofs.Common.{◌≡◌, ◌∙◌, refl, sym, ap, subst, ℕ, ◌+◌, ◌*◌, ◌<◌, ◌≤◌, List, [], length, Option, Some, None, eqb}
+use Rattle.std.proofs.Common.{◌≡◌, ◌∙◌, refl, sym, ap, subst, ℕ, ◌+◌, ◌<◌, List, [], length, Some, None, eqb}
 use Rattle.std.proofs.lemmas.Bool.{eqb-true}
 use Rattle.keylist.specs.Order.{IsRising}
 use Rattle.keylist.proofs.Counts.{find-place}
@@ -10,10 +10,8 @@ use Rattle.stated.specs.declared.exception.Exception.{Exception}
 use Rattle.stated.specs.declared.exception.Pair.{Pair}
 use Rattle.stated.specs.Pools.{PoolFacts}
 use Rattle.std.proofs.lemmas.List.Elements.{filter_agree}
-use Rattle.std.specs.Option.{option_map_or}
 use Rattle.osdmap.specs.Maps.{ClusterMap, pool_at, HoldsTogether}
 use Rattle.osdmap.specs.Placement.{placed, raw_set, mapped_set, up_set}
-use Rattle.pgtable.specs.Patches.{next}
 use Rattle.balancer.specs.declared.moves.Move.{Move}
 use Rattle.balancer.specs.Shares.{is_candidate, weight_of, total, places, deviation, unevenness}
 use Rattle.balancer.specs.Moves.{moved, domain_of, are_beside, has_way, has_own_domain, does_replace, stands_on, has_room, is_allowed}

@@ -1,8 +1,7 @@
 -- Lists with rising keys are the same where they have the same entries.
-use Rattle.std.proofs.Common.{◌≡◌, ◌≢◌, ◌∙◌, refl, sym, ap, ℕ, ◌<◌, ◌≤◌, Bool, true, false, cond, eqb, List, [], ◌∷◌, length, get_or, map, Option, Some, None, inl, inr, arith, eq-eqb}
+use Rattle.std.proofs.Common.{◌≡◌, ◌≢◌, ◌∙◌, refl, sym, ap, ℕ, ◌<◌, true, eqb, List, [], ◌∷◌, get_or, map, Some, None, inl, inr, arith, eq-eqb}
 use mathlib.Core.Bool.{false≢true}
-use Rattle.std.specs.List.{All, find}
-use Rattle.std.specs.List.Sorted.{IsPermutation}
+use Rattle.std.specs.List.{All}
 use Rattle.std.proofs.lemmas.Bool.{cases_Bool, cases_order, ne_eqb, eqb-true}
 use Rattle.keylist.specs.Keys.{entry_at, is_distinct}
 use Rattle.keylist.specs.Order.{IsRising, SortsBy}

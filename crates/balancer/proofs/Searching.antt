@@ -1,17 +1,14 @@
 -- The search for the best move.
-use Rattle.std.proofs.Common.{◌≡◌, ◌∙◌, refl, sym, ap, ℕ, ◌+◌, ◌<◌, ◌≤◌, Bool, true, false, ◌&&◌, ℤ, pos, List, length, get_or, take, map, position, Option, Some, None, inl, inr, eqb, eq-eqb, arith}
+use Rattle.std.proofs.Common.{◌≡◌, ◌∙◌, refl, sym, ap, ℕ, ◌+◌, ◌<◌, ◌≤◌, Bool, true, false, ◌&&◌, ℤ, pos, List, length, get_or, take, position, Option, Some, None, inl, inr, eqb, eq-eqb, arith}
 use Rattle.std.specs.Prelude.{int_lt, nat_lt, ◌||◌, ◌-ℤ◌, IfSome, if◌then◌else◌}
 use Rattle.std.specs.Ordering.{int_eq}
-use Rattle.std.specs.List.{range_with_len}
-use Rattle.std.proofs.lemmas.Bool.{false_from_ne_true, and_parts, and_from, cases_Bool, cases_lt}
+use Rattle.std.proofs.lemmas.Bool.{false_from_ne_true, eqb-true, and_parts, and_from, cases_Bool, cases_lt}
 use Rattle.std.proofs.lemmas.Int.{ints}
 use mathlib.Core.Bool.{false≢true}
 use Rattle.std.proofs.lemmas.List.FromFn.{length-map-range_with_len, get_or-map-range_with_len}
 use Rattle.std.proofs.lemmas.List.{take_all}
 use Rattle.std.proofs.lemmas.List.Elements.{filter_passes, All-nil, All-weaker, All-more}
 use Rattle.std.proofs.lemmas.List.Quantifiers.{position-Some}
-use Rattle.std.proofs.lemmas.List.Sums.{fails_before_first}
-use Rattle.std.proofs.lemmas.Grind.{common_steps}
 use Rattle.std.proofs.lemmas.Bool.Decides.{nat_tests}
 use Rattle.keylist.proofs.Each.{same_tests}
 use Rattle.stated.specs.Pools.{PoolFacts}
@@ -22,8 +19,9 @@ use Rattle.balancer.specs.Shares.{osds_of, is_candidate, candidates, total, devi
 use Rattle.balancer.specs.Moves.{move_of, are_beside}
 use Rattle.balancer.specs.Greedy.{gap, is_good, beats, after_moves}
 use Rattle.balancer.specs.Boards.{IsGood, IsBoardOf, IsCovered, IsBetter, IsEmptiest, CoversPair, CoversFrom, CoversAll, is_wanted, may_go, group_at}
+use Rattle.balancer.specs.Marks.{NoneGoes}
 use Rattle.balancer.proofs.Deviating.{candidate_now, beside_now, goes_now}
-use Rattle.balancer.proofs.Allowing.{good_candidates, good_wide, good_from, good_goes}
+use Rattle.balancer.proofs.Allowing.{apart_if, good_candidates, good_wide, good_from, good_goes}
 use Rattle.balancer.proofs.Beating.{beats_trans, beats_equal, beats_less, higher_not_better, lowest_not_better, between_pair}
 
 module _ (m : ClusterMap) (p : PoolFacts) (moves : List Move) where
@@ -65,6 +63,10 @@ module _ (m : ClusterMap) (p : PoolFacts) where
   wanted_wide : (from to : ℕ) (best : Option Move) → is_wanted m p from to best ≡ true → int_lt (pos (total m p)) (gap m p from to) ≡ true
   wanted_wide from to None wanted = wanted
   wanted_wide from to (Some b) wanted = (and_parts (int_lt (pos (total m p)) (gap m p from to)) (beats m p (move_of from to 0) b) wanted).0
+
+  -- what is wanted is between two OSDs
+  pub wanted_apart : (from to : ℕ) (best : Option Move) → is_wanted m p from to best ≡ true → eqb to from ≡ false
+  wanted_apart from to best wanted = false_from_ne_true _ (λ yes. apart_if m p (move_of from to 0) (wanted_wide from to best wanted) (sym (eqb-true to from yes)))
 
   -- what does not go is covered
   covered_none : (from to : ℕ) (best : Option Move) → ((g : ℕ) → g < p.pg_num → is_good m p (move_of from to g) ≡ false) → CoversPair m p best from to
@@ -132,12 +134,12 @@ module _ (m : ClusterMap) (p : PoolFacts) (moves : List Move) (gs : List Group) 
         λ g below. goes_now m p moves from to (group_at later p g) ∙ ap (may_go m p from to) (sym (group_kept g d (omega (arith, inside)))) ∙ at.2 g below,
       )
 
-  -- where none is found, none goes
-  goes_none : (from to : ℕ) → position (may_go m p from to) gs ≡ None → (g : ℕ) → g < p.pg_num → may_go later p from to (group_at later p g) ≡ false
+  -- where none may go, none goes
+  goes_none : (from to : ℕ) → NoneGoes m p gs from to → (g : ℕ) → g < p.pg_num → may_go later p from to (group_at later p g) ≡ false
   goes_none from to none g below =
       let d = group_at later p 0 in
       goes_now m p moves from to (group_at later p g) ∙ ap (may_go m p from to) (sym (group_kept g d below))
-      ∙ fails_before_first (may_go m p from to) gs g d (grind (arith, nat_tests, common_steps, none, long_groups later p gs ds board))
+      ∙ none g d (omega (arith, below, long_groups later p gs ds board))
 
   -- the tests of the search, and what it takes by them
   found_good : (from to k : ℕ) (best : Option Move) → is_candidate m p from ≡ true → is_candidate m p to ≡ true → is_wanted later p from to best ≡ true → are_beside m p from to ≡ true
@@ -160,7 +162,7 @@ module _ (m : ClusterMap) (p : PoolFacts) (moves : List Move) (gs : List Group) 
   pub found_covers : (from to k : ℕ) → position (may_go m p from to) gs ≡ Some k → CoversPair later p (Some (move_of from to k)) from to
   found_covers from to k found = covers_taken later p from to k (first_bad from to k found)
 
-  pub none_covers : (from to : ℕ) (best : Option Move) → position (may_go m p from to) gs ≡ None → CoversPair later p best from to
+  pub none_covers : (from to : ℕ) (best : Option Move) → NoneGoes m p gs from to → CoversPair later p best from to
   none_covers from to best none = covered_none later p from to best (λ g below. stays_bad later p from to g (goes_none from to none g below))
 
   pub apart_covers : (from to : ℕ) (best : Option Move) → are_beside m p from to ≡ false → CoversPair later p best from to

@@ -1,9 +1,8 @@
 -- What a good move makes of the counts and the deviations.
-use Rattle.std.proofs.Common.{◌≡◌, ◌≢◌, ◌∙◌, refl, sym, ap, subst, ℕ, zero, suc, ◌+◌, ◌*◌, ◌^◌, ◌<◌, ◌≤◌, Bool, true, false, not, ◌&&◌, ◌||◌, cond, eqb, ℤ, pos, List, [], ◌∷◌, ◌++◌, length, get_or, map, set, Option, Some, None, inl, inr, arith, eq-eqb}
+use Rattle.std.proofs.Common.{◌≡◌, ◌≢◌, ◌∙◌, refl, sym, ap, ℕ, zero, suc, ◌+◌, ◌*◌, ◌<◌, Bool, true, false, ◌||◌, cond, eqb, pos, List, [], ◌∷◌, length, get_or, set, Option, Some, None, inl, inr, arith, eq-eqb}
 use mathlib.Core.Bool.{false≢true}
-use Rattle.std.specs.Prelude.{◌+ℤ◌, ◌-ℤ◌, ◌*ℤ◌, ◌<ℤ◌, int_lt, nat_abs, if◌then◌else◌}
-use Rattle.std.specs.List.{All, Contains, filter, list_any, count_by, sum_by, range_with_len}
-use Rattle.std.specs.Option.{option_map_or}
+use Rattle.std.specs.Prelude.{◌+ℤ◌, ◌-ℤ◌}
+use Rattle.std.specs.List.{Contains, list_any, count_by, sum_by, range_with_len}
 use Rattle.std.proofs.lemmas.Bool.{cases_Bool, ne_eqb, eqb-true}
 use Rattle.std.proofs.lemmas.Int.{ints}
 use Rattle.std.proofs.lemmas.List.{get_or-set_same, get_or-set_other, length-set}
@@ -20,9 +19,9 @@ use Rattle.placement_laws.specs.Standing.{stands}
 use Rattle.pgtable.specs.Index.{count_in}
 use Rattle.pgtable.specs.Tables.{sets_of}
 use Rattle.balancer.specs.declared.moves.Move.{Move}
-use Rattle.balancer.specs.Shares.{osds_of, is_candidate, candidates, weight_of, total, places, deviation, square, unevenness}
+use Rattle.balancer.specs.Shares.{osds_of, is_candidate, candidates, weight_of, total, places, deviation}
 use Rattle.balancer.specs.Moves.{pair_of, moved}
-use Rattle.balancer.specs.Boards.{IsGood, deviations_of}
+use Rattle.balancer.specs.Boards.{IsGood}
 use Rattle.balancer.proofs.Counting.{count_is}
 use Rattle.balancer.proofs.Moving.{mapped_others}
 use Rattle.balancer.proofs.Deviating.{candidate_up}

@@ -1,31 +1,28 @@
 -- What a good move makes of a map.
-use Rattle.std.proofs.Common.{◌≡◌, ◌≢◌, ◌∙◌, refl, sym, ap, subst, ℕ, zero, suc, ◌+◌, ◌*◌, ◌^◌, ◌<◌, ◌≤◌, Bool, true, false, not, ◌&&◌, ◌||◌, cond, eqb, List, [], ◌∷◌, ◌++◌, length, get_or, map, set, Option, Some, None, unwrap_or, inl, inr, arith, eq-eqb}
+use Rattle.std.proofs.Common.{◌≡◌, ◌≢◌, ◌∙◌, refl, sym, ap, ℕ, ◌<◌, Bool, true, false, not, ◌&&◌, eqb, List, [], ◌∷◌, ◌++◌, length, get_or, set, Option, Some, None, unwrap_or, inl, inr, arith, eq-eqb}
 use mathlib.Core.Bool.{false≢true}
-use Rattle.std.specs.Prelude.{nat_lt, nat_le, if◌then◌else◌}
-use Rattle.std.specs.List.{find, filter, list_any, list_all, count_by, range_with_len}
+use Rattle.std.specs.Prelude.{nat_lt, nat_le}
+use Rattle.std.specs.List.{list_all, count_by}
 use Rattle.std.specs.Option.{option_map, option_map_or}
-use Rattle.std.proofs.lemmas.Bool.{cases_Bool, ne_eqb, eqb-true, and_parts, and_from, lt-ltb}
+use Rattle.std.proofs.lemmas.Bool.{cases_Bool, ne_eqb, eqb-true, and_parts, lt-ltb}
 use Rattle.std.proofs.lemmas.Bool.Decides.{nat_tests}
-use Rattle.std.proofs.lemmas.List.{get_or-set_same, get_or-set_other, length-set, length-append, length_push}
+use Rattle.std.proofs.lemmas.List.{get_or-set_same, get_or-set_other, length-set, length_push}
 use Rattle.std.proofs.lemmas.List.Folds.{list_all-append}
 use Rattle.std.proofs.lemmas.List.FromFn.{fill_by_all, length-map-range_with_len, get_or-map-range_with_len}
-use Rattle.std.proofs.lemmas.List.Sums.{sum_by-cons, sum_by-set}
 use Rattle.keylist.specs.Keys.{entry_at}
 use Rattle.keylist.proofs.Tests.{not_true}
 use Rattle.keylist.proofs.KeyedMaps.{rising-put, list_all-put}
 use Rattle.stated.specs.declared.exception.Exception.{Exception}
 use Rattle.stated.specs.declared.exception.Pair.{Pair}
 use Rattle.stated.specs.declared.pg.Pg.{Pg}
-use Rattle.stated.specs.Exceptions.{place_of, key_of, said_of, sides, are_pairs, is_exception, has_group, all_named, is_sound}
+use Rattle.stated.specs.Exceptions.{place_of, key_of, sides, are_pairs, is_exception, has_group, all_named, is_sound}
 use Rattle.stated.specs.Pools.{PoolFacts}
-use Rattle.osdmap.specs.Maps.{ClusterMap, pool_at, osd_exists, osd_is_up, HoldsTogether}
-use Rattle.osdmap.specs.Mapped.{is_of, is_weightless, replaced, with_pair}
+use Rattle.osdmap.specs.Maps.{ClusterMap, pool_at, osd_exists, HoldsTogether}
+use Rattle.osdmap.specs.Mapped.{is_of, replaced, with_pair}
 use Rattle.osdmap.specs.Placement.{group_of, steps_of, mapped_set}
 use Rattle.osdmap.proofs.PlacementLemmas.{found_passes}
 use Rattle.placement_laws.specs.Standing.{stands}
-use Rattle.balancer.specs.declared.group.Group.{Group}
 use Rattle.balancer.specs.declared.moves.Move.{Move}
-use Rattle.balancer.specs.Shares.{is_candidate}
 use Rattle.balancer.specs.Moves.{pair_of, pairs_in, lengthened, moved, last_level, levels_of, has_way}
 use Rattle.balancer.specs.Boards.{IsGood, is_fixed, group_at, groups_of, gone, may_go}
 use Rattle.balancer.proofs.Moving.{said_moved, said_others, mapped_moved, mapped_others}

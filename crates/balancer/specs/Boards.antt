@@ -1,13 +1,13 @@
 -- What a plan is made with: the pool's groups and the deviations of all OSDs after the moves so far, as they are
 -- stored.
-use Rattle.std.specs.Prelude.{◌≡◌, ℕ, ◌+◌, ◌*◌, ◌<◌, ◌≤◌, ◌==◌, Bool, true, false, not, ◌&&◌, nat_lt, ℤ, pos, int_lt, List, [], ◌∷◌, ◌++◌, length, map, Option, Some, None, IfSome}
+use Rattle.std.specs.Prelude.{◌≡◌, ℕ, ◌+◌, ◌*◌, ◌<◌, ◌≤◌, ◌==◌, Bool, true, false, not, ◌&&◌, nat_lt, ℤ, pos, int_lt, List, [], ◌∷◌, ◌++◌, length, map, Option, Some, None, IfSome, slice_index_or, slice_set}
 use Rattle.std.specs.List.{range_with_len, list_any, count_by, All}
 use Rattle.std.specs.Option.{option_map_or}
 use Rattle.stated.specs.declared.pg.Pg.{Pg}
 use Rattle.keylist.specs.Keys.{entry_at}
 use Rattle.stated.specs.Exceptions.{place_of, key_of, said_of}
 use Rattle.stated.specs.Pools.{PoolFacts}
-use Rattle.osdmap.specs.Maps.{ClusterMap, pool_at, HoldsTogether}
+use Rattle.osdmap.specs.Maps.{ClusterMap, HoldsTogether}
 use Rattle.osdmap.specs.Mapped.{is_of, is_weightless, replaced}
 use Rattle.osdmap.specs.Placement.{group_of, steps_of, mapped_set}
 use Rattle.placement_laws.specs.Standing.{stands}
@@ -46,6 +46,12 @@ pub record IsBoardOf (m : ClusterMap) (p : PoolFacts) (gs : List Group) (ds : Li
 -- what is kept of a group after a move of it
 abbrev pub gone : Group → Move → Group
 gone g v = record g { places = replaced (pair_of v) g.places; pairs = g.pairs ++ pair_of v ∷ [] }
+
+-- some groups after a move of one of them
+abbrev pub IsGone : List Group → Move → List Group → Type 0
+IsGone before v after =
+    (g : Group) × (v.group < length before) × (g ≡ slice_index_or before v.group g)
+    × (after ≡ slice_set before v.group (gone g v))
 
 -- whether a group may go from one OSD to another, where both are candidates and beside one another
 unfoldable pub may_go : ClusterMap → PoolFacts → ℕ → ℕ → Group → Bool

@@ -1,5 +1,5 @@
 -- The greedy plan: as long as a move makes the pool more even, the one from the fullest OSD to the emptiest.
-use Rattle.std.specs.Prelude.{ℕ, zero, suc, ◌==◌, Bool, not, ◌&&◌, ◌||◌, nat_lt, ℤ, pos, ◌-ℤ◌, int_lt, List, [], ◌∷◌, length, map, Option}
+use Rattle.std.specs.Prelude.{ℕ, zero, suc, ◌==◌, Bool, not, ◌&&◌, ◌||◌, nat_lt, ℤ, pos, ◌-ℤ◌, int_lt, List, [], ◌∷◌, map, Option}
 use Rattle.std.specs.List.{filter, find, flat_map, fold, list_all, range_with_len}
 use Rattle.std.specs.Option.{option_map_or}
 use Rattle.std.specs.Ordering.{int_eq}

@@ -3,4 +3,5 @@ pub mod Moves
 pub mod Greedy
 pub mod Plans
 pub mod Boards
+pub mod Marks
 pub mod Reached

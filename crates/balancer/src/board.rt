@@ -90,7 +90,7 @@ impl<'a> Board<'a> {
     ghost use Rattle.std.specs.Prelude.{◌≡◌, ◌<◌, [], ◌∷◌, ◌++◌, IfOk, OnOk};
     ghost use Rattle.balancer.specs.Plans.{items_at, items_of};
     ghost use Rattle.balancer.specs.Greedy.{after_moves};
-    ghost use Rattle.balancer.specs.Boards.{IsGood};
+    ghost use Rattle.balancer.specs.Boards.{IsGood, IsGone};
     ghost use Rattle.pgtable.specs.Tables.{IsTableOf};
 
     /// The state at the beginning; or `Memory` (30).
@@ -117,6 +117,7 @@ impl<'a> Board<'a> {
         requires { IsGood (after_moves self.old.frame.map.now.map self.old.frame.pool self.old.moves.items)
             self.old.frame.pool step }
         ensures moves { OnOk result (self.new.moves.items ≡ self.old.moves.items ++ step ∷ []) }
+        ensures groups { OnOk result (IsGone self.old.groups.items step self.new.groups.items) }
         ensures map { self.new.frame.map.now.map ≡ self.old.frame.map.now.map }
         ensures pool { self.new.frame.pool ≡ self.old.frame.pool }
     {

@@ -22,7 +22,7 @@ fn ancestor_of(forest: &Forest, osd: u32, level: u8) -> Option<i32>
 
 /// The failure domain of an OSD: the bucket of a type above it, and for type 0 the OSD itself.
 #[tactic(auto, unfolding(crate::specs::Moves::domain_of))]
-fn domain_of(map: &OsdMap, level: u8, osd: u32) -> Option<i64>
+pub(crate) fn domain_of(map: &OsdMap, level: u8, osd: u32) -> Option<i64>
     ensures { result ≡ domain_of map.now.map level osd }
 {
     if level == 0 {

@@ -7,7 +7,7 @@ ghost use Rattle.osdmap.specs.Placement.{steps_of};
 ghost use Rattle.balancer.specs.Shares.{candidates, total};
 ghost use Rattle.balancer.specs.Moves.{level_chosen, levels_of, are_under_same};
 
-use crate::domains::{are_under_same, has_way, stands, times};
+use crate::domains::{are_under_same, domain_of, has_way, stands, times};
 use crate::group::Group;
 use crate::shares::{candidates, total};
 use crush::Step;
@@ -103,7 +103,7 @@ impl Frame<'_> {
     ghost use Rattle.std.specs.Prelude.{◌≡◌, ◌<◌, length, position, IfSome};
     ghost use Rattle.std.specs.List.{list_all};
     ghost use Rattle.osdmap.specs.Placement.{steps_of};
-    ghost use Rattle.balancer.specs.Moves.{are_under_same, are_beside, last_level, levels_of};
+    ghost use Rattle.balancer.specs.Moves.{are_under_same, are_beside, domain_of, last_level, levels_of};
     ghost use Rattle.balancer.specs.Boards.{may_go};
 
     /// Whether two OSDs are under the same bucket of each type that the pool's rule chooses before the last, or under
@@ -124,6 +124,13 @@ impl Frame<'_> {
         ensures { result ≡ last_level (levels_of (steps_of self.now.map.now.map self.now.pool)) }
     {
         self.levels.last().copied().unwrap_or(0)
+    }
+
+    /// The failure domain of an OSD, by the last type that the pool's rule chooses.
+    pub fn domain(&self, osd: u32) -> Option<i64>
+        ensures { result ≡ domain_of self.now.map.now.map (last_level (levels_of (steps_of self.now.map.now.map self.now.pool))) osd }
+    {
+        domain_of(self.map, self.last_level(), osd)
     }
 
     /// Whether a group may go from one OSD to another, where both are candidates and beside one another.

@@ -106,7 +106,7 @@ fn planned<'a>(
 {
     let frame = Frame::new(alloc, map, pool)?;
     let mut board = Board::new(alloc, frame, table)?;
-    board.run(limit)?;
+    board.run(alloc, limit)?;
     Ok(board)
 }
 

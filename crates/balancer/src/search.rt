@@ -5,8 +5,10 @@ ghost use Rattle.balancer.specs.Greedy.{precedes};
 
 use crate::board::Board;
 use crate::group::Group;
+use crate::marks::Marks;
 use crate::moves::Move;
 use refusal::Memory;
+use std::alloc::Global;
 
 /// Whether a move comes first of two: by the OSD that the group leaves, then by the one that comes, then by the group.
 fn precedes(u: Move, v: Move) -> bool
@@ -16,11 +18,12 @@ fn precedes(u: Move, v: Move) -> bool
 }
 
 impl Board<'_> {
-    ghost use Rattle.std.specs.Prelude.{◌≡◌, ◌<◌, ℕ, pos, neg_ℤ, int_lt, ◌<ℤ◌, ◌^◌, ◌==◌, [], length, position, true, false, if◌then◌else◌, Some, IfSome, MatchOption, OnOk};
+    ghost use Rattle.std.specs.Prelude.{◌≡◌, ◌<◌, ℕ, pos, neg_ℤ, int_lt, ◌<ℤ◌, ◌^◌, ◌==◌, [], ◌∷◌, ◌++◌, length, position, true, false, if◌then◌else◌, Some, IfSome, MatchOption, OnOk};
     ghost use Rattle.balancer.specs.Shares.{is_candidate, total, deviation};
     ghost use Rattle.balancer.specs.Moves.{move_of, are_beside, last_level, levels_of};
     ghost use Rattle.balancer.specs.Greedy.{gap, beats, good_moves, greedy, after_moves};
     ghost use Rattle.balancer.specs.Reached.{reached, IsEmptiestOf};
+    ghost use Rattle.balancer.specs.Marks.{NoneGoes, IsMarked};
     ghost use Rattle.balancer.specs.Boards.{may_go, is_wanted, IsGood, IsBest, IsBetter, CoversPair, CoversFrom};
 
     /// The deviation of an OSD.
@@ -88,20 +91,43 @@ impl Board<'_> {
         Some(group as u32)
     }
 
-    /// The best move so far, or a better one between two candidates.
-    fn better(&self, from: u32, to: u32, best: Option<Move>) -> Option<Move>
+    /// No group may go from one OSD to another: nor to any candidate in that one's failure domain.
+    fn shut(&self, from: u32, to: u32, marks: &mut Marks)
+        requires apart { (to == from) ≡ false }
+        requires none { NoneGoes self.now.frame.map.now.map self.now.frame.pool self.now.groups.items from to }
+        requires marks { IsMarked self.now.frame.map.now.map self.now.frame.pool self.now.groups.items marks.old }
+        ensures { IsMarked self.now.frame.map.now.map self.now.frame.pool self.now.groups.items marks.new }
+    {
+        let domain = self.frame.domain(to);
+        for other in &self.frame.osds {
+            if self.frame.domain(*other) == domain {
+                marks.shut(from, *other);
+            }
+        }
+    }
+
+    /// The best move so far, or a better one between two candidates; where no group may go, that is marked.
+    fn better(&self, from: u32, to: u32, best: Option<Move>, marks: &mut Marks) -> Option<Move>
         requires from { is_candidate self.now.frame.map.now.map self.now.frame.pool from ≡ true }
         requires to { is_candidate self.now.frame.map.now.map self.now.frame.pool to ≡ true }
         requires best { IfSome best (λ v. IsGood (reached self.now) self.now.frame.pool v) }
+        requires marks { IsMarked self.now.frame.map.now.map self.now.frame.pool self.now.groups.items marks.old }
         ensures better { IsBetter (reached self.now) self.now.frame.pool best result }
         ensures covers { CoversPair (reached self.now) self.now.frame.pool result from to }
+        ensures marks { IsMarked self.now.frame.map.now.map self.now.frame.pool self.now.groups.items marks.new }
     {
+        if marks.is_shut(from, to) {
+            return best;
+        }
         if !self.is_wanted(from, to, best) || !self.frame.are_beside(from, to) {
             return best;
         }
         match self.first_group(from, to) {
             Some(group) => Some(Move { group, from, to }),
-            None => best,
+            None => {
+                self.shut(from, to, marks);
+                best
+            }
         }
     }
 
@@ -153,38 +179,66 @@ impl Board<'_> {
     }
 
     /// The best move so far, or a better one from a candidate to some.
-    fn better_from(&self, from: u32, emptiest: Option<u32>, best: Option<Move>) -> Option<Move>
+    fn better_from(
+        &self,
+        from: u32,
+        emptiest: Option<u32>,
+        best: Option<Move>,
+        marks: &mut Marks,
+    ) -> Option<Move>
         requires from { is_candidate self.now.frame.map.now.map self.now.frame.pool from ≡ true }
         requires emptiest { IfSome emptiest (λ osd. IsEmptiestOf self.now osd) }
         requires best { IfSome best (λ v. IsGood (reached self.now) self.now.frame.pool v) }
+        requires marks { IsMarked self.now.frame.map.now.map self.now.frame.pool self.now.groups.items marks.old }
         ensures better { IsBetter (reached self.now) self.now.frame.pool best result }
         ensures covers { CoversFrom (reached self.now) self.now.frame.pool result from self.now.frame.osds.items }
+        ensures marks { IsMarked self.now.frame.map.now.map self.now.frame.pool self.now.groups.items marks.new }
     {
         if !self.may_lead(from, emptiest, best) {
             return best;
         }
         let mut best = best;
         for to in &self.frame.osds {
-            best = self.better(from, *to, best);
+            best = self.better(from, *to, best, marks);
         }
         best
     }
 
     /// The best move between candidates, or none where no move is good.
-    pub fn best(&self) -> Option<Move>
-        ensures { MatchOption result (good_moves (reached self.now) self.now.frame.pool ≡ [])
+    pub fn best(&self, marks: &mut Marks) -> Option<Move>
+        requires marks { IsMarked self.now.frame.map.now.map self.now.frame.pool self.now.groups.items marks.old }
+        ensures best { MatchOption result (good_moves (reached self.now) self.now.frame.pool ≡ [])
             (λ v. IsBest (reached self.now) self.now.frame.pool v) }
+        ensures marks { IsMarked self.now.frame.map.now.map self.now.frame.pool self.now.groups.items marks.new }
     {
         let emptiest = self.emptiest();
         let mut best = None;
         for from in &self.frame.osds {
-            best = self.better_from(*from, emptiest, best);
+            best = self.better_from(*from, emptiest, best, marks);
         }
         best
     }
 
+    /// Makes a good move, and forgets what was marked of the OSDs on which its group then stands; or `Memory` (30).
+    fn go(&mut self, step: Move, marks: &mut Marks) -> Result<(), Memory>
+        requires good { IsGood (after_moves self.old.frame.map.now.map self.old.frame.pool self.old.moves.items)
+            self.old.frame.pool step }
+        requires marks { IsMarked self.old.frame.map.now.map self.old.frame.pool self.old.groups.items marks.old }
+        ensures moves { OnOk result (self.new.moves.items ≡ self.old.moves.items ++ step ∷ []) }
+        ensures map { self.new.frame.map.now.map ≡ self.old.frame.map.now.map }
+        ensures pool { self.new.frame.pool ≡ self.old.frame.pool }
+        ensures marks { OnOk result
+            (IsMarked self.new.frame.map.now.map self.new.frame.pool self.new.groups.items marks.new) }
+    {
+        self.make(step)?;
+        if let Some(group) = self.groups.get(step.group as usize) {
+            marks.forget(group.places.as_slice());
+        }
+        Ok(())
+    }
+
     /// Makes the best move again and again, until no move is good or so many are made; or `Memory` (30).
-    pub fn run(&mut self, limit: u32) -> Result<(), Memory>
+    pub fn run(&mut self, alloc: Global, limit: u32) -> Result<(), Memory>
         requires { self.old.moves.items ≡ [] }
         ensures moves { OnOk result (self.new.moves.items
             ≡ greedy self.old.frame.map.now.map self.old.frame.pool limit) }
@@ -194,9 +248,10 @@ impl Board<'_> {
         ensures map { self.new.frame.map.now.map ≡ self.old.frame.map.now.map }
         ensures pool { self.new.frame.pool ≡ self.old.frame.pool }
     {
+        let mut marks = Marks::new(alloc, self.frame.map.max_osd())?;
         for _count in 0..limit {
-            match self.best() {
-                Some(step) => self.make(step)?,
+            match self.best(&mut marks) {
+                Some(step) => self.go(step, &mut marks)?,
                 None => return Ok(()),
             }
         }

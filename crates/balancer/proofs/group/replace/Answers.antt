@@ -1,4 +1,4 @@
-use Rattle.std.proofs.Common.{sym, ap, ◌∙◌, set, Some}
+use Rattle.std.proofs.Common.{sym, ◌∙◌}
 use Rattle.balancer.proofs.Replacing.{replaced_nowhere, replaced_at}
 use Rattle.balancer.proofs.group.replace.Goals as goal
 

@@ -1,7 +1,6 @@
-use Rattle.std.proofs.Common.{◌≡◌, None, subst}
+use Rattle.std.proofs.Common.{None, subst}
 use Rattle.stated.specs.declared.change.ChangeParts.{ChangeParts}
 use Rattle.stated.specs.Ordered.{IsOrdered}
-use Rattle.balancer.specs.Plans.{change_of}
 use Rattle.balancer.proofs.Ordering.{ordered_same}
 use Rattle.balancer.proofs.plans.change_of.Goals as goal
 

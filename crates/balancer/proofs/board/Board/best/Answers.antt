@@ -18,10 +18,11 @@ loop-from-preserved c =
     record {
       good = c.better_from-best.ensures.better.good;
       covers = all_more_from n b.frame.pool c.loop-from.best c.better_from-best.result b.frame.osds.items b.frame.osds.items c.loop-from.from-index inside c.better_from-best.ensures.better c.loop-from.invariant.covers (rw c.deref-from-items.ensures.value at c.better_from-best.ensures.covers);
+      marks = c.better_from-best.ensures.marks;
     }
 
-pub returns : goal.returns
-returns c =
+pub returns-clause-best : goal.returns-clause-best
+returns-clause-best c =
     let b = c.args.self.now in
     let n = after_moves b.frame.map.now.map b.frame.pool b.moves.items in
     let past : length b.frame.osds.items ≤ c.loop-from.from-index = rw c.deref-from-items.ensures.value at c.loop-from-test.false in

@@ -2,10 +2,12 @@ use Rattle.std.proofs.Common.{take}
 use Rattle.std.specs.Prelude.{IfSome}
 use Rattle.balancer.specs.Greedy.{after_moves}
 use Rattle.balancer.specs.Boards.{IsGood, CoversAll}
+use Rattle.balancer.specs.Marks.{IsMarked}
 use Rattle.balancer.proofs.board.Board.best.Given as goal
 
 abbrev pub invariant-loop-from : goal.invariant-loop-from
 invariant-loop-from l = record {
   good : IfSome l.best (λ v. IsGood (after_moves l.self.frame.map.now.map l.self.frame.pool l.self.moves.items) l.self.frame.pool v);
   covers : CoversAll (after_moves l.self.frame.map.now.map l.self.frame.pool l.self.moves.items) l.self.frame.pool l.best (take l.from-index l.self.frame.osds.items) l.self.frame.osds.items;
+  marks : IsMarked l.self.frame.map.now.map l.self.frame.pool l.self.groups.items l.marks;
 }

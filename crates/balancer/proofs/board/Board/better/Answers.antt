@@ -1,6 +1,8 @@
-use Rattle.std.proofs.Common.{◌≡◌, ◌∙◌, sym, ap}
+use Rattle.std.proofs.Common.{◌∙◌, sym}
 use Rattle.balancer.specs.Greedy.{after_moves}
-use Rattle.balancer.proofs.Searching.{same_best, unwanted, found_better, found_covers, none_covers, apart_covers}
+use Rattle.balancer.specs.Boards.{may_go}
+use Rattle.balancer.proofs.Marking.{none_found}
+use Rattle.balancer.proofs.Searching.{unwanted, wanted_apart, found_better, found_covers, none_covers, apart_covers}
 use Rattle.balancer.proofs.board.Board.better.Goals as goal
 use Rattle.balancer.proofs.board.Board.better.Goals.{then-not-is_wanted-via-then-not-is_wanted, then-not-is_wanted-via-else-not-is_wanted+then-not-are_beside}
 
@@ -28,4 +30,19 @@ returns-in-Some-clause-covers c =
 pub returns-in-None-clause-covers : goal.returns-in-None-clause-covers
 returns-in-None-clause-covers c =
     let b = c.args.self.now in
-    none_covers b.frame.map.now.map b.frame.pool b.moves.items b.groups.items b.deviations.items b.board c.args.from c.args.to c.args.best (sym c.first_group.ensures ∙ c.in-None.is)
+    none_covers b.frame.map.now.map b.frame.pool b.moves.items b.groups.items b.deviations.items b.board c.args.from c.args.to c.args.best (none_found (may_go b.frame.map.now.map b.frame.pool c.args.from c.args.to) b.groups.items (sym c.first_group.ensures ∙ c.in-None.is))
+
+pub shut-requires-clause-apart : goal.shut-requires-clause-apart
+shut-requires-clause-apart c =
+    let b = c.args.self.now in
+    wanted_apart (after_moves b.frame.map.now.map b.frame.pool b.moves.items) b.frame.pool c.args.from c.args.to c.args.best (sym c.is_wanted.ensures ∙ c.if-not-is_wanted.false)
+
+pub shut-requires-clause-none : goal.shut-requires-clause-none
+shut-requires-clause-none c =
+    let b = c.args.self.now in
+    none_found (may_go b.frame.map.now.map b.frame.pool c.args.from c.args.to) b.groups.items (sym c.first_group.ensures ∙ c.in-None.is)
+
+pub returns-then-is_shut-clause-covers : goal.returns-then-is_shut-clause-covers
+returns-then-is_shut-clause-covers c =
+    let b = c.args.self.now in
+    none_covers b.frame.map.now.map b.frame.pool b.moves.items b.groups.items b.deviations.items b.board c.args.from c.args.to c.args.best (c.requires.marks c.args.from c.args.to (sym c.is_shut.ensures ∙ c.if-is_shut.true))

@@ -17,6 +17,7 @@ loop-to-preserved c =
     record {
       better = better_yet n b.frame.pool c.args.best c.loop-to.best c.better-best.result c.loop-to.invariant.better c.better-best.ensures.better;
       covers = from_more n b.frame.pool c.loop-to.best c.better-best.result c.args.from b.frame.osds.items c.loop-to.to-index inside c.better-best.ensures.better c.loop-to.invariant.covers (rw c.deref-to-items.ensures.value at c.better-best.ensures.covers);
+      marks = c.better-best.ensures.marks;
     }
 
 pub returns-clause-covers : goal.returns-clause-covers

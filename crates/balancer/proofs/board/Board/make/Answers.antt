@@ -1,7 +1,7 @@
-use Rattle.std.proofs.Common.{◌≡◌, ◌∙◌, ℤ, pos, sym, ap, arith, rules, set}
+use Rattle.std.proofs.Common.{refl, pos, arith, rules}
 use Rattle.std.specs.Prelude.{◌+ℤ◌, ◌-ℤ◌}
 use mir.Syntax.{w128}
-use mir.Val.{SFits, to_z, of_z}
+use mir.Val.{SFits}
 use Rattle.std.proofs.lemmas.Int.{to_z-of_z}
 use Rattle.balancer.proofs.Evening.{reached_more}
 use Rattle.balancer.proofs.Made.{read_less, read_more, group_inside, group_room, from_inside, to_inside, from_fits, to_fits, board_made}
@@ -75,3 +75,9 @@ invariant_of-self-2 c =
           (board_made b.frame.map.now.map b.frame.pool b.moves.items c.args.step b.groups.items b.deviations.items c.requires b.reached b.board b.frame.pool_is b.frame.weight b.frame.weight_is b.frame.weight_small
           c.index.result.now c.index_mut-2.result.now c.index_mut-3.result.now _ c.index.ensures c.index_mut-2.ensures.value c.index_mut-3.ensures.value);
     }
+
+pub returns-clause-groups : goal.returns-clause-groups
+returns-clause-groups c =
+    let b = c.args.self.now in
+    let inside = group_inside b.frame.map.now.map b.frame.pool b.moves.items c.args.step b.groups.items b.deviations.items c.requires b.reached b.board b.frame.pool_is b.frame.weight b.frame.weight_is b.frame.weight_small in
+    (c.index.result.now, inside, c.index.ensures, rw c.gone.ensures refl)

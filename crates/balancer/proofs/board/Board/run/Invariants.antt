@@ -1,4 +1,5 @@
 use Rattle.std.proofs.Common.{◌≡◌}
+use Rattle.balancer.specs.Marks.{IsMarked}
 use Rattle.balancer.proofs.Running.{IsUnderWay}
 use Rattle.balancer.proofs.board.Board.run.Given as goal
 
@@ -7,4 +8,5 @@ invariant-loop-count l = record {
   way : IsUnderWay l.initial.self.frame.map.now.map l.initial.self.frame.pool l.limit l.self.moves.items l._count;
   map : l.self.frame.map.now.map ≡ l.initial.self.frame.map.now.map;
   pool : l.self.frame.pool ≡ l.initial.self.frame.pool;
+  marks : IsMarked l.self.frame.map.now.map l.self.frame.pool l.self.groups.items l.marks;
 }

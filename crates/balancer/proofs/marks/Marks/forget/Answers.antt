@@ -1,0 +1,11 @@
+use Rattle.std.proofs.Common.{◌∙◌, refl, None}
+use Rattle.std.proofs.lemmas.List.Folds.{list_any_more}
+use Rattle.osdmap.specs.Mapped.{is_of}
+use Rattle.balancer.proofs.Marking.{opened_marks}
+use Rattle.balancer.proofs.marks.Marks.forget.Goals as goal
+
+pub loop-place-preserved : goal.loop-place-preserved
+loop-place-preserved c = λ f t known.
+    let left = opened_marks _ c.loop-place.self f t (rw c.open.ensures at known) in
+    let before = c.loop-place.invariant f t left.0 in
+    (before.0, list_any_more (is_of f) c.args.places.now c.loop-place.place-index None c.loop-place-test.true ∙ rw (before.1, left.1) refl)

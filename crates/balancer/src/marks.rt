@@ -1,0 +1,131 @@
+//! Between which OSDs no group may go, as far as it is known.
+
+ghost use Rattle.std.specs.Prelude.{◌≡◌, ℕ, true, false, length, replicate, slice_set, slice_index_or, IfOk};
+ghost use Rattle.placement_laws.specs.Standing.{stands};
+ghost use Rattle.balancer.specs.Marks.{is_shut, shut_in, opened};
+
+use refusal::Memory;
+use std::alloc::Global;
+use std::marker::Model;
+
+/// For one OSD that a group would leave: whether it is known of each OSD, by number, that no group may go there.
+#[derive(Drop)]
+struct Row {
+    shut: Vec<bool>,
+}
+
+impl Model for Row {
+    ghost use Rattle.std.specs.Prelude.{List, Bool};
+
+    ghost Value = { List Bool };
+
+    ghost view = { λ row. row.shut.items };
+}
+
+impl Row {
+    /// Of so many OSDs nothing is known; or `Memory` (30).
+    fn new(alloc: Global, count: usize) -> Result<Self, Memory>
+        ensures { IfOk result (λ row. row ≡ replicate count false) }
+    {
+        let mut shut = Vec::new(alloc);
+        shut.resize(count, false)?;
+        Ok(Row { shut })
+    }
+
+    /// Whether it is known that no group may go to an OSD.
+    fn is_shut(&self, to: u32) -> bool
+        ensures { result ≡ slice_index_or self.now to false }
+    {
+        match self.shut.get(to as usize) {
+            Some(mark) => *mark,
+            None => false,
+        }
+    }
+
+    /// No group may go to an OSD.
+    fn shut(&mut self, to: u32)
+        ensures { self.new ≡ slice_set self.old to true }
+    {
+        let to = to as usize;
+        if to < self.shut.len() {
+            self.shut[to] = true;
+        }
+    }
+
+    /// Nothing is known any longer.
+    fn open(&mut self)
+        ensures { self.new ≡ replicate (length self.old) false }
+    {
+        self.shut.fill(false);
+    }
+}
+
+/// For each OSD that a group would leave and each that would come, by number, whether it is known that no group may go.
+#[derive(Drop)]
+pub(crate) struct Marks {
+    rows: Vec<Row>,
+}
+
+impl Model for Marks {
+    ghost use Rattle.std.specs.Prelude.{List, Bool};
+
+    ghost Value = { List (List Bool) };
+
+    ghost view = { λ marks. marks.rows.items };
+}
+
+impl Marks {
+    /// Of so many OSDs nothing is known; or `Memory` (30).
+    pub fn new(alloc: Global, count: u32) -> Result<Self, Memory>
+        ensures { IfOk result (λ marks. marks ≡ replicate count (replicate count false)) }
+    {
+        let mut rows = Vec::with_capacity(alloc, count as usize)?;
+        for _from in 0..count {
+            rows.push(Row::new(alloc, count as usize)?)?;
+        }
+        Ok(Marks { rows })
+    }
+
+    /// Whether it is known that no group may go from one OSD to another.
+    pub fn is_shut(&self, from: u32, to: u32) -> bool
+        ensures { result ≡ is_shut self.now from to }
+    {
+        match self.rows.get(from as usize) {
+            Some(row) => row.is_shut(to),
+            None => false,
+        }
+    }
+
+    /// No group may go from one OSD to another.
+    pub fn shut(&mut self, from: u32, to: u32)
+        ensures { self.new ≡ shut_in self.old from to }
+    {
+        let from = from as usize;
+        if from < self.rows.len() {
+            self.rows[from].shut(to);
+        }
+    }
+
+    /// Nothing is known any longer of groups that would leave the OSD of a place.
+    fn open(&mut self, place: Option<u32>)
+        ensures { self.new ≡ opened place self.old }
+    {
+        let Some(osd) = place else {
+            return;
+        };
+        let from = osd as usize;
+        if from < self.rows.len() {
+            self.rows[from].open();
+        }
+    }
+
+    /// Nothing is known any longer of groups that would leave the OSDs of a set.
+    pub fn forget(&mut self, places: &[Option<u32>])
+        ensures { (from to : ℕ) → is_shut self.new from to ≡ true
+            → (is_shut self.old from to ≡ true) × (stands from places.now ≡ false) }
+    {
+        for place in places {
+            self.open(*place);
+        }
+    }
+}
