@@ -23,6 +23,7 @@ import json
 import os
 import pathlib
 import shlex
+import shutil
 import subprocess
 import sys
 import tempfile
@@ -31,6 +32,7 @@ from concurrent.futures import ThreadPoolExecutor, wait
 import anew
 import balanced
 import clusters
+import crowds
 import faulty
 import memory
 import model
@@ -42,7 +44,7 @@ sys.path.insert(0, str(HERE.parent / "tools"))
 import chart  # noqa: E402
 
 TABLES = ["worked", "placements", "changes", "growth", "limits", "texts", "sessions", "balance", "plans", "balanced", "soak", "program", "examples",
-          "apart", "maxima", "patched", "clusters"]
+          "apart", "maxima", "patched", "clusters", "races"]
 SECONDS = 300
 
 
@@ -536,7 +538,26 @@ def of_clusters():
         yield Check(name, lambda command, test=test: clusters.faults(command, test))
 
 
-MADE = {"clusters": of_clusters, "patched": patched, "plans": plans, "examples": examples, "maxima": maxima, "balanced": balanced_case, "soak": soaks, "apart": apart}
+def races():
+    """Two sessions that change beside eight that look, a thousand times; and 64 sessions on one processor."""
+    def raced(command):
+        with tempfile.TemporaryDirectory() as folder:
+            race = crowds.Race(command, folder)
+            return [fault for fault in (race.fault(race.run(race.paths)) for _ in range(crowds.RUNS)) if fault]
+
+    def pinned(command):
+        value, scripts = soak.scripts(5, 64, 100, 6, 16)
+        with tempfile.TemporaryDirectory() as folder:
+            words, play = soak.run(command, pathlib.Path(folder), scripts, value)
+            words = (["taskset", "-c", "0"] if shutil.which("taskset") else []) + words
+            output = subprocess.run(words, capture_output=True, text=True, timeout=SECONDS, check=True).stdout
+            return soak.faults(scripts, output, play)[0]
+
+    yield Check(f"two sessions put another OSD down beside eight that look, {crowds.RUNS:,} times", raced, alone=True)
+    yield Check("64 sessions on one processor", pinned, alone=True)
+
+
+MADE = {"races": races, "clusters": of_clusters, "patched": patched, "plans": plans, "examples": examples, "maxima": maxima, "balanced": balanced_case, "soak": soaks, "apart": apart}
 
 
 def table_of(name):

@@ -1,5 +1,5 @@
 //! A row of sealed epochs.
-ghost use Rattle.std.specs.Prelude.{◌≡◌, ◌+◌, ◌-◌, ◌<◌, ◌≤◌, [], ◌∷◌, ◌++◌, length, Contains, slice_get};
+ghost use Rattle.std.specs.Prelude.{◌≡◌, true, false, ◌+◌, ◌-◌, ◌<◌, ◌≤◌, [], ◌∷◌, ◌++◌, length, Contains, slice_get};
 ghost use Rattle.std.specs.Prelude.{IfOk, IfErr, OnOk, OnErr, IfSome, IfNone};
 ghost use Rattle.refusal.specs.Outcomes.{refused_unless, Gives};
 ghost use Rattle.refusal.specs.declared.refused.Refusal.TheVariants.{BadLimit};
@@ -107,6 +107,14 @@ impl Row {
         // The number of what is found is looked at, so that a history needs no promise of other threads.
         self.cells
             .read_next_if(&mut pass.seen, |found| found.epoch() == next)
+    }
+
+    /// Whether an epoch is the row's first one, or one before it, or is sealed by now, for who looks without a pass.
+    pub fn is_sealed(&self, epoch: u64) -> bool
+        ensures first { epoch ≤ self.now.first → result ≡ true }
+        ensures last { self.now.first + length self.now.cells < epoch → result ≡ false }
+    {
+        epoch <= self.first || self.cells.is_sealed((epoch - self.first - 1) as usize)
     }
 
     /// The incremental of an epoch that the pass has seen.

@@ -1,3 +1,4 @@
 pub mod Histories
 pub mod Followers
 pub mod Balancing
+pub mod Within

@@ -4,3 +4,4 @@ pub mod Opening
 pub mod Looking
 pub mod Followers
 pub mod Balances
+pub mod Sharing

@@ -29,9 +29,9 @@ impl Monitor {
         ensures spent { IfErr result (λ e. e ≡ SeatSpent → IsSpent self.now member.new) }
         ensures refused { IsSpent self.now member.old → result ≡ Err SeatSpent }
     {
-        let guard = self.share(rt, member)?;
-        let answer = self.shown(&guard, member).answer_up(pg);
-        self.give_back(guard, member);
+        let shared = self.share(rt, member)?;
+        let answer = self.shown(&shared, member).answer_up(pg);
+        self.give_back(shared, member);
         answer
     }
 
@@ -50,9 +50,9 @@ impl Monitor {
         ensures spent { IfErr result (λ e. e ≡ SeatSpent → IsSpent self.now member.new) }
         ensures refused { IsSpent self.now member.old → result ≡ Err SeatSpent }
     {
-        let guard = self.share(rt, member)?;
-        let answer = self.shown(&guard, member).answer_count(osd);
-        self.give_back(guard, member);
+        let shared = self.share(rt, member)?;
+        let answer = self.shown(&shared, member).answer_count(osd);
+        self.give_back(shared, member);
         answer
     }
 
@@ -73,9 +73,9 @@ impl Monitor {
         ensures spent { IfErr result (λ e. e ≡ SeatSpent → IsSpent self.now member.new) }
         ensures refused { IsSpent self.now member.old → result ≡ Err SeatSpent }
     {
-        let guard = self.share(rt, member)?;
-        let answer = self.shown(&guard, member).answer_groups(alloc, osd);
-        self.give_back(guard, member);
+        let shared = self.share(rt, member)?;
+        let answer = self.shown(&shared, member).answer_groups(alloc, osd);
+        self.give_back(shared, member);
         answer
     }
 
@@ -88,9 +88,9 @@ impl Monitor {
         ensures spent { IfErr result (λ e. e ≡ SeatSpent → IsSpent self.now member.new) }
         ensures refused { IsSpent self.now member.old → result ≡ Err SeatSpent }
     {
-        let guard = self.share(rt, member)?;
-        let epoch = self.shown(&guard, member).map().epoch();
-        self.give_back(guard, member);
+        let shared = self.share(rt, member)?;
+        let epoch = self.shown(&shared, member).map().epoch();
+        self.give_back(shared, member);
         Ok(epoch)
     }
 
@@ -110,9 +110,9 @@ impl Monitor {
         ensures spent { IfErr result (λ e. e ≡ SeatSpent → IsSpent self.now member.new) }
         ensures refused { IsSpent self.now member.old → result ≡ Err SeatSpent }
     {
-        let guard = self.share(rt, member)?;
-        let text = write_map(alloc, self.shown(&guard, member).map());
-        self.give_back(guard, member);
+        let shared = self.share(rt, member)?;
+        let text = write_map(alloc, self.shown(&shared, member).map());
+        self.give_back(shared, member);
         Ok(text?)
     }
 

@@ -10,10 +10,12 @@ mod look;
 mod member;
 mod monitor;
 mod open;
+mod shared;
 mod turns;
 
 pub use follower::Follower;
 pub use look::Look;
 pub use member::Member;
 pub use monitor::Monitor;
+pub use shared::Shared;
 pub use state::State;

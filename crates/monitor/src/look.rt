@@ -6,6 +6,7 @@ ghost use Rattle.monitor.specs.Members.{lent};
 use crate::locked::Locked;
 use crate::member::Member;
 use crate::monitor::Monitor;
+use crate::shared::Shared;
 use crate::turns::state_of;
 use epochlog::Pass;
 use state::State;
@@ -38,7 +39,7 @@ impl Monitor {
     {
         let mut member = member;
         match self.share(rt, &mut member) {
-            Ok(guard) => Ok(Look {
+            Ok(Shared { guard }) => Ok(Look {
                 guard,
                 pass: member.pass,
             }),

@@ -1,7 +1,9 @@
 //! How a monitor is opened.
 
-ghost use Rattle.std.specs.Prelude.{◌≡◌, length, All, IfOk};
+ghost use Rattle.std.specs.Prelude.{◌≡◌, true, length, All, IfOk};
+ghost use Rattle.epochlog.specs.Epochs.{is_within_limits};
 ghost use Rattle.ticketlock.specs.Callers.{IsNewOf, first_of, limit_of};
+ghost use Rattle.ticketlock.specs.Errors.{IsWithin};
 ghost use Rattle.monitor.specs.Opening.{can_open};
 
 use crate::locked::Locked;
@@ -13,7 +15,7 @@ use refusal::{Memory, Refusal};
 use state::State;
 use std::alloc::Global;
 use ticketlock::limits::{MAX_DRAWS, MAX_SEATS};
-use ticketlock::{Lock, Seat};
+use ticketlock::{Lock, LockError, Seat};
 
 /// Whether each of these is within its limits.
 fn can_open(epoch: u64, journal: u32, seats: u32, draws: u64) -> bool
@@ -25,29 +27,39 @@ fn can_open(epoch: u64, journal: u32, seats: u32, draws: u64) -> bool
         && (1..=MAX_DRAWS).contains(&draws)
 }
 
-/// A row of epochs after this one.
+/// A row of epochs after this one, where both numbers are within their limits; or `Memory` (30).
 fn row_after(alloc: Global, epoch: u64, journal: u32) -> Result<Row, Memory>
+    requires { is_within_limits epoch journal ≡ true }
     ensures { IfOk result (λ row. (row.first ≡ epoch) × (length row.cells ≡ journal)) }
 {
-    Row::new(alloc, epoch, journal).map_err(|_refusal| Memory)
+    match Row::new(alloc, epoch, journal) {
+        Ok(row) => Ok(row),
+        Err(Refusal::Memory) => Err(Memory),
+        Err(_) => unreachable!(),
+    }
 }
 
-/// A state under a lock, and the seats.
+/// A state under a lock, and the seats, where both numbers are within their limits; or `Memory` (30).
 fn locked(
     alloc: Global,
     state: State,
     seats: u32,
     draws: u64,
 ) -> Result<(Lock<Locked>, Vec<Seat>), Memory>
+    requires { IsWithin seats draws }
     ensures seats { IfOk result (λ r. (length r.1.items ≡ seats) × All (IsNewOf r.0) r.1.items) }
     ensures lock { IfOk result (λ r. ((first_of r.0).state.value ≡ state) × (limit_of r.0 ≡ draws)) }
 {
     let state = Box::new(alloc, state)?;
-    Lock::with_limit(alloc, Locked { state }, seats, draws).map_err(|_error| Memory)
+    match Lock::with_limit(alloc, Locked { state }, seats, draws) {
+        Ok(made) => Ok(made),
+        Err(LockError::Memory) => Err(Memory),
+        Err(LockError::BadLimit) => unreachable!(),
+    }
 }
 
 impl Monitor {
-    ghost use Rattle.std.specs.Prelude.{◌≡◌, length, All, IfOk};
+    ghost use Rattle.std.specs.Prelude.{◌≡◌, true, length, All, IfOk};
     ghost use Rattle.refusal.specs.declared.refused.Refusal.TheVariants.{BadLimit};
     ghost use Rattle.refusal.specs.Outcomes.{refused_unless, Gives};
     ghost use Rattle.ticketlock.specs.Callers.{IsNewAt};
@@ -88,6 +100,7 @@ impl Monitor {
         seats: u32,
         draws: u64,
     ) -> Result<(Monitor, Vec<Member>), Memory>
+        requires { can_open map.map.epoch journal seats draws ≡ true }
         ensures { IfOk result (λ r. IsOpening map.map journal seats draws r.0 r.1.items) }
     {
         let row = row_after(alloc, map.epoch(), journal)?;

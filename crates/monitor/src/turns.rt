@@ -8,6 +8,7 @@ ghost use Rattle.monitor.specs.Members.{lent};
 use crate::locked::{Locked, is_behind, see};
 use crate::member::Member;
 use crate::monitor::Monitor;
+use crate::shared::Shared;
 use refusal::Refusal;
 use state::State;
 use std::sync::Wait;
@@ -26,22 +27,21 @@ pub(crate) fn state_of<'g>(guard: &'g ReadGuard<'_, Locked>) -> &'g State
 }
 
 impl Monitor {
-    ghost use Rattle.std.specs.Prelude.{◌≡◌, IfOk, IfErr, OnOk, OnErr};
+    ghost use Rattle.std.specs.Prelude.{◌≡◌, ◌-◌, IfOk, IfErr, IsSomeAnd, OnOk, OnErr};
     ghost use Rattle.osdmap.specs.Changes.{after, IsLawful};
     ghost use Rattle.refusal.specs.declared.refused.Refusal.TheVariants.{SeatSpent};
     ghost use Rattle.monitor.specs.Histories.{GoesOn};
-    ghost use Rattle.monitor.specs.Members.{IsMemberOf, IsStateOf, IsSpent, Shares, Holds, lent};
+    ghost use Rattle.monitor.specs.Members.{IsMemberOf, IsStateOf, IsSpent, Holds, draws_of};
+    ghost use Rattle.monitor.specs.Sharing.{IsSharing};
 
-    /// Shares the lock. Where the lent state has not seen what the member has, it draws again. `SeatSpent` (31).
-    pub(crate) fn share<R: Wait>(
-        &self,
-        rt: &R,
-        member: &mut Member,
-    ) -> Result<ReadGuard<'_, Locked>, Refusal>
+    /// Shares the lock, for several questions to one state: [`Monitor::shown`] lends it, and [`Monitor::give_back`]
+    /// ends the hold. Until then the member has no seat, and asks nothing else. Where the lent state has not seen what
+    /// the member has, it draws again. `SeatSpent` (31), once the member's seat has made its draws and only then, with
+    /// the member as it was. It takes no memory.
+    pub fn share<R: Wait>(&self, rt: &R, member: &mut Member) -> Result<Shared<'_>, Refusal>
         requires { IsMemberOf self.now member.old }
-        ensures row { member.new.pass.row ≡ self.now.row }
         ensures goes_on { GoesOn self.now.first member.old.pass.history member.new.pass.history }
-        ensures shares { IfOk result (λ guard. Shares self.now guard × ((lent guard).pass ≡ member.new.pass)) }
+        ensures shares { IfOk result (λ shared. IsSharing self.now shared member.new) }
         ensures spent { IfErr result (λ e.
             (e ≡ SeatSpent) × IsMemberOf self.now member.new × IsSpent self.now member.new) }
         ensures same { OnErr result (member.new.pass ≡ member.old.pass) }
@@ -55,7 +55,7 @@ impl Monitor {
                 Ok(guard) => {
                     if !is_behind(state_of(&guard), &member.pass) {
                         see(&mut member.pass, state_of(&guard));
-                        return Ok(guard);
+                        return Ok(Shared { guard });
                     }
                     seat = guard.leave();
                 }
@@ -106,24 +106,33 @@ impl Monitor {
         unreachable!()
     }
 
-    /// The state that a member shares, which has seen just what it has.
-    pub(crate) fn shown<'g>(&self, guard: &'g ReadGuard<'_, Locked>, member: &Member) -> &'g State
-        requires shares { Shares self.now guard.now }
-        requires seen { (lent guard.now).pass ≡ member.now.pass }
+    /// The state that a member shares, the same at each call: it has seen just what the member has.
+    pub fn shown<'g>(&self, shared: &'g Shared<'_>, member: &Member) -> &'g State
+        requires { IsSharing self.now shared.now member.now }
         ensures map { result.now.map ≡ after self.now.first member.now.pass.history }
     {
-        state_of(guard)
+        state_of(&shared.guard)
     }
 
-    /// A member that shared the lock has its seat again.
-    pub(crate) fn give_back(&self, guard: ReadGuard<'_, Locked>, member: &mut Member)
-        requires shares { Shares self.now guard }
-        requires row { member.old.pass.row ≡ self.now.row }
-        requires lawful { IsLawful self.now.first member.old.pass.history }
+    /// Ends a shared hold: the member has its seat again, and has seen what it saw.
+    pub fn give_back(&self, shared: Shared<'_>, member: &mut Member)
+        requires { IsSharing self.now shared member.old }
         ensures member { IsMemberOf self.now member.new }
         ensures pass { member.new.pass ≡ member.old.pass }
     {
+        let Shared { guard } = shared;
         member.seat = Some(guard.leave());
+    }
+
+    /// How often the member's seat may still draw.
+    pub fn draws_left(&self, member: &Member) -> u64
+        requires { IsMemberOf self.now member.now }
+        ensures { IsSomeAnd member.now.seat (λ seat. result ≡ draws_of self.now - seat.place.draws) }
+    {
+        match &member.seat {
+            Some(seat) => self.lock.draws_left(seat),
+            None => unreachable!(),
+        }
     }
 
     /// A member that had the lock alone has its seat again.

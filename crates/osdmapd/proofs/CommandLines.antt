@@ -1,5 +1,5 @@
 -- What the parser of the command line finds, in the words of the options.
-use Rattle.std.proofs.Common.{◌≡◌, ◌⊎◌, ◌∙◌, ℕ, Bool, true, List, [], Option, Some, None, ◌<◌, ◌^◌, Result, Ok, Err, MatchOption, sym, refl, ap, subst, inl, inr}
+use Rattle.std.proofs.Common.{◌≡◌, ◌⊎◌, ◌∙◌, ℕ, true, List, [], Option, Some, None, ◌<◌, ◌^◌, Result, Ok, Err, MatchOption, sym, refl, ap, subst, inl, inr}
 use Rattle.std.specs.Str.Parse.{ParsesUnsigned}
 use Rattle.clap.specs.declared.parser.matches.Found.{Found}
 use Rattle.clap.specs.declared.error.kind.ErrorKind.{ErrorKind}

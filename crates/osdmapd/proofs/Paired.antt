@@ -1,5 +1,5 @@
 -- Lists whose elements stand to one another, place by place.
-use Rattle.std.proofs.Common.{◌≡◌, ◌+◌, ℕ, suc, List, [], ◌∷◌, ◌++◌, length, map, subst, sym, add-zero, arith}
+use Rattle.std.proofs.Common.{◌≡◌, ◌+◌, ℕ, suc, List, [], ◌∷◌, ◌++◌, length, map, subst, add-zero, arith}
 use Rattle.osdmapd.specs.Pairs.{Pairs}
 
 -- one more at the end of each

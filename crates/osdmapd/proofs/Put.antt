@@ -1,5 +1,5 @@
 -- What is out of texts that are put one after the other.
-use Rattle.std.proofs.Common.{◌≡◌, ◌∙◌, ℕ, List, [], ◌∷◌, ◌++◌, append_assoc, append-nil, ap, sym, subst, refl, ◌+◌, ◌<◌, length, map, take, drop, drop-cons, get_or, suc, add-one, Result, Ok, Err}
+use Rattle.std.proofs.Common.{◌≡◌, ◌∙◌, ℕ, List, [], ◌∷◌, ◌++◌, append_assoc, append-nil, ap, sym, subst, refl, ◌+◌, ◌<◌, length, map, take, drop, drop-cons, get_or, suc, Result, Ok, Err}
 use Rattle.std.proofs.lemmas.List.{take_more, take-append-drop}
 use Rattle.std.specs.Result.{OnErr}
 use Rattle.std.specs.List.{concat}

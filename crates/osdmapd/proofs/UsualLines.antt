@@ -1,5 +1,5 @@
 -- What the parser finds in the words of the usual lines, and what is made of it.
-use Rattle.std.proofs.Common.{◌≡◌, ◌==◌, ◌∙◌, ◌++◌, ◌<◌, append-nil, append_assoc, nat_lt, fold, ◌≤◌, ◌^◌, not, cond, ℕ, Bool, true, false, List, [], ◌∷◌, drop, Option, Some, None, is_some, Result, Ok, Err, refl, sym, ap, ap₂, subst, arith, codes, length, map, string_bytes, MatchResult}
+use Rattle.std.proofs.Common.{◌≡◌, ◌==◌, ◌∙◌, ◌++◌, append-nil, append_assoc, nat_lt, fold, ◌≤◌, not, cond, ℕ, Bool, true, false, List, [], ◌∷◌, drop, Option, Some, None, is_some, Result, Ok, Err, refl, sym, ap, ap₂, subst, arith, codes, length, map, string_bytes}
 use Rattle.std.specs.Fmt.{decimal}
 use Rattle.std.specs.Option.{unwrap_or}
 use Rattle.std.specs.Str.Parse.{IsNumeral, digits_value, signed_digits_value, starts_with_minus, without_leading_plus, without_leading_sign}
@@ -14,10 +14,9 @@ use Rattle.clap.specs.Faults.{check_fault, defaults_fault, entered_fault, settle
 use Rattle.clap.specs.Kinds.{IsAmong, Kinds, or_else, range_kinds, values_kinds}
 use Rattle.clap.specs.Facts.{parser_of_value}
 use Rattle.clap.specs.Lexer.{usize_max}
-use Rattle.clap.specs.Simple.{App, Shape, built, entered}
+use Rattle.clap.specs.Simple.{Shape, built, entered}
 use Rattle.clap.specs.ValueTests.{accepts}
-use Rattle.clap.specs.Values.{Accepts}
-use Rattle.clap.specs.Walk.{Held, Row, Rule, Step, Text, Walk, all_of, arg_by_index, finished, first_of, nothing_held, one_of, positional, positional_held, settled, to_positional, walk_from, walked, word_met, after_step}
+use Rattle.clap.specs.Walk.{Held, Row, Rule, Step, Text, Walk, all_of, arg_by_index, finished, first_of, nothing_held, one_of, positional, settled, to_positional, walk_from, walked, after_step}
 use Rattle.clap.proofs.OnLiterals.{clap_on_literals}
 use Rattle.clap.proofs.ValueTestLemmas.{Accepts-accepts}
 use Rattle.epochlog.specs.Epochs.{max_capacity}

@@ -1,5 +1,5 @@
 -- What the words of a command line ask for, by the parser's own definitions of what it finds in words.
-use Rattle.std.specs.Prelude.{◌≡◌, ◌≢◌, ◌⊎◌, ◌<◌, ◌≤◌, ◌==◌, ◌^◌, not, Bool, MatchResult, ℕ, pos, true, false, List, [], ◌∷◌, length, map, codes, Option, Some, None, Result, Ok, Err, string_bytes}
+use Rattle.std.specs.Prelude.{◌≡◌, ◌≢◌, ◌⊎◌, ◌<◌, ◌≤◌, ◌==◌, ◌^◌, not, Bool, MatchResult, ℕ, pos, true, false, List, [], ◌∷◌, length, map, codes, Option, Some, Result, Ok, Err, string_bytes}
 use Rattle.std.specs.Fmt.{decimal}
 use Rattle.std.specs.Str.Parse.{IsNumeral, digits_value, without_leading_plus}
 use Rattle.clap.specs.declared.builder.arg.Arg.{Arg}

@@ -10,7 +10,7 @@ use mapjson::{read_change, read_map};
 use monitor::{Look, Member, Monitor};
 use refusal::Refusal;
 use session::{Buffer, Desk, Gate, Open, SessionError, Sink, WriteFailed};
-use std::alloc::Global;
+use std::alloc::{AllocError, Global};
 use std::sync::Wait;
 use std::sync::atomic::{AtomicU64, Ordering};
 use std::test::Fail;
@@ -48,6 +48,9 @@ pub fn opened(alloc: Global, text: &str, draws: u64) -> Option<(Monitor, Member,
     Some((monitor, one, other))
 }
 
+/// How often the seats of the program may draw.
+const MAX_DRAWS: u64 = 1 << 40;
+
 /// A sink that takes at most 3 bytes a call, and fails once it has no calls left.
 #[derive(Debug, Drop)]
 struct Slow {
@@ -57,9 +60,13 @@ struct Slow {
 }
 
 impl Sink for Slow {
+    ghost use Rattle.std.specs.Prelude.{false};
+
     ghost written = { λ slow. slow.bytes.items };
 
     ghost has_failed = { λ slow. slow.failed };
+
+    ghost waits = { λ _. false };
 
     fn write(&mut self, bytes: &[u8]) -> Result<usize, WriteFailed> {
         let taken = bytes.len().min(3);
@@ -73,6 +80,10 @@ impl Sink for Slow {
 
     fn failed(&self) -> bool {
         self.failed
+    }
+
+    fn may_wait(&self) -> bool {
+        false
     }
 }
 
@@ -161,10 +172,10 @@ fn a_third_draw_of_two_is_refused(rt: HostRuntime) -> Result<(), Fail> {
 /// How many turns a gate waits.
 const MAX_TURNS: u32 = 1_000_000;
 
-/// The gate of one of two sessions: it holds the first line of the first until the second asks for its second line.
+/// The gate of one of two sessions: it holds a line of the first until the second asks for its second line.
 #[derive(Clone, Copy)]
 struct Meeting<'a> {
-    is_first: bool,
+    held: Option<u64>,
     asked: &'a AtomicU64,
 }
 
@@ -174,8 +185,11 @@ impl<'a> Gate for Meeting<'a> {
     ghost lets = { λ _ _ _. ⊤ };
 
     fn pass(&self, line: u64) -> bool {
-        if !self.is_first {
+        let Some(held) = self.held else {
             self.asked.store(line, Ordering::SeqCst);
+            return true;
+        };
+        if line != held {
             return true;
         }
         let backoff = Backoff::new();
@@ -185,6 +199,10 @@ impl<'a> Gate for Meeting<'a> {
             }
             backoff.snooze();
         }
+        false
+    }
+
+    fn is_open(&self) -> bool {
         false
     }
 }
@@ -201,10 +219,10 @@ fn met<R: Wait>(
 {
     let mut member = member;
     let mut answers = Buffer::new(alloc);
-    let script: &[u8] = if gate.is_first {
-        b"epoch\n"
-    } else {
+    let script: &[u8] = if gate.held.is_some() {
         b"epoch\nepoch\n"
+    } else {
+        b"change {\"base\":1}\nepoch\n"
     };
     let desk = Desk {
         alloc,
@@ -215,17 +233,18 @@ fn met<R: Wait>(
     desk.run(&mut member, script, &mut answers)
 }
 
-/// Whether both of two sessions end well that run at once.
+/// Whether both of two sessions end well that run at once, where a line of the one is held until the other's change is
+/// answered.
 fn meet<R: Wait + Threads + Sync>(
     rt: &R,
     alloc: Global,
     monitor: &Monitor,
-    one: Member,
-    other: Member,
+    two: (Member, Member),
+    held: u64,
 ) -> bool
-    requires one { IsMemberOf monitor.now one }
-    requires other { IsMemberOf monitor.now other }
+    requires { IsMemberOf monitor.now two.0 × IsMemberOf monitor.now two.1 }
 {
+    let (one, other) = two;
     let asked = &AtomicU64::new(0);
     let (first, second) = thread::join(
         rt,
@@ -233,7 +252,7 @@ fn meet<R: Wait + Threads + Sync>(
             requires { IsMemberOf monitor.now one }
         {
             let gate = Meeting {
-                is_first: true,
+                held: Some(held),
                 asked,
             };
             met(rt, alloc, monitor, one, gate)
@@ -241,10 +260,7 @@ fn meet<R: Wait + Threads + Sync>(
         move ||
             requires { IsMemberOf monitor.now other }
         {
-            let gate = Meeting {
-                is_first: false,
-                asked,
-            };
+            let gate = Meeting { held: None, asked };
             met(rt, alloc, monitor, other, gate)
         },
     );
@@ -252,15 +268,120 @@ fn meet<R: Wait + Threads + Sync>(
 }
 
 /// The same, of a new monitor.
-fn met_at_once<R: Wait + Threads + Sync>(rt: &R, alloc: Global) -> Option<bool> {
+fn met_at_once<R: Wait + Threads + Sync>(rt: &R, alloc: Global, held: u64) -> Option<bool> {
     let (monitor, one, other) = opened(alloc, FOUR_DEVICES, 1024)?;
-    Some(meet(rt, alloc, &monitor, one, other))
+    Some(meet(rt, alloc, &monitor, (one, other), held))
 }
 
 /// One after the other, the first would end held.
 #[test]
 fn sessions_run_at_once(rt: HostRuntime) -> Result<(), Fail> {
-    assert!(rt; met_at_once(&rt, rt.alloc()) == Some(true));
+    assert!(rt; met_at_once(&rt, rt.alloc(), 1) == Some(true));
+    Ok(())
+}
+
+/// Where the lock were held from a question to the gate of the next line, the other could not change the map.
+#[test]
+fn no_hold_lasts_over_a_gate(rt: HostRuntime) -> Result<(), Fail> {
+    assert!(rt; met_at_once(&rt, rt.alloc(), 2) == Some(true));
+    Ok(())
+}
+
+/// So many questions for the epoch, which is 1.
+fn questions(alloc: Global, count: usize) -> Result<String, AllocError> {
+    let mut script = String::new(alloc);
+    for _ in 0..count {
+        script.push_str("epoch\n")?;
+    }
+    Ok(script)
+}
+
+/// What 40 questions answer by a seat that may draw so often.
+fn drawn<R: Wait>(rt: &R, alloc: Global, draws: u64) -> Option<Buffer> {
+    let (monitor, mut member, _) = opened(alloc, FOUR_DEVICES, draws)?;
+    let script = questions(alloc, 40).ok()?;
+    let mut answers = Buffer::new(alloc);
+    let desk = Desk {
+        alloc,
+        rt,
+        monitor: &monitor,
+        gate: &Open,
+    };
+    desk.run(&mut member, script.as_bytes(), &mut answers).ok()?;
+    Some(answers)
+}
+
+/// The seat is spent at the line at which it is by a draw a line.
+#[test]
+fn a_seat_is_spent_at_its_line(rt: HostRuntime) -> Result<(), Fail> {
+    for draws in 1..21usize {
+        let mut wanted = String::new(rt.alloc());
+        for line in 0..40usize {
+            wanted.push_str(if line < draws {
+                "epoch 1\n"
+            } else {
+                "err 31 SeatSpent\n"
+            })?;
+        }
+        match drawn(&rt, rt.alloc(), draws as u64) {
+            Some(answers) => assert_eq!(rt; answers.bytes(), wanted.as_bytes(), "{draws}"),
+            None => assert!(rt; false, "{draws}"),
+        }
+    }
+    Ok(())
+}
+
+/// How 40 questions end to a sink that takes some calls, what is out, and whether another member then commits.
+fn asked<R: Wait>(
+    rt: &R,
+    alloc: Global,
+    calls: usize,
+) -> Option<(Result<(), SessionError>, Slow, bool)> {
+    let (monitor, mut member, mut other) = opened(alloc, FOUR_DEVICES, MAX_DRAWS)?;
+    let script = questions(alloc, 40).ok()?;
+    let mut slow = Slow {
+        bytes: Vec::new(alloc),
+        calls,
+        failed: false,
+    };
+    let desk = Desk {
+        alloc,
+        rt,
+        monitor: &monitor,
+        gate: &Open,
+    };
+    let ended = desk.run(&mut member, script.as_bytes(), &mut slow);
+    let commits = commit_now(rt, alloc, &monitor, &mut other, DOWN).is_ok();
+    Some((ended, slow, commits))
+}
+
+/// Each answer, of 8 bytes, takes 3 calls. Where the hold were kept, the commit would wait for good.
+#[test]
+fn a_run_of_questions_ends_at_each_failed_write(rt: HostRuntime) -> Result<(), Fail> {
+    let mut wanted = String::new(rt.alloc());
+    for _ in 0..40usize {
+        wanted.push_str("epoch 1\n")?;
+    }
+    for calls in 0..121usize {
+        let out = 8 * (calls / 3) + 3 * (calls % 3);
+        let end = if calls < 120 {
+            Err(SessionError::Write)
+        } else {
+            Ok(())
+        };
+        match asked(&rt, rt.alloc(), calls) {
+            Some((ended, slow, commits)) => {
+                assert_eq!(rt; ended, end, "{calls}");
+                assert_eq!(rt;
+                    slow.bytes.as_slice(),
+                    &wanted.as_bytes()[..out.min(wanted.len())],
+                    "{calls}"
+                );
+                assert!(rt; commits, "{calls}");
+            }
+            None => assert!(rt; false, "{calls}"),
+        }
+    }
     Ok(())
 }
 

@@ -118,6 +118,16 @@ impl<T> Row<T> {
         self.read_next_if(pass, |_| true)
     }
 
+    /// Whether the cell of a place is there and is sealed by now, for who looks without a pass. It stays so.
+    pub fn is_sealed(&self, index: usize) -> bool
+        ensures { result ≡ true → index < length self.now }
+    {
+        match self.cells.get(index) {
+            Some(cell) => cell.get().is_some(),
+            None => false,
+        }
+    }
+
     /// A value that the pass has seen, by its place.
     pub fn at<'a>(&'a self, pass: &Pass<T>, index: usize) -> &'a T
         requires row { pass.now.row ≡ self.now }

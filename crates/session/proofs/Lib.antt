@@ -4,3 +4,5 @@ mod Replies
 mod Numbers
 mod Histories
 mod Told
+mod Passing
+mod Asked

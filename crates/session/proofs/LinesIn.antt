@@ -1,50 +1,51 @@
--- The first line of a script.
-use Rattle.std.proofs.Common.{◌≡◌, ℕ, ◌+◌, ◌<◌, ◌≤◌, Bool, true, false, List, [], ◌∷◌, take, drop, length, Some, None, suc, refl, arith, one-add, add_comm}
-use Rattle.std.proofs.lemmas.List.{take_all, drop_all}
-use Rattle.std.specs.List.{position, position_or_len, onto_first}
+-- Lines, and texts with no newline.
+use Rattle.std.proofs.Common.{◌≡◌, ◌∙◌, ℕ, ◌+◌, ◌<◌, ◌≤◌, false, List, [], ◌∷◌, ◌++◌, take, drop, length, get_or, get_or-take, length-take-le, take-append-drop, drop-cons, Some, None, add-one, refl, sym, ap, arith}
+use Rattle.std.proofs.lemmas.Grind.{common_steps}
+use Rattle.std.proofs.lemmas.List.Elements.{All-head, All-tail, All-from_get_or}
+use Rattle.std.proofs.lemmas.List.Quantifiers.{position-Some}
+use Rattle.std.proofs.lemmas.List.Sums.{fails_before_first}
+use Rattle.std.proofs.lemmas.Bool.{eqb-true}
+use Rattle.std.specs.List.{position, position_or_len}
 use Rattle.session.specs.Commands.{is_newline, lines_in}
+use Rattle.session.specs.Readings.{IsPart}
 
--- how many bytes the first line has
-abbrev pub width : List ℕ → ℕ
-width text = position_or_len is_newline text
-
--- a script is its first line, and the lines behind the newline
-abbrev pub Begins : List ℕ → Type 0
-Begins text = lines_in text ≡ take (width text) text ∷ lines_in (drop (1 + width text) text)
-
--- a script of one byte
-begins_one : (c : ℕ) (b : Bool) → is_newline c ≡ b → Begins (c ∷ [])
+-- what a part and a newline make a line of
+pub lines_in-part : (part others : List ℕ) → IsPart part → lines_in (part ++ 10 ∷ others) ≡ part ∷ lines_in others
 unfolding lines_in
-begins_one c true e = rw e refl
-begins_one c false e = rw e refl
+lines_in-part [] others none = refl
+lines_in-part (c ∷ cs) others none =
+    rw (All-head (λ b. is_newline b ≡ false) c cs none, lines_in-part cs others (All-tail (λ b. is_newline b ≡ false) c cs none)) refl
 
--- a byte more stands before the first line
-longer : (c : ℕ) (cs : List ℕ) (w : ℕ) → lines_in cs ≡ take w cs ∷ lines_in (drop (1 + w) cs)
-    → onto_first c (lines_in cs) ≡ take (1 + w) (c ∷ cs) ∷ lines_in (drop (1 + (1 + w)) (c ∷ cs))
-longer c cs w e = rw (e, one-add w, one-add (suc w)) refl
-
--- a script with a byte more before it
-begins_more : (c d : ℕ) (cs : List ℕ) (b : Bool) → is_newline c ≡ b → Begins (d ∷ cs) → Begins (c ∷ d ∷ cs)
+-- a part with nothing behind it is a line, where it is not empty
+pub lines_in-last : (part : List ℕ) → IsPart part → 0 < length part → lines_in part ≡ part ∷ []
 unfolding lines_in
-begins_more c d cs true e begins = rw e refl
-begins_more c d cs false e begins = rw e (longer c (d ∷ cs) (width (d ∷ cs)) begins)
+lines_in-last [] none some = absurd (omega arith)
+lines_in-last (c ∷ []) none some = rw (All-head (λ b. is_newline b ≡ false) c [] none) refl
+lines_in-last (c ∷ d ∷ cs) none some =
+    rw (All-head (λ b. is_newline b ≡ false) c (d ∷ cs) none, lines_in-last (d ∷ cs) (All-tail (λ b. is_newline b ≡ false) c (d ∷ cs) none) (omega arith)) refl
 
--- a script that is not empty does
-pub begins : (c : ℕ) (cs : List ℕ) → Begins (c ∷ cs)
-begins c [] = begins_one c (is_newline c) refl
-begins c (d ∷ cs) = begins_more c d cs (is_newline c) refl (begins d cs)
+-- no newline is found in a part alone
+pub part_none : (text : List ℕ) → position is_newline text ≡ None → IsPart text
+part_none text e =
+    let past : length text ≤ position_or_len is_newline text = grind (arith, common_steps) in
+    All-from_get_or (λ b. is_newline b ≡ false) text 0 (λ i lt. fails_before_first is_newline text i 0 (omega arith))
 
--- the same where the newline was looked for
-pub lines_in-cut : (text : List ℕ) (end : ℕ) → 0 < length text → position is_newline text ≡ Some end
-    → lines_in text ≡ take end text ∷ lines_in (drop (end + 1) text)
-lines_in-cut [] end some e = absurd (omega arith)
-lines_in-cut (c ∷ cs) end some e =
-    let found : width (c ∷ cs) ≡ end = grind arith in
-    rw (begins c cs, found, add_comm 1 end) refl
+-- before the first newline stands a part
+pub part_before : (text : List ℕ) (end : ℕ) → position is_newline text ≡ Some end → IsPart (take end text)
+part_before text end e =
+    let (within, here, before) = position-Some is_newline text end 0 e in
+    let long = length-take-le end text (omega arith) in
+    All-from_get_or (λ b. is_newline b ≡ false) (take end text) 0
+    (λ i lt. rw (get_or-take end text i 0 (omega (arith, long))) (before i (omega (arith, long))))
 
--- and where there is none: the one line is all
-pub lines_in-last : (text : List ℕ) → 0 < length text → position is_newline text ≡ None → lines_in text ≡ text ∷ lines_in []
-lines_in-last [] some e = absurd (omega arith)
-lines_in-last (c ∷ cs) some e =
-    let none : length (c ∷ cs) ≤ width (c ∷ cs) = grind arith in
-    rw (begins c cs, take_all (width (c ∷ cs)) (c ∷ cs) none, drop_all (1 + width (c ∷ cs)) (c ∷ cs) (omega arith)) refl
+-- and then the newline
+pub cut_at : (text : List ℕ) (end : ℕ) → position is_newline text ≡ Some end → text ≡ take end text ++ 10 ∷ drop (end + 1) text
+cut_at text end e =
+    let (within, here, before) = position-Some is_newline text end 0 e in
+    let ten : get_or text end 0 ≡ 10 = eqb-true _ _ here in
+    sym (take-append-drop end text) ∙ ap (λ t. take end text ++ t) (drop-cons text end 0 within ∙ rw (ten, add-one end) refl)
+
+-- nothing has no lines
+pub lines_in-none : lines_in [] ≡ []
+unfolding lines_in
+lines_in-none = refl

@@ -6,7 +6,7 @@ use Rattle.session.specs.Sinks.{HasPut}
 use Rattle.session.specs.Transcripts.{Manner, Stopping, Rests, Breaks, Holds}
 
 -- whether the sink has failed: at `Write`, and else not
-abbrev pub has_sink_failed : Result Unit SessionError → Bool
+abbrev pub has_sink_failed : {X : Type 0} → Result X SessionError → Bool
 has_sink_failed (Ok done) = false
 has_sink_failed (Err Write) = true
 has_sink_failed (Err Memory) = false

@@ -8,3 +8,4 @@ pub mod Transcripts
 pub mod Answers
 pub mod Sessions
 pub mod Ends
+pub mod Readings

@@ -1,9 +1,10 @@
 //! The commands of a script.
-ghost use Rattle.std.specs.Prelude.{◌≡◌, ◌<◌, ◌≤◌, ◌==◌, ◌∷◌, ◌+◌, ◌*◌, ◌^◌, length, position, IfSome};
+ghost use Rattle.std.specs.Prelude.{◌≡◌, ◌<◌, ◌≤◌, ◌==◌, ◌∷◌, ◌++◌, ◌+◌, ◌*◌, ◌^◌, length, position, IfSome, MatchOption};
 ghost use Rattle.std.specs.Option.{option_map, option_and_then};
 ghost use Rattle.stated.specs.PgText.{digit_of, value_after};
 ghost use Rattle.session.specs.Plans.{max_moves};
-ghost use Rattle.session.specs.Commands.{is_newline, lines_in, below, osd_in, epoch_in, two_words, limit_in, plan_in, balance, question_in, task_in, shown, command_in};
+ghost use Rattle.session.specs.Readings.{IsPart, BeginsWith};
+ghost use Rattle.session.specs.Commands.{is_newline, below, osd_in, epoch_in, two_words, limit_in, plan_in, balance, question_in, task_in, shown, command_in};
 
 use crate::plan::{MAX_MOVES, Plan};
 use osdmap::Pg;
@@ -79,15 +80,14 @@ fn newline(text: &[u8]) -> Option<usize>
     text.iter().position(|byte| *byte == b'\n')
 }
 
-/// The first line of a text that is not empty, and what stands behind its newline: nothing where it has none.
-pub(crate) fn first_line(text: &[u8]) -> (&[u8], &[u8])
-    requires { 0 < length text.now }
-    ensures lines { lines_in text.now ≡ result.0.now ∷ lines_in result.1.now }
-    ensures shorter { length result.1.now < length text.now }
+/// The first line that ends in a text, and what stands behind its newline. `None` where no line ends in it.
+pub(crate) fn cut(text: &[u8]) -> Option<(&[u8], &[u8])>
+    ensures { MatchOption result (IsPart text.now)
+        (λ found. IsPart found.0.now × (text.now ≡ found.0.now ++ 10 ∷ found.1.now)) }
 {
     match newline(text) {
-        Some(end) => (&text[..end], &text[end + 1..]),
-        None => (text, &[]),
+        Some(end) => Some((&text[..end], &text[end + 1..])),
+        None => None,
     }
 }
 
@@ -232,4 +232,16 @@ pub(crate) fn read_command(line: &[u8]) -> Option<Command<'_>>
         return Some(Command::Ask(question));
     }
     Some(Command::Follower(read_task(line)?))
+}
+
+/// The question of the first line that ends in a text, and what stands behind its newline. `None` where no line ends in
+/// it, or the first is no question.
+pub(crate) fn first_question(text: &[u8]) -> Option<(Question, &[u8])>
+    ensures { IfSome result (λ found. BeginsWith text.now found.0 found.1.now) }
+{
+    let (line, others) = cut(text)?;
+    match read_command(line) {
+        Some(Command::Ask(question)) => Some((question, others)),
+        _ => None,
+    }
 }

@@ -5,15 +5,23 @@ use crate::command::{Command, Question, Task};
 use crate::plan::Plan;
 use crate::reply::{Reply, Speaker};
 use crossbeam_utils::Backoff;
-use mapjson::read_change;
-use monitor::{Follower, Member, Monitor};
+use mapjson::{read_change, write_map};
+use monitor::{Follower, Member, Monitor, Shared};
 use osdmap::{Pg, UpSet};
 use refusal::{Memory, Refusal};
 use std::alloc::Global;
 use std::sync::Wait;
+use std::sync::atomic::AtomicU64;
+use std::time::Duration;
 
-/// How often `await` asks for the epoch.
-const MAX_TURNS: u32 = 1_000_000;
+/// How often `await` looks for the epoch.
+const MAX_LOOKS: u32 = 1_000_000;
+
+/// How many looks follow one another before `await` sleeps.
+const LOOKS_AT_ONCE: u32 = 512;
+
+/// How long it sleeps then, in microseconds.
+const SLEEP: u64 = 250;
 
 /// Where sessions ask: their monitor, what its calls need, and the gate of their lines.
 #[derive(Drop)]
@@ -148,12 +156,50 @@ impl<'a, R: Wait, G> Desk<'a, R, G> {
     ghost use Rattle.std.specs.Prelude.{length};
     ghost use Rattle.std.specs.Option.{option_map};
     ghost use Rattle.monitor.specs.Members.{IsMemberOf};
+    ghost use Rattle.monitor.specs.Sharing.{IsSharing};
     ghost use Rattle.monitor.specs.Balances.{Balances};
     ghost use Rattle.session.specs.Texts.{line_of};
     ghost use Rattle.session.specs.Commands.{shown};
     ghost use Rattle.session.specs.Replies.{reply_text};
     ghost use Rattle.session.specs.Answers.{Asks, Changes, Awaits, Does};
     ghost use Rattle.session.specs.Sessions.{seen_by, IsFollowerOf};
+
+    /// What a question answers by the state that a member shares.
+    pub(crate) fn answer_of(
+        &self,
+        shared: &Shared<'_>,
+        member: &Member,
+        question: Question,
+    ) -> Result<Reply, Refusal>
+        requires { IsSharing self.now.monitor.now shared.now member.now }
+        ensures { Asks self.now.monitor.now.first member.now.pass.history member.now.pass.history question
+            (line_of reply_text result) }
+    {
+        let by = Speaker::Monitor;
+        let state = self.monitor.shown(shared, member);
+        match question {
+            Question::Up(pg) => {
+                let (epoch, set) = state.answer_up(pg)?;
+                Ok(Reply::Up { by, epoch, pg, set })
+            }
+            Question::Count(osd) => {
+                let (epoch, count) = state.answer_count(osd)?;
+                Ok(Reply::Count { epoch, osd, count })
+            }
+            Question::Groups(osd) => {
+                let (epoch, groups) = state.answer_groups(self.alloc, osd)?;
+                Ok(Reply::Groups { epoch, osd, groups })
+            }
+            Question::Epoch => {
+                let epoch = state.map().epoch();
+                Ok(Reply::Epoch { by, epoch })
+            }
+            Question::Dump => {
+                let map = text_of(write_map(self.alloc, state.map())?);
+                Ok(Reply::Dump { by, map })
+            }
+        }
+    }
 
     /// What the monitor answers to a question.
     fn ask(&self, member: &mut Member, question: Question) -> Result<Reply, Refusal>
@@ -162,32 +208,10 @@ impl<'a, R: Wait, G> Desk<'a, R, G> {
         ensures asks { Asks self.now.monitor.now.first member.old.pass.history member.new.pass.history question
             (line_of reply_text result) }
     {
-        let by = Speaker::Monitor;
-        match question {
-            Question::Up(pg) => {
-                let (epoch, set) = self.monitor.up(self.rt, member, pg)?;
-                Ok(Reply::Up { by, epoch, pg, set })
-            }
-            Question::Count(osd) => {
-                let (epoch, count) = self.monitor.count(self.rt, member, osd)?;
-                Ok(Reply::Count { epoch, osd, count })
-            }
-            Question::Groups(osd) => {
-                let (epoch, groups) = self.monitor.groups(self.rt, self.alloc, member, osd)?;
-                Ok(Reply::Groups { epoch, osd, groups })
-            }
-            Question::Epoch => {
-                let epoch = self.monitor.epoch(self.rt, member)?;
-                Ok(Reply::Epoch { by, epoch })
-            }
-            Question::Dump => {
-                let map = self.monitor.dump(self.rt, self.alloc, member)?;
-                Ok(Reply::Dump {
-                    by,
-                    map: text_of(map),
-                })
-            }
-        }
+        let shared = self.monitor.share(self.rt, member)?;
+        let answer = self.answer_of(&shared, member, question);
+        self.monitor.give_back(shared, member);
+        answer
     }
 
     /// Commits the change that a text states: the new epoch, and how many groups' placement was worked out anew.
@@ -201,22 +225,37 @@ impl<'a, R: Wait, G> Desk<'a, R, G> {
         self.monitor.commit(self.rt, member, base, change)
     }
 
-    /// The epoch, once it is at least the one wanted: `AwaitSpent` (34) after 1,000,000 turns without it. Each turn
-    /// asks for the epoch and then lets others run.
+    /// Looks without the lock for an epoch, at most 1,000,000 times: at first it lets others run after each look, and
+    /// then it sleeps after some.
+    fn watch(&self, wanted: u64) {
+        let backoff = Backoff::new();
+        let alarm = AtomicU64::new(0);
+        for look in 0..MAX_LOOKS {
+            if self.monitor.has_reached(wanted) {
+                break;
+            }
+            if !backoff.is_completed() {
+                backoff.snooze();
+            } else if look % LOOKS_AT_ONCE == 0 {
+                alarm.park_timeout(self.rt, 0, Duration::from_micros(SLEEP));
+            }
+        }
+    }
+
+    /// The epoch, once it is at least the one wanted: `AwaitSpent` (34) after 1,000,000 looks without it. It takes the
+    /// lock once, after the looks.
     fn await_epoch(&self, member: &mut Member, wanted: u64) -> Result<u64, Refusal>
         requires { IsMemberOf self.now.monitor.now member.old }
         ensures member { IsMemberOf self.now.monitor.now member.new }
         ensures awaits { Awaits self.now.monitor.now.first wanted member.old.pass.history member.new.pass.history result }
     {
-        let backoff = Backoff::new();
-        for turn in 0..MAX_TURNS {
-            let epoch = self.monitor.epoch(self.rt, member)?;
-            if epoch >= wanted {
-                return Ok(epoch);
-            }
-            backoff.snooze();
+        self.watch(wanted);
+        let epoch = self.monitor.epoch(self.rt, member)?;
+        if epoch >= wanted {
+            Ok(epoch)
+        } else {
+            Err(Refusal::AwaitSpent)
         }
-        Err(Refusal::AwaitSpent)
     }
 
     /// Balances the groups of a pool: the epoch then, and how many moves.

@@ -4,6 +4,7 @@
 mod command;
 mod desk;
 mod gate;
+mod lines;
 mod number;
 mod plan;
 mod reply;

@@ -1,17 +1,12 @@
 //! A session: each line of a script in turn, and its answer to a sink.
-ghost use Rattle.std.specs.Prelude.{◌≡◌, false};
+ghost use Rattle.std.specs.Prelude.{◌≡◌};
 ghost use Rattle.session.specs.declared.session.SessionError.TheVariants.{Write as CannotWrite};
-ghost use Rattle.session.specs.Texts.{line_of};
-ghost use Rattle.session.specs.Replies.{reply_text};
-ghost use Rattle.session.specs.Ends.{IsOut, has_sink_failed};
 
-use crate::command::{first_line, read_command};
 use crate::desk::Desk;
 use crate::gate::Gate;
-use crate::reply::{Reply, push_line};
-use crate::sink::{Sink, WriteFailed, write_whole};
-use monitor::{Follower, Member};
-use refusal::Refusal;
+use crate::lines::Room;
+use crate::sink::{Sink, WriteFailed};
+use monitor::Member;
 use std::sync::Wait;
 use thiserror::Error;
 
@@ -35,31 +30,6 @@ impl From<WriteFailed> for SessionError {
     fn from(_failed: WriteFailed) -> SessionError {
         SessionError::Write
     }
-}
-
-/// What a session has of its own: its follower, once one is needed, and where answers are made.
-#[derive(Drop)]
-struct Room {
-    follower: Option<Follower>,
-    text: String,
-}
-
-/// Puts the line of what a command answers to a sink, by way of a text.
-fn put_answer<W: Sink>(
-    answer: Result<Reply, Refusal>,
-    text: &mut String,
-    sink: &mut W,
-) -> Result<(), SessionError>
-    requires { W.has_failed sink.old ≡ false }
-    ensures out { IsOut (line_of reply_text answer) (W.written sink.old) (W.written sink.new) result }
-    ensures failed { W.has_failed sink.new ≡ has_sink_failed result }
-{
-    text.clear();
-    if push_line(text, &answer).is_err() {
-        return Err(SessionError::Memory);
-    }
-    write_whole(sink, text.as_bytes())?;
-    Ok(())
 }
 
 impl<'a, R: Wait, G: Gate> Desk<'a, R, G> {
@@ -108,21 +78,9 @@ impl<'a, R: Wait, G: Gate> Desk<'a, R, G> {
         let mut room = Room {
             follower: None,
             text: String::new(self.alloc),
+            number: 1,
         };
-        let mut rest = script;
-        let mut number = 0;
-        while !rest.is_empty() {
-            let (line, others) = first_line(rest);
-            number += 1;
-            if !line.is_empty() {
-                if !self.gate.pass(number) {
-                    return Err(SessionError::Held);
-                }
-                let answer = self.obey(member, &mut room.follower, read_command(line));
-                put_answer(answer, &mut room.text, sink)?;
-            }
-            rest = others;
-        }
-        Ok(())
+        let last = self.answer_lines(member, &mut room, script, sink)?;
+        self.answer_last(member, &mut room, last, sink)
     }
 }

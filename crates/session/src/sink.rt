@@ -21,16 +21,24 @@ pub trait Sink {
     /// Whether a write has failed, or has taken nothing of a text that is not empty.
     ghost has_failed: { Self → Bool };
 
+    /// Whether a write may wait for somebody.
+    ghost waits: { Self → Bool };
+
     /// Puts the first of the bytes behind those before, and answers how many. A write that fails puts none, and no
     /// other may follow it.
     fn write(&mut self, bytes: &[u8]) -> Result<usize, WriteFailed>
         requires { has_failed self.old ≡ false }
         ensures puts { Puts (written self.old) bytes.now (written self.new) result }
-        ensures fails { has_failed self.new ≡ is_refused bytes.now result };
+        ensures fails { has_failed self.new ≡ is_refused bytes.now result }
+        ensures waits { waits self.new ≡ waits self.old };
 
     /// Whether a write has failed, or has taken nothing of a text that is not empty.
     fn failed(&self) -> bool
         ensures { result ≡ has_failed self.now };
+
+    /// Whether a write may wait for somebody. A session puts no answer to such a sink while it holds the lock.
+    fn may_wait(&self) -> bool
+        ensures { result ≡ waits self.now };
 }
 
 /// Puts all the bytes. At an `Err` the sink has failed, and has a beginning of them.
@@ -39,6 +47,7 @@ pub fn write_whole<W: Sink>(sink: &mut W, bytes: &[u8]) -> Result<(), WriteFaile
     ensures whole { OnOk result (W.written sink.new ≡ W.written sink.old ++ bytes.now) }
     ensures part { OnErr result ((rest : List ℕ) × HasPut (W.written sink.old) bytes.now rest (W.written sink.new)) }
     ensures failed { W.has_failed sink.new ≡ is_err result }
+    ensures waits { W.waits sink.new ≡ W.waits sink.old }
 {
     let mut rest = bytes;
     while !rest.is_empty() {
@@ -82,9 +91,13 @@ impl Buffer {
 }
 
 impl Sink for Buffer {
+    ghost use Rattle.std.specs.Prelude.{false};
+
     ghost written = { λ b. b.bytes.items };
 
     ghost has_failed = { λ b. b.failed };
+
+    ghost waits = { λ _. false };
 
     fn write(&mut self, bytes: &[u8]) -> Result<usize, WriteFailed> {
         if self.bytes.extend_from_slice(bytes).is_err() {
@@ -96,5 +109,9 @@ impl Sink for Buffer {
 
     fn failed(&self) -> bool {
         self.failed
+    }
+
+    fn may_wait(&self) -> bool {
+        false
     }
 }

@@ -1,5 +1,5 @@
 //! The calls that wait: they repeat the steps of those that do not, and back off between two tries.
-ghost use Rattle.std.specs.Prelude.{◌≡◌, ◌+◌, IfOk, IfErr};
+ghost use Rattle.std.specs.Prelude.{◌≡◌, ◌+◌, ◌-◌, IfOk, IfErr};
 ghost use Rattle.ticketlock.specs.Standing.{IsSame};
 ghost use Rattle.ticketlock.specs.Callers.{IsSeatOf, IsQueuedReadOf, IsQueuedWriteOf, IsTurnReadOf, IsTurnWriteOf, IsReadOf, IsWriteOf, first_of, limit_of};
 
@@ -12,6 +12,14 @@ use crate::write_guard::WriteGuard;
 use std::sync::Wait;
 
 impl<T: Fact + Drop> Lock<T> {
+    /// How often a seat may still draw.
+    pub fn draws_left(&self, seat: &Seat) -> u64
+        requires { IsSeatOf self.now seat.now }
+        ensures { result ≡ limit_of self.now - seat.now.place.draws }
+    {
+        self.words.draws_left(&seat.place)
+    }
+
     /// Looks until it is a reader's turn.
     fn wait_turn_read<R: Wait>(&self, rt: &R, queued: QueuedRead) -> TurnRead
         requires { IsQueuedReadOf self.now queued }

@@ -1,5 +1,5 @@
 //! The steps on the lock's words, one function for each kind.
-ghost use Rattle.std.specs.Prelude.{◌≡◌, ℕ, ◌≤◌, ◌<◌, ◌^◌, IfOk, IsTrue, ◌↔◌};
+ghost use Rattle.std.specs.Prelude.{◌≡◌, ℕ, ◌-◌, ◌≤◌, ◌<◌, ◌^◌, IfOk, IsTrue, ◌↔◌};
 ghost use Rattle.ticketlock.specs.declared.view.Stage.TheVariants.{Idle, Waiting, Next, Reading, Writing, Closing};
 ghost use Rattle.ticketlock.specs.declared.view.Kind.TheVariants.{Read, Write};
 ghost use Rattle.ticketlock.specs.Rule.{drawn_for, looked_at, gone_in, gone_out, newcomer};
@@ -40,6 +40,13 @@ impl Words {
         ensures { IsTrue result ↔ (self.now.limit ≤ place.now.draws) }
     {
         place.draws >= self.limit
+    }
+
+    /// How often the seat may still draw.
+    pub fn draws_left(&self, place: &Place) -> u64
+        ensures { result ≡ self.now.limit - place.now.draws }
+    {
+        self.limit.saturating_sub(place.draws)
     }
 
     /// A draw to read.

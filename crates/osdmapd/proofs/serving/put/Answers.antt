@@ -1,4 +1,4 @@
-use Rattle.std.proofs.Common.{◌≡◌, ◌∙◌, ◌++◌, ap, subst, ℕ, List}
+use Rattle.std.proofs.Common.{◌∙◌, ◌++◌, ap, subst, ℕ, List}
 use Rattle.session.specs.Buffers.{buffered}
 use Rattle.session.specs.Sinks.{HasPut}
 use Rattle.osdmapd.proofs.Put.{put_next, put_cut}

@@ -1,0 +1,14 @@
+-- What callers see of a shared hold.
+use Rattle.std.specs.Prelude.{◌≡◌}
+use Rattle.osdmap.specs.Changes.{IsLawful}
+use Rattle.monitor.specs.declared.shared.Shared.{Shared}
+use Rattle.monitor.specs.declared.member.Member.{Member}
+use Rattle.monitor.specs.Members.{Monitored, Shares, lent}
+
+-- the hold is one of this monitor's lock, for this member: it has seen just what the lent state has, a history that is
+-- lawful from the first map
+pub record IsSharing (monitor : Monitored) (shared : Shared) (member : Member) : Type 0 where
+  pub guard : Shares monitor shared.guard
+  pub seen : (lent shared.guard).pass ≡ member.pass
+  pub row : member.pass.row ≡ monitor.row
+  pub lawful : IsLawful monitor.first member.pass.history

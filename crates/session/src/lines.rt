@@ -1,0 +1,305 @@
+//! The lines of a session: each is answered in turn, and questions that follow one another in one hold of the lock.
+ghost use Rattle.std.specs.Prelude.{◌≡◌, ◌<◌, false};
+ghost use Rattle.session.specs.Texts.{line_of};
+ghost use Rattle.session.specs.Replies.{reply_text};
+ghost use Rattle.session.specs.Ends.{IsOut, has_sink_failed};
+
+use crate::command::{Command, Question, cut, first_question, read_command};
+use crate::desk::Desk;
+use crate::gate::Gate;
+use crate::reply::{Reply, push_line};
+use crate::session::SessionError;
+use crate::sink::{Sink, write_whole};
+use monitor::{Follower, Member, Shared};
+use refusal::Refusal;
+use std::sync::Wait;
+
+/// How many lines a session answers in one hold of the lock. It is counted by the length of their answers.
+const LINES_IN_A_HOLD: usize = 32;
+
+/// So many bytes of an answer count as a line, in a hold of the lock.
+const BYTES_IN_A_LINE: usize = 64;
+
+/// With fewer draws left, a session answers line by line.
+const FEW_DRAWS: u64 = 1 << 32;
+
+/// What a session has of its own: its follower, once one is needed, where answers are made, and the number of the next
+/// line.
+#[derive(Drop)]
+pub(crate) struct Room {
+    pub(crate) follower: Option<Follower>,
+    pub(crate) text: String,
+    pub(crate) number: u64,
+}
+
+/// As how many lines an answer counts.
+fn lines_of(answer: &str) -> usize
+    ensures { 0 < result }
+{
+    1 + answer.len() / BYTES_IN_A_LINE
+}
+
+/// Puts the line of what a command answers to a sink, by way of a text.
+fn put_answer<W: Sink>(
+    answer: Result<Reply, Refusal>,
+    text: &mut String,
+    sink: &mut W,
+) -> Result<(), SessionError>
+    requires { W.has_failed sink.old ≡ false }
+    ensures out { IsOut (line_of reply_text answer) (W.written sink.old) (W.written sink.new) result }
+    ensures failed { W.has_failed sink.new ≡ has_sink_failed result }
+    ensures waits { W.waits sink.new ≡ W.waits sink.old }
+{
+    text.clear();
+    if push_line(text, &answer).is_err() {
+        return Err(SessionError::Memory);
+    }
+    write_whole(sink, text.as_bytes())?;
+    Ok(())
+}
+
+impl<'a, R: Wait, G: Gate> Desk<'a, R, G> {
+    ghost use Rattle.std.specs.Prelude.{◌≡◌, ◌≤◌, ◌<◌, ◌+◌, ◌^◌, ◌++◌, ◌∷◌, ℕ, List, true, false, length, None, Some, OnOk, IfOk, IfErr, IfSome};
+    ghost use Rattle.monitor.specs.Members.{IsMemberOf};
+    ghost use Rattle.monitor.specs.Sharing.{IsSharing};
+    ghost use Rattle.session.specs.Commands.{ask, command_in, lines_in};
+    ghost use Rattle.session.specs.Sessions.{seen_by, session_of, IsFollowerOf};
+    ghost use Rattle.session.specs.Transcripts.{IsTranscript, TakesLine, StopsFrom};
+    ghost use Rattle.session.specs.Readings.{IsPart, Passes, Halted};
+    ghost use Rattle.session.specs.Ends.{Halts, has_sink_failed};
+
+    /// Does the command of a line of the room's number, and puts its answer whole.
+    fn answer<W: Sink>(
+        &self,
+        member: &mut Member,
+        room: &mut Room,
+        line: &[u8],
+        sink: &mut W,
+    ) -> Result<(), SessionError>
+        requires member { IsMemberOf self.now.monitor.now member.old }
+        requires follower { IsFollowerOf self.now.monitor.now room.old.follower }
+        requires unfailed { W.has_failed sink.old ≡ false }
+        ensures member { IsMemberOf self.now.monitor.now member.new }
+        ensures follower { IsFollowerOf self.now.monitor.now room.new.follower }
+        ensures number { room.new.number ≡ room.old.number }
+        ensures ok { OnOk result ((answer : List ℕ) × TakesLine (session_of self.now.monitor.now (G.lets self.now.gate.now))
+            room.old.number (seen_by member.old room.old.follower) line.now answer (seen_by member.new room.new.follower)
+            × (W.written sink.new ≡ W.written sink.old ++ answer)) }
+        ensures err { IfErr result (λ error. (part : List ℕ) × (W.written sink.new ≡ W.written sink.old ++ part)
+            × ((others : List (List ℕ)) (before : List ℕ) → Halts (session_of self.now.monitor.now (G.lets self.now.gate.now)) error
+            room.old.number (seen_by member.old room.old.follower) (line.now ∷ others) before (before ++ part) (seen_by member.new room.new.follower))) }
+        ensures failed { W.has_failed sink.new ≡ has_sink_failed result }
+    {
+        if line.is_empty() {
+            return Ok(());
+        }
+        if !self.gate.pass(room.number) {
+            return Err(SessionError::Held);
+        }
+        let answer = self.obey(member, &mut room.follower, read_command(line));
+        put_answer(answer, &mut room.text, sink)
+    }
+
+    /// Answers questions that stand first in a text by the state that a member shares, at most as many as a hold of
+    /// the lock has room for: what is left of the text. The text of an answer that counts already is in the room.
+    fn answer_shared<'t, W: Sink>(
+        &self,
+        shared: &Shared<'_>,
+        member: &Member,
+        room: &mut Room,
+        text: &'t [u8],
+        sink: &mut W,
+    ) -> Result<&'t [u8], SessionError>
+        requires shared { IsSharing self.now.monitor.now shared.now member.now }
+        requires open { (line : ℕ) → G.lets self.now.gate.now line true }
+        requires ready { W.waits sink.old ≡ false }
+        requires unfailed { W.has_failed sink.old ≡ false }
+        requires few { room.old.number + length text.now < 2 ^ 64 }
+        ensures follower { room.new.follower ≡ room.old.follower }
+        ensures fewer { IfOk result (λ rest. room.new.number + length rest.now ≤ room.old.number + length text.now) }
+        ensures shorter { IfOk result (λ rest. length rest.now ≤ length text.now) }
+        ensures ok { IfOk result (λ rest. (put : List ℕ) × Passes (session_of self.now.monitor.now (G.lets self.now.gate.now))
+            room.old.number (seen_by member.now room.old.follower) text.now put
+            room.new.number (seen_by member.now room.old.follower) rest.now
+            × (W.written sink.new ≡ W.written sink.old ++ put)) }
+        ensures err { IfErr result (λ error. (out : List ℕ) × Halted (session_of self.now.monitor.now (G.lets self.now.gate.now)) error
+            room.old.number (seen_by member.now room.old.follower) text.now out (seen_by member.now room.old.follower)
+            × (W.written sink.new ≡ W.written sink.old ++ out)) }
+        ensures failed { W.has_failed sink.new ≡ has_sink_failed result }
+    {
+        let mut rest = text;
+        let mut left = LINES_IN_A_HOLD.saturating_sub(lines_of(&room.text));
+        while left > 0 {
+            let Some((question, others)) = first_question(rest) else {
+                break;
+            };
+            let answer = self.answer_of(shared, member, question);
+            put_answer(answer, &mut room.text, sink)?;
+            room.number += 1;
+            rest = others;
+            left = left.saturating_sub(lines_of(&room.text));
+        }
+        Ok(rest)
+    }
+
+    /// Whether a run of questions may be answered in one hold of the lock: no gate is to be asked, no write may wait, and
+    /// as many draws are left as the text can have lines, so that the seat is spent at the same line as by a draw a
+    /// line.
+    fn may_share<W: Sink>(&self, member: &Member, text: &[u8], sink: &W) -> bool
+        requires { IsMemberOf self.now.monitor.now member.now }
+        ensures open { result ≡ true → (line : ℕ) → G.lets self.now.gate.now line true }
+        ensures ready { result ≡ true → W.waits sink.now ≡ false }
+    {
+        if sink.may_wait() || self.monitor.draws_left(member) < FEW_DRAWS + text.len() as u64 {
+            return false;
+        }
+        self.gate.is_open()
+    }
+
+    /// Answers a question that is the first line of a text, and questions that follow it, in one hold of the lock: what
+    /// is left of the text.
+    fn answer_run<'t, W: Sink>(
+        &self,
+        member: &mut Member,
+        room: &mut Room,
+        first: (&'t [u8], &'t [u8]),
+        question: Question,
+        sink: &mut W,
+    ) -> Result<&'t [u8], SessionError>
+        requires member { IsMemberOf self.now.monitor.now member.old }
+        requires follower { IsFollowerOf self.now.monitor.now room.old.follower }
+        requires unfailed { W.has_failed sink.old ≡ false }
+        requires open { (line : ℕ) → G.lets self.now.gate.now line true }
+        requires ready { W.waits sink.old ≡ false }
+        requires line { IsPart first.0.now }
+        requires asks { command_in first.0.now ≡ Some (ask question) }
+        requires few { room.old.number + length (first.0.now ++ 10 ∷ first.1.now) < 2 ^ 64 }
+        ensures member { IsMemberOf self.now.monitor.now member.new }
+        ensures follower { IsFollowerOf self.now.monitor.now room.new.follower }
+        ensures fewer { IfOk result (λ rest. room.new.number + length rest.now ≤ room.old.number + (length first.entry.1.now + 1)) }
+        ensures shorter { IfOk result (λ rest. length rest.now ≤ length first.entry.1.now) }
+        ensures ok { IfOk result (λ rest. (put : List ℕ) × Passes (session_of self.now.monitor.now (G.lets self.now.gate.now))
+            room.old.number (seen_by member.old room.old.follower) (first.entry.0.now ++ 10 ∷ first.entry.1.now) put
+            room.new.number (seen_by member.new room.new.follower) rest.now
+            × (W.written sink.new ≡ W.written sink.old ++ put)) }
+        ensures err { IfErr result (λ error. (out : List ℕ) × Halted (session_of self.now.monitor.now (G.lets self.now.gate.now)) error
+            room.old.number (seen_by member.old room.old.follower) (first.entry.0.now ++ 10 ∷ first.entry.1.now) out (seen_by member.new room.new.follower)
+            × (W.written sink.new ≡ W.written sink.old ++ out)) }
+        ensures failed { W.has_failed sink.new ≡ has_sink_failed result }
+    {
+        let shared = match self.monitor.share(self.rt, member) {
+            Ok(shared) => shared,
+            Err(refusal) => {
+                put_answer(Err(refusal), &mut room.text, sink)?;
+                room.number += 1;
+                return Ok(first.1);
+            }
+        };
+        let answer = self.answer_of(&shared, member, question);
+        let done = match put_answer(answer, &mut room.text, sink) {
+            Ok(()) => {
+                room.number += 1;
+                self.answer_shared(&shared, member, room, first.1, sink)
+            }
+            Err(error) => Err(error),
+        };
+        self.monitor.give_back(shared, member);
+        done
+    }
+
+    /// Answers the first line of a text, and where it is a question such as follow it: what is left of the text.
+    fn answer_first<'t, W: Sink>(
+        &self,
+        member: &mut Member,
+        room: &mut Room,
+        first: (&'t [u8], &'t [u8]),
+        sink: &mut W,
+    ) -> Result<&'t [u8], SessionError>
+        requires member { IsMemberOf self.now.monitor.now member.old }
+        requires follower { IsFollowerOf self.now.monitor.now room.old.follower }
+        requires unfailed { W.has_failed sink.old ≡ false }
+        requires line { IsPart first.0.now }
+        requires few { room.old.number + length (first.0.now ++ 10 ∷ first.1.now) < 2 ^ 64 }
+        ensures member { IsMemberOf self.now.monitor.now member.new }
+        ensures follower { IsFollowerOf self.now.monitor.now room.new.follower }
+        ensures fewer { IfOk result (λ rest. room.new.number + length rest.now ≤ room.old.number + (length first.entry.1.now + 1)) }
+        ensures shorter { IfOk result (λ rest. length rest.now ≤ length first.entry.1.now) }
+        ensures ok { IfOk result (λ rest. (put : List ℕ) × Passes (session_of self.now.monitor.now (G.lets self.now.gate.now))
+            room.old.number (seen_by member.old room.old.follower) (first.entry.0.now ++ 10 ∷ first.entry.1.now) put
+            room.new.number (seen_by member.new room.new.follower) rest.now
+            × (W.written sink.new ≡ W.written sink.old ++ put)) }
+        ensures err { IfErr result (λ error. (out : List ℕ) × Halted (session_of self.now.monitor.now (G.lets self.now.gate.now)) error
+            room.old.number (seen_by member.old room.old.follower) (first.entry.0.now ++ 10 ∷ first.entry.1.now) out (seen_by member.new room.new.follower)
+            × (W.written sink.new ≡ W.written sink.old ++ out)) }
+        ensures failed { W.has_failed sink.new ≡ has_sink_failed result }
+    {
+        if let Some(Command::Ask(question)) = read_command(first.0) {
+            if self.may_share(member, first.1, sink) {
+                return self.answer_run(member, room, first, question, sink);
+            }
+        }
+        self.answer(member, room, first.0, sink)?;
+        room.number += 1;
+        Ok(first.1)
+    }
+
+    /// Answers each line that ends in a text: what is left of the text, in which no line ends.
+    pub(crate) fn answer_lines<'t, W: Sink>(
+        &self,
+        member: &mut Member,
+        room: &mut Room,
+        text: &'t [u8],
+        sink: &mut W,
+    ) -> Result<&'t [u8], SessionError>
+        requires member { IsMemberOf self.now.monitor.now member.old }
+        requires follower { IsFollowerOf self.now.monitor.now room.old.follower }
+        requires unfailed { W.has_failed sink.old ≡ false }
+        requires few { room.old.number + length text.now < 2 ^ 64 }
+        ensures member { IsMemberOf self.now.monitor.now member.new }
+        ensures follower { IsFollowerOf self.now.monitor.now room.new.follower }
+        ensures part { IfOk result (λ rest. IsPart rest.now) }
+        ensures ok { IfOk result (λ rest. (put : List ℕ) × Passes (session_of self.now.monitor.now (G.lets self.now.gate.now))
+            room.old.number (seen_by member.old room.old.follower) text.now put
+            room.new.number (seen_by member.new room.new.follower) rest.now
+            × (W.written sink.new ≡ W.written sink.old ++ put)) }
+        ensures err { IfErr result (λ error. (out : List ℕ) × Halted (session_of self.now.monitor.now (G.lets self.now.gate.now)) error
+            room.old.number (seen_by member.old room.old.follower) text.now out (seen_by member.new room.new.follower)
+            × (W.written sink.new ≡ W.written sink.old ++ out)) }
+        ensures failed { W.has_failed sink.new ≡ has_sink_failed result }
+    {
+        let mut rest = text;
+        while let Some(first) = cut(rest) {
+            rest = self.answer_first(member, room, first, sink)?;
+        }
+        Ok(rest)
+    }
+
+    /// Answers the last line, which no newline ends, where there is one.
+    pub(crate) fn answer_last<W: Sink>(
+        &self,
+        member: &mut Member,
+        room: &mut Room,
+        line: &[u8],
+        sink: &mut W,
+    ) -> Result<(), SessionError>
+        requires member { IsMemberOf self.now.monitor.now member.old }
+        requires follower { IsFollowerOf self.now.monitor.now room.old.follower }
+        requires unfailed { W.has_failed sink.old ≡ false }
+        requires line { IsPart line.now }
+        ensures member { IsMemberOf self.now.monitor.now member.new }
+        ensures follower { IsFollowerOf self.now.monitor.now room.new.follower }
+        ensures ok { OnOk result ((put : List ℕ) × IsTranscript (session_of self.now.monitor.now (G.lets self.now.gate.now))
+            room.old.number (seen_by member.old room.old.follower) (lines_in line.now) put
+            (seen_by member.new room.new.follower) × (W.written sink.new ≡ W.written sink.old ++ put)) }
+        ensures err { IfErr result (λ error. (out : List ℕ) × StopsFrom (session_of self.now.monitor.now (G.lets self.now.gate.now))
+            (Halts (session_of self.now.monitor.now (G.lets self.now.gate.now)) error)
+            room.old.number (seen_by member.old room.old.follower) (lines_in line.now) out
+            (seen_by member.new room.new.follower) × (W.written sink.new ≡ W.written sink.old ++ out)) }
+        ensures failed { W.has_failed sink.new ≡ has_sink_failed result }
+    {
+        if line.is_empty() {
+            return Ok(());
+        }
+        self.answer(member, room, line, sink)
+    }
+}
