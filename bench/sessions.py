@@ -7,7 +7,8 @@
 that asks for nothing but the turn at the lock. *Changes* put one OSD down and up. A script cannot read an answer, so each of several sessions has a line
 for each base in turn: whichever comes first at an epoch makes the change, the others are refused as stale and try at the next one, as a client does that
 takes the epoch from the refusal. *Crowds* are the same number of look-ups by more sessions than there are processors: all of them on two processors beside
-one session alone on one; a run that does not end in time says so. *Handed on* is the other extreme: each session waits for the epoch before its own, so that every change is another
+one session alone on one; a run that does not end in time says so. *Waiting* is sessions that await epochs, beside
+the one that makes them. *Handed on* is the other extreme: each session waits for the epoch before its own, so that every change is another
 session's turn. The *soak* plays 64 sessions of 1,000 lines over 32 pools, and then all their answers again by one session (tests/soak.py); its files stay in
 FOLDER if one is given. It is no part of the gate.
 """
@@ -27,6 +28,8 @@ GROUPS, FIRST = 4096, 100_000
 LOOKS, CHANGES, TURNS = 500_000, 20_000, 2_000
 CROWD, CROWD_GOAL = 64_000, 1.3
 SEEDS = 3
+TWO = ["taskset", "-c", "0,1"]
+MOST = 64
 
 
 def looks(word):
@@ -53,14 +56,27 @@ def spent(runs, stated, scripts):
     return seconds(runs.words(stated, *scripts)) - seconds(runs.words(stated, *[""] * len(scripts)))
 
 
+def at_least(found, goal):
+    """Whether what was found is as much as its goal."""
+    if goal is None:
+        return ""
+    return f"{goal} " + ("met" if not isinstance(found, str) and found >= goal else "missed")
+
+
+def at_most(found, goal):
+    """Whether what was found is no more than its goal."""
+    return f"{goal} " + ("met" if not isinstance(found, str) and found <= goal else "missed")
+
+
 def look_rows(runs, stated):
     """Look-ups of 1, 2 and 4 sessions."""
     lines, epochs = looks("up"), looks("epoch")
     alone = None
-    for sessions in (1, 2, 4):
+    for sessions, goal in ((1, None), (2, 1.8), (4, 3.2)):
         by_up, by_epoch = (spent(runs, stated, [text] * sessions) / LOOKS for text in (lines, epochs))
         alone = alone or by_up
-        yield [str(sessions), sessions / by_up, f"{alone / by_up * sessions:.2f}", by_up * 1e9, by_epoch * 1e9, (by_up - by_epoch) * 1e9]
+        ratio = alone / by_up * sessions
+        yield [str(sessions), sessions / by_up, f"{ratio:.2f}", at_least(ratio, goal), by_up * 1e9, by_epoch * 1e9, (by_up - by_epoch) * 1e9]
 
 
 def crowd_rows(runs, stated):
@@ -75,8 +91,33 @@ def crowd_rows(runs, stated):
     for sessions in (4, 16, 64):
         found = within(lambda: rate(sessions, "0,1"))
         ratio = found if isinstance(found, str) else found / alone
-        met = "missed" if isinstance(ratio, str) or ratio < CROWD_GOAL else "met"
-        yield [str(sessions), found, ratio, str(CROWD_GOAL), met]
+        yield ["look-ups", str(sessions), found, ratio, at_least(ratio, CROWD_GOAL)]
+    alone = None
+    for sessions in (1, 4, 16, 64):
+        words = (["taskset", "-c", "0"] if sessions == 1 else TWO) + runs.words(stated, *[in_turn(0, 1)] * sessions)
+        found = within(lambda: CHANGES / seconds(words, 3))
+        alone = alone or found
+        ratio = found if isinstance(found, str) else found / alone
+        yield ["changes", str(sessions), found, ratio, "" if sessions == 1 else at_least(ratio, 0.5)]
+
+
+def chained(session):
+    """A session's changes, each for the epoch that the one before leads to, a hundred times."""
+    return "".join(f"await {base}\n{change(base)}" for base in range(FIRST + session, FIRST + 100 * MOST, MOST))
+
+
+def wait_rows(runs, stated):
+    """Sessions that await epochs."""
+    made, few, last = (in_turn(0, 1), "".join(change(base) for base in range(FIRST, FIRST + 1000)), f"await {FIRST + CHANGES}\n")
+    beside = [seconds(runs.words(stated, made, *[text] * (MOST - 1)), 3) for text in ("", last)]
+    yield [f"{MOST - 1} await the last of {CHANGES:,} epochs, to as many empty scripts", beside[1] / beside[0], "times", at_most(beside[1] / beside[0], 1.3)]
+    each = "".join(f"await {FIRST + number}\n" for number in range(1, 1001))
+    rows = [(f"{MOST - 1} await each of 1,000 epochs, on two processors", [few] + [each] * (MOST - 1), 1),
+            *((f"{count} await an epoch that nobody makes, on two processors", [f"await {FIRST + 1}\n"] * count, 3) for count in (1, 8, 16, MOST)),
+            (f"a chain of {MOST}, each awaiting the one before, 100 rounds, on two processors", [chained(session) for session in range(MOST)], 2)]
+    for name, scripts, goal in rows:
+        found = within(lambda: seconds(TWO + runs.words(stated, *scripts), 3))
+        yield [name, found, "s", at_most(found, goal)]
 
 
 def change_rows(runs, stated):
@@ -113,10 +154,12 @@ def main():
         os.makedirs(runs.folder, exist_ok=True)
         stated = runs.map(few_hosts("list", GROUPS))
         heading("Look-ups of sessions side by side")
-        table(["sessions", "`up` lines a second", "to one session", "an `up` line, ns", "an `epoch` line, ns", "beyond it, ns (goal 250)"], look_rows(runs, stated))
+        table(["sessions", "`up` lines a second", "to one session", "goal", "an `up` line, ns", "an `epoch` line, ns", "beyond it, ns"], look_rows(runs, stated))
         if shutil.which("taskset"):
-            heading("Crowds: 64,000 look-ups by more sessions than processors")
-            table(["sessions on two processors", "`up` lines a second", "to one session on one", "goal", ""], crowd_rows(runs, stated))
+            heading("Crowds: 64,000 look-ups, and 20,000 changes, by sessions on two processors")
+            table(["lines", "sessions", "a second", "to one session on one", "goal"], crowd_rows(runs, stated))
+            heading("Waiting")
+            table(["run", "it takes", "", "goal"], wait_rows(runs, stated))
         heading("Changes: one OSD down and up, over 4,096 groups")
         table(["form", "sessions", "made", "refused as stale", "made a second", "to one session"], change_rows(runs, stated))
         heading("Soak: 64 sessions of 1,000 lines over 32 pools")
