@@ -46,6 +46,7 @@ bench:
 	@python3 bench/tables.py $(PROGRAM)
 	@python3 bench/steps.py $(PROGRAM)
 	@python3 bench/sessions.py $(PROGRAM)
+	@python3 bench/live.py $(PROGRAM)
 	@python3 bench/balancer.py $(PROGRAM)
 	@python3 bench/reading.py $(PROGRAM)
 	@python3 bench/cliffs.py $(PROGRAM)

@@ -4,7 +4,8 @@
 
 A run with a growth refused ends with status 4, `memory` and nothing put out; or it puts out what a run without refusals
 does, of a script in which the line that answers `err 30 Memory` is left out. The last run is the first without a refusal.
-In a second round each line that may find no memory stands twice, so that after a refusal the same line has its exact answer.
+In a second round each line that may find no memory stands twice, so that after a refusal the same line has its exact answer. In a
+third the script is a live session, whose answers before the refusal are out.
 """
 
 import os
@@ -34,8 +35,8 @@ def refuser(folder):
 class Example:
     """An example, and what a run of it may put out."""
 
-    def __init__(self, command, library, example, folder, twice=False):
-        self.command, self.library, self.example, self.folder = command, library, example, pathlib.Path(folder)
+    def __init__(self, command, library, example, folder, twice=False, live=False):
+        self.command, self.library, self.example, self.folder, self.live = command, library, example, pathlib.Path(folder), live
         lines = (example / "script.txt").read_bytes().splitlines(keepends=True)
         self.lines = [line for own in lines for line in [own] * (2 if twice and own.startswith(TWICE) else 1)]
         self.script = self.folder / "script"
@@ -49,8 +50,9 @@ class Example:
         mark = self.folder / f"refused-{refused}"
         if refused is not None:
             environment.update(LD_PRELOAD=str(self.library), REFUSE_NTH=str(refused), REFUSED=str(mark))
-        done = subprocess.run([self.command, self.example / "map.json", script], env=environment, timeout=SECONDS,
-                              stdin=subprocess.DEVNULL, capture_output=True)
+        with open(script if self.live else os.devnull, "rb") as typed:
+            done = subprocess.run([self.command, self.example / "map.json", "-" if self.live else script], env=environment, timeout=SECONDS,
+                                  stdin=typed, capture_output=True)
         came = mark.exists()
         if came:
             mark.unlink()
@@ -67,7 +69,9 @@ class Example:
         """What is wrong with the run in which a growth is refused, or None; and whether it came to that growth."""
         done, came = self.run(self.script, number)
         got = (done.returncode, done.stdout, done.stderr)
-        if got == (0, self.whole, b"") or (came and got == (4, b"", b"memory\n")):
+        # What a live session has answered is out.
+        begun = got[1] == b"" or (self.live and self.whole.startswith(got[1]))
+        if got == (0, self.whole, b"") or (came and begun and (got[0], got[2]) == (4, b"memory\n")):
             return None, came
         answers = done.stdout.splitlines(keepends=True)
         if came and REFUSED in answers and got == (0, self.without[answers.index(REFUSED) - 1], b""):
@@ -96,11 +100,11 @@ def sweeps(command, pool):
             return None
         found = []
         for script in sorted(EXAMPLES.rglob("script.txt")):
-            for twice in (False, True):
-                name = script.parent.name + (", lines twice" if twice else "")
+            for about, twice, live in (("", False, False), (", lines twice", True, False), (", live", False, True)):
+                name = script.parent.name + about
                 own = pathlib.Path(folder) / name
                 own.mkdir()
-                found.append((name, *sweep(Example(command, library, script.parent, own, twice), pool)))
+                found.append((name, *sweep(Example(command, library, script.parent, own, twice, live), pool)))
         return found
 
 

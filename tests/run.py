@@ -15,7 +15,7 @@ a text, or a change as an object. Where a row stands for many runs, or for many 
 have their answers beside them. `plans` and `balanced` are plans of a balancer reckoned apart (plans.py, balanced.py), `soak`
 many sessions whose answers must be those of one history (soak.py), `patched` tables that random changes led to beside tables
 built anew (anew.py), and `apart` holds what reckons apart against Ceph's placements and the kept answers, and the kept picture
-against its numbers. `clusters` are the tools over clusters of Ceph's (clusters.py). At the end each growth of the examples' runs is refused in turn (memory.py).
+against its numbers. `clusters` are the tools over clusters of Ceph's (clusters.py), `live` sessions that are answered as they are typed (live.py). At the end each growth of the examples' runs is refused in turn (memory.py).
 """
 
 import argparse
@@ -34,6 +34,7 @@ import balanced
 import clusters
 import crowds
 import faulty
+import live
 import memory
 import model
 import soak
@@ -44,7 +45,7 @@ sys.path.insert(0, str(HERE.parent / "tools"))
 import chart  # noqa: E402
 
 TABLES = ["worked", "placements", "changes", "growth", "limits", "texts", "sessions", "balance", "plans", "balanced", "soak", "program", "examples",
-          "apart", "maxima", "patched", "clusters", "races"]
+          "apart", "maxima", "patched", "clusters", "races", "live"]
 SECONDS = 300
 
 
@@ -161,8 +162,8 @@ def lines_text(lines):
 class Run:
     """One run: arguments and files, and what is wanted. A wanted text that is None is some text, whichever."""
 
-    def __init__(self, name, files, output="", error="", status=0, arguments=None, sink="pipe", follow=None):
-        self.name, self.files, self.sink, self.follow = name, files, sink, follow
+    def __init__(self, name, files, output="", error="", status=0, arguments=None, sink="pipe", follow=None, typed=None):
+        self.name, self.files, self.sink, self.follow, self.typed = name, files, sink, follow, typed
         self.arguments = ["map", "script"] if arguments is None else arguments
         self.wanted = {"status": status, "output": output, "error": error}
         # Sessions that wait for one another, and those that wait in vain, are run one by one: beside others they would wait for a
@@ -186,7 +187,8 @@ def started(run, command, folder):
     """The result of a run in a folder, its standard output a pipe, full, closed, or a pipe whose reader is gone."""
     arguments = [os.fsencode(word) for word in [str(command)] + run.arguments]
     if run.sink == "pipe":
-        return subprocess.run(arguments, cwd=folder, stdin=subprocess.DEVNULL, capture_output=True, timeout=SECONDS)
+        source = {"stdin": subprocess.DEVNULL} if run.typed is None else {"input": coded(run.typed) if isinstance(run.typed, str) else run.typed}
+        return subprocess.run(arguments, cwd=folder, capture_output=True, timeout=SECONDS, **source)
     if run.sink == "closed":
         arguments = [b"sh", b"-c", b'exec "$0" "$@" >&-'] + arguments
     if run.sink == "gone":
@@ -557,7 +559,19 @@ def races():
     yield Check("64 sessions on one processor", pinned, alone=True)
 
 
-MADE = {"races": races, "clusters": of_clusters, "patched": patched, "plans": plans, "examples": examples, "maxima": maxima, "balanced": balanced_case, "soak": soaks, "apart": apart}
+def typed():
+    """Every row of one session, as a live one; and what only a live session shows."""
+    for name in ("worked", "changes", "growth", "texts", "sessions", "balance", "limits", "examples"):
+        for run in table_of(name):
+            if run.arguments.count("script") == 1 and run.wanted["status"] == 0 and run.sink == "pipe":
+                words = ["-" if word == "script" else word for word in run.arguments]
+                wanted = {"output": run.wanted["output"], "error": run.wanted["error"]}
+                yield Run(f"live: {run.name}", run.files, arguments=words, typed=run.files["script"], **wanted)
+    for name, test in live.tests():
+        yield Check(f"live: {name}", lambda command, test=test: test(command) or [], alone=True)
+
+
+MADE = {"live": typed, "races": races, "clusters": of_clusters, "patched": patched, "plans": plans, "examples": examples, "maxima": maxima, "balanced": balanced_case, "soak": soaks, "apart": apart}
 
 
 def table_of(name):

@@ -14,12 +14,13 @@ import picture  # noqa: E402
 import plan  # noqa: E402
 import report  # noqa: E402
 import shares  # noqa: E402
+import shell  # noqa: E402
 import unlike  # noqa: E402
 import whatif  # noqa: E402
 from faults import Fault  # noqa: E402
 from monitor import BUILT  # noqa: E402
 
-COMMANDS = [bring, check, plan, net, shares, unlike, whatif, explain, picture, report]
+COMMANDS = [bring, check, plan, net, shares, unlike, whatif, explain, picture, report, shell]
 
 
 def parser() -> argparse.ArgumentParser:

@@ -10,7 +10,7 @@ from typing import Any
 
 from cluster import Cluster
 from faults import Fault, Refused
-from monitor import Monitor
+from monitor import answers_of
 from texts import json_of, written
 
 OPS = {"choose_firstn", "choose_indep", "chooseleaf_firstn", "chooseleaf_indep"}
@@ -63,7 +63,7 @@ def map_of(cluster: Cluster) -> dict[str, Any]:
 def refusals(cluster: Cluster, value: dict[str, Any], program: Any) -> list[str]:
     """What the program has against the map: of a rule, which one; else its own name for it."""
     try:
-        Monitor(program, value).ask(["epoch"])
+        answers_of(program, value, ["epoch"])
         return []
     except Refused as refused:
         whole = f"the program refuses the map: {refused.name}"
@@ -71,7 +71,7 @@ def refusals(cluster: Cluster, value: dict[str, Any], program: Any) -> list[str]
     for rule in value["rules"]:
         alone = dict(value, rules=[rule], pools=[], pg_upmap=[], pg_upmap_items=[])
         try:
-            Monitor(program, alone).ask(["epoch"])
+            answers_of(program, alone, ["epoch"])
         except Refused as refused:
             if refused.name in ("BadRule", "BadLimit"):
                 name = cluster.rule_name(rule["id"])

@@ -9,7 +9,7 @@ from typing import Any
 
 from faults import Fault, Refused
 from forms import NAMES
-from monitor import Monitor
+from monitor import answers_of, raw_answers
 from places import change_places, map_places
 from texts import text_of
 
@@ -38,7 +38,7 @@ def check_map(path: str, program: Any) -> str:
     """The text of a map that is lawful."""
     text = text_of(path)
     try:
-        Monitor(program, text).ask(["epoch"])
+        answers_of(program, text, ["epoch"])
     except Refused as refused:
         value = parsed(text)
         found = [] if refused.name == "BadJson" else map_places(value)
@@ -53,7 +53,7 @@ def work(options: Any) -> None:
         print(f"{options.map}: lawful")
         return
     change = text_of(options.change).strip().removeprefix("change ").replace("\n", " ")
-    answer = Monitor(options.program, text).raw([f"change {change}"])[0]
+    answer = raw_answers(options.program, text, [f"change {change}"])[0]
     if answer.startswith("err "):
         number, name = answer.split(" ")[1:3]
         found = [] if number == "10" else change_places(json.loads(text), parsed(change))

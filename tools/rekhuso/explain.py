@@ -3,7 +3,7 @@
 from typing import Any
 
 from faults import Fault
-from monitor import Monitor
+from monitor import up_sets
 from net import raised
 from shares import named
 from texts import json_of
@@ -37,7 +37,7 @@ class Group:
         self.pairs = dict(value.get("pg_upmap_items", [])).get(group, [])
         up = raised(value)
         stages = {"raw": dict(up, pg_upmap=[], pg_upmap_items=[]), "explicit": dict(up, pg_upmap_items=[]), "mapped": up, "up": value}
-        self.sets = {stage: Monitor(program, own).ups([group])[group] for stage, own in stages.items()}
+        self.sets = {stage: up_sets(program, own, [group])[group] for stage, own in stages.items()}
 
     def weight(self, osd: int) -> int:
         """The reweight of an OSD, 0 where it is not there."""

@@ -9,7 +9,7 @@ set. Groups with a place that is empty are left as they are. The program checks 
 from typing import Any
 
 from faults import Fault
-from monitor import Monitor, Up
+from monitor import Up, up_sets
 from texts import json_of, written
 from unlike import change_of, commands, place_of
 
@@ -48,9 +48,9 @@ def checked(value: dict[str, Any], program: Any) -> dict[str, Any]:
     groups = [group for group, _ in value.get("pg_upmap_items", [])]
     if not groups:
         return value
-    wanted, base = (Monitor(program, raised(own)).ups(groups) for own in (value, dict(value, pg_upmap_items=[])))
+    wanted, base = (up_sets(program, raised(own), groups) for own in (value, dict(value, pg_upmap_items=[])))
     new = netted(value, wanted, base)
-    after = Monitor(program, raised(new)).ups(groups)
+    after = up_sets(program, raised(new), groups)
     unlike = [group for group in groups if wanted[group].places != after[group].places]
     if unlike:
         raise Fault(f"{len(unlike)} groups would move, the first {unlike[0]}: nothing is put out")

@@ -10,7 +10,7 @@ from typing import Any
 
 from bring import brought
 from faults import Fault
-from monitor import Monitor, groups_of, up_of
+from monitor import groups_of, raw_answers, up_of
 from net import checked
 from shares import Shares
 from texts import json_of
@@ -62,7 +62,7 @@ def work(options: Any) -> None:
     pools, groups = chosen(options, value, names), groups_of(value)
     asked = [f"up {group}" for group in groups]
     balances = [f"balance {pool} {options.max}" for pool in pools]
-    answers = Monitor(options.program, value).raw(asked + balances + asked + ["dump"])
+    answers = raw_answers(options.program, value, asked + balances + asked + ["dump"])
     plans = answers[len(groups):len(groups) + len(pools)]
     before, after = (Shares(value, dict(zip(groups, map(up_of, own)))) for own in (answers[:len(groups)], answers[len(groups) + len(pools):-1]))
     new = checked(json.loads(answers[-1].removeprefix("dump ")), options.program)

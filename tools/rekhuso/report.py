@@ -4,7 +4,7 @@ import html
 import json
 from typing import Any
 
-from monitor import Monitor, groups_of
+from monitor import groups_of, raw_answers, up_sets
 from net import raised
 from picture import picture
 from shares import Shares, named, spread
@@ -31,21 +31,21 @@ def exception_rows(value: dict[str, Any], program: Any) -> list[list[Any]]:
     """Each group with exceptions: what it would have without them, what it has, and whether they do anything."""
     groups = sorted({group for key in ("pg_upmap", "pg_upmap_items") for group, _ in value.get(key, [])}, key=lambda own: [int(part, 16) for part in own.split(".")])
     up = raised(value)
-    with_them = Monitor(program, up).ups(groups) if groups else {}
-    without = Monitor(program, dict(up, pg_upmap=[], pg_upmap_items=[])).ups(groups) if groups else {}
+    with_them = up_sets(program, up, groups) if groups else {}
+    without = up_sets(program, dict(up, pg_upmap=[], pg_upmap_items=[]), groups) if groups else {}
     return [[group, json.dumps(without[group].places), json.dumps(with_them[group].places),
              "acts" if without[group].places != with_them[group].places else "does nothing"] for group in groups]
 
 
 def plan_lines(value: dict[str, Any], program: Any) -> list[str]:
     """The commands of the plan for every pool that has one."""
-    answers = Monitor(program, value).raw([f"balance {pool['id']} 1024" for pool in value["pools"]] + ["dump"])
+    answers = raw_answers(program, value, [f"balance {pool['id']} 1024" for pool in value["pools"]] + ["dump"])
     return commands(value, json.loads(answers[-1].removeprefix("dump ")))
 
 
 def page(value: dict[str, Any], names: dict[str, Any], program: Any, title: str) -> str:
     """The page."""
-    shares = Shares(value, Monitor(program, value).ups(groups_of(value)))
+    shares = Shares(value, up_sets(program, value, groups_of(value)))
     even, plan, excepted = spread(shares), plan_lines(value, program), exception_rows(value, program)
     osds = [[named(names, "osds", row["id"]), f"{row['weight']:.5f}", f"{row['reweight']:.5f}", row["state"], row["groups"], row["share"], row["deviation"]]
             for row in (shares.osd_row(osd) for osd in sorted(shares.osds))]

@@ -5,7 +5,7 @@ import sys
 from collections import Counter
 from typing import Any
 
-from monitor import Monitor, Up, groups_of
+from monitor import Up, groups_of, up_sets
 from texts import json_of
 
 COLUMNS = ["ID", "WEIGHT", "REWEIGHT", "STATE", "PGS", "SHARE", "VAR", "NAME"]
@@ -126,7 +126,7 @@ def work(options: Any) -> None:
     """Tells the tree, the pools and the totals of a map."""
     value = json_of(options.map, "buckets", "osds", "pools", "rules")
     names = json_of(options.names) if options.names else {}
-    shares = Shares(value, Monitor(options.program, value).ups(groups_of(value)))
+    shares = Shares(value, up_sets(options.program, value, groups_of(value)))
     even = spread(shares)
     if options.json:
         tree = [dict(row, depth=depth) for root in shares.roots() for depth, row in shares.rows(root)]

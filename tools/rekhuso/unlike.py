@@ -3,7 +3,7 @@
 from typing import Any
 
 from faults import Refused
-from monitor import Monitor, Up, groups_of
+from monitor import Up, groups_of, raw_answers, up_sets
 from texts import json_of, written
 
 
@@ -98,12 +98,12 @@ def work(options: Any) -> None:
     """Tells the change between two maps and what it moves."""
     old, new = (json_of(path, "buckets", "epoch", "max_osd", "osds", "pools", "rules") for path in (options.old, options.new))
     change, unsaid = change_of(old, new)
-    before, after = (Monitor(options.program, value).ups(groups_of(value)) for value in (old, new))
+    before, after = (up_sets(options.program, value, groups_of(value)) for value in (old, new))
     print(f"change {written(change)}")
     for line in unsaid:
         print(f"no change says: {line}")
     if not unsaid:
-        answer = Monitor(options.program, old).raw([f"change {written(change)}"])[0]
+        answer = raw_answers(options.program, old, [f"change {written(change)}"])[0]
         if not answer.startswith("ok "):
             raise Refused(answer.split(" ")[2], int(answer.split(" ")[1]))
     told = moved(before, after)

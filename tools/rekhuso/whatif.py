@@ -9,7 +9,7 @@ import sys
 from typing import Any
 
 from faults import Fault
-from monitor import Monitor, Up, groups_of, up_of
+from monitor import Up, answers_of, groups_of, raw_answers, up_of
 from shares import named
 from texts import json_of, written
 from unlike import place_of
@@ -90,11 +90,11 @@ def result(value: dict[str, Any], change: dict[str, Any] | None, options: Any, g
     asked = [f"up {group}" for group in groups]
     plans = [f"balance {pool['id']} 1024" for pool in value["pools"]] if options.balance else []
     if grown is None:
-        answers = Monitor(options.program, value).raw(asked + [f"change {written(change)}"] + plans + asked)
+        answers = raw_answers(options.program, value, asked + [f"change {written(change)}"] + plans + asked)
         if not answers[len(groups)].startswith("ok "):
             raise Fault(f"the change is refused: {answers[len(groups)].removeprefix('err ')}")
     else:
-        answers = Monitor(options.program, value).ask(asked) + Monitor(options.program, grown).raw(plans + asked)
+        answers = answers_of(options.program, value, asked) + raw_answers(options.program, grown, plans + asked)
     before = dict(zip(groups, map(up_of, answers[:len(groups)])))
     after = {group: up_of(answer) for group, answer in zip(groups, answers[-len(groups):]) if answer.startswith("up ")}
     return compared(before, after, {pool["id"]: pool["size"] for pool in value["pools"]})

@@ -1,5 +1,6 @@
 mod CommandLines
 mod Paired
+mod Outs
 mod PlainWords
 mod Played
 mod Put

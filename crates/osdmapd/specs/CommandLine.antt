@@ -1,6 +1,8 @@
 -- What the words of a command line ask for, by the parser's own definitions of what it finds in words.
-use Rattle.std.specs.Prelude.{◌≡◌, ◌≢◌, ◌⊎◌, ◌<◌, ◌≤◌, ◌==◌, ◌^◌, not, Bool, MatchResult, ℕ, pos, true, false, List, [], ◌∷◌, length, map, codes, Option, Some, Result, Ok, Err, string_bytes}
+use Rattle.std.specs.Prelude.{◌≡◌, ◌≢◌, ◌⊎◌, ◌<◌, ◌≤◌, ◌==◌, ◌^◌, not, Bool, String, MatchResult, ℕ, pos, true, false, List, [], ◌∷◌, length, map, codes, Option, Some, Result, Ok, Err, string_bytes}
 use Rattle.std.specs.Fmt.{decimal}
+use Rattle.std.specs.declared.alloc.Global.{Global}
+use Rattle.std.specs.Str.{bytes_eq}
 use Rattle.std.specs.Str.Parse.{IsNumeral, digits_value, without_leading_plus}
 use Rattle.clap.specs.declared.builder.arg.Arg.{Arg}
 use Rattle.clap.specs.declared.builder.action.ArgAction.TheVariants.{Set, Append}
@@ -84,6 +86,10 @@ map_path_in rows = first_of (codes "MAP") rows
 -- the scripts' paths that were found
 abbrev pub script_paths_in : List Row → Option (List Text)
 script_paths_in rows = all_of (codes "SCRIPT") rows
+
+-- a script that is standard input: its path is a hyphen alone
+abbrev pub is_standard : String Global → Bool
+is_standard path = bytes_eq (string_bytes path) (codes "-")
 
 -- the options are what was found for the journal, the map and the scripts
 pub record AreFound (rows : List Row) (o : Options) : Type 0 where

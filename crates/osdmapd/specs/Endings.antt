@@ -6,10 +6,10 @@ use Rattle.std.specs.declared.io.ErrorKind.TheVariants.{OutOfMemory}
 use Rattle.refusal.specs.Refusals.{name_of}
 use Rattle.osdmapd.specs.declared.choices.LineError.{LineError}
 use Rattle.osdmapd.specs.declared.choices.LineError.TheVariants as line
-use Rattle.osdmapd.specs.declared.serving.Fault.{Fault}
-use Rattle.osdmapd.specs.declared.serving.Fault.TheVariants as fault
+use Rattle.osdmapd.specs.declared.fault.Fault.{Fault}
+use Rattle.osdmapd.specs.declared.fault.Fault.TheVariants as fault
 use Rattle.osdmapd.specs.declared.ending.Ending.{Ending}
-use Rattle.osdmapd.specs.declared.ending.Ending.TheVariants.{Usage, NoText, TooManyScripts, Map, File, Output, Memory}
+use Rattle.osdmapd.specs.declared.ending.Ending.TheVariants.{Usage, NoText, TooManyScripts, TwoInputs, Map, File, Input, Output, Memory}
 
 -- ---- what is seen of an ending
 
@@ -18,8 +18,10 @@ abbrev pub status_of : Ending → ℕ
 status_of (Usage text) = 1
 status_of NoText = 1
 status_of TooManyScripts = 1
+status_of TwoInputs = 1
 status_of (Map refusal) = 2
 status_of (File path) = 3
+status_of Input = 3
 status_of Output = 3
 status_of Memory = 4
 
@@ -28,8 +30,10 @@ abbrev pub text_of : Ending → List ℕ
 text_of (Usage text) = text.now
 text_of NoText = codes "an argument is not UTF-8\n"
 text_of TooManyScripts = codes "too many scripts\n"
+text_of TwoInputs = codes "standard input is given twice\n"
 text_of (Map refusal) = codes "map: " ++ name_of refusal ++ codes "\n"
 text_of (File path) = codes "file: " ++ path.now ++ codes "\n"
+text_of Input = codes "input\n"
 text_of Output = codes "output\n"
 text_of Memory = codes "memory\n"
 
@@ -50,10 +54,12 @@ abbrev pub file_ending : ErrorKind → Bor (List ℕ) → Ending
 file_ending OutOfMemory path = Memory
 file_ending kind path = File path
 
--- a run that is served into memory, so that its output fails only for want of it
+-- a run that is served into memory, so that its output fails only for want of it, but for that of a live session
 abbrev pub fault_ending : Fault → Ending
 fault_ending (fault.Map refusal) = Map refusal
 fault_ending fault.Output = Memory
+fault_ending fault.Input = Input
+fault_ending fault.Answers = Output
 fault_ending fault.Memory = Memory
 
 -- a command line that asks for no run: help is a text to show, and all else is an ending

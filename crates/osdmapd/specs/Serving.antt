@@ -2,8 +2,6 @@
 use Rattle.std.specs.Prelude.{◌≡◌, ℕ, Bool, true, false, List, [], ◌++◌, codes, length, Some, None, Result, Ok, Err}
 use Rattle.std.specs.Fmt.{decimal}
 use Rattle.std.specs.List.{concat}
-use Rattle.std.specs.declared.vec.Vec.{Vec}
-use Rattle.std.specs.declared.alloc.Global.{Global}
 use Rattle.osdmap.specs.Maps.{ClusterMap}
 use Rattle.mapjson.specs.MapTexts.{map_text_fault, StatesMap}
 use Rattle.monitor.specs.Members.{Monitored}
@@ -12,8 +10,10 @@ use Rattle.session.specs.Answers.{Sight, session_with}
 use Rattle.session.specs.Transcripts.{IsTranscript}
 use Rattle.session.specs.Sinks.{HasPut}
 use Rattle.osdmapd.specs.Pairs.{Pairs}
-use Rattle.osdmapd.specs.declared.serving.Fault.{Fault}
-use Rattle.osdmapd.specs.declared.serving.Fault.TheVariants.{Map, Output, Memory}
+use Rattle.osdmapd.specs.declared.part.Part.{Part}
+use Rattle.osdmapd.specs.declared.part.Part.TheVariants.{Script, Live}
+use Rattle.osdmapd.specs.declared.fault.Fault.{Fault}
+use Rattle.osdmapd.specs.declared.fault.Fault.TheVariants.{Map, Output, Input, Answers, Memory}
 
 -- ---- one session
 
@@ -41,31 +41,43 @@ IsTextOf first journal number script text =
 abbrev pub IsTextBy : Monitored → ℕ → List ℕ → List ℕ → Type 0
 IsTextBy monitor number script text = IsTextOf monitor.first (length monitor.row.cells) number script text
 
+-- what is left to put out of the session of a part, once it has ended: the text of a script; of a live session nothing
+abbrev pub IsLeftOf : ClusterMap → ℕ → ℕ → Part → List ℕ → Type 0
+IsLeftOf first journal number (Script script) text = IsTextOf first journal number script.items text
+IsLeftOf first journal number (Live input output) text = text ≡ []
+
+-- the same of a session of this monitor
+abbrev pub IsLeftBy : Monitored → ℕ → Part → List ℕ → Type 0
+IsLeftBy monitor number part text = IsLeftOf monitor.first (length monitor.row.cells) number part text
+
 -- ---- all sessions
 
--- the texts of the sessions of these scripts, numbered from 1, from the map that a text states
-abbrev pub AreTextsOf : ℕ → List ℕ → List (Vec ℕ Global) → List (List ℕ) → Type 0
-AreTextsOf journal stated scripts texts =
-    (m : ClusterMap) × StatesMap stated m
-    × Pairs (λ number (script : Vec ℕ Global) text. IsTextOf m journal number script.items text) 1 scripts texts
+-- what is left of the sessions of these parts, numbered from 1, from the map that a text states
+abbrev pub AreTextsOf : ℕ → List ℕ → List Part → List (List ℕ) → Type 0
+AreTextsOf journal stated parts texts =
+    (m : ClusterMap) × StatesMap stated m × Pairs (IsLeftOf m journal) 1 parts texts
 
 -- what is out at the end: the texts of a map that is not refused, one after the other, or where the output fails a
--- beginning of them; nothing where the map is refused, or memory is short
-abbrev pub Serves : ℕ → List ℕ → List (Vec ℕ Global) → List ℕ → List ℕ → Result Unit Fault → Type 0
-Serves journal stated scripts before after (Ok done) =
+-- beginning of them; nothing where the map is refused, a live session fails, or memory is short
+abbrev pub Serves : ℕ → List ℕ → List Part → List ℕ → List ℕ → Result Unit Fault → Type 0
+Serves journal stated parts before after (Ok done) =
     (map_text_fault stated ≡ None)
-    × ((texts : List (List ℕ)) × AreTextsOf journal stated scripts texts × (after ≡ before ++ concat texts))
-Serves journal stated scripts before after (Err (Map refusal)) =
+    × ((texts : List (List ℕ)) × AreTextsOf journal stated parts texts × (after ≡ before ++ concat texts))
+Serves journal stated parts before after (Err (Map refusal)) =
     (map_text_fault stated ≡ Some refusal) × (after ≡ before)
-Serves journal stated scripts before after (Err Output) =
+Serves journal stated parts before after (Err Output) =
     (map_text_fault stated ≡ None)
-    × ((texts : List (List ℕ)) × (rest : List ℕ) × AreTextsOf journal stated scripts texts
+    × ((texts : List (List ℕ)) × (rest : List ℕ) × AreTextsOf journal stated parts texts
     × HasPut before (concat texts) rest after)
-Serves journal stated scripts before after (Err Memory) = after ≡ before
+Serves journal stated parts before after (Err Input) = after ≡ before
+Serves journal stated parts before after (Err Answers) = after ≡ before
+Serves journal stated parts before after (Err Memory) = after ≡ before
 
 -- whether the sink has failed: where the output is told to have, and else not
 abbrev pub has_output_failed : Result Unit Fault → Bool
 has_output_failed (Ok done) = false
 has_output_failed (Err (Map refusal)) = false
 has_output_failed (Err Output) = true
+has_output_failed (Err Input) = false
+has_output_failed (Err Answers) = false
 has_output_failed (Err Memory) = false

@@ -1,7 +1,7 @@
 //! How a run of the program ends.
 
 use crate::choices::LineError;
-use crate::serving::Fault;
+use crate::fault::Fault;
 use refusal::Refusal;
 use std::{fmt, io};
 use thiserror::Error;
@@ -15,10 +15,14 @@ pub enum Ending<'a> {
     NoText,
     /// There are more scripts than can be run.
     TooManyScripts,
+    /// More than one of the scripts is standard input.
+    TwoInputs,
     /// The map is refused.
     Map(Refusal),
     /// A file is not read: its path.
     File(&'a str),
+    /// Standard input is not read.
+    Input,
     /// The output is not written.
     Output,
     /// A growth was refused.
@@ -51,13 +55,15 @@ impl<'a> Ending<'a> {
         }
     }
 
-    /// Of a run that is served into memory, so that its output fails only for want of it.
+    /// Of a run that is served into memory, so that its output fails only for want of it, but for that of a live session.
     pub fn of_fault(fault: Fault) -> Ending<'a>
         ensures ending { result ≡ fault_ending fault }
         ensures status { 2 ≤ status_of result }
     {
         match fault {
             Fault::Map(refusal) => Ending::Map(refusal),
+            Fault::Input => Ending::Input,
+            Fault::Answers => Ending::Output,
             Fault::Output | Fault::Memory => Ending::Memory,
         }
     }
@@ -79,9 +85,9 @@ impl<'a> Ending<'a> {
         ensures { result ≡ status_of self.now }
     {
         match self {
-            Ending::Usage(_) | Ending::NoText | Ending::TooManyScripts => 1,
+            Ending::Usage(_) | Ending::NoText | Ending::TooManyScripts | Ending::TwoInputs => 1,
             Ending::Map(_) => 2,
-            Ending::File(_) | Ending::Output => 3,
+            Ending::File(_) | Ending::Input | Ending::Output => 3,
             Ending::Memory => 4,
         }
     }
@@ -98,8 +104,10 @@ impl<'a> fmt::Display for Ending<'a> {
             Ending::Usage(text) => f.write_str(text),
             Ending::NoText => f.write_str("an argument is not UTF-8\n"),
             Ending::TooManyScripts => f.write_str("too many scripts\n"),
+            Ending::TwoInputs => f.write_str("standard input is given twice\n"),
             Ending::Map(refusal) => writeln!(f, "map: {refusal}"),
             Ending::File(path) => writeln!(f, "file: {path}"),
+            Ending::Input => f.write_str("input\n"),
             Ending::Output => f.write_str("output\n"),
             Ending::Memory => f.write_str("memory\n"),
         }

@@ -1,27 +1,36 @@
-//! Answers scripts of commands over the map of a cluster: `osdmapd [--journal N] MAP SCRIPT..`.
+//! Answers scripts of commands over the map of a cluster: `osdmapd [--journal N] MAP SCRIPT..`, where `-` for a script is
+//! standard input.
 #![tactic(auto)]
 
-ghost use Rattle.std.specs.Prelude.{◌≡◌, ◌≤◌, IfOk, IfErr, length, vec_len};
+ghost use Rattle.std.specs.Prelude.{◌≡◌, ◌≤◌, IfOk, IfErr, length, vec_len, nat_lt, count_by};
 ghost use Rattle.std.specs.declared.io.ErrorKind.{ErrorKind};
 ghost use Rattle.std.specs.Process.{exit_status};
 ghost use Rattle.epochlog.specs.Epochs.{max_capacity};
-ghost use Rattle.osdmapd.specs.CommandLine.{max_scripts};
+ghost use Rattle.osdmapd.specs.CommandLine.{max_scripts, is_standard};
 ghost use Rattle.osdmapd.specs.Endings.{file_ending, run_status, status_of, TellsLine};
 
 mod choices;
 mod ending;
+mod fault;
 mod line;
+mod out;
+mod part;
 mod playing;
 mod serving;
 
 use choices::{LineError, Options};
 use ending::Ending;
+use part::Part;
 use session::Buffer;
+use std::io::{Stdin, Stdout};
 use std::process::ExitCode;
 use std::rt::Files;
 use std::sync::Wait;
 use std::thread::Threads;
 use std::{fs, io};
+
+/// The word for a script that is standard input.
+const STANDARD: &str = "-";
 
 /// Ends a run: where something kept it from being done, standard error tells why.
 fn ended(rt: &impl Eprint, done: Result<(), Ending<'_>>) -> ExitCode
@@ -44,27 +53,46 @@ fn read<'a, R: Files + AllocGlobal>(rt: &R, path: &'a str) -> Result<Vec<u8>, En
     fs::read(rt, path).map_err(|error| Ending::of_file(&error, path))
 }
 
-/// The bytes of each script.
-fn read_all<'a, R: Files + AllocGlobal>(
+/// Whether more than one of these paths is standard input.
+fn is_read_twice(paths: &[String]) -> bool
+    ensures { result ≡ nat_lt 1 (count_by is_standard paths.now) }
+{
+    let mut times: usize = 0;
+    for path in paths {
+        if path.as_str() == STANDARD {
+            times += 1;
+        }
+    }
+    times > 1
+}
+
+/// What the session of each of these paths is played from.
+fn parts_of<'a, R: Files + AllocGlobal>(
     rt: &R,
+    standard: (Stdin, Stdout),
     paths: &'a [String],
-) -> Result<Vec<Vec<u8>>, Ending<'a>>
-    ensures count { IfOk result (λ scripts. vec_len scripts ≡ length paths.now) }
+) -> Result<Vec<Part>, Ending<'a>>
+    ensures count { IfOk result (λ parts. vec_len parts ≡ length paths.now) }
     ensures status { IfErr result (λ e. 3 ≤ status_of e) }
 {
-    let mut scripts = Vec::new(rt.alloc());
+    let mut parts = Vec::new(rt.alloc());
     for path in paths {
-        let script = read(rt, path.as_str())?;
-        if scripts.push(script).is_err() {
+        let part = if path.as_str() == STANDARD {
+            Part::Live(standard.0, standard.1)
+        } else {
+            Part::Script(read(rt, path.as_str())?)
+        };
+        if parts.push(part).is_err() {
             return Err(Ending::Memory);
         }
     }
-    Ok(scripts)
+    Ok(parts)
 }
 
 /// Reads the files, the map first, and puts the answers to standard output.
 fn work<'a, R: Files + AllocGlobal + Print + Threads + Wait + Sync>(
     rt: &R,
+    standard: (Stdin, Stdout),
     options: &'a Options,
 ) -> Result<(), Ending<'a>>
     requires least { 1 ≤ options.now.journal }
@@ -74,9 +102,9 @@ fn work<'a, R: Files + AllocGlobal + Print + Threads + Wait + Sync>(
     ensures { IfErr result (λ e. 2 ≤ status_of e) }
 {
     let map = read(rt, options.map.as_str())?;
-    let scripts = read_all(rt, options.scripts.as_slice())?;
+    let parts = parts_of(rt, standard, options.scripts.as_slice())?;
     let mut out = Buffer::new(rt.alloc());
-    if let Err(fault) = serving::serve(rt, options.journal, &map, &scripts, &mut out) {
+    if let Err(fault) = serving::serve(rt, options.journal, &map, &parts, &mut out) {
         return Err(Ending::of_fault(fault));
     }
     io::Write::write_all(&mut io::writer(rt), out.bytes()).map_err(|_| Ending::Output)
@@ -100,7 +128,10 @@ fn main(rt: HostRuntime) -> ExitCode {
         return ended(&rt, Err(Ending::Memory));
     };
     match line::options(alloc, words.as_slice()) {
-        Ok(options) => ended(&rt, work(&rt, &options)),
+        Ok(options) if is_read_twice(options.scripts.as_slice()) => {
+            ended(&rt, Err(Ending::TwoInputs))
+        }
+        Ok(options) => ended(&rt, work(&rt, (rt.stdin(), rt.stdout()), &options)),
         Err(error) => ended(&rt, told(&rt, &error)),
     }
 }

@@ -1,65 +1,21 @@
 //! What the program does with its files.
-ghost use Rattle.std.specs.Prelude.{◌≡◌, ◌≢◌, ◌≤◌, ◌++◌, ℕ, List, length, map, false, is_err};
+ghost use Rattle.std.specs.Prelude.{◌≡◌, ◌≤◌, ◌++◌, ℕ, List, length, map, false, is_err};
 ghost use Rattle.std.specs.Prelude.{OnOk, OnErr};
 ghost use Rattle.std.specs.List.{concat};
-ghost use Rattle.refusal.specs.declared.refused.Refusal.TheVariants.{Memory as OutOfMemory};
-ghost use Rattle.osdmapd.specs.declared.serving.Fault.TheVariants.{Output as NoOutput, Memory as NoMemory};
 ghost use Rattle.epochlog.specs.Epochs.{max_capacity};
 ghost use Rattle.session.specs.Sinks.{HasPut};
 ghost use Rattle.session.specs.Buffers.{buffered};
 ghost use Rattle.osdmapd.specs.CommandLine.{max_scripts};
 ghost use Rattle.osdmapd.specs.Serving.{Serves, has_output_failed};
 
+use crate::fault::Fault;
+use crate::part::Part;
 use crate::playing::texts;
 use mapjson::read_map;
 use monitor::Monitor;
-use refusal::Refusal;
 use session::{Buffer, Sink, WriteFailed, write_whole};
-use std::alloc::AllocError;
 use std::sync::Wait;
 use std::thread::Threads;
-use thiserror::Error;
-
-/// Why nothing is served, or not all of it.
-#[derive(Clone, Copy, Debug, PartialEq, Eq, Error)]
-pub enum Fault {
-    /// The map is refused.
-    #[error("map: {0}")]
-    Map(Refusal),
-    /// The sink has failed.
-    #[error("output")]
-    Output,
-    /// A growth was refused.
-    #[error("memory")]
-    Memory,
-}
-
-impl From<WriteFailed> for Fault {
-    ghost from_gives = { λ _ fault. fault ≡ NoOutput };
-
-    fn from(_failed: WriteFailed) -> Fault {
-        Fault::Output
-    }
-}
-
-impl From<AllocError> for Fault {
-    ghost from_gives = { λ _ fault. fault ≡ NoMemory };
-
-    fn from(_error: AllocError) -> Fault {
-        Fault::Memory
-    }
-}
-
-/// Why there is no map, where this refusal is the answer.
-fn fault_of(refusal: Refusal) -> Fault
-    ensures memory { refusal ≡ OutOfMemory → result ≡ Fault.Memory }
-    ensures other { refusal ≢ OutOfMemory → result ≡ Fault.Map refusal }
-{
-    match refusal {
-        Refusal::Memory => Fault::Memory,
-        refusal => Fault::Map(refusal),
-    }
-}
 
 /// Puts texts to a sink, one after the other. At an `Err` the sink has failed, and has a beginning of them.
 fn put<W: Sink>(out: &mut W, texts: &[Buffer]) -> Result<(), WriteFailed>
@@ -75,40 +31,41 @@ fn put<W: Sink>(out: &mut W, texts: &[Buffer]) -> Result<(), WriteFailed>
     Ok(())
 }
 
-/// Runs scripts over the map that a text states, each in a session and a thread of its own, with a seat at one monitor;
-/// after all have ended it puts to a sink for each script in order the heading of its session and its answers. All
-/// threads are started before one is joined. `journal` is how many changes may be committed, 1 to 65,536; there are 1
-/// to 64 scripts.
+/// Runs sessions over the map that a text states, each in a thread of its own, with a seat at one monitor; after all
+/// have ended it puts to a sink for each script in order the heading of its session and its answers, and nothing for a
+/// live session, whose answers are out. All threads are started before one is joined. `journal` is how many changes may
+/// be committed, 1 to 65,536; there are 1 to 64 parts.
 ///
 /// Where the map is refused (10 to 17), nothing is put, nor at `Memory`: a growth was refused (30) before the sessions
-/// or for one of their texts, or a thread could not be made. `Output` comes only where the map is not refused and the
-/// sink has failed, which then has a beginning of the texts; at every other end it has not failed.
+/// or for one of their texts, or a thread could not be made; nor at `Input` and `Answers`, by which live sessions fail.
+/// `Output` comes only where the map is not refused and the sink has failed, which then has a beginning of the texts; at
+/// every other end it has not failed.
 pub fn serve<R: AllocGlobal + Threads + Wait + Sync, W: Sink>(
     rt: &R,
     journal: u32,
     map: &[u8],
-    scripts: &[Vec<u8>],
+    parts: &[Part],
     out: &mut W,
 ) -> Result<(), Fault>
     requires least { 1 ≤ journal }
     requires most { journal ≤ max_capacity }
-    requires some { 1 ≤ length scripts.now }
-    requires few { length scripts.now ≤ max_scripts }
+    requires some { 1 ≤ length parts.now }
+    requires few { length parts.now ≤ max_scripts }
     requires unfailed { W.has_failed out.old ≡ false }
-    ensures served { Serves journal map.now scripts.now (W.written out.old) (W.written out.new) result }
+    ensures served { Serves journal map.now parts.now (W.written out.old) (W.written out.new) result }
     ensures failed { W.has_failed out.new ≡ has_output_failed result }
 {
     let alloc = rt.alloc();
     let map = match read_map(alloc, map) {
         Ok(map) => map,
-        Err(refusal) => return Err(fault_of(refusal)),
+        Err(refusal) => return Err(Fault::of_refusal(refusal)),
     };
-    // The epoch of a map that was read, the journal and the number of scripts are within their limits, so that only
+    // The epoch of a map that was read, the journal and the number of parts are within their limits, so that only
     // memory can be short.
-    let Ok((monitor, members)) = Monitor::open(alloc, map, journal, scripts.len() as u32) else {
+    let Ok((monitor, members)) = Monitor::open(alloc, map, journal, parts.len() as u32) else {
         return Err(Fault::Memory);
     };
-    let texts = texts(rt, monitor, members, scripts)?;
+    let texts = texts(rt, monitor, members, parts)?;
     put(out, &texts)?;
     Ok(())
 }

@@ -4,6 +4,8 @@
 ghost use Rattle.std.specs.Prelude.{IfSome, All};
 ghost use Rattle.monitor.specs.Members.{IsMemberOf, IsNewMemberOf};
 
+use crate::choices::LineError;
+use crate::fault::{Broken, Fault};
 use crate::playing::next;
 use crossbeam_utils::Backoff;
 use mapjson::{read_change, read_map};
@@ -14,8 +16,8 @@ use std::alloc::{AllocError, Global};
 use std::sync::Wait;
 use std::sync::atomic::{AtomicU64, Ordering};
 use std::test::Fail;
-use std::thread;
 use std::thread::Threads;
+use std::{fmt, thread};
 
 /// Four devices, and an explicit set for the one group.
 pub const FOUR_DEVICES: &str = concat!(
@@ -68,6 +70,8 @@ impl Sink for Slow {
 
     ghost waits = { λ _. false };
 
+    ghost holds_back = { λ _. false };
+
     fn write(&mut self, bytes: &[u8]) -> Result<usize, WriteFailed> {
         let taken = bytes.len().min(3);
         if self.calls == 0 || self.bytes.extend_from_slice(&bytes[..taken]).is_err() {
@@ -83,6 +87,14 @@ impl Sink for Slow {
     }
 
     fn may_wait(&self) -> bool {
+        false
+    }
+
+    fn flush(&mut self) -> Result<(), WriteFailed> {
+        Ok(())
+    }
+
+    fn is_full(&self) -> bool {
         false
     }
 }
@@ -450,5 +462,47 @@ fn looked<R: Wait>(rt: &R, alloc: Global) -> Option<(u64, u64)> {
 #[test]
 fn two_looks_are_held_at_once_after_a_commit(rt: HostRuntime) -> Result<(), Fail> {
     assert!(rt; looked(&rt, rt.alloc()) == Some((2, 2)));
+    Ok(())
+}
+
+/// Whether this is a value's text.
+fn tells<T: fmt::Display>(alloc: Global, value: &T, text: &str) -> bool {
+    match format!(in alloc; "{value}") {
+        Ok(told) => told.as_str() == text,
+        Err(_) => false,
+    }
+}
+
+/// The errors whose texts no clause has.
+#[test]
+fn errors_tell_what_they_are(rt: HostRuntime) -> Result<(), Fail> {
+    let alloc = rt.alloc();
+    assert!(rt; tells(alloc, &WriteFailed, "the write failed"));
+    assert!(rt; tells(alloc, &SessionError::Write, "the sink has failed"));
+    assert!(rt;
+        tells(
+            alloc,
+            &SessionError::Memory,
+            "the text of an answer found no memory"
+        )
+    );
+    assert!(rt;
+        tells(
+            alloc,
+            &SessionError::Held,
+            "the gate did not let a line through"
+        )
+    );
+    assert!(rt; tells(alloc, &SessionError::Read, "the input could not be read"));
+    assert!(rt; tells(alloc, &Fault::Map(Refusal::BadForest), "map: BadForest"));
+    assert!(rt; tells(alloc, &Fault::Output, "output"));
+    assert!(rt; tells(alloc, &Fault::Input, "input"));
+    assert!(rt; tells(alloc, &Fault::Answers, "answers"));
+    assert!(rt; tells(alloc, &Fault::Memory, "memory"));
+    assert!(rt; tells(alloc, &Broken::Input, "input"));
+    assert!(rt; tells(alloc, &Broken::Answers, "answers"));
+    assert!(rt; tells(alloc, &Broken::Memory, "memory"));
+    assert!(rt; tells(alloc, &LineError::TooMany, "too many scripts"));
+    assert!(rt; tells(alloc, &LineError::Memory, "memory"));
     Ok(())
 }

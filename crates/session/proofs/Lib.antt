@@ -6,3 +6,4 @@ mod Histories
 mod Told
 mod Passing
 mod Asked
+mod Coming

@@ -1,21 +1,16 @@
 -- How a session goes on by the lines of a text.
 use Rattle.std.proofs.Common.{◌≡◌, ◌∙◌, ℕ, ◌+◌, List, [], ◌∷◌, ◌++◌, length, refl, sym, ap, subst, false, true, ◌<◌, append_assoc, append-nil, inl, inr, arith, Result, Ok, Err, Bor, OnOk, IfOk, IfErr}
 use Rattle.std.proofs.lemmas.List.{length-append}
-use Rattle.session.specs.declared.session.SessionError.{SessionError}
-use Rattle.session.specs.declared.session.SessionError.TheVariants.{Write, Memory, Held}
+use Rattle.session.specs.declared.error.SessionError.{SessionError}
+use Rattle.session.specs.declared.error.SessionError.TheVariants.{Write, Memory, Held, Read}
 use Rattle.session.specs.Commands.{lines_in}
 use Rattle.session.specs.Transcripts.{Manner, TakesLine, IsTranscript, Breaks, StopsFrom}
-use Rattle.session.specs.Readings.{IsPart, Cuts, Passes, Halted}
+use Rattle.session.specs.Readings.{IsPart, Cuts, Passes, StopsAt, Halted}
 use Rattle.std.specs.Result.{IsErrAnd}
 use Rattle.session.specs.Ends.{Halts, IsOut}
 use Rattle.session.proofs.LinesIn.{lines_in-part, lines_in-last, lines_in-none}
 use Rattle.session.proofs.Replies.{takes_line}
 use Rattle.session.proofs.Transcribed.{transcript_more, transcript_none, transcript_one}
-
--- a session that stops so at a line that is the next
-abbrev pub StopsAt : {S : Type 0} → Manner S → SessionError → ℕ → S → List ℕ → List ℕ → S → Type 0
-StopsAt m e number between line part last =
-    (others : List (List ℕ)) (before : List ℕ) → Halts m e number between (line ∷ others) before (before ++ part) last
 
 -- no line is answered
 pub passes_none : {S : Type 0} (m : Manner S) (number : ℕ) (first : S) (text : List ℕ) → Passes m number first text [] number first text
@@ -52,14 +47,16 @@ by_break m number between last others put before out (line, more, answer, part, 
 -- the way in which it stops is the same with more before it
 halts_behind : {S : Type 0} (m : Manner S) (e : SessionError) (number : ℕ) (between last : S) (others : List (List ℕ)) (put before out : List ℕ)
     → Halts m e number between others before out last → Halts m e number between others (put ++ before) (put ++ out) last
-halts_behind m Write number between last others put before out halts = by_break m number between last others put before out halts
+halts_behind m Write number between last others put before out (inl (same, left)) = inl (ap (λ o. put ++ o) same, left)
+halts_behind m Write number between last others put before out (inr halts) = inr (by_break m number between last others put before out halts)
 halts_behind m Memory number between last others put before out (inl (same, left)) = inl (ap (λ o. put ++ o) same, left)
 halts_behind m Memory number between last others put before out (inr halts) = inr (by_break m number between last others put before out halts)
 halts_behind m Held number between last others put before out (c, cs, more, is, held, (same, left)) =
     (c, cs, more, is, held, (ap (λ o. put ++ o) same, left))
+halts_behind m Read number between last others put before out halts = absurd halts
 
 -- a session that has gone on by some lines stops where it stops behind them
-stops_behind : {S : Type 0} (m : Manner S) (e : SessionError) (number next : ℕ) (first between last : S)
+pub stops_behind : {S : Type 0} (m : Manner S) (e : SessionError) (number next : ℕ) (first between last : S)
     (lines whole rest : List (List ℕ)) (put out : List ℕ) → lines ≡ whole ++ rest → IsTranscript m number first whole put between
     → next ≡ number + length whole → StopsFrom m (Halts m e) next between rest out last
     → StopsFrom m (Halts m e) number first lines (put ++ out) last
@@ -110,10 +107,19 @@ pub cut_line : {S : Type 0} (m : Manner S) (number : ℕ) (between last : S) (li
     → IfErr r (λ e. (part : List ℕ) × (after ≡ before ++ part) × StopsAt m e number between line part last)
 cut_line m number between last line answer before after (Ok done) some lets answered out = tt
 cut_line m number between last line answer before after (Err Write) some lets answered (rest, (part, cut, more)) =
-    (part, more, λ others b. (line, others, answer, part, rest, refl, takes_line m number between last line answer some lets answered, cut, refl))
+    (part, more, λ others b. inr (line, others, answer, part, rest, refl, takes_line m number between last line answer some lets answered, cut, refl))
 cut_line m number between last line answer before after (Err Memory) some lets answered (rest, (part, cut, more)) =
     (part, more, λ others b. inr (line, others, answer, part, rest, refl, takes_line m number between last line answer some lets answered, cut, refl))
 cut_line m number between last line answer before after (Err Held) some lets answered out = absurd out
+cut_line m number between last line answer before after (Err Read) some lets answered out = absurd out
+
+-- where the sink has failed before it
+pub halted_before : {S : Type 0} (m : Manner S) (number : ℕ) (first : S) (text : List ℕ) → Halted m Write number first text [] first
+halted_before m number first text more = stops_line m Write number first first (lines_in (text ++ more)) [] (inl (refl, refl))
+
+-- where memory is short before it
+pub halted_short : {S : Type 0} (m : Manner S) (number : ℕ) (first : S) (text : List ℕ) → Halted m Memory number first text [] first
+halted_short m number first text more = stops_line m Memory number first first (lines_in (text ++ more)) [] (inl (refl, refl))
 
 -- ---- the last line
 
@@ -146,7 +152,7 @@ handed_on P (Ok done) e is holds = tt
 handed_on P (Err f) e is holds = rw is holds
 
 -- the lines of a text, of which some are cut off
-all_lines : (text rest : List ℕ) (whole : List (List ℕ)) → Cuts text whole rest → lines_in text ≡ whole ++ lines_in rest
+pub all_lines : (text rest : List ℕ) (whole : List (List ℕ)) → Cuts text whole rest → lines_in text ≡ whole ++ lines_in rest
 all_lines text rest whole cuts =
     ap lines_in (sym (append-nil text)) ∙ cuts [] ∙ ap (λ t. whole ++ lines_in t) (append-nil rest)
 

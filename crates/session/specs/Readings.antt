@@ -1,9 +1,11 @@
 -- Lines of a text that are answered, one after the other, and what is left of it.
-use Rattle.std.specs.Prelude.{◌≡◌, ℕ, false, List, ◌∷◌, ◌++◌, ◌+◌, length, All, Some}
+use Rattle.std.specs.Prelude.{◌≡◌, ℕ, false, List, [], ◌∷◌, ◌++◌, ◌+◌, length, All, Option, Some, IfSome}
+use Rattle.std.specs.Io.KnownBytes.{Keeps, Consumes}
 use Rattle.session.specs.declared.command.Question.{Question}
-use Rattle.session.specs.declared.session.SessionError.{SessionError}
+use Rattle.session.specs.declared.error.SessionError.{SessionError}
+use Rattle.session.specs.declared.error.SessionError.TheVariants.{Read}
 use Rattle.session.specs.Commands.{is_newline, lines_in, ask, command_in}
-use Rattle.session.specs.Transcripts.{Manner, IsTranscript, StopsFrom}
+use Rattle.session.specs.Transcripts.{Manner, IsTranscript, StopsFrom, Stops}
 use Rattle.session.specs.Ends.{Halts}
 
 -- a text with no newline
@@ -29,3 +31,27 @@ Passes m number first text put next last rest =
 abbrev pub Halted : {S : Type 0} → Manner S → SessionError → ℕ → S → List ℕ → List ℕ → S → Type 0
 Halted m error number first text out last =
     (more : List ℕ) → StopsFrom m (Halts m error) number first (lines_in (text ++ more)) out last
+
+-- whatever lines and answers stand about a line that is the next, the session stops so at it
+abbrev pub StopsAt : {S : Type 0} → Manner S → SessionError → ℕ → S → List ℕ → List ℕ → S → Type 0
+StopsAt m error number between line part last =
+    (others : List (List ℕ)) (before : List ℕ)
+    → Halts m error number between (line ∷ others) before (before ++ part) last
+
+-- how a session stops that takes more of a reader, which had these bytes left before and has those left now, as far as
+-- they are known: where a read fails, nothing has happened; else at a line of what had begun and what came
+abbrev pub StopsTaking : {S : Type 0} → Manner S → Option (List ℕ) → Option (List ℕ) → SessionError → ℕ → S → List ℕ → List ℕ
+    → S → Type 0
+StopsTaking m known left Read number first begun out last = Keeps known left × (out ≡ []) × (last ≡ first)
+StopsTaking m known left error number first begun out last =
+    (text : List ℕ) × Consumes known left text × Halted m error number first (begun ++ text) out last
+
+-- how a session stops whose reader had these bytes left before and has those left now, as far as they are known: where a
+-- read fails, each line that has ended in what was read is answered, and nothing else is out; else at one of the lines
+-- of all that the reader has
+abbrev pub StopsReading : {S : Type 0} → Manner S → Option (List ℕ) → Option (List ℕ) → SessionError → S → List ℕ → S → Type 0
+StopsReading m known left Read first out last =
+    (read : List ℕ) × (number : ℕ) × (begun : List ℕ) × Consumes known left read
+    × Passes m 1 first read out number last begun × IsPart begun
+StopsReading m known left error first out last =
+    (all : List ℕ) × IfSome known (λ xs. xs ≡ all) × Stops m (Halts m error) first (lines_in all) out last

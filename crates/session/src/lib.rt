@@ -3,15 +3,17 @@
 
 mod command;
 mod desk;
+mod error;
 mod gate;
 mod lines;
 mod number;
 mod plan;
+mod reading;
 mod reply;
 mod session;
 mod sink;
 
 pub use desk::Desk;
+pub use error::SessionError;
 pub use gate::{Gate, Open};
-pub use session::SessionError;
 pub use sink::{Buffer, Sink, WriteFailed, write_whole};

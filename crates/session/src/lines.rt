@@ -1,14 +1,15 @@
 //! The lines of a session: each is answered in turn, and questions that follow one another in one hold of the lock.
-ghost use Rattle.std.specs.Prelude.{◌≡◌, ◌<◌, false};
+ghost use Rattle.std.specs.Prelude.{◌≡◌, ◌<◌, false, OnOk, IfErr};
+ghost use Rattle.session.specs.declared.error.SessionError.TheVariants.{Write as CannotWrite};
 ghost use Rattle.session.specs.Texts.{line_of};
 ghost use Rattle.session.specs.Replies.{reply_text};
 ghost use Rattle.session.specs.Ends.{IsOut, has_sink_failed};
 
 use crate::command::{Command, Question, cut, first_question, read_command};
 use crate::desk::Desk;
+use crate::error::SessionError;
 use crate::gate::Gate;
 use crate::reply::{Reply, push_line};
-use crate::session::SessionError;
 use crate::sink::{Sink, write_whole};
 use monitor::{Follower, Member, Shared};
 use refusal::Refusal;
@@ -58,6 +59,31 @@ fn put_answer<W: Sink>(
     Ok(())
 }
 
+/// Has all out.
+pub(crate) fn flush<W: Sink>(sink: &mut W) -> Result<(), SessionError>
+    requires { W.has_failed sink.old ≡ false }
+    ensures same { W.written sink.new ≡ W.written sink.old }
+    ensures out { OnOk result (W.holds_back sink.new ≡ false) }
+    ensures failed { W.has_failed sink.new ≡ has_sink_failed result }
+    ensures write { IfErr result (λ error. error ≡ CannotWrite) }
+{
+    sink.flush()?;
+    Ok(())
+}
+
+/// Has all out where the sink is full, so that a write need not wait for that while the lock is held.
+fn relieve<W: Sink>(sink: &mut W) -> Result<(), SessionError>
+    requires { W.has_failed sink.old ≡ false }
+    ensures same { W.written sink.new ≡ W.written sink.old }
+    ensures failed { W.has_failed sink.new ≡ has_sink_failed result }
+    ensures write { IfErr result (λ error. error ≡ CannotWrite) }
+{
+    if sink.is_full() {
+        return flush(sink);
+    }
+    Ok(())
+}
+
 impl<'a, R: Wait, G: Gate> Desk<'a, R, G> {
     ghost use Rattle.std.specs.Prelude.{◌≡◌, ◌≤◌, ◌<◌, ◌+◌, ◌^◌, ◌++◌, ◌∷◌, ℕ, List, true, false, length, None, Some, OnOk, IfOk, IfErr, IfSome};
     ghost use Rattle.monitor.specs.Members.{IsMemberOf};
@@ -65,11 +91,11 @@ impl<'a, R: Wait, G: Gate> Desk<'a, R, G> {
     ghost use Rattle.session.specs.Commands.{ask, command_in, lines_in};
     ghost use Rattle.session.specs.Sessions.{seen_by, session_of, IsFollowerOf};
     ghost use Rattle.session.specs.Transcripts.{IsTranscript, TakesLine, StopsFrom};
-    ghost use Rattle.session.specs.Readings.{IsPart, Passes, Halted};
+    ghost use Rattle.session.specs.Readings.{IsPart, Passes, StopsAt, Halted};
     ghost use Rattle.session.specs.Ends.{Halts, has_sink_failed};
 
     /// Does the command of a line of the room's number, and puts its answer whole.
-    fn answer<W: Sink>(
+    pub(crate) fn answer<W: Sink>(
         &self,
         member: &mut Member,
         room: &mut Room,
@@ -82,12 +108,14 @@ impl<'a, R: Wait, G: Gate> Desk<'a, R, G> {
         ensures member { IsMemberOf self.now.monitor.now member.new }
         ensures follower { IsFollowerOf self.now.monitor.now room.new.follower }
         ensures number { room.new.number ≡ room.old.number }
-        ensures ok { OnOk result ((answer : List ℕ) × TakesLine (session_of self.now.monitor.now (G.lets self.now.gate.now))
-            room.old.number (seen_by member.old room.old.follower) line.now answer (seen_by member.new room.new.follower)
+        ensures ok { OnOk result ((answer : List ℕ)
+            × TakesLine (session_of self.now.monitor.now (G.lets self.now.gate.now)) room.old.number
+            (seen_by member.old room.old.follower) line.now answer (seen_by member.new room.new.follower)
             × (W.written sink.new ≡ W.written sink.old ++ answer)) }
-        ensures err { IfErr result (λ error. (part : List ℕ) × (W.written sink.new ≡ W.written sink.old ++ part)
-            × ((others : List (List ℕ)) (before : List ℕ) → Halts (session_of self.now.monitor.now (G.lets self.now.gate.now)) error
-            room.old.number (seen_by member.old room.old.follower) (line.now ∷ others) before (before ++ part) (seen_by member.new room.new.follower))) }
+        ensures err { IfErr result (λ error. (part : List ℕ)
+            × (W.written sink.new ≡ W.written sink.old ++ part)
+            × StopsAt (session_of self.now.monitor.now (G.lets self.now.gate.now)) error room.old.number
+            (seen_by member.old room.old.follower) line.now part (seen_by member.new room.new.follower)) }
         ensures failed { W.has_failed sink.new ≡ has_sink_failed result }
     {
         if line.is_empty() {
@@ -104,13 +132,12 @@ impl<'a, R: Wait, G: Gate> Desk<'a, R, G> {
     /// the lock has room for: what is left of the text. The text of an answer that counts already is in the room.
     fn answer_shared<'t, W: Sink>(
         &self,
-        shared: &Shared<'_>,
-        member: &Member,
+        held: (&Shared<'_>, &Member),
         room: &mut Room,
         text: &'t [u8],
         sink: &mut W,
     ) -> Result<&'t [u8], SessionError>
-        requires shared { IsSharing self.now.monitor.now shared.now member.now }
+        requires shared { IsSharing self.now.monitor.now held.0.now held.1.now }
         requires open { (line : ℕ) → G.lets self.now.gate.now line true }
         requires ready { W.waits sink.old ≡ false }
         requires unfailed { W.has_failed sink.old ≡ false }
@@ -118,12 +145,15 @@ impl<'a, R: Wait, G: Gate> Desk<'a, R, G> {
         ensures follower { room.new.follower ≡ room.old.follower }
         ensures fewer { IfOk result (λ rest. room.new.number + length rest.now ≤ room.old.number + length text.now) }
         ensures shorter { IfOk result (λ rest. length rest.now ≤ length text.now) }
-        ensures ok { IfOk result (λ rest. (put : List ℕ) × Passes (session_of self.now.monitor.now (G.lets self.now.gate.now))
-            room.old.number (seen_by member.now room.old.follower) text.now put
-            room.new.number (seen_by member.now room.old.follower) rest.now
+        ensures ok { IfOk result (λ rest. (put : List ℕ)
+            × Passes (session_of self.now.monitor.now (G.lets self.now.gate.now)) room.old.number
+            (seen_by held.entry.1.now room.old.follower) text.now put room.new.number
+            (seen_by held.entry.1.now room.old.follower) rest.now
             × (W.written sink.new ≡ W.written sink.old ++ put)) }
-        ensures err { IfErr result (λ error. (out : List ℕ) × Halted (session_of self.now.monitor.now (G.lets self.now.gate.now)) error
-            room.old.number (seen_by member.now room.old.follower) text.now out (seen_by member.now room.old.follower)
+        ensures err { IfErr result (λ error. (out : List ℕ)
+            × Halted (session_of self.now.monitor.now (G.lets self.now.gate.now)) error room.old.number
+            (seen_by held.entry.1.now room.old.follower) text.now out
+            (seen_by held.entry.1.now room.old.follower)
             × (W.written sink.new ≡ W.written sink.old ++ out)) }
         ensures failed { W.has_failed sink.new ≡ has_sink_failed result }
     {
@@ -133,7 +163,7 @@ impl<'a, R: Wait, G: Gate> Desk<'a, R, G> {
             let Some((question, others)) = first_question(rest) else {
                 break;
             };
-            let answer = self.answer_of(shared, member, question);
+            let answer = self.answer_of(held.0, held.1, question);
             put_answer(answer, &mut room.text, sink)?;
             room.number += 1;
             rest = others;
@@ -162,8 +192,7 @@ impl<'a, R: Wait, G: Gate> Desk<'a, R, G> {
         &self,
         member: &mut Member,
         room: &mut Room,
-        first: (&'t [u8], &'t [u8]),
-        question: Question,
+        first: (&'t [u8], Question, &'t [u8]),
         sink: &mut W,
     ) -> Result<&'t [u8], SessionError>
         requires member { IsMemberOf self.now.monitor.now member.old }
@@ -172,18 +201,22 @@ impl<'a, R: Wait, G: Gate> Desk<'a, R, G> {
         requires open { (line : ℕ) → G.lets self.now.gate.now line true }
         requires ready { W.waits sink.old ≡ false }
         requires line { IsPart first.0.now }
-        requires asks { command_in first.0.now ≡ Some (ask question) }
-        requires few { room.old.number + length (first.0.now ++ 10 ∷ first.1.now) < 2 ^ 64 }
+        requires asks { command_in first.0.now ≡ Some (ask first.1) }
+        requires few { room.old.number + length (first.0.now ++ 10 ∷ first.2.now) < 2 ^ 64 }
         ensures member { IsMemberOf self.now.monitor.now member.new }
         ensures follower { IsFollowerOf self.now.monitor.now room.new.follower }
-        ensures fewer { IfOk result (λ rest. room.new.number + length rest.now ≤ room.old.number + (length first.entry.1.now + 1)) }
-        ensures shorter { IfOk result (λ rest. length rest.now ≤ length first.entry.1.now) }
-        ensures ok { IfOk result (λ rest. (put : List ℕ) × Passes (session_of self.now.monitor.now (G.lets self.now.gate.now))
-            room.old.number (seen_by member.old room.old.follower) (first.entry.0.now ++ 10 ∷ first.entry.1.now) put
+        ensures fewer { IfOk result (λ rest. room.new.number + length rest.now
+            ≤ room.old.number + (length first.entry.2.now + 1)) }
+        ensures shorter { IfOk result (λ rest. length rest.now ≤ length first.entry.2.now) }
+        ensures ok { IfOk result (λ rest. (put : List ℕ)
+            × Passes (session_of self.now.monitor.now (G.lets self.now.gate.now)) room.old.number
+            (seen_by member.old room.old.follower) (first.entry.0.now ++ 10 ∷ first.entry.2.now) put
             room.new.number (seen_by member.new room.new.follower) rest.now
             × (W.written sink.new ≡ W.written sink.old ++ put)) }
-        ensures err { IfErr result (λ error. (out : List ℕ) × Halted (session_of self.now.monitor.now (G.lets self.now.gate.now)) error
-            room.old.number (seen_by member.old room.old.follower) (first.entry.0.now ++ 10 ∷ first.entry.1.now) out (seen_by member.new room.new.follower)
+        ensures err { IfErr result (λ error. (out : List ℕ)
+            × Halted (session_of self.now.monitor.now (G.lets self.now.gate.now)) error room.old.number
+            (seen_by member.old room.old.follower) (first.entry.0.now ++ 10 ∷ first.entry.2.now) out
+            (seen_by member.new room.new.follower)
             × (W.written sink.new ≡ W.written sink.old ++ out)) }
         ensures failed { W.has_failed sink.new ≡ has_sink_failed result }
     {
@@ -192,14 +225,14 @@ impl<'a, R: Wait, G: Gate> Desk<'a, R, G> {
             Err(refusal) => {
                 put_answer(Err(refusal), &mut room.text, sink)?;
                 room.number += 1;
-                return Ok(first.1);
+                return Ok(first.2);
             }
         };
-        let answer = self.answer_of(&shared, member, question);
+        let answer = self.answer_of(&shared, member, first.1);
         let done = match put_answer(answer, &mut room.text, sink) {
             Ok(()) => {
                 room.number += 1;
-                self.answer_shared(&shared, member, room, first.1, sink)
+                self.answer_shared((&shared, member), room, first.2, sink)
             }
             Err(error) => Err(error),
         };
@@ -222,20 +255,24 @@ impl<'a, R: Wait, G: Gate> Desk<'a, R, G> {
         requires few { room.old.number + length (first.0.now ++ 10 ∷ first.1.now) < 2 ^ 64 }
         ensures member { IsMemberOf self.now.monitor.now member.new }
         ensures follower { IsFollowerOf self.now.monitor.now room.new.follower }
-        ensures fewer { IfOk result (λ rest. room.new.number + length rest.now ≤ room.old.number + (length first.entry.1.now + 1)) }
+        ensures fewer { IfOk result (λ rest. room.new.number + length rest.now
+            ≤ room.old.number + (length first.entry.1.now + 1)) }
         ensures shorter { IfOk result (λ rest. length rest.now ≤ length first.entry.1.now) }
-        ensures ok { IfOk result (λ rest. (put : List ℕ) × Passes (session_of self.now.monitor.now (G.lets self.now.gate.now))
-            room.old.number (seen_by member.old room.old.follower) (first.entry.0.now ++ 10 ∷ first.entry.1.now) put
+        ensures ok { IfOk result (λ rest. (put : List ℕ)
+            × Passes (session_of self.now.monitor.now (G.lets self.now.gate.now)) room.old.number
+            (seen_by member.old room.old.follower) (first.entry.0.now ++ 10 ∷ first.entry.1.now) put
             room.new.number (seen_by member.new room.new.follower) rest.now
             × (W.written sink.new ≡ W.written sink.old ++ put)) }
-        ensures err { IfErr result (λ error. (out : List ℕ) × Halted (session_of self.now.monitor.now (G.lets self.now.gate.now)) error
-            room.old.number (seen_by member.old room.old.follower) (first.entry.0.now ++ 10 ∷ first.entry.1.now) out (seen_by member.new room.new.follower)
+        ensures err { IfErr result (λ error. (out : List ℕ)
+            × Halted (session_of self.now.monitor.now (G.lets self.now.gate.now)) error room.old.number
+            (seen_by member.old room.old.follower) (first.entry.0.now ++ 10 ∷ first.entry.1.now) out
+            (seen_by member.new room.new.follower)
             × (W.written sink.new ≡ W.written sink.old ++ out)) }
         ensures failed { W.has_failed sink.new ≡ has_sink_failed result }
     {
         if let Some(Command::Ask(question)) = read_command(first.0) {
             if self.may_share(member, first.1, sink) {
-                return self.answer_run(member, room, first, question, sink);
+                return self.answer_run(member, room, (first.0, question, first.1), sink);
             }
         }
         self.answer(member, room, first.0, sink)?;
@@ -258,17 +295,20 @@ impl<'a, R: Wait, G: Gate> Desk<'a, R, G> {
         ensures member { IsMemberOf self.now.monitor.now member.new }
         ensures follower { IsFollowerOf self.now.monitor.now room.new.follower }
         ensures part { IfOk result (λ rest. IsPart rest.now) }
-        ensures ok { IfOk result (λ rest. (put : List ℕ) × Passes (session_of self.now.monitor.now (G.lets self.now.gate.now))
-            room.old.number (seen_by member.old room.old.follower) text.now put
-            room.new.number (seen_by member.new room.new.follower) rest.now
+        ensures ok { IfOk result (λ rest. (put : List ℕ)
+            × Passes (session_of self.now.monitor.now (G.lets self.now.gate.now)) room.old.number
+            (seen_by member.old room.old.follower) text.now put room.new.number
+            (seen_by member.new room.new.follower) rest.now
             × (W.written sink.new ≡ W.written sink.old ++ put)) }
-        ensures err { IfErr result (λ error. (out : List ℕ) × Halted (session_of self.now.monitor.now (G.lets self.now.gate.now)) error
-            room.old.number (seen_by member.old room.old.follower) text.now out (seen_by member.new room.new.follower)
+        ensures err { IfErr result (λ error. (out : List ℕ)
+            × Halted (session_of self.now.monitor.now (G.lets self.now.gate.now)) error room.old.number
+            (seen_by member.old room.old.follower) text.now out (seen_by member.new room.new.follower)
             × (W.written sink.new ≡ W.written sink.old ++ out)) }
         ensures failed { W.has_failed sink.new ≡ has_sink_failed result }
     {
         let mut rest = text;
         while let Some(first) = cut(rest) {
+            relieve(sink)?;
             rest = self.answer_first(member, room, first, sink)?;
         }
         Ok(rest)
@@ -288,13 +328,17 @@ impl<'a, R: Wait, G: Gate> Desk<'a, R, G> {
         requires line { IsPart line.now }
         ensures member { IsMemberOf self.now.monitor.now member.new }
         ensures follower { IsFollowerOf self.now.monitor.now room.new.follower }
-        ensures ok { OnOk result ((put : List ℕ) × IsTranscript (session_of self.now.monitor.now (G.lets self.now.gate.now))
-            room.old.number (seen_by member.old room.old.follower) (lines_in line.now) put
-            (seen_by member.new room.new.follower) × (W.written sink.new ≡ W.written sink.old ++ put)) }
-        ensures err { IfErr result (λ error. (out : List ℕ) × StopsFrom (session_of self.now.monitor.now (G.lets self.now.gate.now))
-            (Halts (session_of self.now.monitor.now (G.lets self.now.gate.now)) error)
-            room.old.number (seen_by member.old room.old.follower) (lines_in line.now) out
-            (seen_by member.new room.new.follower) × (W.written sink.new ≡ W.written sink.old ++ out)) }
+        ensures ok { OnOk result ((put : List ℕ)
+            × IsTranscript (session_of self.now.monitor.now (G.lets self.now.gate.now)) room.old.number
+            (seen_by member.old room.old.follower) (lines_in line.now) put
+            (seen_by member.new room.new.follower)
+            × (W.written sink.new ≡ W.written sink.old ++ put)) }
+        ensures err { IfErr result (λ error. (out : List ℕ)
+            × StopsFrom (session_of self.now.monitor.now (G.lets self.now.gate.now))
+            (Halts (session_of self.now.monitor.now (G.lets self.now.gate.now)) error) room.old.number
+            (seen_by member.old room.old.follower) (lines_in line.now) out
+            (seen_by member.new room.new.follower)
+            × (W.written sink.new ≡ W.written sink.old ++ out)) }
         ensures failed { W.has_failed sink.new ≡ has_sink_failed result }
     {
         if line.is_empty() {

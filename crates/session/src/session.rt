@@ -1,36 +1,11 @@
 //! A session: each line of a script in turn, and its answer to a sink.
-ghost use Rattle.std.specs.Prelude.{◌≡◌};
-ghost use Rattle.session.specs.declared.session.SessionError.TheVariants.{Write as CannotWrite};
-
 use crate::desk::Desk;
+use crate::error::SessionError;
 use crate::gate::Gate;
 use crate::lines::Room;
-use crate::sink::{Sink, WriteFailed};
+use crate::sink::Sink;
 use monitor::Member;
 use std::sync::Wait;
-use thiserror::Error;
-
-/// Why a session stops before its script ends.
-#[derive(Clone, Copy, Debug, PartialEq, Eq, Error)]
-pub enum SessionError {
-    /// The sink has failed.
-    #[error("the sink has failed")]
-    Write,
-    /// The text of an answer found no memory.
-    #[error("the text of an answer found no memory")]
-    Memory,
-    /// The gate did not let a line through.
-    #[error("the gate did not let a line through")]
-    Held,
-}
-
-impl From<WriteFailed> for SessionError {
-    ghost from_gives = { λ _ e. e ≡ CannotWrite };
-
-    fn from(_failed: WriteFailed) -> SessionError {
-        SessionError::Write
-    }
-}
 
 impl<'a, R: Wait, G: Gate> Desk<'a, R, G> {
     ghost use Rattle.std.specs.Prelude.{◌≡◌, ◌++◌, ℕ, List, false, OnOk, IfErr};

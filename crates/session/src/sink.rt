@@ -12,7 +12,7 @@ pub struct WriteFailed;
 
 /// Takes the bytes of answers.
 pub trait Sink {
-    ghost use Rattle.std.specs.Prelude.{◌≡◌, ℕ, List, Bool, false};
+    ghost use Rattle.std.specs.Prelude.{◌≡◌, ℕ, List, Bool, true, false, OnOk, is_err};
     ghost use Rattle.session.specs.Sinks.{is_refused, Puts};
 
     /// The bytes put so far.
@@ -23,6 +23,9 @@ pub trait Sink {
 
     /// Whether a write may wait for somebody.
     ghost waits: { Self → Bool };
+
+    /// Whether bytes that were put may not be out yet.
+    ghost holds_back: { Self → Bool };
 
     /// Puts the first of the bytes behind those before, and answers how many. A write that fails puts none, and no
     /// other may follow it.
@@ -39,6 +42,17 @@ pub trait Sink {
     /// Whether a write may wait for somebody. A session puts no answer to such a sink while it holds the lock.
     fn may_wait(&self) -> bool
         ensures { result ≡ waits self.now };
+
+    /// Has all out that was put so far, and may wait for that. Where it fails, no write may follow it.
+    fn flush(&mut self) -> Result<(), WriteFailed>
+        requires { has_failed self.old ≡ false }
+        ensures same { written self.new ≡ written self.old }
+        ensures out { OnOk result (holds_back self.new ≡ false) }
+        ensures fails { has_failed self.new ≡ is_err result };
+
+    /// Whether so much is held back that a session is to have it out before the next line.
+    fn is_full(&self) -> bool
+        ensures { result ≡ true → holds_back self.now ≡ true };
 }
 
 /// Puts all the bytes. At an `Err` the sink has failed, and has a beginning of them.
@@ -99,6 +113,8 @@ impl Sink for Buffer {
 
     ghost waits = { λ _. false };
 
+    ghost holds_back = { λ _. false };
+
     fn write(&mut self, bytes: &[u8]) -> Result<usize, WriteFailed> {
         if self.bytes.extend_from_slice(bytes).is_err() {
             self.failed = true;
@@ -112,6 +128,14 @@ impl Sink for Buffer {
     }
 
     fn may_wait(&self) -> bool {
+        false
+    }
+
+    fn flush(&mut self) -> Result<(), WriteFailed> {
+        Ok(())
+    }
+
+    fn is_full(&self) -> bool {
         false
     }
 }

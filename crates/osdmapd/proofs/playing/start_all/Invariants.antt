@@ -4,8 +4,8 @@ use Rattle.osdmapd.specs.Pairs.{Pairs}
 use Rattle.osdmapd.specs.Players.{IsStartedFor}
 use Rattle.osdmapd.proofs.playing.start_all.Given as goal
 
--- a thread is started for each script so far, and a member is left for each of the others
-abbrev pub invariant-loop-script : goal.invariant-loop-script
-invariant-loop-script g l =
-    All (IsNewMemberOf l.monitor) l.free.items × (vec_len l.free + l.script-index ≡ length l.scripts)
-    × (vec_len l.players ≡ l.script-index) × Pairs (IsStartedFor l.monitor) 1 l.players.items (take l.script-index l.scripts)
+-- a thread is started for each part so far, and a member is left for each of the others
+abbrev pub invariant-loop-part : goal.invariant-loop-part
+invariant-loop-part g l =
+    All (IsNewMemberOf l.monitor) l.free.items × (vec_len l.free + l.part-index ≡ length l.parts)
+    × (vec_len l.players ≡ l.part-index) × Pairs (IsStartedFor l.monitor) 1 l.players.items (take l.part-index l.parts)

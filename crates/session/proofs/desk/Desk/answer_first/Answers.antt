@@ -1,5 +1,5 @@
 use Rattle.std.proofs.Common.{◌≡◌, ◌+◌, ◌++◌, ℕ, List, ◌∷◌, sym, subst}
-use Rattle.session.specs.declared.session.SessionError.{SessionError}
+use Rattle.session.specs.declared.error.SessionError.{SessionError}
 use Rattle.session.specs.Readings.{Passes, Halted}
 use Rattle.session.specs.Sessions.{seen_by, session_of}
 use Rattle.session.proofs.Passing.{passes_line, halted_line, handed_on}

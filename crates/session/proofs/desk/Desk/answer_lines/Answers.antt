@@ -1,9 +1,10 @@
 use Rattle.std.proofs.Common.{◌≡◌, ◌∙◌, ◌+◌, ◌<◌, ◌++◌, ℕ, List, [], ◌∷◌, suc, length, sym, ap, subst, append-nil, append_assoc, arith}
 use Rattle.std.proofs.lemmas.List.{length-append}
-use Rattle.session.specs.declared.session.SessionError.{SessionError}
+use Rattle.session.specs.declared.error.SessionError.{SessionError}
+use Rattle.session.specs.declared.error.SessionError.TheVariants.{Write}
 use Rattle.session.specs.Readings.{Passes, Halted}
 use Rattle.session.specs.Sessions.{seen_by, session_of}
-use Rattle.session.proofs.Passing.{passes_none, passes_more, halted_behind, handed_on}
+use Rattle.session.proofs.Passing.{passes_none, passes_more, halted_behind, halted_before, handed_on}
 use Rattle.session.proofs.desk.Desk.answer_lines.Goals as goal
 
 pub loop-first-init : goal.loop-first-init
@@ -47,7 +48,7 @@ loop-first-preserved g c =
       (
         put ++ more,
         passes_more m number next after first between last text put rest more end passed here,
-        on ∙ ap (λ o. o ++ more) out ∙ append_assoc (g.W.Sink.written c.args.sink.now) put more,
+        on ∙ ap (λ o. o ++ more) (c.relieve.ensures.same ∙ out) ∙ append_assoc (g.W.Sink.written c.args.sink.now) put more,
       ),
       c.in_ok-rest.ensures.failed,
       omega (arith, lens, fewer, c.loop-first.invariant.2),
@@ -72,8 +73,28 @@ returns-in_err-rest-clause-err g c =
     let (part, halted, on) = c.in_err-rest.ensures.err in
     let here : Halted m error next between rest part last = subst (λ t. Halted m error next between t part last) (sym c.in-Some.ensures.1) halted in
     handed_on (λ (e : SessionError). (x : List ℕ) × Halted m e number first text x last × (after ≡ before ++ x))
-    c.from_residual.result error c.from_residual.ensures.1 (
+    c.from_residual-in_err-rest.result error c.from_residual-in_err-rest.ensures.1 (
       put ++ part,
       halted_behind m error number next first between last text put rest part passed here,
-      on ∙ ap (λ o. o ++ part) out ∙ append_assoc before put part,
+      on ∙ ap (λ o. o ++ part) (c.relieve.ensures.same ∙ out) ∙ append_assoc before put part,
     )
+
+pub returns-in_err-relieve-clause-err : goal.returns-in_err-relieve-clause-err
+returns-in_err-relieve-clause-err g c =
+    let m = session_of c.args.self.now.monitor.now (g.G.Gate.lets c.args.self.now.gate.now) in
+    let number = c.args.room.now.number in
+    let first = seen_by c.args.member.now c.args.room.now.follower in
+    let text = c.args.text.now in
+    let next = c.loop-first.room.number in
+    let between = seen_by c.loop-first.member c.loop-first.room.follower in
+    let rest = c.loop-first.rest.now in
+    let (put, passed, out) = c.loop-first.invariant.0 in
+    let before = g.W.Sink.written c.args.sink.now in
+    let after = g.W.Sink.written c.relieve.new.sink in
+    let P = λ (e : SessionError). (x : List ℕ) × Halted m e number first text x between × (after ≡ before ++ x) in
+    let halted = halted_behind m Write number next first between between text put rest [] passed (halted_before m next between rest) in
+    handed_on P c.from_residual.result c.in_err-relieve.field-0.0 c.from_residual.ensures.1 (subst P (sym c.in_err-relieve.ensures.write) (
+      put ++ [],
+      halted,
+      c.relieve.ensures.same ∙ out ∙ ap (λ o. before ++ o) (sym (append-nil put)),
+    ))

@@ -1,6 +1,6 @@
 use Rattle.std.proofs.Common.{◌≡◌, ◌+◌, ◌∙◌, ◌++◌, ℕ, List, [], ◌∷◌, suc, sym, ap, subst, append-nil, append_assoc, refl, arith, length, Err}
 use Rattle.std.proofs.lemmas.List.{length-append}
-use Rattle.session.specs.declared.session.SessionError.{SessionError}
+use Rattle.session.specs.declared.error.SessionError.{SessionError}
 use Rattle.session.specs.Readings.{Passes, Halted}
 use Rattle.session.specs.Replies.{reply_text}
 use Rattle.session.specs.Sessions.{seen_by, session_of}
@@ -12,7 +12,7 @@ use Rattle.session.proofs.desk.Desk.answer_shared.Goals as goal
 pub loop-left-init : goal.loop-left-init
 loop-left-init g c =
     let m = session_of c.args.self.now.monitor.now (g.G.Gate.lets c.args.self.now.gate.now) in (
-      ([], passes_none m c.args.room.now.number (seen_by c.args.member.now c.args.room.now.follower) c.args.text.now, sym (append-nil _)),
+      ([], passes_none m c.args.room.now.number (seen_by c.args.held.1.now c.args.room.now.follower) c.args.text.now, sym (append-nil _)),
       c.requires.unfailed,
       c.requires.ready,
       refl,
@@ -31,7 +31,7 @@ pub loop-left-preserved : goal.loop-left-preserved
 loop-left-preserved g c =
     let m = session_of c.args.self.now.monitor.now (g.G.Gate.lets c.args.self.now.gate.now) in
     let number = c.args.room.now.number in
-    let sight = seen_by c.args.member.now c.args.room.now.follower in
+    let sight = seen_by c.args.held.1.now c.args.room.now.follower in
     let next = c.loop-left.room.number in
     let (put, passed, out) = c.loop-left.invariant.0 in
     let (line, part, is, asks) = c.in-Some.ensures in
@@ -58,7 +58,7 @@ pub returns-in_err-put_answer-clause-err : goal.returns-in_err-put_answer-clause
 returns-in_err-put_answer-clause-err g c =
     let m = session_of c.args.self.now.monitor.now (g.G.Gate.lets c.args.self.now.gate.now) in
     let number = c.args.room.now.number in
-    let sight = seen_by c.args.member.now c.args.room.now.follower in
+    let sight = seen_by c.args.held.1.now c.args.room.now.follower in
     let next = c.loop-left.room.number in
     let (put, passed, out) = c.loop-left.invariant.0 in
     let (line, part, is, asks) = c.in-Some.ensures in

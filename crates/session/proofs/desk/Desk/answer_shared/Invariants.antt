@@ -7,7 +7,7 @@ use Rattle.session.proofs.desk.Desk.answer_shared.Given as goal
 abbrev pub invariant-loop-left : goal.invariant-loop-left
 invariant-loop-left g l =
     ((put : List ℕ) × Passes (session_of l.self.monitor.now (g.G.Gate.lets l.self.gate.now)) l.fn.room.number
-    (seen_by l.member l.fn.room.follower) l.text put l.room.number (seen_by l.member l.fn.room.follower) l.rest
+    (seen_by l.held.1.now l.fn.room.follower) l.text put l.room.number (seen_by l.held.1.now l.fn.room.follower) l.rest
     × (g.W.Sink.written l.sink ≡ g.W.Sink.written l.fn.sink ++ put))
     × (g.W.Sink.has_failed l.sink ≡ false) × (g.W.Sink.waits l.sink ≡ false) × (l.room.follower ≡ l.fn.room.follower)
     × (l.room.number + length l.rest ≤ l.fn.room.number + length l.text) × (length l.rest ≤ length l.text)

@@ -1,5 +1,5 @@
 use Rattle.std.proofs.Common.{◌≡◌, ◌++◌, ℕ, List, refl}
-use Rattle.session.specs.declared.session.SessionError.{SessionError}
+use Rattle.session.specs.declared.error.SessionError.{SessionError}
 use Rattle.session.specs.Commands.{lines_in}
 use Rattle.session.specs.Answers.{Sight}
 use Rattle.session.specs.Ends.{Halts}

@@ -1,0 +1,262 @@
+//! A session whose lines come while it runs: each is answered as soon as it has ended.
+ghost use Rattle.std.specs.Prelude.{◌≡◌, ◌<◌, ◌+◌, ◌^◌, ◌++◌, true, false, OnOk, IfErr};
+
+use crate::command::cut;
+use crate::desk::Desk;
+use crate::error::SessionError;
+use crate::gate::Gate;
+use crate::lines::{Room, flush};
+use crate::sink::Sink;
+use monitor::Member;
+use std::io;
+use std::io::Read;
+use std::sync::Wait;
+
+/// How many bytes are read at once, at most.
+const CHUNK: usize = 16_384;
+
+/// What a session that reads its lines has of its own: its room, and the line that has begun.
+#[derive(Drop)]
+struct Reading {
+    room: Room,
+    begun: Vec<u8>,
+}
+
+/// Stands where a session may wait for input: no answer waits in its sink then.
+fn may_wait<W: Sink>(sink: &W)
+    requires { W.holds_back sink.now ≡ false }
+{
+    let _ = sink;
+}
+
+/// Whether a read is to be asked for again.
+fn is_interrupted(error: &io::Error) -> bool {
+    error.kind() == io::ErrorKind::Interrupted
+}
+
+/// Whether a line's number can count as many lines more.
+fn can_count(number: u64, more: usize) -> bool
+    ensures { result ≡ true → number + more < 2 ^ 64 }
+{
+    more as u64 <= u64::MAX - number
+}
+
+/// Keeps more of the line that has begun.
+fn keep(begun: &mut Vec<u8>, more: &[u8]) -> Result<(), SessionError>
+    ensures kept { OnOk result (begun.new.items ≡ begun.old.items ++ more.now) }
+    ensures memory { IfErr result (λ error. error ≡ SessionError.Memory) }
+{
+    begun
+        .extend_from_slice(more)
+        .map_err(|_| SessionError::Memory)
+}
+
+impl<'a, R: Wait, G: Gate> Desk<'a, R, G> {
+    ghost use Rattle.std.specs.Prelude.{◌≡◌, ◌++◌, ◌∷◌, ◌+◌, ◌<◌, ◌^◌, ℕ, List, [], Bool, true, false, length, IfOk, OnOk, IfErr, IfSome};
+    ghost use Rattle.std.specs.Io.KnownBytes.{Consumes, IsAtEnd};
+    ghost use Rattle.monitor.specs.Members.{IsMemberOf};
+    ghost use Rattle.session.specs.Commands.{lines_in};
+    ghost use Rattle.session.specs.Answers.{Sight};
+    ghost use Rattle.session.specs.Sessions.{seen_by, sight_of, session_of, IsFollowerOf};
+    ghost use Rattle.session.specs.Transcripts.{TakesLine, IsTranscript, StopsFrom};
+    ghost use Rattle.session.specs.Readings.{IsPart, Passes, StopsAt, Halted, StopsTaking, StopsReading};
+    ghost use Rattle.session.specs.Ends.{Halts, has_sink_failed};
+
+    /// Answers the line that has begun, with its end behind it.
+    fn answer_begun<W: Sink>(
+        &self,
+        member: &mut Member,
+        reading: &mut Reading,
+        end: &[u8],
+        sink: &mut W,
+    ) -> Result<(), SessionError>
+        requires member { IsMemberOf self.now.monitor.now member.old }
+        requires follower { IsFollowerOf self.now.monitor.now reading.old.room.follower }
+        requires unfailed { W.has_failed sink.old ≡ false }
+        requires few { reading.old.room.number + 1 < 2 ^ 64 }
+        ensures member { IsMemberOf self.now.monitor.now member.new }
+        ensures follower { IsFollowerOf self.now.monitor.now reading.new.room.follower }
+        ensures number { OnOk result (reading.new.room.number ≡ reading.old.room.number + 1) }
+        ensures none { OnOk result (reading.new.begun.items ≡ []) }
+        ensures ok { OnOk result ((answer : List ℕ)
+            × TakesLine (session_of self.now.monitor.now (G.lets self.now.gate.now)) reading.old.room.number
+            (seen_by member.old reading.old.room.follower) (reading.old.begun.items ++ end.now) answer
+            (seen_by member.new reading.new.room.follower)
+            × (W.written sink.new ≡ W.written sink.old ++ answer)) }
+        ensures err { IfErr result (λ error. (part : List ℕ)
+            × (W.written sink.new ≡ W.written sink.old ++ part)
+            × StopsAt (session_of self.now.monitor.now (G.lets self.now.gate.now)) error
+            reading.old.room.number (seen_by member.old reading.old.room.follower)
+            (reading.old.begun.items ++ end.now) part (seen_by member.new reading.new.room.follower)) }
+        ensures failed { W.has_failed sink.new ≡ has_sink_failed result }
+    {
+        keep(&mut reading.begun, end)?;
+        self.answer(member, &mut reading.room, &reading.begun, sink)?;
+        reading.begun.clear();
+        reading.room.number += 1;
+        Ok(())
+    }
+
+    /// Answers each line that ends in a text, the first with what has begun before it, and keeps what is left.
+    fn answer_part<W: Sink>(
+        &self,
+        member: &mut Member,
+        reading: &mut Reading,
+        text: &[u8],
+        sink: &mut W,
+    ) -> Result<(), SessionError>
+        requires member { IsMemberOf self.now.monitor.now member.old }
+        requires follower { IsFollowerOf self.now.monitor.now reading.old.room.follower }
+        requires unfailed { W.has_failed sink.old ≡ false }
+        requires begun { IsPart reading.old.begun.items }
+        requires few { reading.old.room.number + length text.now < 2 ^ 64 }
+        ensures member { IsMemberOf self.now.monitor.now member.new }
+        ensures follower { IsFollowerOf self.now.monitor.now reading.new.room.follower }
+        ensures begun { OnOk result (IsPart reading.new.begun.items) }
+        ensures ok { OnOk result ((put : List ℕ)
+            × Passes (session_of self.now.monitor.now (G.lets self.now.gate.now)) reading.old.room.number
+            (seen_by member.old reading.old.room.follower) (reading.old.begun.items ++ text.now) put
+            reading.new.room.number (seen_by member.new reading.new.room.follower) reading.new.begun.items
+            × (W.written sink.new ≡ W.written sink.old ++ put)) }
+        ensures err { IfErr result (λ error. (out : List ℕ)
+            × Halted (session_of self.now.monitor.now (G.lets self.now.gate.now)) error
+            reading.old.room.number (seen_by member.old reading.old.room.follower)
+            (reading.old.begun.items ++ text.now) out (seen_by member.new reading.new.room.follower)
+            × (W.written sink.new ≡ W.written sink.old ++ out)) }
+        ensures failed { W.has_failed sink.new ≡ has_sink_failed result }
+    {
+        let Some((end, others)) = cut(text) else {
+            return keep(&mut reading.begun, text);
+        };
+        self.answer_begun(member, reading, end, sink)?;
+        let rest = self.answer_lines(member, &mut reading.room, others, sink)?;
+        keep(&mut reading.begun, rest)
+    }
+
+    /// Reads more, and answers each line that ends in it: whether the input has ended. Before it reads, all answers are
+    /// out.
+    fn take_more<B: Read, W: Sink>(
+        &self,
+        member: &mut Member,
+        reading: &mut Reading,
+        reader: &mut B,
+        sink: &mut W,
+    ) -> Result<bool, SessionError>
+        requires member { IsMemberOf self.now.monitor.now member.old }
+        requires follower { IsFollowerOf self.now.monitor.now reading.old.room.follower }
+        requires unfailed { W.has_failed sink.old ≡ false }
+        requires begun { IsPart reading.old.begun.items }
+        ensures member { IsMemberOf self.now.monitor.now member.new }
+        ensures follower { IsFollowerOf self.now.monitor.now reading.new.room.follower }
+        ensures begun { OnOk result (IsPart reading.new.begun.items) }
+        ensures ended { IfOk result (λ ended. ended ≡ true → IsAtEnd (B.remaining reader.new)) }
+        ensures ok { OnOk result ((text : List ℕ) × (put : List ℕ)
+            × Consumes (B.remaining reader.old) (B.remaining reader.new) text
+            × Passes (session_of self.now.monitor.now (G.lets self.now.gate.now)) reading.old.room.number
+            (seen_by member.old reading.old.room.follower) (reading.old.begun.items ++ text) put
+            reading.new.room.number (seen_by member.new reading.new.room.follower) reading.new.begun.items
+            × (W.written sink.new ≡ W.written sink.old ++ put)) }
+        ensures err { IfErr result (λ error. (out : List ℕ)
+            × StopsTaking (session_of self.now.monitor.now (G.lets self.now.gate.now))
+            (B.remaining reader.old) (B.remaining reader.new) error reading.old.room.number
+            (seen_by member.old reading.old.room.follower) reading.old.begun.items out
+            (seen_by member.new reading.new.room.follower)
+            × (W.written sink.new ≡ W.written sink.old ++ out)) }
+        ensures failed { W.has_failed sink.new ≡ has_sink_failed result }
+    {
+        flush(sink)?;
+        may_wait(sink);
+        if !can_count(reading.room.number, CHUNK) {
+            return Err(SessionError::Read);
+        }
+        let mut chunk = [0; CHUNK];
+        let taken = match reader.read(&mut chunk) {
+            Ok(taken) => taken,
+            Err(error) => {
+                return if is_interrupted(&error) {
+                    Ok(false)
+                } else {
+                    Err(SessionError::Read)
+                };
+            }
+        };
+        self.answer_part(member, reading, &chunk[..taken], sink)?;
+        Ok(taken == 0)
+    }
+
+    /// Answers the line that has begun, where there is one, as the last, and has all answers out.
+    fn finish<W: Sink>(
+        &self,
+        member: &mut Member,
+        reading: &mut Reading,
+        sink: &mut W,
+    ) -> Result<(), SessionError>
+        requires member { IsMemberOf self.now.monitor.now member.old }
+        requires follower { IsFollowerOf self.now.monitor.now reading.old.room.follower }
+        requires unfailed { W.has_failed sink.old ≡ false }
+        requires begun { IsPart reading.old.begun.items }
+        ensures member { IsMemberOf self.now.monitor.now member.new }
+        ensures follower { IsFollowerOf self.now.monitor.now reading.new.room.follower }
+        ensures out { OnOk result (W.holds_back sink.new ≡ false) }
+        ensures ok { OnOk result ((put : List ℕ)
+            × IsTranscript (session_of self.now.monitor.now (G.lets self.now.gate.now))
+            reading.old.room.number (seen_by member.old reading.old.room.follower)
+            (lines_in reading.old.begun.items) put (seen_by member.new reading.new.room.follower)
+            × (W.written sink.new ≡ W.written sink.old ++ put)) }
+        ensures err { IfErr result (λ error. (out : List ℕ)
+            × StopsFrom (session_of self.now.monitor.now (G.lets self.now.gate.now))
+            (Halts (session_of self.now.monitor.now (G.lets self.now.gate.now)) error)
+            reading.old.room.number (seen_by member.old reading.old.room.follower)
+            (lines_in reading.old.begun.items) out (seen_by member.new reading.new.room.follower)
+            × (W.written sink.new ≡ W.written sink.old ++ out)) }
+        ensures failed { W.has_failed sink.new ≡ has_sink_failed result }
+    {
+        self.answer_last(member, &mut reading.room, &reading.begun, sink)?;
+        flush(sink)?;
+        Ok(())
+    }
+
+    /// Runs the lines of a reader as they come, as `run` those of a script: it answers all that have ended before it
+    /// reads on, and each read begins with all answers out. The session ends with the input; what stands behind the
+    /// last newline is a line.
+    ///
+    /// It stops as `run` does, and with `Write` also where the sink cannot have all out; with `Memory` also where a
+    /// line found no memory; and with `Read` where a read failed, or more lines came than 64 bits count: each line that
+    /// has ended before that is answered then, and nothing else is out.
+    pub fn run_from<B: Read, W: Sink>(
+        &self,
+        member: &mut Member,
+        reader: &mut B,
+        sink: &mut W,
+    ) -> Result<(), SessionError>
+        requires member { IsMemberOf self.now.monitor.now member.old }
+        requires unfailed { W.has_failed sink.old ≡ false }
+        ensures member { IsMemberOf self.now.monitor.now member.new }
+        ensures out { OnOk result (W.holds_back sink.new ≡ false) }
+        ensures ok { OnOk result ((read : List ℕ) × (bytes : List ℕ) × (last : Sight)
+            × IfSome (B.remaining reader.old) (λ xs. xs ≡ read)
+            × IsTranscript (session_of self.now.monitor.now (G.lets self.now.gate.now)) 1 (sight_of member.old)
+            (lines_in read) bytes last
+            × (last.member ≡ member.new.pass.history) × (W.written sink.new ≡ W.written sink.old ++ bytes)) }
+        ensures err { IfErr result (λ error. (out : List ℕ) × (last : Sight)
+            × StopsReading (session_of self.now.monitor.now (G.lets self.now.gate.now))
+            (B.remaining reader.old) (B.remaining reader.new) error (sight_of member.old) out last
+            × (last.member ≡ member.new.pass.history) × (W.written sink.new ≡ W.written sink.old ++ out)) }
+        ensures failed { W.has_failed sink.new ≡ has_sink_failed result }
+    {
+        let mut reading = Reading {
+            room: Room {
+                follower: None,
+                text: String::new(self.alloc),
+                number: 1,
+            },
+            begun: Vec::new(self.alloc),
+        };
+        for _ in self.rt.forever() {
+            if self.take_more(member, &mut reading, reader, sink)? {
+                return self.finish(member, &mut reading, sink);
+            }
+        }
+        unreachable!()
+    }
+}

@@ -1,0 +1,209 @@
+#!/usr/bin/env python3
+"""Live sessions: the program answers the lines of its standard input as they come, and tools/rekhuso speaks with it so.
+
+    tests/live.py PROGRAM
+
+Each test is a function of the program, and fails by an assertion; whatever waits for an answer gives up after a minute.
+"""
+
+import doctest
+import json
+import os
+import pathlib
+import random
+import select
+import subprocess
+import sys
+import tempfile
+import time
+
+import model
+
+HERE = pathlib.Path(__file__).resolve().parent
+sys.path.insert(0, str(HERE.parent / "tools"))
+from rekhuso import Monitor, Refused  # noqa: E402
+
+EXAMPLE = HERE.parent / "examples" / "map.json"
+SECONDS = 60
+
+
+class Live:
+    """A run of the program with a live session, and its two pipes."""
+
+    def __init__(self, program, *words, stdin=subprocess.PIPE, close=False):
+        words = [program, *map(str, words or (EXAMPLE, "-"))]
+        if close:
+            words = ["sh", "-c", 'exec "$0" "$@" <&-', *words]
+        self.process = subprocess.Popen(words, stdin=stdin, stdout=subprocess.PIPE, stderr=subprocess.PIPE)
+        self.left = b""
+
+    def put(self, text):
+        """Puts bytes to it."""
+        self.process.stdin.write(text)
+        self.process.stdin.flush()
+
+    def line(self, seconds=SECONDS):
+        """The next line that it puts out; None where there is none within some seconds, or it has ended."""
+        end = time.monotonic() + seconds
+        while b"\n" not in self.left:
+            ready, _, _ = select.select([self.process.stdout], [], [], max(0, end - time.monotonic()))
+            more = os.read(self.process.stdout.fileno(), 1 << 20) if ready else b""
+            if not more:
+                return None
+            self.left += more
+        line, self.left = self.left.split(b"\n", 1)
+        return line.decode()
+
+    def ask(self, line):
+        """The answer of a line."""
+        self.put(line.encode() + b"\n")
+        return self.line()
+
+    def end(self):
+        """Its status, what it still puts out, and what it tells on standard error, once the input has ended."""
+        output, error = self.process.communicate(timeout=SECONDS)
+        return self.process.returncode, (self.left + output).decode(), error.decode()
+
+
+def equal(got, wanted):
+    assert got == wanted, f"wanted {wanted!r}, got {got!r}"
+
+
+def test_dialogue(program):
+    """Each line depends on the answer before: every change is made at the epoch that was told last."""
+    live = Live(program)
+    equal(live.line(), "session 1")
+    for turn in range(100):
+        base = int(live.ask("epoch").split(" ")[1])
+        equal(live.ask(f'change {{"base":{base},"{"up" if turn % 2 else "down"}":[2]}}'), f"ok {base + 1} evals 0")
+        equal(live.ask("up 1.0"), f"up {base + 1} 1.0 {'[3,2,0] 3' if turn % 2 else '[3,0] 3'}")
+    equal(live.end(), (0, "", ""))
+
+
+def test_half_a_line(program):
+    """Nothing is answered before a line has ended, and what stands behind the last newline is a line."""
+    live = Live(program)
+    equal(live.line(), "session 1")
+    live.put(b"epoch\nep")
+    equal(live.line(), "epoch 1")
+    equal(live.line(0.3), None)
+    live.put(b"och\n\nup 1")
+    equal(live.line(), "epoch 1")
+    equal(live.line(0.3), None)
+    live.put(b".0")
+    equal(live.end(), (0, "up 1 1.0 [3,2,0] 3\n", ""))
+
+
+def test_reader_gone(program):
+    """Where the reader of the answers has gone, nothing more is read: status 3 and `output`, however many were read."""
+    for count in range(20):
+        live = Live(program)
+        equal(live.line(), "session 1")
+        for _ in range(count):
+            equal(live.ask("epoch"), "epoch 1")
+        live.process.stdout.close()
+        live.put(b"epoch\n")
+        equal(live.process.wait(SECONDS), 3)
+        equal(live.process.stderr.read(), b"output\n")
+        live.process.stderr.close()
+        live.process.stdin.close()
+
+
+def test_beside_scripts(program):
+    """A live session between two scripts awaits what they change, and they what it does; their texts follow."""
+    with tempfile.TemporaryDirectory() as folder:
+        one, two = pathlib.Path(folder) / "one", pathlib.Path(folder) / "two"
+        one.write_text('change {"base":1,"down":[2]}\nawait 4\nepoch\n')
+        two.write_text('await 2\nchange {"base":2,"up":[2]}\nawait 4\nup 1.0')
+        live = Live(program, EXAMPLE, one, "-", two)
+        equal(live.line(), "session 2")
+        equal(live.ask("await 3"), "epoch 3")
+        equal(live.ask("up 1.0"), "up 3 1.0 [3,2,0] 3")
+        equal(live.ask('change {"base":3,"down":[3]}'), "ok 4 evals 0")
+        equal(live.end(), (0, "session 1\nok 2 evals 0\nepoch 4\nepoch 4\nsession 3\nepoch 2\nok 3 evals 0\nepoch 4\nup 4 1.0 [2,0] 2\n", ""))
+
+
+def test_bad_input(program):
+    """No UTF-8, a line of 100 MB, an input that is a folder or closed, and two inputs."""
+    live = Live(program)
+    live.put(b"\xff\xfe\nepoch\n")
+    equal([live.line(), live.line(), live.line()], ["session 1", "err 33 BadCommand", "epoch 1"])
+    for _ in range(100):
+        live.put(b"x" * 1_000_000)
+    live.put(b"\nup 1.0\n")
+    equal([live.line(), live.line()], ["err 33 BadCommand", "up 1 1.0 [3,2,0] 3"])
+    equal(live.end(), (0, "", ""))
+    folder = os.open(HERE, os.O_RDONLY)
+    equal(Live(program, stdin=folder).end(), (3, "session 1\n", "input\n"))
+    os.close(folder)
+    equal(Live(program, stdin=None, close=True).end(), (3, "session 1\n", "input\n"))
+    equal(Live(program, EXAMPLE, "-", "-").end(), (1, "", "standard input is given twice\n"))
+    equal(Live(program, HERE / "run.py", "-").end(), (2, "", "map: BadJson\n"))
+
+
+def test_many_lines(program):
+    """100,000 lines through a pipe at once, and a long answer."""
+    lines = b"up 1.0\nepoch\n" * 50_000
+    done = subprocess.run([program, EXAMPLE, "-"], input=lines + b"dump\n", capture_output=True, timeout=SECONDS, check=True)
+    dump = json.dumps(json.loads(EXAMPLE.read_text()) | {"version": 1}, separators=(",", ":"), sort_keys=True)
+    answers = done.stdout.split(b"\n")
+    equal(answers[1:100_001], [b"up 1 1.0 [3,2,0] 3", b"epoch 1"] * 50_000)
+    equal(json.loads(answers[100_001].removeprefix(b"dump "))["epoch"], json.loads(dump)["epoch"])
+
+
+def test_monitor(program):
+    """100 random changes by `Monitor`, each answer beside the model's."""
+    value, made = json.loads((HERE.parent / "examples" / "balance" / "map.json").read_text()), random.Random(7)
+    groups, script = [f"{pool['id']}.{n:x}" for pool in value["pools"] for n in range(pool["pg_num"])], []
+    for base in range(value["epoch"], value["epoch"] + 100):
+        key, osd = made.choice(["down", "up", "weight"]), made.choice(value["osds"])["id"]
+        part = [[osd, made.choice([0, 20000, 65536])]] if key == "weight" else [osd]
+        script += ["change " + json.dumps({"base": base, key: part}, separators=(",", ":")), f"up {made.choice(groups)}", f"count {osd}"]
+    with Monitor(value, program) as monitor:
+        for line, wanted in zip(script, model.answers(value, script), strict=True):
+            equal(monitor.raw([line]), [wanted])
+        equal(monitor.epoch(), value["epoch"] + 100)
+        equal(monitor.up(groups[0]).epoch, value["epoch"] + 100)
+        equal(len(monitor.groups(value["osds"][0]["id"])), monitor.count(value["osds"][0]["id"]))
+        equal(monitor.dump()["epoch"], value["epoch"] + 100)
+        for name, number, call in (("StaleEpoch", 20, lambda: monitor.change(base=1)), ("UnknownPool", 23, lambda: monitor.up("999.0"))):
+            try:
+                call()
+                raise AssertionError(f"{name} wanted")
+            except Refused as refused:
+                equal((refused.name, refused.number), (name, number))
+
+
+def test_shell(program):
+    """The shell reads a pipe, answers line by line without a prompt, and writes the map for a later start."""
+    with tempfile.TemporaryDirectory() as folder:
+        words = [sys.executable, "-B", HERE.parent / "tools" / "rekhuso", "--program", program, "shell"]
+        text = "up 1.0\nchange {\"base\":1,\"down\":[2]}\nsave after\nsave no/where\nhelp up\nnonsense\nquit\nepoch\n"
+        done = subprocess.run([*words, EXAMPLE], input=text, capture_output=True, text=True, cwd=folder, timeout=SECONDS, check=True)
+        equal(done.stdout.splitlines(), ["up 1 1.0 [3,2,0] 3", "ok 2 evals 0", "saved after", "no/where: No such file or directory",
+                                         "up PG: the up set of a group and its primary, as up 1.0", "err 33 BadCommand"])
+        done = subprocess.run([*words, "after"], input="epoch\nup 1.0", capture_output=True, text=True, cwd=folder, timeout=SECONDS, check=True)
+        equal(done.stdout.splitlines(), ["epoch 2", "up 2 1.0 [3,0] 3"])
+
+
+def test_page(program):
+    """Every line of the page of examples."""
+    done = doctest.testfile(str(HERE.parent / "docs" / "LIVE.md"), module_relative=False, globs={"PROGRAM": program, "EXAMPLE": EXAMPLE})
+    assert done.attempted > 10 and not done.failed, done
+
+
+def tests():
+    """Each test by its name."""
+    return [(name.removeprefix("test_").replace("_", " "), test) for name, test in globals().items() if name.startswith("test_")]
+
+
+def main():
+    if len(sys.argv) != 2:
+        sys.exit(__doc__)
+    for name, test in tests():
+        test(pathlib.Path(sys.argv[1]).resolve())
+        print(f"{name}: passed")
+
+
+if __name__ == "__main__":
+    main()
