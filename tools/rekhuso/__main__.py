@@ -1,6 +1,7 @@
 """The commands of tools/rekhuso, run as `python3 tools/rekhuso COMMAND ..`."""
 
 import argparse
+import gc
 import pathlib
 import sys
 
@@ -38,6 +39,8 @@ def parser() -> argparse.ArgumentParser:
 def main() -> int:
     """Runs one command: status 0, or 1 with what is wrong on standard error."""
     options = parser().parse_args()
+    # A command soon ends, and needs what it has made until then.
+    gc.disable()
     try:
         options.work(options)
     except Fault as fault:

@@ -13,6 +13,7 @@ import pathlib
 import subprocess
 import tempfile
 import threading
+from itertools import islice
 from typing import Any, NamedTuple
 
 from faults import Fault, Refused
@@ -47,7 +48,8 @@ def up_of(answer: str) -> Up:
     """The up set that an answer tells."""
     _, epoch, _, places, primary = answer.split(" ")
     words = places[1:-1].split(",") if len(places) > 2 else []
-    return Up(int(epoch), [None if word == "none" else int(word) for word in words], None if primary == "-1" else int(primary))
+    osds = [None if word == "none" else int(word) for word in words] if "none" in words else list(map(int, words))
+    return Up(int(epoch), osds, None if primary == "-1" else int(primary))
 
 
 def checked(answer: str) -> str:
@@ -129,13 +131,20 @@ class Monitor:
         text = "".join(line + "\n" for line in lines).encode("utf-8", "surrogateescape")
         sender = threading.Thread(target=self.send, args=(text,), daemon=True)
         sender.start()
-        answers = [self.answer() for line in text.split(b"\n") if line]
+        wanted = sum(map(bool, text.split(b"\n")))
+        answers = b"".join(islice(self.process.stdout, wanted)).decode("utf-8").split("\n")
+        if len(answers) <= wanted:
+            self.gone()
         sender.join()
-        return answers
+        return answers[:wanted]
 
     def ask(self, lines: list[str]) -> list[str]:
         """The answer of each line; a refusal ends this as `Refused`."""
-        return [checked(answer) for answer in self.raw(lines)]
+        answers = self.raw(lines)
+        for answer in answers:
+            if answer.startswith("err "):
+                checked(answer)
+        return answers
 
     # Questions
 

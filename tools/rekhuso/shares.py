@@ -3,6 +3,7 @@
 import json
 import sys
 from collections import Counter
+from itertools import chain
 from typing import Any
 
 from monitor import Up, groups_of, up_sets
@@ -22,6 +23,7 @@ class Shares:
     def __init__(self, value: dict[str, Any], ups: dict[str, Up]) -> None:
         self.value, self.ups = value, ups
         self.osds = {osd["id"]: osd for osd in value["osds"]}
+        self.sets = {pool["id"]: [ups[group] for group in groups_of({"pools": [pool]})] for pool in value["pools"]}
         self.counts_in = {pool["id"]: self.counted(pool) for pool in value["pools"]}
         self.counts: Counter[int] = sum(self.counts_in.values(), Counter())
         self.buckets = {bucket["id"]: bucket for bucket in value["buckets"]}
@@ -33,13 +35,11 @@ class Shares:
 
     def ups_in(self, pool: dict[str, Any]) -> list[Up]:
         """The up sets of a pool's groups."""
-        return [self.ups[f"{pool['id']}.{number:x}"] for number in range(pool["pg_num"])]
+        return self.sets[pool["id"]]
 
     def counted(self, pool: dict[str, Any]) -> Counter[int]:
         """In how many groups of a pool each OSD stands."""
-        found: Counter[int] = Counter()
-        for up in self.ups_in(pool):
-            found.update(set(up.places))
+        found = Counter(chain.from_iterable(set(up.places) for up in self.ups_in(pool)))
         del found[None]
         return found
 
@@ -93,7 +93,7 @@ class Shares:
         """What is told of each pool."""
         found = []
         for pool in self.value["pools"]:
-            full = [len([osd for osd in up.places if osd is not None]) for up in self.ups_in(pool)]
+            full = [len(up.places) - up.places.count(None) for up in self.ups_in(pool)]
             found.append({"id": pool["id"], "size": pool["size"], "groups": pool["pg_num"], "rule": pool["rule"],
                           "places": sum(full), "short": sum(count < pool["size"] for count in full)})
         return found
