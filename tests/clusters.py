@@ -206,6 +206,15 @@ def test_whatif(tools):
     after = tools.sets(dict(value, osds=[dict(osd, weight=0) if osd["id"] in osds else osd for osd in value["osds"]]))
     assert found["groups"] == sum(before[group] != after[group] for group in before) and found["groups"] > 0
     assert {flow[0] for flow in found["flows"]} >= set(osds) and not {flow[1] for flow in found["flows"]} & set(osds)
+    status, _, error = tools.run("whatif", tools.put("m", value), "--out", host["id"], "--picture", "flows.svg")
+    assert status == 0, error
+    titles = [title.text for title in xml.etree.ElementTree.parse(tools.folder / "flows.svg").iter("{http://www.w3.org/2000/svg}title")]
+    bands, bars = ([title for title in titles if (" from " in title) == band] for band in (True, False))
+    moved = sum(flow[2] for flow in found["flows"])
+    assert sum(int(band.split(" ")[0]) for band in bands) == moved and sum(int(bar.split(": ")[1]) for bar in bars) == 2 * moved
+    assert all(f" from bucket {host['id']} to bucket " in band for band in bands), bands
+    status, _, error = tools.run("whatif", tools.put("m", value), "--out", host["id"], "--picture", "no/flows.svg")
+    assert (status, error) == (1, "no/flows.svg: No such file or directory\n")
     status, output, _ = tools.run("whatif", tools.put("m", value), "--each", "1")
     assert status == 0 and len(output.splitlines()) == 8
     status, output, _ = tools.run("whatif", tools.put("m", value), '{"down":[1]}')

@@ -9,6 +9,7 @@ import sys
 from typing import Any
 
 from faults import Fault
+from flows import picture
 from monitor import Up, answers_of, groups_of, raw_answers, up_of
 from shares import named
 from texts import json_of, written
@@ -160,6 +161,12 @@ def work(options: Any) -> None:
         except ValueError:
             raise Fault(f"{options.add_host[1]}: no weights; they are written as 1,1,2.5") from None
     found = result(value, change_of(options, value, names), options, grown)
+    if options.picture:
+        try:
+            with open(options.picture, "w", encoding="utf-8") as file:
+                file.write(picture(grown or value, found, names))
+        except OSError as fault:
+            raise Fault(f"{options.picture}: {fault.strerror}") from None
     if options.json:
         json.dump(found, sys.stdout, indent=1)
         print()
@@ -181,4 +188,5 @@ def add_to(commands: Any) -> None:
     own.add_argument("--balance", action="store_true", help="each pool is balanced after the change")
     own.add_argument("--names", metavar="FILE", help="names, as `import --names` wrote them")
     own.add_argument("--json", action="store_true", help="as JSON")
+    own.add_argument("--picture", metavar="FILE", help="writes beside it which host gives to which, as SVG")
     own.set_defaults(work=work)
