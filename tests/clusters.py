@@ -281,6 +281,16 @@ def test_hostile(tools):
                   ("diff", tools.put("x", ""), osd), ("whatif", tools.put("m", tools.map("002-built")), "--out", "nobody")):
         status, output, error = tools.run(*words)
         assert (status, output) == (1, "") and error and "Traceback" not in error, (words, status, error[-300:])
+    bad = json.loads(json.dumps(CLUSTERS["001-built"]))
+    bad["osd_dump"]["pools"][0]["size"], bad["osd_dump"]["osds"][2] = "3", None
+    del bad["crush_dump"]["rules"][0]["steps"][0]["item"]
+    for words, told in ((("import", tools.put("o", bad["osd_dump"]), crush), ["o: pools[0].size: no whole number", "o: osds[2]: no object"]),
+                        (("import", osd, tools.put("c", bad["crush_dump"])), ["c: rules[0].steps[0].item: missing"])):
+        status, output, error = tools.run(*words)
+        assert (status, output) == (1, "") and [line.rsplit("/", 1)[-1] for line in error.splitlines()] == told, error
+    for word in ("df", "net", "picture", "report", "plan"):
+        status, output, error = tools.run(word, tools.put("x", {"buckets": [], "epoch": 1, "max_osd": 1, "osds": [], "pools": [{}], "rules": []}))
+        assert (status, output, error) == (1, "", "refused: BadField\n"), (word, error)
 
 
 def tests():

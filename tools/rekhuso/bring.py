@@ -11,6 +11,7 @@ from typing import Any
 from cluster import Cluster
 from faults import Fault, Refused
 from monitor import answers_of
+from shapes import CRUSH_DUMP, OSD_DUMP, misfits
 from texts import json_of, written
 
 OPS = {"choose_firstn", "choose_indep", "chooseleaf_firstn", "chooseleaf_indep"}
@@ -79,15 +80,20 @@ def refusals(cluster: Cluster, value: dict[str, Any], program: Any) -> list[str]
     return found or [whole]
 
 
+def dumped(path: str, shape: dict[str, Any]) -> dict[str, Any]:
+    """A dump in a file; a fault that says each place at which it has another form."""
+    value = json_of(path)
+    found = misfits(value, shape, "")
+    if found:
+        raise Fault(*(f"{path}: {place}" for place in found[:20]), *([f"{path}: and {len(found) - 20} more"] if len(found) > 20 else []))
+    return value
+
+
 def brought(osd_dump: str, crush_dump: str, program: Any) -> tuple[Cluster, dict[str, Any]]:
     """The cluster of two dumps, and its map; a fault that says all that keeps it out of the profile."""
-    cluster = Cluster(json_of(osd_dump, "epoch", "max_osd", "pools", "osds"),
-                      json_of(crush_dump, "devices", "types", "buckets", "rules", "tunables"))
-    try:
-        reasons = cluster.reasons()
-        value = {} if reasons else map_of(cluster)
-    except (KeyError, TypeError, AttributeError) as fault:
-        raise Fault(f"the dumps are not of a form that is known: {type(fault).__name__}: {fault}") from None
+    cluster = Cluster(dumped(osd_dump, OSD_DUMP), dumped(crush_dump, CRUSH_DUMP))
+    reasons = cluster.reasons()
+    value = {} if reasons else map_of(cluster)
     reasons = reasons or refusals(cluster, value, program)
     if reasons:
         raise Fault(*reasons)

@@ -1,5 +1,6 @@
 """A cluster as Ceph's tools dump it: which of it a map can hold, and what keeps it out."""
 
+import re
 from itertools import combinations
 from typing import Any
 
@@ -84,8 +85,8 @@ class Cluster:
 
     def is_group(self, group: str) -> bool:
         """Whether a group is one of a pool's."""
-        pool, number = group.split(".")
-        return any(str(own["pool"]) == pool and int(number, 16) < own["pg_num"] for own in self.pools)
+        found = re.fullmatch("([0-9]+)[.]([0-9a-f]+)", group)
+        return found is not None and any(str(own["pool"]) == found[1] and int(found[2], 16) < own["pg_num"] for own in self.pools)
 
     def exceptions(self) -> tuple[list[list[Any]], list[list[Any]]]:
         """The explicit sets and the pairs that may act: an explicit set with an OSD that is not there keeps the pairs of

@@ -3,7 +3,7 @@
 from typing import Any
 
 from faults import Fault
-from monitor import up_sets
+from monitor import map_in, up_sets
 from net import raised
 from shares import named
 from texts import json_of
@@ -77,7 +77,7 @@ class Group:
 
 def work(options: Any) -> None:
     """Tells a group's story."""
-    value = json_of(options.map, "buckets", "osds", "pools", "rules")
+    value = map_in(options.map, options.program)
     names = json_of(options.names) if options.names else {}
     if "." not in options.group:
         raise Fault(f"{options.group}: no group; one is written as 1.1f")

@@ -17,7 +17,7 @@ from itertools import islice
 from typing import Any, NamedTuple
 
 from faults import Fault, Refused
-from texts import written
+from texts import text_of, written
 
 BUILT = pathlib.Path(__file__).resolve().parent.parent.parent / "crates" / "osdmapd" / "out" / "osdmapd"
 
@@ -209,6 +209,13 @@ def up_sets(program: pathlib.Path, value: Any, groups: list[str]) -> dict[str, U
     """The up set of each group of a map."""
     with Monitor(value, program) as monitor:
         return monitor.ups(groups)
+
+
+def map_in(path: str, program: pathlib.Path) -> dict[str, Any]:
+    """The map in a file, once the program has found it lawful."""
+    text = text_of(path)
+    with Monitor(text, program):
+        return json.loads(text)
 
 
 def groups_of(value: dict[str, Any]) -> list[str]:

@@ -9,8 +9,8 @@ set. Groups with a place that is empty are left as they are. The program checks 
 from typing import Any
 
 from faults import Fault
-from monitor import Up, up_sets
-from texts import json_of, written
+from monitor import Up, map_in, up_sets
+from texts import written
 from unlike import change_of, commands, place_of
 
 
@@ -59,7 +59,7 @@ def checked(value: dict[str, Any], program: Any) -> dict[str, Any]:
 
 def work(options: Any) -> None:
     """Tells the change, or the commands."""
-    value = json_of(options.map, "buckets", "epoch", "max_osd", "osds", "pools", "rules")
+    value = map_in(options.map, options.program)
     new = checked(value, options.program)
     if options.ceph:
         for line in commands(value, new):

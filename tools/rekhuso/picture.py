@@ -6,7 +6,7 @@ Grey is an OSD's share, red more, blue less; a cross marks one that is out, a ba
 import html
 from typing import Any
 
-from monitor import groups_of, up_sets
+from monitor import groups_of, map_in, up_sets
 from shares import Shares, named
 from texts import json_of
 
@@ -92,7 +92,7 @@ def picture(maps: list[Shares], names: dict[str, Any], titles: list[str]) -> str
 
 def shares_of(path: str, program: Any) -> Shares:
     """The shares of a map in a file."""
-    value = json_of(path, "buckets", "osds", "pools", "rules")
+    value = map_in(path, program)
     return Shares(value, up_sets(program, value, groups_of(value)))
 
 

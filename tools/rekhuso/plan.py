@@ -10,10 +10,9 @@ from typing import Any
 
 from bring import brought
 from faults import Fault
-from monitor import groups_of, raw_answers, up_of
+from monitor import groups_of, map_in, raw_answers, up_of
 from net import checked
 from shares import Shares
-from texts import json_of
 from unlike import commands
 
 MOST = 1024
@@ -22,7 +21,7 @@ MOST = 1024
 def stated(options: Any) -> tuple[dict[str, Any], dict[str, Any]]:
     """The map of one file, or of two dumps, and the names of its pools."""
     if len(options.files) == 1:
-        return json_of(options.files[0], "buckets", "epoch", "osds", "pools", "rules"), {}
+        return map_in(options.files[0], options.program), {}
     cluster, value = brought(options.files[0], options.files[1], options.program)
     return value, {pool["pool_name"]: pool["pool"] for pool in cluster.pools}
 

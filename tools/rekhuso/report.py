@@ -4,7 +4,7 @@ import html
 import json
 from typing import Any
 
-from monitor import groups_of, raw_answers, up_sets
+from monitor import groups_of, map_in, raw_answers, up_sets
 from net import raised
 from picture import picture
 from shares import Shares, named, spread
@@ -63,7 +63,7 @@ def page(value: dict[str, Any], names: dict[str, Any], program: Any, title: str)
 
 def work(options: Any) -> None:
     """Writes the page on standard output."""
-    value = json_of(options.map, "buckets", "epoch", "osds", "pools", "rules")
+    value = map_in(options.map, options.program)
     print(page(value, json_of(options.names) if options.names else {}, options.program, options.map), end="")
 
 

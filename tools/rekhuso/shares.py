@@ -6,7 +6,7 @@ from collections import Counter
 from itertools import chain
 from typing import Any
 
-from monitor import Up, groups_of, up_sets
+from monitor import Up, groups_of, map_in, up_sets
 from texts import json_of
 
 COLUMNS = ["ID", "WEIGHT", "REWEIGHT", "STATE", "PGS", "SHARE", "VAR", "NAME"]
@@ -124,7 +124,7 @@ def tree_lines(shares: Shares, names: dict[str, Any]) -> list[str]:
 
 def work(options: Any) -> None:
     """Tells the tree, the pools and the totals of a map."""
-    value = json_of(options.map, "buckets", "osds", "pools", "rules")
+    value = map_in(options.map, options.program)
     names = json_of(options.names) if options.names else {}
     shares = Shares(value, up_sets(options.program, value, groups_of(value)))
     even = spread(shares)

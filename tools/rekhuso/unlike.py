@@ -3,8 +3,8 @@
 from typing import Any
 
 from faults import Refused
-from monitor import Up, groups_of, raw_answers, up_sets
-from texts import json_of, written
+from monitor import Up, groups_of, map_in, raw_answers, up_sets
+from texts import written
 
 
 def by_key(entries: list[Any], key: Any) -> dict[Any, Any]:
@@ -96,7 +96,7 @@ def moved(before: dict[str, Up], after: dict[str, Up]) -> dict[str, Any]:
 
 def work(options: Any) -> None:
     """Tells the change between two maps and what it moves."""
-    old, new = (json_of(path, "buckets", "epoch", "max_osd", "osds", "pools", "rules") for path in (options.old, options.new))
+    old, new = (map_in(path, options.program) for path in (options.old, options.new))
     change, unsaid = change_of(old, new)
     before, after = (up_sets(options.program, value, groups_of(value)) for value in (old, new))
     print(f"change {written(change)}")

@@ -10,7 +10,7 @@ from typing import Any
 
 from faults import Fault
 from flows import picture
-from monitor import Up, answers_of, groups_of, raw_answers, up_of
+from monitor import Up, answers_of, groups_of, map_in, raw_answers, up_of
 from shares import named
 from texts import json_of, written
 from unlike import place_of
@@ -149,7 +149,7 @@ def drill(value: dict[str, Any], names: dict[str, Any], options: Any) -> None:
 
 def work(options: Any) -> None:
     """Tells what moves."""
-    value = json_of(options.map, "buckets", "epoch", "osds", "pools", "rules")
+    value = map_in(options.map, options.program)
     names = json_of(options.names) if options.names else {}
     if options.each:
         drill(value, names, options)

@@ -1,0 +1,53 @@
+"""The form of what Ceph's tools dump, as far as it is read here, and where a value is not of it."""
+
+from typing import Any
+
+# A key that may be missing begins with a question mark; a list of one shape stands for any number of such entries.
+GROUP = {"pgid": str}
+OSD_DUMP = {
+    "epoch": int, "max_osd": int,
+    "pools": [{"pool": int, "pool_name": str, "type": int, "size": int, "crush_rule": int, "pg_num": int, "pg_placement_num": int,
+               "?flags": int, "?object_hash": int}],
+    "osds": [{"osd": int, "up": int, "weight": float, "?state": [str], "?primary_affinity": float}],
+    "?pg_upmap": [dict(GROUP, osds=[int])], "?pg_upmap_items": [dict(GROUP, mappings=[{"from": int, "to": int}])],
+    "?pg_temp": [object], "?primary_temp": [object],
+}
+CRUSH_DUMP = {
+    "devices": [{"id": int, "name": str}], "types": [{"type_id": int, "name": str}],
+    "buckets": [{"id": int, "name": str, "type_id": int, "alg": str, "?hash": str, "items": [{"id": int, "weight": int}]}],
+    "rules": [{"rule_id": int, "rule_name": str, "type": int,
+               "steps": [{"op": str, "?item": int, "?item_name": str, "?num": int, "?type": str}]}],
+    "tunables": {}, "?choose_args": object,
+}
+# What a step must have beside its word.
+STEPS = {"take": ("item",), "choose_firstn": ("num", "type"), "choose_indep": ("num", "type"), "chooseleaf_firstn": ("num", "type"),
+         "chooseleaf_indep": ("num", "type"), "set_choose_tries": ("num",), "set_chooseleaf_tries": ("num",)}
+KINDS = {int: "whole number", float: "number", str: "text"}
+
+
+def is_kind(value: Any, kind: type) -> bool:
+    """Whether a value is of a kind; a truth value is no number."""
+    return kind is object or (isinstance(value, (int, float) if kind is float else kind) and not isinstance(value, bool))
+
+
+def misfits(value: Any, shape: Any, place: str) -> list[str]:
+    """Each place below one at which a value has another form than it must have, and what is wanted there."""
+    if isinstance(shape, list):
+        if not isinstance(value, list):
+            return [f"{place}: no list"]
+        return [found for at, entry in enumerate(value) for found in misfits(entry, shape[0], f"{place}[{at}]")]
+    if isinstance(shape, dict):
+        if not isinstance(value, dict):
+            return [f"{place}: no object"]
+        found = []
+        for key, own in shape.items():
+            name = key.removeprefix("?")
+            below = f"{place}.{name}" if place else name
+            if name in value:
+                found += misfits(value[name], own, below)
+            elif name == key:
+                found.append(f"{below}: missing")
+        if "op" in shape and not found:
+            found += [f"{place}.{name}: missing" for name in STEPS.get(value["op"], ()) if name not in value]
+        return found
+    return [] if is_kind(value, shape) else [f"{place}: no {KINDS[shape]}"]
