@@ -563,10 +563,11 @@ def typed():
     """Every row of one session, as a live one; and what only a live session shows."""
     for name in ("worked", "changes", "growth", "texts", "sessions", "balance", "limits", "examples"):
         for run in table_of(name):
-            if run.arguments.count("script") == 1 and run.wanted["status"] == 0 and run.sink == "pipe":
-                words = ["-" if word == "script" else word for word in run.arguments]
+            scripts = [word for word in run.arguments if word in ("script", "script.txt")]
+            if len(scripts) == 1 and run.wanted["status"] == 0 and run.sink == "pipe":
+                words = ["-" if word in scripts else word for word in run.arguments]
                 wanted = {"output": run.wanted["output"], "error": run.wanted["error"]}
-                yield Run(f"live: {run.name}", run.files, arguments=words, typed=run.files["script"], **wanted)
+                yield Run(f"live: {run.name}", run.files, arguments=words, typed=run.files[scripts[0]], **wanted)
     for name, test in live.tests():
         yield Check(f"live: {name}", lambda command, test=test: test(command) or [], alone=True)
 
