@@ -1,24 +1,26 @@
 -- The search for the best move.
-use Rattle.std.proofs.Common.{◌≡◌, ◌∙◌, refl, sym, ap, ℕ, ◌+◌, ◌<◌, ◌≤◌, Bool, true, false, ◌&&◌, ℤ, pos, List, length, get_or, take, position, Option, Some, None, inl, inr, eqb, eq-eqb, arith}
-use Rattle.std.specs.Prelude.{int_lt, nat_lt, ◌||◌, ◌-ℤ◌, IfSome, if◌then◌else◌}
-use Rattle.std.specs.Ordering.{int_eq}
+use Rattle.std.proofs.Common.{◌≡◌, ◌∙◌, ◌++◌, ◌∷◌, [], refl, sym, subst, All, map, ap, ℕ, ◌+◌, ◌<◌, ◌≤◌, Bool, true, false, ◌&&◌, ℤ, pos, List, length, get_or, take, position, Option, Some, None, inl, inr, eqb, arith}
+use Rattle.std.specs.Prelude.{int_lt, nat_lt, ◌||◌, ◌-ℤ◌, IfSome}
+use Rattle.std.specs.Ordering.{int_eq, int_cmp, ordering_then}
+use Rattle.std.proofs.Common.{Ordering, nat_cmp, is_lt, is_eq, cond, Less, Greater, Equal, zero, suc, ◌-◌}
+use Rattle.std.specs.List.Sorted.{IsPermutation}
 use Rattle.std.proofs.lemmas.Bool.{false_from_ne_true, eqb-true, and_parts, and_from, cases_Bool, cases_lt}
 use Rattle.std.proofs.lemmas.Int.{ints}
 use mathlib.Core.Bool.{false≢true}
 use Rattle.std.proofs.lemmas.List.FromFn.{length-map-range_with_len, get_or-map-range_with_len}
-use Rattle.std.proofs.lemmas.List.{take_all}
-use Rattle.std.proofs.lemmas.List.Elements.{filter_passes, All-nil, All-weaker, All-more}
+use Rattle.std.proofs.lemmas.List.{take_all, take_more, map-append, get_or_default, get_or-take, length-take-le}
+use Rattle.std.proofs.lemmas.List.Sorted.{All-permutation, IsPermutation-map, IsPermutation-sym}
+use Rattle.std.proofs.lemmas.List.Elements.{filter_passes, All-map, All-weaker, All-more}
 use Rattle.std.proofs.lemmas.List.Quantifiers.{position-Some}
 use Rattle.std.proofs.lemmas.Bool.Decides.{nat_tests}
-use Rattle.keylist.proofs.Each.{same_tests}
 use Rattle.stated.specs.Pools.{PoolFacts}
 use Rattle.osdmap.specs.Maps.{ClusterMap}
 use Rattle.balancer.specs.declared.group.Group.{Group}
 use Rattle.balancer.specs.declared.moves.Move.{Move}
 use Rattle.balancer.specs.Shares.{osds_of, is_candidate, candidates, total, deviation}
 use Rattle.balancer.specs.Moves.{move_of, are_beside}
-use Rattle.balancer.specs.Greedy.{gap, is_good, beats, after_moves}
-use Rattle.balancer.specs.Boards.{IsGood, IsBoardOf, IsCovered, IsBetter, IsEmptiest, CoversPair, CoversFrom, CoversAll, is_wanted, may_go, group_at}
+use Rattle.balancer.specs.Greedy.{gap, is_good, precedes, beats, after_moves}
+use Rattle.balancer.specs.Boards.{IsGood, IsBoardOf, IsCovered, IsBetter, IsOrder, CoversPair, CoversFrom, CoversAll, is_wanted, may_go, group_at}
 use Rattle.balancer.specs.Marks.{NoneGoes}
 use Rattle.balancer.proofs.Deviating.{candidate_now, beside_now, goes_now}
 use Rattle.balancer.proofs.Allowing.{apart_if, good_candidates, good_wide, good_from, good_goes}
@@ -202,33 +204,11 @@ module _ (m : ClusterMap) (p : PoolFacts) where
   pub all_end : (best : Option Move) (froms tos : List ℕ) (i : ℕ) → length froms ≤ i → CoversAll m p best (take i froms) tos → CoversAll m p best froms tos
   all_end best froms tos i past covers = rw (take_all i froms past) at covers
 
--- ---- the emptiest candidate
+-- ---- the emptiest first
 
--- which of two OSDs is emptier does not go by where a move comes from
-shift_lt : (x y u w : ℤ) → int_lt (x -ℤ w) (x -ℤ u) ≡ true → int_lt (y -ℤ w) (y -ℤ u) ≡ true
-shift_lt x y u w e = grind (arith, ints)
-
--- nor whether they are alike
-shift_eq : (x y u w : ℤ) → int_eq (x -ℤ u) (x -ℤ w) ≡ true → int_eq (y -ℤ u) (y -ℤ w) ≡ true
-shift_eq x y u w e = grind (arith, ints)
-
--- no number is below itself
-not_below : (i : ℕ) → nat_lt i i ≡ false
-not_below i = grind (arith, nat_tests)
-
--- which of two OSDs a move would rather go to does not hang on where it comes from
-rather_to : (m : ClusterMap) (p : PoolFacts) (f g a b : ℕ) → beats m p (move_of f a 0) (move_of f b 0) ≡ beats m p (move_of g a 0) (move_of g b 0)
-unfolding beats
-rather_to m p f g a b =
-    let x = deviation m p f in
-    let y = deviation m p g in
-    let u = deviation m p a in
-    let w = deviation m p b in
-    let lt : int_lt (x -ℤ w) (x -ℤ u) ≡ int_lt (y -ℤ w) (y -ℤ u) = same_tests _ _ (shift_lt x y u w) (shift_lt y x u w) in
-    let eq : int_eq (x -ℤ u) (x -ℤ w) ≡ int_eq (y -ℤ u) (y -ℤ w) = same_tests _ _ (shift_eq x y u w) (shift_eq y x u w) in
-    let less : nat_lt f f ≡ nat_lt g g = not_below f ∙ sym (not_below g) in
-    let level : eqb f f ≡ eqb g g = eq-eqb f f refl ∙ sym (eq-eqb g g refl) in
-    λ i. lt i || (eq i && (less i || (level i && (nat_lt a b || (eqb a b && nat_lt 0 0)))))
+-- an OSD with its deviation
+abbrev pub told : ClusterMap → PoolFacts → ℕ → ℤ × ℕ
+told n p osd = (deviation n p osd, osd)
 
 -- a move to an OSD that is not emptier is no wider, and taken rather than another only where one to the other OSD is
 wider : (m : ClusterMap) (p : PoolFacts) (from to osd : ℕ) → beats m p (move_of from to 0) (move_of from osd 0) ≡ false → int_lt (pos (total m p)) (gap m p from to) ≡ true → int_lt (pos (total m p)) (gap m p from osd) ≡ true
@@ -253,30 +233,76 @@ rather_than m p from to osd b less taken_is = elim (cases_Bool (beats m p (move_
       rw same taken_is
 ]
 
-module _ (m n : ClusterMap) (p : PoolFacts) where
-  -- the emptier of two leaves no one emptier than both
-  pub emptier_more : (osds : List ℕ) (i some r : ℕ) → i < length osds → is_candidate m p some ≡ true → is_candidate m p (get_or osds i 0) ≡ true
-      → IsEmptiest m n p (take i osds) some → r ≡ (if beats n p (move_of some (get_or osds i 0) 0) (move_of some some 0) then get_or osds i 0 else some) → IsEmptiest m n p (take (i + 1) osds) r
-  emptier_more osds i some r inside some_is other_is before is = by_test (beats n p (move_of some (get_or osds i 0) 0) (move_of some some 0)) refl is
+-- the OSDs alone
+untold : (n : ClusterMap) (p : PoolFacts) (osds : List ℕ) → map (λ (e : ℤ × ℕ). e.1) (map (told n p) osds) ≡ osds
+untold n p [] = refl
+untold n p (osd ∷ osds) = ap (λ xs. osd ∷ xs) (untold n p osds)
+
+-- where one of two pairs is not less, its number is not, and where the numbers are alike its second is not
+no_less : (d e : ℤ) (b a : ℕ) → is_lt (ordering_then (int_cmp d e) (nat_cmp b a)) ≡ false → (int_lt d e ≡ false) × (int_eq d e ≡ true → nat_lt b a ≡ false)
+no_less d e b a is =
+    let parts = by (int_lt d e) (int_lt e d) (nat_cmp b a) is in
+    (parts.0, λ alike. less b a (parts.1 alike))
+  where
+    by : (l g : Bool) (o : Ordering) → is_lt (ordering_then (cond l Less (cond g Greater Equal)) o) ≡ false → (l ≡ false) × (is_eq (cond l Less (cond g Greater Equal)) ≡ true → is_lt o ≡ false)
+    by true g o e = absurd (false≢true (sym e))
+    by false true o e = (refl, λ x. absurd (false≢true x))
+    by false false o e = (refl, λ x. e)
+
+    less : (b a : ℕ) → is_lt (nat_cmp b a) ≡ false → nat_lt b a ≡ false
+    less b a e = grind (arith, nat_tests)
+
+module _ (n : ClusterMap) (p : PoolFacts) where
+  -- to an OSD of a greater deviation, or of the same and a higher number, no move would rather go
+  fuller : (from a b : ℕ) → int_lt (deviation n p b) (deviation n p a) ≡ false → (int_eq (deviation n p b) (deviation n p a) ≡ true → nat_lt b a ≡ false) → beats n p (move_of from b 0) (move_of from a 0) ≡ false
+  unfolding beats
+  fuller from a b more alike =
+      let x = deviation n p from in
+      let less : int_lt (gap n p from a) (gap n p from b) ≡ false = shift x (deviation n p a) (deviation n p b) more in
+      let from_less : nat_lt from from ≡ false = grind (arith, nat_tests) in
+      elim (cases_Bool (int_eq (gap n p from b) (gap n p from a))) [
+        | inl same ↦
+            let number : nat_lt b a ≡ false = alike (back x (deviation n p a) (deviation n p b) same) in
+            none_left (int_lt (gap n p from a) (gap n p from b)) (int_eq (gap n p from b) (gap n p from a)) (nat_lt from from) (eqb from from) (nat_lt b a) (eqb b a) less from_less number
+        | inr other ↦ fail_second (int_lt (gap n p from a) (gap n p from b)) (int_eq (gap n p from b) (gap n p from a)) (precedes (move_of from b 0) (move_of from a 0)) less other
+      ]
     where
-      by_test : (b : Bool) → beats n p (move_of some (get_or osds i 0) 0) (move_of some some 0) ≡ b → r ≡ (if b then get_or osds i 0 else some) → IsEmptiest m n p (take (i + 1) osds) r
-      by_test true rather e = rw e (record {
-        candidate = other_is;
-        least =
-            All-more (λ to. (from : ℕ) → beats n p (move_of from to 0) (move_of from (get_or osds i 0) 0) ≡ false) osds i 0 inside
-            (All-weaker (λ to. (from : ℕ) → beats n p (move_of from to 0) (move_of from some 0) ≡ false) (λ to. (from : ℕ) → beats n p (move_of from to 0) (move_of from (get_or osds i 0) 0) ≡ false)
-            (λ to less from. beats_less n p (move_of from to 0) (move_of from some 0) (move_of from (get_or osds i 0) 0) (less from) (rather_to n p from some (get_or osds i 0) some ∙ rather)) (take i osds) before.least)
-            (λ from. higher_not_better n p from (get_or osds i 0) 0 0 (omega arith));
-      })
-      by_test false stays e = rw e (record {
-        candidate = some_is;
-        least = All-more (λ to. (from : ℕ) → beats n p (move_of from to 0) (move_of from some 0) ≡ false) osds i 0 inside before.least (λ from. rather_to n p from some (get_or osds i 0) some ∙ stays);
-      })
+      fail_second : (a b z : Bool) → a ≡ false → b ≡ false → (a || (b && z)) ≡ false
+      fail_second a b z p q = rw (p, q) refl
 
-  pub emptiest_begins : (osds : List ℕ) (osd : ℕ) → is_candidate m p osd ≡ true → IsEmptiest m n p (take 0 osds) osd
-  emptiest_begins osds osd is = record { candidate = is; least = All-nil (λ to. (from : ℕ) → beats n p (move_of from to 0) (move_of from osd 0) ≡ false) }
+      shift : (x u w : ℤ) → int_lt w u ≡ false → int_lt (x -ℤ u) (x -ℤ w) ≡ false
+      shift x u w e = grind (arith, ints)
 
-  -- where no move to the emptiest is wanted, none is
+      back : (x u w : ℤ) → int_eq (x -ℤ w) (x -ℤ u) ≡ true → int_eq w u ≡ true
+      back x u w e = grind (arith, ints)
+
+      none_left : (a b c d e f : Bool) → a ≡ false → c ≡ false → e ≡ false → (a || (b && (c || (d && (e || (f && nat_lt 0 0)))))) ≡ false
+      none_left a b c d e f p q r = rw (p, q, r) (none b d f)
+        where
+          none : (x y z : Bool) → (false || (x && (false || (y && (false || (z && false)))))) ≡ false
+          none x y z = grind arith
+
+  -- the same by how two entries compare
+  next : (order : List (ℤ × ℕ)) → All (λ e. e.0 ≡ deviation n p e.1) order
+      → ((k : ℕ) (d : ℤ × ℕ) → 0 ≤ k → k + 1 < length order → is_lt (ordering_then (int_cmp (get_or order (k + 1) d).0 (get_or order k d).0) (nat_cmp (get_or order (k + 1) d).1 (get_or order k d).1)) ≡ false)
+      → (k : ℕ) (d : ℤ × ℕ) → k + 1 < length order → (from : ℕ) → beats n p (move_of from (get_or order (k + 1) d).1 0) (move_of from (get_or order k d).1 0) ≡ false
+  next order dev sorted k d inside from =
+      let low : (get_or order k d).0 ≡ deviation n p (get_or order k d).1 = dev k d (omega (arith, inside)) in
+      let high : (get_or order (k + 1) d).0 ≡ deviation n p (get_or order (k + 1) d).1 = dev (k + 1) d inside in
+      let compared = no_less (get_or order (k + 1) d).0 (get_or order k d).0 (get_or order (k + 1) d).1 (get_or order k d).1 (sorted k d (omega arith) inside) in
+      let parts : (int_lt (deviation n p (get_or order (k + 1) d).1) (deviation n p (get_or order k d).1) ≡ false) × (int_eq (deviation n p (get_or order (k + 1) d).1) (deviation n p (get_or order k d).1) ≡ true → nat_lt (get_or order (k + 1) d).1 (get_or order k d).1 ≡ false) = rw (low, high) at compared in
+      fuller from (get_or order k d).1 (get_or order (k + 1) d).1 parts.0 parts.1
+
+  -- what is no better than what is no better than a move is no better than it
+  later_still : (u v w : Move) → beats n p v u ≡ false → beats n p w v ≡ false → beats n p w u ≡ false
+  later_still u v w first second = elim (cases_Bool (beats n p u v)) [
+    | inl better ↦ beats_less n p w v u second better
+    | inr alike ↦
+        let same = beats_equal n p u v alike first in
+        rw same second
+  ]
+
+  -- where no move to an OSD is wanted, none to a fuller one is
   less_wanted : (from to osd : ℕ) (best : Option Move) → beats n p (move_of from to 0) (move_of from osd 0) ≡ false → is_wanted n p from osd best ≡ false → is_wanted n p from to best ≡ false
   less_wanted from to osd None less stays = false_from_ne_true _ (λ yes. absurd (false≢true (sym stays ∙ wider n p from to osd less yes)))
   less_wanted from to osd (Some b) less stays = false_from_ne_true _ (λ yes.
@@ -285,9 +311,73 @@ module _ (m n : ClusterMap) (p : PoolFacts) where
       let rather = rather_than n p from to osd b less both.1 in
       absurd (false≢true (sym stays ∙ and_from (int_lt (pos (total n p)) (gap n p from osd)) (beats n p (move_of from osd 0) b) wide rather)))
 
-  pub none_wanted : (osds : List ℕ) (from osd : ℕ) (best : Option Move) → IsEmptiest m n p osds osd → is_wanted n p from osd best ≡ false → CoversFrom n p best from osds
-  none_wanted osds from osd best emptiest stays = λ k d inside. unwanted n p from (get_or osds k d) best (less_wanted from (get_or osds k d) osd best (emptiest.least k d inside from) stays)
+  -- one OSD more with its deviation
+  pub told_more : (osds : List ℕ) (order next : List (ℤ × ℕ)) (i : ℕ) (d : ℤ) → i < length osds → order ≡ map (told n p) (take i osds) → d ≡ deviation n p (get_or osds i 0)
+      → next ≡ order ++ (d, get_or osds i 0) ∷ [] → next ≡ map (told n p) (take (i + 1) osds)
+  told_more osds order next i d inside is dev put =
+      rw (put, is, dev, take_more osds i 0 inside, map-append (told n p) (take i osds) (get_or osds i 0 ∷ [])) refl
 
--- a list that is not empty has an entry
-pub some_osd : (osds : List ℕ) (n : ℕ) → false ≡ eqb n 0 → n ≡ length osds → 0 < length osds
-some_osd osds n none long = grind (arith, nat_tests)
+  -- in the order, each OSD stands behind one that is no fuller
+  rises : (order : List (ℤ × ℕ)) → All (λ e. e.0 ≡ deviation n p e.1) order
+      → ((k : ℕ) (d : ℤ × ℕ) → 0 ≤ k → k + 1 < length order → is_lt (ordering_then (int_cmp (get_or order (k + 1) d).0 (get_or order k d).0) (nat_cmp (get_or order (k + 1) d).1 (get_or order k d).1)) ≡ false)
+      → (i k j : ℕ) (d : ℤ × ℕ) → i + 1 + k ≡ j → j < length order → (from : ℕ) → beats n p (move_of from (get_or order j d).1 0) (move_of from (get_or order i d).1 0) ≡ false
+  rises order dev sorted i zero j d e inside from =
+      let at : i + 1 ≡ j = omega (arith, e) in
+      subst (λ x. beats n p (move_of from (get_or order x d).1 0) (move_of from (get_or order i d).1 0) ≡ false) at (next order dev sorted i d (omega (arith, inside, at)) from)
+  rises order dev sorted i (suc k) j d e inside from =
+      let at : i + 1 + k + 1 ≡ j = omega (arith, e) in
+      let before = rises order dev sorted i k (i + 1 + k) d refl (omega (arith, inside, at)) from in
+      let here = next order dev sorted (i + 1 + k) d (omega (arith, inside, at)) from in
+      subst (λ x. beats n p (move_of from (get_or order x d).1 0) (move_of from (get_or order i d).1 0) ≡ false) at
+      (later_still (move_of from (get_or order i d).1 0) (move_of from (get_or order (i + 1 + k) d).1 0) (move_of from (get_or order (i + 1 + k + 1) d).1 0) before here)
+
+  -- the candidates in order, from what a sort gives
+  pub in_order : (m : ClusterMap) (osds : List ℕ) (before after : List (ℤ × ℕ)) (i : ℕ) → osds ≡ candidates m p → before ≡ map (told n p) (take i osds) → length osds ≤ i → IsPermutation before after
+      → ((k : ℕ) (d : ℤ × ℕ) → 0 ≤ k → k + 1 < length after → is_lt (ordering_then (int_cmp (get_or after (k + 1) d).0 (get_or after k d).0) (nat_cmp (get_or after (k + 1) d).1 (get_or after k d).1)) ≡ false)
+      → IsOrder m n p osds after
+  in_order m osds before after i are is past moved sorted =
+      let whole : before ≡ map (told n p) osds = is ∙ ap (map (told n p)) (take_all i osds past) in
+      let back : map (λ (e : ℤ × ℕ). e.1) before ≡ osds = ap (map (λ (e : ℤ × ℕ). e.1)) whole ∙ untold n p osds in
+      let dev : All (λ (e : ℤ × ℕ). e.0 ≡ deviation n p e.1) after =
+      All-permutation (λ (e : ℤ × ℕ). e.0 ≡ deviation n p e.1) before after moved (rw whole (All-map (λ (e : ℤ × ℕ). e.0 ≡ deviation n p e.1) (told n p) osds (λ k d inside. refl))) in
+      record {
+        same = subst (λ xs. IsPermutation (map (λ (e : ℤ × ℕ). e.1) after) xs) back (IsPermutation-map (λ (e : ℤ × ℕ). e.1) after before (IsPermutation-sym before after moved));
+        rising = λ k j d less inside from. rises after dev sorted k (j - k - 1) j d (omega (arith, less)) inside from;
+        candidates = All-permutation (λ (e : ℤ × ℕ). is_candidate m p e.1 ≡ true) before after moved
+            (rw whole (All-map (λ (e : ℤ × ℕ). is_candidate m p e.1 ≡ true) (told n p) osds (λ k d inside. subst (λ x. is_candidate m p x ≡ true) (get_or_default osds k 0 d inside) (candidate_at m p osds k are inside))));
+      }
+
+  -- one OSD of the order more
+  pub order_more : (old new : Option Move) (from : ℕ) (order : List (ℤ × ℕ)) (i : ℕ) (e : ℤ × ℕ) → i < length order → e ≡ get_or order i e → IsBetter n p old new → All (λ f. CoversPair n p old from f.1) (take i order)
+      → CoversPair n p new from e.1 → All (λ f. CoversPair n p new from f.1) (take (i + 1) order)
+  order_more old new from order i e inside is better before here =
+      All-more (λ (f : ℤ × ℕ). CoversPair n p new from f.1) order i e inside
+      (All-weaker (λ (f : ℤ × ℕ). CoversPair n p old from f.1) (λ (f : ℤ × ℕ). CoversPair n p new from f.1) (λ f covers. pair_kept n p old new from f.1 better covers) (take i order) before)
+      (subst (λ (f : ℤ × ℕ). CoversPair n p new from f.1) is here)
+
+  -- all of the order are all of the OSDs
+  pub order_end : (m : ClusterMap) (best : Option Move) (from : ℕ) (osds : List ℕ) (order : List (ℤ × ℕ)) → IsOrder m n p osds order → All (λ f. CoversPair n p best from f.1) order → CoversFrom n p best from osds
+  order_end m best from osds order is covers =
+      All-permutation (CoversPair n p best from) (map (λ (f : ℤ × ℕ). f.1) order) osds is.same (All-map (CoversPair n p best from) (λ (f : ℤ × ℕ). f.1) order covers)
+
+  -- those behind one that is not wanted are not wanted
+  pub order_cut : (m : ClusterMap) (best : Option Move) (from : ℕ) (osds : List ℕ) (order : List (ℤ × ℕ)) (i : ℕ) (e : ℤ × ℕ) → IsOrder m n p osds order → i < length order → e ≡ get_or order i e
+      → is_wanted n p from e.1 best ≡ false → All (λ f. CoversPair n p best from f.1) (take i order) → CoversFrom n p best from osds
+  order_cut m best from osds order i e is inside at stays before = order_end m best from osds order is each
+    where
+      here : (k : ℕ) (d : ℤ × ℕ) → i ≤ k → k < length order → beats n p (move_of from (get_or order k d).1 0) (move_of from (get_or order i d).1 0) ≡ false
+      here k d low high = elim (cases_lt i k) [
+        | inl less ↦ is.rising i k d less high from
+        | inr over ↦
+            let same : k ≡ i = omega (arith, low, over) in
+            rw same (higher_not_better n p from (get_or order i d).1 0 0 (omega arith))
+      ]
+
+      each : All (λ f. CoversPair n p best from f.1) order
+      each k d high = elim (cases_lt k i) [
+        | inl less ↦ subst (λ (f : ℤ × ℕ). CoversPair n p best from f.1) (get_or-take i order k d less) (before k d (omega (arith, less, length-take-le i order (omega (arith, inside)))))
+        | inr over ↦
+            let e_is : get_or order i d ≡ e = get_or_default order i d e inside ∙ sym at in
+            let less = subst (λ (f : ℤ × ℕ). beats n p (move_of from (get_or order k d).1 0) (move_of from f.1 0) ≡ false) e_is (here k d over high) in
+            unwanted n p from (get_or order k d).1 best (less_wanted from (get_or order k d).1 e.1 best less stays)
+      ]

@@ -1,7 +1,8 @@
 -- What a plan is made with: the pool's groups and the deviations of all OSDs after the moves so far, as they are
 -- stored.
-use Rattle.std.specs.Prelude.{◌≡◌, ℕ, ◌+◌, ◌*◌, ◌<◌, ◌≤◌, ◌==◌, Bool, true, false, not, ◌&&◌, nat_lt, ℤ, pos, int_lt, List, [], ◌∷◌, ◌++◌, length, map, Option, Some, None, IfSome, slice_index_or, slice_set}
+use Rattle.std.specs.Prelude.{◌≡◌, ℕ, ◌+◌, ◌*◌, ◌<◌, ◌≤◌, ◌==◌, Bool, true, false, not, ◌&&◌, nat_lt, ℤ, pos, int_lt, List, [], ◌∷◌, ◌++◌, length, map, Option, Some, None, IfSome, AllPairs, slice_index_or, slice_set}
 use Rattle.std.specs.List.{range_with_len, list_any, count_by, All}
+use Rattle.std.specs.List.Sorted.{IsPermutation}
 use Rattle.std.specs.Option.{option_map_or}
 use Rattle.stated.specs.declared.pg.Pg.{Pg}
 use Rattle.keylist.specs.Keys.{entry_at}
@@ -101,10 +102,12 @@ pub record IsBetter (m : ClusterMap) (p : PoolFacts) (old new : Option Move) : T
 pub record CoversPair (m : ClusterMap) (p : PoolFacts) (best : Option Move) (from to : ℕ) : Type 0 where
   pub each : (g : ℕ) → g < p.pg_num → IsCovered m p best (move_of from to g)
 
--- no move to some OSDs is taken rather than one to a candidate, whatever OSD they go from
-pub record IsEmptiest (m n : ClusterMap) (p : PoolFacts) (osds : List ℕ) (osd : ℕ) : Type 0 where
-  pub candidate : is_candidate m p osd ≡ true
-  pub least : All (λ to. (from : ℕ) → beats n p (move_of from to 0) (move_of from osd 0) ≡ false) osds
+-- some OSDs with their deviations, each of them once, the emptiest first: a move would rather go to none that stands later,
+-- whatever OSD it goes from
+pub record IsOrder (m n : ClusterMap) (p : PoolFacts) (osds : List ℕ) (order : List (ℤ × ℕ)) : Type 0 where
+  pub same : IsPermutation (map (λ e. e.1) order) osds
+  pub rising : AllPairs (λ a b. (from : ℕ) → beats n p (move_of from b.1 0) (move_of from a.1 0) ≡ false) order
+  pub candidates : All (λ e. is_candidate m p e.1 ≡ true) order
 
 -- it covers those from an OSD to some
 abbrev pub CoversFrom : ClusterMap → PoolFacts → Option Move → ℕ → List ℕ → Type 0

@@ -18,11 +18,11 @@ fn precedes(u: Move, v: Move) -> bool
 }
 
 impl Board<'_> {
-    ghost use Rattle.std.specs.Prelude.{◌≡◌, ◌<◌, ℕ, pos, neg_ℤ, int_lt, ◌<ℤ◌, ◌^◌, ◌==◌, [], ◌∷◌, ◌++◌, length, position, true, false, if◌then◌else◌, Some, IfSome, MatchOption, OnOk};
+    ghost use Rattle.std.specs.Prelude.{◌≡◌, ◌<◌, ℕ, pos, neg_ℤ, int_lt, ◌<ℤ◌, ◌^◌, ◌==◌, [], ◌∷◌, ◌++◌, length, position, true, false, Some, IfSome, IfOk, MatchOption, OnOk};
     ghost use Rattle.balancer.specs.Shares.{is_candidate, total, deviation};
-    ghost use Rattle.balancer.specs.Moves.{move_of, are_beside, last_level, levels_of};
+    ghost use Rattle.balancer.specs.Moves.{are_beside, last_level, levels_of};
     ghost use Rattle.balancer.specs.Greedy.{gap, beats, good_moves, greedy, after_moves};
-    ghost use Rattle.balancer.specs.Reached.{reached, IsEmptiestOf};
+    ghost use Rattle.balancer.specs.Reached.{reached, IsOrderOf};
     ghost use Rattle.balancer.specs.Marks.{NoneGoes, IsMarked};
     ghost use Rattle.balancer.specs.Boards.{may_go, is_wanted, IsGood, IsBest, IsBetter, CoversPair, CoversFrom};
 
@@ -131,92 +131,62 @@ impl Board<'_> {
         }
     }
 
-    /// The emptier of two candidates: that to which a move would rather go.
-    fn emptier(&self, some: u32, other: u32) -> u32
-        requires some { is_candidate self.now.frame.map.now.map self.now.frame.pool some ≡ true }
-        requires other { is_candidate self.now.frame.map.now.map self.now.frame.pool other ≡ true }
-        ensures { result ≡ (if beats (reached self.now) self.now.frame.pool (move_of some other 0)
-            (move_of some some 0) then other else some) }
+    /// Puts the candidates in order, with their deviations: the emptiest first, to which a move would rather go; or `Memory`
+    /// (30).
+    fn order(&self, order: &mut Vec<(i128, u32)>) -> Result<(), Memory>
+        ensures { OnOk result (IsOrderOf self.now order.new.items) }
     {
-        let there = Move {
-            group: 0,
-            from: some,
-            to: other,
-        };
-        let here = Move {
-            group: 0,
-            from: some,
-            to: some,
-        };
-        if self.beats(there, here) { other } else { some }
-    }
-
-    /// The emptiest candidate, if there is one.
-    fn emptiest(&self) -> Option<u32>
-        ensures { IfSome result (λ osd. IsEmptiestOf self.now osd) }
-    {
-        if self.frame.osds.is_empty() {
-            return None;
-        }
-        let mut emptiest = self.frame.osds[0];
+        order.clear();
         for osd in &self.frame.osds {
-            emptiest = self.emptier(emptiest, *osd);
+            order.push((self.deviation(*osd), *osd))?;
         }
-        Some(emptiest)
+        order.sort_unstable();
+        Ok(())
     }
 
-    /// Whether some move from a candidate could be taken rather than the best one so far, by the emptiest candidate.
-    fn may_lead(&self, from: u32, emptiest: Option<u32>, best: Option<Move>) -> bool
-        requires from { is_candidate self.now.frame.map.now.map self.now.frame.pool from ≡ true }
-        requires emptiest { IfSome emptiest (λ osd. IsEmptiestOf self.now osd) }
-        requires best { IfSome best (λ v. IsGood (reached self.now) self.now.frame.pool v) }
-        ensures { result ≡ false → CoversFrom (reached self.now) self.now.frame.pool best from self.now.frame.osds.items }
-    {
-        match emptiest {
-            Some(osd) => self.is_wanted(from, osd, best),
-            None => true,
-        }
-    }
-
-    /// The best move so far, or a better one from a candidate to some.
+    /// The best move so far, or a better one from a candidate to some: as long as the emptiest that is left is wanted.
     fn better_from(
         &self,
         from: u32,
-        emptiest: Option<u32>,
+        order: &[(i128, u32)],
         best: Option<Move>,
         marks: &mut Marks,
     ) -> Option<Move>
         requires from { is_candidate self.now.frame.map.now.map self.now.frame.pool from ≡ true }
-        requires emptiest { IfSome emptiest (λ osd. IsEmptiestOf self.now osd) }
+        requires order { IsOrderOf self.now order.now }
         requires best { IfSome best (λ v. IsGood (reached self.now) self.now.frame.pool v) }
         requires marks { IsMarked self.now.frame.map.now.map self.now.frame.pool self.now.groups.items marks.old }
         ensures better { IsBetter (reached self.now) self.now.frame.pool best result }
         ensures covers { CoversFrom (reached self.now) self.now.frame.pool result from self.now.frame.osds.items }
         ensures marks { IsMarked self.now.frame.map.now.map self.now.frame.pool self.now.groups.items marks.new }
     {
-        if !self.may_lead(from, emptiest, best) {
-            return best;
-        }
         let mut best = best;
-        for to in &self.frame.osds {
+        for (_, to) in order {
+            if !self.is_wanted(from, *to, best) {
+                return best;
+            }
             best = self.better(from, *to, best, marks);
         }
         best
     }
 
-    /// The best move between candidates, or none where no move is good.
-    pub fn best(&self, marks: &mut Marks) -> Option<Move>
+    /// The best move between candidates, or none where no move is good; or `Memory` (30).
+    pub fn best(
+        &self,
+        marks: &mut Marks,
+        order: &mut Vec<(i128, u32)>,
+    ) -> Result<Option<Move>, Memory>
         requires marks { IsMarked self.now.frame.map.now.map self.now.frame.pool self.now.groups.items marks.old }
-        ensures best { MatchOption result (good_moves (reached self.now) self.now.frame.pool ≡ [])
-            (λ v. IsBest (reached self.now) self.now.frame.pool v) }
-        ensures marks { IsMarked self.now.frame.map.now.map self.now.frame.pool self.now.groups.items marks.new }
+        ensures best { IfOk result (λ best. MatchOption best (good_moves (reached self.now) self.now.frame.pool ≡ [])
+            (λ v. IsBest (reached self.now) self.now.frame.pool v)) }
+        ensures marks { OnOk result (IsMarked self.now.frame.map.now.map self.now.frame.pool self.now.groups.items marks.new) }
     {
-        let emptiest = self.emptiest();
+        self.order(order)?;
         let mut best = None;
         for from in &self.frame.osds {
-            best = self.better_from(*from, emptiest, best, marks);
+            best = self.better_from(*from, order, best, marks);
         }
-        best
+        Ok(best)
     }
 
     /// Makes a good move, and forgets what was marked of the OSDs on which its group then stands; or `Memory` (30).
@@ -249,8 +219,9 @@ impl Board<'_> {
         ensures pool { self.new.frame.pool ≡ self.old.frame.pool }
     {
         let mut marks = Marks::new(alloc, self.frame.map.max_osd())?;
+        let mut order = Vec::with_capacity(alloc, self.frame.osds.len())?;
         for _count in 0..limit {
-            match self.best(&mut marks) {
+            match self.best(&mut marks, &mut order)? {
                 Some(step) => self.go(step, &mut marks)?,
                 None => return Ok(()),
             }

@@ -1,12 +1,12 @@
-use Rattle.std.proofs.Common.{take}
+use Rattle.std.proofs.Common.{take, All}
 use Rattle.balancer.specs.Greedy.{after_moves}
-use Rattle.balancer.specs.Boards.{IsBetter, CoversFrom}
+use Rattle.balancer.specs.Boards.{IsBetter, CoversPair}
 use Rattle.balancer.specs.Marks.{IsMarked}
 use Rattle.balancer.proofs.board.Board.better_from.Given as goal
 
 abbrev pub invariant-loop-to : goal.invariant-loop-to
 invariant-loop-to l = record {
   better : IsBetter (after_moves l.self.frame.map.now.map l.self.frame.pool l.self.moves.items) l.self.frame.pool l.initial.best l.best;
-  covers : CoversFrom (after_moves l.self.frame.map.now.map l.self.frame.pool l.self.moves.items) l.self.frame.pool l.best l.from (take l.to-index l.self.frame.osds.items);
+  covers : All (λ f. CoversPair (after_moves l.self.frame.map.now.map l.self.frame.pool l.self.moves.items) l.self.frame.pool l.best l.from f.1) (take l.to-index l.order);
   marks : IsMarked l.self.frame.map.now.map l.self.frame.pool l.self.groups.items l.marks;
 }

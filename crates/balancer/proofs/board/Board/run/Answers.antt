@@ -6,13 +6,13 @@ use Rattle.balancer.proofs.board.Board.run.Goals as goal
 pub returns-in-None-clause-moves : goal.returns-in-None-clause-moves
 returns-in-None-clause-moves c =
     let i = c.loop-count.invariant in
-    let none : good_moves (after_moves c.args.self.now.frame.map.now.map c.args.self.now.frame.pool c.loop-count.self.moves.items) c.args.self.now.frame.pool ≡ [] = rw (i.map, i.pool) at c.in-None.ensures.best in
+    let none : good_moves (after_moves c.args.self.now.frame.map.now.map c.args.self.now.frame.pool c.loop-count.self.moves.items) c.args.self.now.frame.pool ≡ [] = rw (i.map, i.pool) at (rw c.in-None.is at c.in_ok-step.ensures.best) in
     way_stops c.args.self.now.frame.map.now.map c.args.self.now.frame.pool c.args.limit c.loop-count.self.moves.items c.loop-count._count i.way none
 
 pub loop-count-preserved : goal.loop-count-preserved
 loop-count-preserved c =
     let i = c.loop-count.invariant in
-    let best : best_move (after_moves c.args.self.now.frame.map.now.map c.args.self.now.frame.pool c.loop-count.self.moves.items) c.args.self.now.frame.pool ≡ Some c.in-Some.step = rw (i.map, i.pool) at c.in-Some.ensures.best.best in
+    let best : best_move (after_moves c.args.self.now.frame.map.now.map c.args.self.now.frame.pool c.loop-count.self.moves.items) c.args.self.now.frame.pool ≡ Some c.in-Some.step = rw (i.map, i.pool) at (rw c.in-Some.is at c.in_ok-step.ensures.best).best in
     let way = way_goes_on c.args.self.now.frame.map.now.map c.args.self.now.frame.pool c.args.limit c.loop-count.self.moves.items c.loop-count._count c.in-Some.step c.loop-count-test.true i.way best in
     record {
       way = rw c.in_ok-go-in-Some.ensures.moves way;
