@@ -16,8 +16,10 @@ import subprocess
 import sys
 import tempfile
 import time
+from concurrent.futures import ThreadPoolExecutor
 
 import model
+import soak
 
 HERE = pathlib.Path(__file__).resolve().parent
 sys.path.insert(0, str(HERE.parent / "tools"))
@@ -172,6 +174,104 @@ def test_monitor(program):
                 raise AssertionError(f"{name} wanted")
             except Refused as refused:
                 equal((refused.name, refused.number), (name, number))
+
+
+def ran(program, folder, *words, text=b""):
+    """Status, output and error of a run in a folder."""
+    done = subprocess.run([program, EXAMPLE, *words], cwd=folder, input=text, capture_output=True, timeout=SECONDS)
+    return done.returncode, done.stdout.decode(), done.stderr.decode()
+
+
+def test_answers_to_files(program):
+    """Each script's answers go to a file of its own, with its heading; standard input and output may be among them, once each."""
+    with tempfile.TemporaryDirectory() as name:
+        folder = pathlib.Path(name)
+        (folder / "a").write_text('up 1.0\nchange {"base":1,"down":[2]}\nawait 3\nup 1.0')
+        (folder / "b").write_text('await 2\nchange {"base":2,"up":[2]}\n')
+        (folder / "old").write_text("x" * 1000)
+        first, second = "session 1\nup 1 1.0 [3,2,0] 3\nok 2 evals 0\nepoch 3\nup 3 1.0 [3,2,0] 3\n", "session 2\nepoch 2\nok 3 evals 0\n"
+        equal(ran(program, folder, "a", "b", "--to", "old", "--to", "new"), (0, "", ""))
+        equal([(folder / "old").read_text(), (folder / "new").read_text()], [first, second])
+        equal(ran(program, folder, "--to", "-", "a", "--to", "new", "b"), (0, first, ""))
+        equal((folder / "new").read_text(), second)
+        text = (folder / "b").read_bytes()
+        equal(ran(program, folder, "a", "-", "--to", "old", "--to", "-", text=text), (0, second, ""))
+        equal(ran(program, folder, "--to=old", "--to=new", "a", "-", text=text), (0, "", ""))
+        equal([(folder / "old").read_text(), (folder / "new").read_text()], [first, second])
+        equal(ran(program, folder, "-", "--to", "-", text=b"epoch"), ran(program, folder, "-", text=b"epoch"))
+
+
+def test_files_that_fail(program):
+    """A session whose files fail tells it and ends; the others go on. The status is that of the first fault."""
+    with tempfile.TemporaryDirectory() as name:
+        folder = pathlib.Path(name)
+        (folder / "a").write_text("epoch\n" * 3)
+        whole = "session {}\nepoch 1\nepoch 1\nepoch 1\n"
+        for script, answers, told in (("none", "x", "none"), ("a", "no/where", "no/where"), ("a", "/dev/full", "/dev/full"), (".", "x", "."), ("a", ".", ".")):
+            equal(ran(program, folder, script, "a", "--to", answers, "--to", "y"), (3, "", f"file: {told}\n"))
+            equal((folder / "y").read_text(), whole.format(2))
+            equal(ran(program, folder, "a", script, "--to", "y", "--to", answers), (3, "", f"file: {told}\n"))
+            equal((folder / "y").read_text(), whole.format(1))
+        status, output, error = ran(program, folder, "none", "a", ".", "--to", "x", "--to", "-", "--to", "z")
+        equal((status, output, sorted(error.splitlines())), (3, whole.format(2), ["file: .", "file: none"]))
+        equal(ran(program, folder, "a", "a", "--to", "x"), (1, "", "not as many --to as scripts\n"))
+        equal(ran(program, folder, "a", "--to", "x", "--to", "y"), (1, "", "not as many --to as scripts\n"))
+        equal(ran(program, folder, "a", "a", "--to", "-", "--to", "-"), (1, "", "standard output is given twice\n"))
+        equal(ran(program, folder, "-", "-", "--to", "x", "--to", "y"), (1, "", "standard input is given twice\n"))
+
+
+def test_named_pipes(program):
+    """Two clients over named pipes, the second there before the first: each line is answered before the next is put."""
+    with tempfile.TemporaryDirectory() as name:
+        folder = pathlib.Path(name)
+        for pipe in "abcd":
+            os.mkfifo(folder / pipe)
+        process = subprocess.Popen([program, EXAMPLE, "a", "b", "--to", "c", "--to", "d"], cwd=folder)
+        clients = {}
+        for lines, answers in (("b", "d"), ("a", "c")):
+            clients[lines] = open(folder / lines, "wb", buffering=0), open(folder / answers, "rb", buffering=0)
+
+        def ask(client, line):
+            clients[client][0].write(line.encode() + b"\n")
+            return told(client)
+
+        def told(client):
+            found = b""
+            while not found.endswith(b"\n"):
+                found += clients[client][1].read(1)
+            return found.decode()[:-1]
+
+        equal([told("a"), told("b")], ["session 1", "session 2"])
+        for turn in range(50):
+            who, other = ("a", "b") if turn % 2 else ("b", "a")
+            base = int(ask(other, "epoch").split(" ")[1])
+            equal(ask(who, f'change {{"base":{base},"{"up" if turn % 2 else "down"}":[2]}}'), f"ok {base + 1} evals 0")
+            equal(ask(other, "up 1.0"), f"up {base + 1} 1.0 {'[3,2,0] 3' if turn % 2 else '[3,0] 3'}")
+        clients["b"][0].close()
+        equal(clients["b"][1].read(1), b"")
+        equal(ask("a", "epoch"), "epoch 51")
+        clients["a"][0].close()
+        equal(process.wait(SECONDS), 0)
+        for _, answers in clients.values():
+            answers.close()
+
+
+def test_sessions(program):
+    """Four clients in four threads over one monitor ask and change at random: all answers are those of one history."""
+    with tempfile.TemporaryDirectory() as folder:
+        value, scripts = soak.scripts(11, 4, 200, 4, 32)
+        _, play = soak.run(program, pathlib.Path(folder), scripts, value)
+        with Monitor(value, program, sessions=4) as monitor, ThreadPoolExecutor(4) as threads:
+            asked = threads.map(lambda pair: [pair[0].raw([line])[0] for line in pair[1]], zip(monitor.sessions, scripts))
+            output = "".join(f"session {number}\n" + "".join(answer + "\n" for answer in answers) for number, answers in enumerate(asked, 1))
+            equal(monitor.epoch(), monitor.sessions[3].epoch())
+        wrong, made, _ = soak.faults(scripts, output, play)
+        assert not wrong and made >= 50, (wrong[:3], made)
+        try:
+            Monitor({}, program, sessions=3)
+            raise AssertionError("BadField wanted")
+        except Refused as refused:
+            equal(refused.name, "BadField")
 
 
 def test_shell(program):

@@ -5,7 +5,8 @@
 A run with a growth refused ends with status 4, `memory` and nothing put out; or it puts out what a run without refusals
 does, of a script in which the line that answers `err 30 Memory` is left out. The last run is the first without a refusal.
 In a second round each line that may find no memory stands twice, so that after a refusal the same line has its exact answer. In a
-third the script is a live session, whose answers before the refusal are out.
+third the script is a live session, whose answers before the refusal are out; in a fourth its session's answers go to a file, which
+is standard output.
 """
 
 import os
@@ -35,8 +36,9 @@ def refuser(folder):
 class Example:
     """An example, and what a run of it may put out."""
 
-    def __init__(self, command, library, example, folder, twice=False, live=False):
-        self.command, self.library, self.example, self.folder, self.live = command, library, example, pathlib.Path(folder), live
+    def __init__(self, command, library, example, folder, way):
+        self.command, self.library, self.example, self.folder = command, library, example, pathlib.Path(folder)
+        self.typed, self.live, twice = way == "typed", way in ("typed", "to a file"), way == "lines twice"
         lines = (example / "script.txt").read_bytes().splitlines(keepends=True)
         self.lines = [line for own in lines for line in [own] * (2 if twice and own.startswith(TWICE) else 1)]
         self.script = self.folder / "script"
@@ -50,9 +52,9 @@ class Example:
         mark = self.folder / f"refused-{refused}"
         if refused is not None:
             environment.update(LD_PRELOAD=str(self.library), REFUSE_NTH=str(refused), REFUSED=str(mark))
-        with open(script if self.live else os.devnull, "rb") as typed:
-            done = subprocess.run([self.command, self.example / "map.json", "-" if self.live else script], env=environment, timeout=SECONDS,
-                                  stdin=typed, capture_output=True)
+        words = [self.command, self.example / "map.json", "-" if self.typed else script] + ["--to", "-"] * (self.live and not self.typed)
+        with open(script if self.typed else os.devnull, "rb") as typed:
+            done = subprocess.run(words, env=environment, timeout=SECONDS, stdin=typed, capture_output=True)
         came = mark.exists()
         if came:
             mark.unlink()
@@ -100,11 +102,11 @@ def sweeps(command, pool):
             return None
         found = []
         for script in sorted(EXAMPLES.rglob("script.txt")):
-            for about, twice, live in (("", False, False), (", lines twice", True, False), (", live", False, True)):
-                name = script.parent.name + about
+            for way in ("a script", "lines twice", "typed", "to a file"):
+                name = f"{script.parent.name}, {way}"
                 own = pathlib.Path(folder) / name
                 own.mkdir()
-                found.append((name, *sweep(Example(command, library, script.parent, own, twice, live), pool)))
+                found.append((name, *sweep(Example(command, library, script.parent, own, way), pool)))
         return found
 
 

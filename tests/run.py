@@ -14,11 +14,13 @@ a text, or a change as an object. Where a row stands for many runs, or for many 
 `filled` below reads them, and texts as `text_of` does. The greatest runs are made by this file (`maxima`); the examples
 have their answers beside them. `plans` and `balanced` are plans of a balancer reckoned apart (plans.py, balanced.py), `soak`
 many sessions whose answers must be those of one history (soak.py), `patched` tables that random changes led to beside tables
-built anew (anew.py), and `apart` holds what reckons apart against Ceph's placements and the kept answers, and the kept picture
-against its numbers. `clusters` are the tools over clusters of Ceph's (clusters.py), `live` sessions that are answered as they are typed (live.py). At the end each growth of the examples' runs is refused in turn (memory.py).
+built anew (anew.py), and `apart` holds what reckons apart against Ceph's placements and the kept answers, and the kept picture.
+`clusters` are the tools over clusters of Ceph's (clusters.py), `live` sessions that are answered as they are typed (live.py). At
+the end each growth of the examples' runs is refused in turn (memory.py).
 """
 
 import argparse
+import itertools
 import json
 import os
 import pathlib
@@ -41,9 +43,6 @@ import soak
 from plans import cases as plan_cases
 
 HERE = pathlib.Path(__file__).resolve().parent
-sys.path.insert(0, str(HERE.parent / "tools"))
-import chart  # noqa: E402
-
 TABLES = ["worked", "placements", "changes", "growth", "limits", "texts", "sessions", "balance", "plans", "balanced", "soak", "program", "examples",
           "apart", "maxima", "patched", "clusters", "races", "live"]
 SECONDS = 300
@@ -508,10 +507,15 @@ def apart():
         value, script = json.loads((folder / "map.json").read_text()), (folder / "script.txt").read_text().splitlines()
         return [] if model.answers(value, script) == (folder / "answers.txt").read_text().splitlines()[1:] else ["answered otherwise"]
 
-    def drawn(_):
-        value, script, answers = ((folder / name).read_text() for name in ("map.json", "script.txt", "answers.txt"))
+    def drawn(command):
+        lines = itertools.takewhile(lambda line: not line.startswith("balance"), (folder / "script.txt").read_text().splitlines())
+        script = "\n".join([*lines, "save uneven.json", "balance 1 100", "save even.json"])
+        with tempfile.TemporaryDirectory() as own:
+            tools = clusters.Tools(command, own)
+            saved = tools.run("shell", folder / "map.json", stdin=script)
+            found = tools.run("picture", "uneven.json", "even.json")
         kept = (HERE.parent / "docs" / "balance.svg").read_text()
-        return [] if chart.picture(json.loads(value), script, answers) == kept else ["docs/balance.svg is not what tools/chart.py draws"]
+        return [] if saved[0] == 0 and found == (0, kept, "") else ["docs/balance.svg is not what picture draws"]
 
     folder = HERE.parent / "examples" / "balance"
     for row in json.loads((HERE / "placements.json").read_text())["runs"]:

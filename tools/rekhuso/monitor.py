@@ -1,20 +1,28 @@
-"""A monitor as Python holds it: a live session of the proved program, and its answers as values.
+"""A monitor as Python holds it: live sessions of the proved program, and their answers as values.
 
     with Monitor(value) as monitor:
         monitor.up("1.0").places
 
+    with Monitor(value, sessions=4) as monitor:
+        one, two, three, four = monitor.sessions
+
 The program runs until the monitor is closed. Each question is put to it as a line, and its answer is there before the
-next is asked; many lines at once go by `raw`, `ask` and `ups`.
+next is asked; many lines at once go by `raw`, `ask` and `ups`. Sessions may be used by several threads at once, each of them by
+one; they are all at one monitor, and what one changes the others see.
 """
 
+import errno
 import json
 import os
 import pathlib
+import select
 import subprocess
 import tempfile
 import threading
+import time
+from collections.abc import Callable
 from itertools import islice
-from typing import Any, NamedTuple
+from typing import Any, BinaryIO, NamedTuple, NoReturn
 
 from faults import Fault, Refused
 from texts import text_of, written
@@ -60,61 +68,25 @@ def checked(answer: str) -> str:
     return answer
 
 
-class Monitor:
-    """A session of the program over a map: a value as JSON has it, or its text. It is closed by `with`, or by `close`."""
+class Session:
+    """A session of a program that runs: where its lines go, where its answers come from, and what tells why it has ended."""
 
-    def __init__(self, value: Any, program: str | os.PathLike[str] = BUILT, journal: int = 65536) -> None:
-        if not os.access(program, os.X_OK):
-            raise Fault(f"{program}: no program; `make run` proves and builds it, or --program names another")
-        text = value if isinstance(value, str) else written(value)
-        self.errors = tempfile.TemporaryFile()
-        with tempfile.NamedTemporaryFile("w", encoding="utf-8", suffix=".json") as file:
-            file.write(text)
-            file.flush()
-            words = [os.fspath(program), "--journal", str(journal), file.name, "-"]
-            self.process = subprocess.Popen(words, stdin=subprocess.PIPE, stdout=subprocess.PIPE, stderr=self.errors)
-            heading = self.process.stdout.readline()
-        if heading != b"session 1\n":
-            self.gone()
-
-    def gone(self) -> None:
-        """Tells why the program has ended."""
-        status = self.process.wait()
-        self.errors.seek(0)
-        error = self.errors.read().decode("utf-8", "replace").strip()
-        self.close()
-        if status == 2:
-            raise Refused(error.removeprefix("map: "))
-        raise Fault(f"the program ended with status {status}: {error}")
-
-    def close(self) -> None:
-        """Ends the session and the program."""
-        for stream in (self.process.stdin, self.process.stdout, self.errors):
-            try:
-                stream.close()
-            except BrokenPipeError:
-                pass
-        self.process.wait()
-
-    def __enter__(self) -> "Monitor":
-        return self
-
-    def __exit__(self, *_: object) -> None:
-        self.close()
+    def __init__(self, lines: BinaryIO, answers: BinaryIO, gone: Callable[[], NoReturn]) -> None:
+        self.lines, self.answers, self.gone = lines, answers, gone
 
     # Lines and their answers
 
     def send(self, text: bytes) -> None:
         """Puts text to the program."""
         try:
-            self.process.stdin.write(text)
-            self.process.stdin.flush()
+            self.lines.write(text)
+            self.lines.flush()
         except (BrokenPipeError, ValueError):
             pass
 
     def answer(self) -> str:
         """The next answer."""
-        line = self.process.stdout.readline()
+        line = self.answers.readline()
         if not line.endswith(b"\n"):
             self.gone()
         return line[:-1].decode("utf-8")
@@ -132,7 +104,7 @@ class Monitor:
         sender = threading.Thread(target=self.send, args=(text,), daemon=True)
         sender.start()
         wanted = sum(map(bool, text.split(b"\n")))
-        answers = b"".join(islice(self.process.stdout, wanted)).decode("utf-8").split("\n")
+        answers = b"".join(islice(self.answers, wanted)).decode("utf-8").split("\n")
         if len(answers) <= wanted:
             self.gone()
         sender.join()
@@ -189,6 +161,94 @@ class Monitor:
         """Plans moves of groups of a pool, at most so many, and commits them."""
         _, moves, _, epoch = self.one(f"balance {pool} {most}").split(" ")
         return Moved(int(moves), int(epoch))
+
+
+class Monitor(Session):
+    """A run of the program over a map: a value as JSON has it, or its text; itself the first of its sessions. It is closed by
+    `with`, or by `close`."""
+
+    def __init__(self, value: Any, program: str | os.PathLike[str] = BUILT, journal: int = 65536, sessions: int = 1) -> None:
+        if not os.access(program, os.X_OK):
+            raise Fault(f"{program}: no program; `make run` proves and builds it, or --program names another")
+        self.errors = tempfile.TemporaryFile()
+        self.folder = tempfile.TemporaryDirectory()
+        self.sessions: list[Session] = []
+        folder = pathlib.Path(self.folder.name)
+        (folder / "map.json").write_text(value if isinstance(value, str) else written(value), encoding="utf-8")
+        words = [str(pathlib.Path(program).resolve()), "--journal", str(journal), "map.json"]
+        if sessions == 1:
+            self.process = subprocess.Popen([*words, "-"], stdin=subprocess.PIPE, stdout=subprocess.PIPE, stderr=self.errors, cwd=folder)
+            super().__init__(self.process.stdin, self.process.stdout, self.ended)
+        else:
+            pipes = [(f"lines-{k}", f"answers-{k}") for k in range(1, sessions + 1)]
+            for name in (name for pair in pipes for name in pair):
+                os.mkfifo(folder / name)
+            words += [lines for lines, _ in pipes] + [word for _, answers in pipes for word in ("--to", answers)]
+            self.process = subprocess.Popen(words, stdin=subprocess.DEVNULL, stdout=subprocess.DEVNULL, stderr=self.errors, cwd=folder)
+            self.sessions = [Session(self.writer(folder / lines), self.reader(folder / answers), self.ended) for lines, answers in pipes]
+            super().__init__(self.sessions[0].lines, self.sessions[0].answers, self.ended)
+        self.sessions = self.sessions or [self]
+        for number, session in enumerate(self.sessions, 1):
+            if session.answers.readline() != f"session {number}\n".encode():
+                self.ended()
+
+    def writer(self, path: pathlib.Path) -> BinaryIO:
+        """A named pipe for lines, once the program has opened its end."""
+        while True:
+            try:
+                return os.fdopen(unblocked(os.open(path, os.O_WRONLY | os.O_NONBLOCK)), "wb")
+            except OSError as fault:
+                if fault.errno != errno.ENXIO:
+                    raise
+            self.is_running()
+            time.sleep(0.001)
+
+    def reader(self, path: pathlib.Path) -> BinaryIO:
+        """A named pipe for answers, once there is one."""
+        pipe = os.open(path, os.O_RDONLY | os.O_NONBLOCK)
+        while not select.select([pipe], [], [], 0.1)[0]:
+            self.is_running()
+        return os.fdopen(unblocked(pipe), "rb")
+
+    def is_running(self) -> None:
+        """Nothing where the program runs; where it has ended, why."""
+        if self.process.poll() is not None:
+            self.ended()
+
+    def ended(self) -> NoReturn:
+        """Tells why the program has ended."""
+        status = self.process.wait()
+        self.errors.seek(0)
+        error = self.errors.read().decode("utf-8", "replace").strip()
+        self.close()
+        if status == 2:
+            raise Refused(error.removeprefix("map: "))
+        raise Fault(f"the program ended with status {status}: {error}")
+
+    def close(self) -> None:
+        """Ends the sessions and the program."""
+        streams = [self.process.stdin, self.process.stdout] + [stream for session in self.sessions for stream in (session.lines, session.answers)]
+        for stream in streams:
+            try:
+                if stream:
+                    stream.close()
+            except BrokenPipeError:
+                pass
+        self.process.wait()
+        self.errors.close()
+        self.folder.cleanup()
+
+    def __enter__(self) -> "Monitor":
+        return self
+
+    def __exit__(self, *_: object) -> None:
+        self.close()
+
+
+def unblocked(pipe: int) -> int:
+    """An open pipe that waits from now on."""
+    os.set_blocking(pipe, True)
+    return pipe
 
 
 # One session for some lines

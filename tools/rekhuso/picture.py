@@ -1,6 +1,7 @@
 """`picture`: the OSDs of a map by host and rack, the share of each as its colour, as SVG; of two maps, side by side.
 
-Grey is an OSD's share, red more, blue less; a cross marks one that is out, a bar one that is down.
+Grey is an OSD's share, red more, blue less; in each square stands the number of its groups; a cross marks one that is out, a bar
+one that is down.
 """
 
 import html
@@ -10,7 +11,7 @@ from monitor import groups_of, map_in, up_sets
 from shares import Shares, named
 from texts import json_of
 
-CELL, GAP, ROW, LABEL, ACROSS, TALL = 14, 2, 18, 90, 32, 640
+CELL, GAP, ROW, LABEL, ACROSS, TALL = 18, 2, 22, 90, 32, 640
 
 
 def colour(groups: int, wanted: float) -> str:
@@ -32,7 +33,8 @@ def cell(shares: Shares, osd: int, left: int, top: int) -> str:
     if "down" in row["state"]:
         marks += f'<path d="M{left} {top + CELL // 2}h{CELL}" class="m"/>'
     fill = colour(row["groups"], row["share"])
-    return f'<g><title>{html.escape(told)}</title><rect x="{left}" y="{top}" width="{CELL}" height="{CELL}" fill="{fill}" class="c"/>{marks}</g>'
+    number = "" if marks else f'<text x="{left + CELL // 2}" y="{top + CELL // 2 + 3}" class="n">{row["groups"]}</text>'
+    return f'<g><title>{html.escape(told)}</title><rect x="{left}" y="{top}" width="{CELL}" height="{CELL}" fill="{fill}" class="c"/>{marks}{number}</g>'
 
 
 def hosts_of(shares: Shares) -> list[tuple[str | int, int]]:
@@ -65,7 +67,7 @@ def drawn(shares: Shares, names: dict[str, Any], left: int) -> tuple[list[str], 
             parts.append(f'<text x="{left}" y="{top + 12}" class="r">{html.escape(named(names, "buckets", int(above)))}</text>')
             top += ROW
         last = above
-        parts.append(f'<text x="{left}" y="{top + 11}">{html.escape(named(names, "buckets", host))}</text>')
+        parts.append(f'<text x="{left}" y="{top + 13}">{html.escape(named(names, "buckets", host))}</text>')
         devices = [item for item, _ in shares.buckets[host]["items"] if item >= 0]
         for at, osd in enumerate(devices):
             parts.append(cell(shares, osd, left + LABEL + at % ACROSS * (CELL + GAP), top + at // ACROSS * (CELL + GAP)))
@@ -81,13 +83,13 @@ def picture(maps: list[Shares], names: dict[str, Any], titles: list[str]) -> str
         own, right, tall = drawn(shares, names, left)
         parts += [f'<text x="{left}" y="16" class="r">{html.escape(title)}</text>'] + own
         left, height = right, max(height, tall)
-    width = max(left, 440)
+    width = max(left, 580)
     legend = "".join(f'<rect x="{8 + at * 24}" y="{height + 8}" width="24" height="10" fill="{colour(round(ratio * 100), 100)}"/>'
                      for at, ratio in enumerate((0, 0.5, 1, 1.5, 2)))
-    style = "text{font:11px sans-serif;fill:#333}.r{font-weight:bold}.c{stroke:#999;stroke-width:.5}.m{stroke:#111;stroke-width:1.5;fill:none}"
+    style = "text{font:11px sans-serif;fill:#333}.r{font-weight:bold}.n{font-size:8px;text-anchor:middle}.c{stroke:#999;stroke-width:.5}.m{stroke:#111;stroke-width:1.5;fill:none}"
     return (f'<svg xmlns="http://www.w3.org/2000/svg" width="{width}" height="{height + 40}" viewBox="0 0 {width} {height + 40}">'
             f'<style>{style}</style><rect width="100%" height="100%" fill="#fff"/>{"".join(parts)}{legend}'
-            f'<text x="136" y="{height + 17}">no groups .. the share .. twice as many; cross: out; bar: down</text></svg>\n')
+            f'<text x="136" y="{height + 17}">no groups .. the share .. twice as many; in a square its groups; cross: out; bar: down</text></svg>\n')
 
 
 def shares_of(path: str, program: Any) -> Shares:

@@ -12,7 +12,7 @@ use Rattle.clap.specs.Walk.{Row, Text, rows_of}
 use Rattle.clap.proofs.WalkLemmas.{one_text-rows}
 use Rattle.osdmapd.specs.declared.choices.Options.{Options}
 use Rattle.osdmapd.specs.declared.choices.LineError.{LineError}
-use Rattle.osdmapd.specs.declared.choices.LineError.TheVariants.{Help, Usage, TooMany, Memory}
+use Rattle.osdmapd.specs.declared.choices.LineError.TheVariants.{Help, Usage, TooMany, Unpaired, Memory}
 use Rattle.osdmapd.specs.CommandLine.{app, found_in, faults_of, IsNumberOf, IsRequest, TellsOf, Chooses, ReadsLine}
 
 -- the number that is read of an id is that of the text found for it; where none is read, none of 32 bits stands there
@@ -65,6 +65,7 @@ taken_line words cmd rows r is found free takes =
     by_result (Err (Help text)) none takes = absurd takes
     by_result (Err (Usage text)) none takes = absurd takes
     by_result (Err TooMany) none takes = (none, takes)
+    by_result (Err Unpaired) none takes = (none, takes)
     by_result (Err Memory) none takes = tt
 
 -- what is told of words that the parser refused
@@ -91,4 +92,5 @@ refused_line words cmd kind e is free told =
     by_error (Usage text) (inl memory) told = absurd (told.1 memory)
     by_error (Usage text) (inr among) told = (kind, among, told.0)
     by_error TooMany among told = absurd told
+    by_error Unpaired among told = absurd told
     by_error Memory among told = tt

@@ -6,24 +6,20 @@ use Rattle.osdmap.specs.Maps.{ClusterMap}
 use Rattle.mapjson.specs.MapTexts.{map_text_fault, StatesMap}
 use Rattle.monitor.specs.Members.{Monitored}
 use Rattle.session.specs.declared.error.SessionError.{SessionError}
-use Rattle.session.specs.declared.sink.Buffer.{Buffer}
 use Rattle.session.specs.Answers.{Sight}
 use Rattle.session.specs.Commands.{lines_in}
 use Rattle.session.specs.Sessions.{session_of}
 use Rattle.session.specs.Transcripts.{IsTranscript}
-use Rattle.session.specs.Buffers.{buffered}
 use Rattle.session.specs.Sinks.{HasPut}
 use Rattle.std.specs.declared.thread.PromisedHandle.{PromisedHandle}
 use Rattle.osdmapd.specs.declared.part.Part.{Part}
+use Rattle.osdmapd.specs.declared.playing.Left.{Left}
 use Rattle.osdmapd.specs.declared.playing.LeftOf.{LeftOf}
-use Rattle.osdmapd.specs.declared.fault.Broken.{Broken}
-use Rattle.osdmapd.specs.declared.fault.Broken.TheVariants.{Input, Answers, Memory}
 use Rattle.osdmapd.specs.declared.fault.Fault.{Fault}
-use Rattle.osdmapd.specs.Faults.{fault_of}
-use Rattle.osdmapd.specs.declared.fault.Fault.TheVariants.{Output}
+use Rattle.osdmapd.specs.declared.fault.Fault.TheVariants.{Output, Memory}
 use Rattle.osdmapd.specs.Players.{IsStartedFor}
 use Rattle.osdmapd.specs.Pairs.{Pairs}
-use Rattle.osdmapd.specs.Serving.{heading, unseen, lets_all, IsTextBy, IsLeftOf, IsLeftBy, AreTextsOf, Serves, has_output_failed}
+use Rattle.osdmapd.specs.Serving.{heading, text_left, unseen, lets_all, IsTextBy, IsLeftOf, IsLeftBy, AreTextsOf, Serves, has_output_failed}
 use Rattle.osdmapd.proofs.Paired.{pairs_made}
 
 -- a text is that of the same monitor, number and part
@@ -34,21 +30,21 @@ text_for monitor monitor' number number' part part' text same numbered played is
     (subst (λ s. IsLeftBy monitor' number' s text) played is))
 
 -- texts of a monitor with this first map and journal
-pub texts_from : (monitor : Monitored) (m : ClusterMap) (journal : ℕ) (parts : List Part) (texts : List Buffer) → monitor.first ≡ m
-    → length monitor.row.cells ≡ journal → Pairs (λ number part text. IsLeftBy monitor number part (buffered text)) 1 parts texts
-    → Pairs (IsLeftOf m journal) 1 parts (map buffered texts)
-texts_from monitor m journal parts texts first room paired =
-    subst (λ k. Pairs (IsLeftOf m k) 1 parts (map buffered texts)) room
-    (subst (λ f. Pairs (IsLeftOf f (length monitor.row.cells)) 1 parts (map buffered texts)) first
-    (pairs_made (IsLeftBy monitor) buffered 1 parts texts paired))
+pub texts_from : (monitor : Monitored) (m : ClusterMap) (journal : ℕ) (parts : List Part) (lefts : List Left) → monitor.first ≡ m
+    → length monitor.row.cells ≡ journal → Pairs (λ number part left. IsLeftBy monitor number part (text_left left)) 1 parts lefts
+    → Pairs (IsLeftOf m journal) 1 parts (map text_left lefts)
+texts_from monitor m journal parts lefts first room paired =
+    subst (λ k. Pairs (IsLeftOf m k) 1 parts (map text_left lefts)) room
+    (subst (λ f. Pairs (IsLeftOf f (length monitor.row.cells)) 1 parts (map text_left lefts)) first
+    (pairs_made (IsLeftBy monitor) text_left 1 parts lefts paired))
 
 -- the texts from the map that a text states
-pub texts_of : (monitor : Monitored) (m : ClusterMap) (journal : ℕ) (stated : List ℕ) (parts : List Part) (texts : List Buffer)
+pub texts_of : (monitor : Monitored) (m : ClusterMap) (journal : ℕ) (stated : List ℕ) (parts : List Part) (lefts : List Left)
     → StatesMap stated m → monitor.first ≡ m → length monitor.row.cells ≡ journal
-    → Pairs (λ number part text. IsLeftBy monitor number part (buffered text)) 1 parts texts
-    → AreTextsOf journal stated parts (map buffered texts)
-texts_of monitor m journal stated parts texts states first room paired =
-    (m, states, texts_from monitor m journal parts texts first room paired)
+    → Pairs (λ number part left. IsLeftBy monitor number part (text_left left)) 1 parts lefts
+    → AreTextsOf journal stated parts (map text_left lefts)
+texts_of monitor m journal stated parts lefts states first room paired =
+    (m, states, texts_from monitor m journal parts lefts first room paired)
 
 -- what is out where the output fails, at whatever error is told
 pub served_part : (r : Result Unit Fault) (journal : ℕ) (stated : List ℕ) (parts : List Part) (before after : List ℕ)
@@ -58,20 +54,16 @@ pub served_part : (r : Result Unit Fault) (journal : ℕ) (stated : List ℕ) (p
 served_part (Ok done) journal stated parts before after is accepted out = absurd is
 served_part (Err e) journal stated parts before after is accepted out = rw is (accepted, out)
 
--- nothing is out where a session has not come to its end
-pub served_broken : (r : Result Unit Fault) (b : Broken) (journal : ℕ) (stated : List ℕ) (parts : List Part) (before : List ℕ)
-    → IsErrAnd r (λ e. e ≡ fault_of b) → Serves journal stated parts before before r
-served_broken (Ok done) b journal stated parts before is = absurd is
-served_broken (Err e) Input journal stated parts before is = rw is refl
-served_broken (Err e) Answers journal stated parts before is = rw is refl
-served_broken (Err e) Memory journal stated parts before is = rw is refl
+-- nothing is out where memory is short
+pub served_short : (r : Result Unit Fault) (journal : ℕ) (stated : List ℕ) (parts : List Part) (before : List ℕ)
+    → IsErrAnd r (λ e. e ≡ Memory) → Serves journal stated parts before before r
+served_short (Ok done) journal stated parts before is = absurd is
+served_short (Err e) journal stated parts before is = rw is refl
 
 -- and the sink has not failed
-pub broken_output : (r : Result Unit Fault) (b : Broken) → IsErrAnd r (λ e. e ≡ fault_of b) → has_output_failed r ≡ false
-broken_output (Ok done) b is = absurd is
-broken_output (Err e) Input is = rw is refl
-broken_output (Err e) Answers is = rw is refl
-broken_output (Err e) Memory is = rw is refl
+pub short_output : (r : Result Unit Fault) → IsErrAnd r (λ e. e ≡ Memory) → has_output_failed r ≡ false
+short_output (Ok done) is = absurd is
+short_output (Err e) is = rw is refl
 
 -- a thread with this promise is started for a part
 pub started_for : {T : Type 0} (monitor : Monitored) (number : ℕ) (player : PromisedHandle T LeftOf) (part : Part)

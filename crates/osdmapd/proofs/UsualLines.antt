@@ -1,6 +1,8 @@
 -- What the parser finds in the words of the usual lines, and what is made of it.
 use Rattle.std.proofs.Common.{◌≡◌, ◌==◌, ◌∙◌, ◌++◌, append-nil, append_assoc, nat_lt, fold, ◌≤◌, not, cond, ℕ, Bool, true, false, List, [], ◌∷◌, drop, Option, Some, None, is_some, Result, Ok, Err, refl, sym, ap, ap₂, subst, arith, codes, length, map, string_bytes}
 use Rattle.std.specs.Fmt.{decimal}
+use Rattle.std.specs.Prelude.{String}
+use Rattle.std.specs.declared.alloc.Global.{Global}
 use Rattle.std.specs.Option.{unwrap_or}
 use Rattle.std.specs.Str.Parse.{IsNumeral, digits_value, signed_digits_value, starts_with_minus, without_leading_plus, without_leading_sign}
 use Rattle.std.proofs.lemmas.Bool.{ne_eqb, le-ltb}
@@ -22,7 +24,7 @@ use Rattle.clap.proofs.ValueTestLemmas.{Accepts-accepts}
 use Rattle.epochlog.specs.Epochs.{max_capacity}
 use Rattle.osdmapd.specs.declared.choices.Options.{Options}
 use Rattle.osdmapd.specs.declared.choices.LineError.{LineError}
-use Rattle.osdmapd.specs.declared.choices.LineError.TheVariants.{Help, Usage, TooMany, Memory}
+use Rattle.osdmapd.specs.declared.choices.LineError.TheVariants.{Help, Usage, TooMany, Unpaired, Memory}
 use Rattle.osdmapd.specs.CommandLine.{app, found_in, faults_of, is_plain, max_scripts, ArePlain, AreUsual, IsJournalIn, GivesOptions, ReadsLine, ReadsUsual}
 use Rattle.osdmapd.proofs.PlainWords.{at, at_option, no_option, plain_argument, plain_given, plain_more, plain_option, plain_option_behind, plain_option_more, plain_value, plain_walked}
 
@@ -124,6 +126,7 @@ record Finds (words : List Text) (journal map_word : Text) (scripts : List Text)
   journal_is : one_of (codes "journal") (found_in words) ≡ Some journal
   map_is : first_of (codes "MAP") (found_in words) ≡ Some map_word
   scripts_are : all_of (codes "SCRIPT") (found_in words) ≡ Some scripts
+  answers_are : all_of (codes "to") (found_in words) ≡ None
   passes : faults_of words ≡ []
 
 -- what is held against the words where nothing is against the scripts
@@ -182,6 +185,7 @@ module _ (name map_word script : Text) (more : List Text) (m : is_plain map_word
     journal_is = ap (one_of (codes "journal")) found_two;
     map_is = ap (first_of (codes "MAP")) found_two;
     scripts_are = ap (all_of (codes "SCRIPT")) found_two;
+    answers_are = ap (all_of (codes "to")) found_two;
     passes = passes_two;
   }
 
@@ -264,6 +268,7 @@ module _ (name number map_word script : Text) (more : List Text) (j : is_plain n
     journal_is = ap (one_of (codes "journal")) found_four ∙ ap (λ (o : Option Text). Some (unwrap_or o number)) (no_option number j).bare;
     map_is = ap (first_of (codes "MAP")) found_four;
     scripts_are = ap (all_of (codes "SCRIPT")) found_four;
+    answers_are = ap (all_of (codes "to")) found_four;
     passes = passes_four;
   }
 
@@ -312,6 +317,13 @@ none_among kind (k ∷ ks) none among =
     let bad : k ∷ ks ≡ [] = none in
     cc
 
+-- where no path of answers is there, none is
+no_answers : (answers : List (String Global)) → map string_bytes answers ≡ [] → answers ≡ []
+no_answers [] none = refl
+no_answers (a ∷ more) none =
+    let bad : string_bytes a ∷ map string_bytes more ≡ [] = none in
+    cc
+
 -- the options that are read, from what is found
 gives_options : (words : List Text) (journal map_word : Text) (scripts : List Text) (n : ℕ) → Finds words journal map_word scripts
     → length scripts ≤ max_scripts → digits_value 10 (without_leading_plus journal) ≡ n → (r : Result Options LineError) → ReadsLine words r
@@ -320,7 +332,8 @@ gives_options words journal map_word scripts n finds few number (Ok o) (none, ch
     let found = chosen.0 in
     let map_same : Some (string_bytes o.map) ≡ Some map_word = sym found.map_found ∙ finds.map_is in
     let script_same : Some (map string_bytes o.scripts.items) ≡ Some scripts = sym found.scripts_found ∙ finds.scripts_are in
-    (journal_of (found_in words) o.journal journal finds.journal_is found.journal_found ∙ number, cc, cc)
+    (journal_of (found_in words) o.journal journal finds.journal_is found.journal_found ∙ number, cc, cc,
+    no_answers o.answers.items (sym found.answers_found ∙ ap (λ (a : Option (List Text)). unwrap_or a []) finds.answers_are))
 gives_options words journal map_word scripts n finds few number (Err (Help text)) (kind, among, is) =
     absurd (none_among kind (faults_of words) finds.passes among)
 gives_options words journal map_word scripts n finds few number (Err (Usage text)) (kind, among, is) =
@@ -329,6 +342,8 @@ gives_options words journal map_word scripts n finds few number (Err TooMany) (n
     let one : Some paths ≡ Some scripts = sym found ∙ finds.scripts_are in
     let paths_are : paths ≡ scripts = cc in
     absurd (omega (arith, ap length paths_are))
+gives_options words journal map_word scripts n finds few number (Err Unpaired) (none, (paths, found, unpaired)) =
+    absurd (unpaired (λ some. absurd (some (ap (λ (a : Option (List Text)). length (unwrap_or a [])) finds.answers_are))))
 gives_options words journal map_word scripts n finds few number (Err Memory) reads = refl
 
 -- a line with a journal

@@ -1,5 +1,5 @@
 -- What the words of a command line ask for, by the parser's own definitions of what it finds in words.
-use Rattle.std.specs.Prelude.{◌≡◌, ◌≢◌, ◌⊎◌, ◌<◌, ◌≤◌, ◌==◌, ◌^◌, not, Bool, String, MatchResult, ℕ, pos, true, false, List, [], ◌∷◌, length, map, codes, Option, Some, Result, Ok, Err, string_bytes}
+use Rattle.std.specs.Prelude.{◌≡◌, ◌≢◌, ◌⊎◌, ◌<◌, ◌≤◌, ◌==◌, ◌^◌, not, Bool, String, MatchResult, ℕ, pos, true, false, List, [], ◌∷◌, length, map, codes, Option, Some, unwrap_or, Result, Ok, Err, string_bytes}
 use Rattle.std.specs.Fmt.{decimal}
 use Rattle.std.specs.declared.alloc.Global.{Global}
 use Rattle.std.specs.Str.{bytes_eq}
@@ -13,11 +13,11 @@ use Rattle.clap.specs.Lexer.{usize_max}
 use Rattle.clap.specs.Kinds.{Kinds, IsAmong}
 use Rattle.clap.specs.Faults.{fault_of}
 use Rattle.clap.specs.Walk.{Row, Rule, Text, first_of, all_of, one_of, rule_of}
-use Rattle.clap.specs.Simple.{App, matches_of, new_app, new_rule, with_rule}
+use Rattle.clap.specs.Simple.{App, matches_of, new_app, new_rule, on_top, with_rule}
 use Rattle.epochlog.specs.Epochs.{max_capacity}
 use Rattle.osdmapd.specs.declared.choices.Options.{Options}
 use Rattle.osdmapd.specs.declared.choices.LineError.{LineError}
-use Rattle.osdmapd.specs.declared.choices.LineError.TheVariants.{Help, Usage, TooMany, Memory}
+use Rattle.osdmapd.specs.declared.choices.LineError.TheVariants.{Help, Usage, TooMany, Unpaired, Memory}
 
 -- the most scripts
 abbrev pub max_scripts : ℕ
@@ -35,6 +35,10 @@ journal_rule = record (new_rule (codes "journal")) {
   parser = Some (Signed (pos 1) (pos max_capacity));
 }
 
+-- `--to ANSWERS`, as often as one likes
+abbrev pub to_rule : Rule
+to_rule = record (new_rule (codes "to")) { long = Some (codes "to"); action = Some Append; value_names = 1 }
+
 -- MAP, one word that must be there
 abbrev pub map_rule : Rule
 map_rule = record (new_rule (codes "MAP")) { action = Some Set; required = true }
@@ -51,9 +55,17 @@ script_rule = record (new_rule (codes "SCRIPT")) {
 abbrev pub IsReadBy : Rule → Arg → Type 0
 IsReadBy rule arg = (rule_of arg ≡ rule) × (arg.global ≡ false)
 
--- `osdmapd [--journal N] MAP SCRIPT..`
+-- the program's name, and that it has a version
+abbrev pub program : App
+program = on_top (λ s. record s { has_version = true }) (new_app (codes "osdmapd"))
+
+-- with its options
+abbrev pub program_with_options : App
+program_with_options = with_rule (with_rule program journal_rule) to_rule
+
+-- `osdmapd [--journal N] [--to ANSWERS].. MAP SCRIPT..`
 abbrev pub app : App
-app = with_rule (with_rule (with_rule (new_app (codes "osdmapd")) journal_rule) map_rule) script_rule
+app = with_rule (with_rule program_with_options map_rule) script_rule
 
 -- what the parser finds in the words, the program's name first
 unfoldable pub found_in : List Text → List Row
@@ -87,22 +99,35 @@ map_path_in rows = first_of (codes "MAP") rows
 abbrev pub script_paths_in : List Row → Option (List Text)
 script_paths_in rows = all_of (codes "SCRIPT") rows
 
--- a script that is standard input: its path is a hyphen alone
+-- the answers' paths that were found: none where there is no such option
+abbrev pub answer_paths_in : List Row → List Text
+answer_paths_in rows = unwrap_or (all_of (codes "to") rows) []
+
+-- there are as many files of answers as scripts, or none
+abbrev pub ArePaired : ℕ → ℕ → Type 0
+ArePaired scripts answers = (answers ≢ 0) → answers ≡ scripts
+
+-- a script that is standard input, or a file of answers that is standard output: its path is a hyphen alone
 abbrev pub is_standard : String Global → Bool
 is_standard path = bytes_eq (string_bytes path) (codes "-")
 
--- the options are what was found for the journal, the map and the scripts
+-- the options are what was found for the journal, the map, the scripts and their answers
 pub record AreFound (rows : List Row) (o : Options) : Type 0 where
   pub journal_found : IsJournalIn rows o.journal
   pub map_found : map_path_in rows ≡ Some (string_bytes o.map)
   pub scripts_found : script_paths_in rows ≡ Some (map string_bytes o.scripts.items)
+  pub answers_found : answer_paths_in rows ≡ map string_bytes o.answers.items
 
--- the options of what was found, of which the scripts are at most 64; or more were found
+-- the options of what was found, of which the scripts are at most 64; or more were found, or files of answers, but not
+-- one for each script
 abbrev pub Chooses : List Row → Result Options LineError → Type 0
 Chooses rows (Ok o) = AreFound rows o × (length o.scripts.items ≤ max_scripts)
 Chooses rows (Err (Help text)) = ⊥
 Chooses rows (Err (Usage text)) = ⊥
 Chooses rows (Err TooMany) = (paths : List Text) × (script_paths_in rows ≡ Some paths) × (max_scripts < length paths)
+Chooses rows (Err Unpaired) =
+    (paths : List Text) × (script_paths_in rows ≡ Some paths)
+    × (ArePaired (length paths) (length (answer_paths_in rows)) → ⊥)
 Chooses rows (Err Memory) = Unit {0}
 
 -- the parser asks for help or a version to be shown
@@ -114,15 +139,17 @@ abbrev pub TellsOf : ErrorKind → LineError → Type 0
 TellsOf kind (Help text) = IsRequest kind
 TellsOf kind (Usage text) = (IsRequest kind → ⊥) × (kind ≢ OutOfMemory)
 TellsOf kind TooMany = ⊥
+TellsOf kind Unpaired = ⊥
 TellsOf kind Memory = Unit {0}
 
 -- the options of words against which the parser has nothing; or why there are none: the parser's reason, or more
--- scripts than 64
+-- scripts than 64, or not as many files of answers as scripts
 abbrev pub ReadsLine : List Text → Result Options LineError → Type 0
 ReadsLine words (Ok o) = (faults_of words ≡ []) × Chooses (found_in words) (Ok o)
 ReadsLine words (Err (Help text)) = (kind : ErrorKind) × IsAmong kind (faults_of words) × IsRequest kind
 ReadsLine words (Err (Usage text)) = (kind : ErrorKind) × IsAmong kind (faults_of words) × (IsRequest kind → ⊥)
 ReadsLine words (Err TooMany) = (faults_of words ≡ []) × Chooses (found_in words) (Err TooMany)
+ReadsLine words (Err Unpaired) = (faults_of words ≡ []) × Chooses (found_in words) (Err Unpaired)
 ReadsLine words (Err Memory) = Unit {0}
 
 -- ---- the usual line
@@ -148,11 +175,12 @@ pub record AreUsual (map_word : Text) (scripts : List Text) : Type 0 where
 abbrev pub GivesOptions : Result Options LineError → ℕ → Text → List Text → Type 0
 GivesOptions r journal map_word scripts =
     MatchResult r
-    (λ o. (o.journal ≡ journal) × (string_bytes o.map ≡ map_word) × (map string_bytes o.scripts.items ≡ scripts))
+    (λ o. (o.journal ≡ journal) × (string_bytes o.map ≡ map_word) × (map string_bytes o.scripts.items ≡ scripts)
+    × (o.answers.items ≡ []))
     (λ e. e ≡ Memory)
 
 -- what `osdmapd MAP SCRIPT..` and `osdmapd --journal N MAP SCRIPT..` ask for, where none of the files is taken for an
--- option: this map, these scripts, and a journal of 1,024 or N
+-- option: this map, these scripts, no file of answers, and a journal of 1,024 or N
 pub record ReadsUsual (words : List Text) (r : Result Options LineError) : Type 0 where
   pub plain : (name map_word : Text) (scripts : List Text) → words ≡ name ∷ map_word ∷ scripts →
       AreUsual map_word scripts

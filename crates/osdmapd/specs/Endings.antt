@@ -1,5 +1,5 @@
 -- How a run of the program ends: its status, and what it tells on standard error.
-use Rattle.std.specs.Prelude.{◌≡◌, ℕ, List, ◌++◌, codes, Result, Ok, Err, IfErr, IsErrAnd, MatchResult, string_bytes}
+use Rattle.std.specs.Prelude.{◌≡◌, ℕ, List, [], ◌++◌, codes, Result, Ok, Err, IfErr, IsErrAnd, MatchResult, string_bytes}
 use Rattle.std.specs.Borrow.{Bor}
 use Rattle.std.specs.declared.io.ErrorKind.{ErrorKind}
 use Rattle.std.specs.declared.io.ErrorKind.TheVariants.{OutOfMemory}
@@ -9,7 +9,11 @@ use Rattle.osdmapd.specs.declared.choices.LineError.TheVariants as line
 use Rattle.osdmapd.specs.declared.fault.Fault.{Fault}
 use Rattle.osdmapd.specs.declared.fault.Fault.TheVariants as fault
 use Rattle.osdmapd.specs.declared.ending.Ending.{Ending}
-use Rattle.osdmapd.specs.declared.ending.Ending.TheVariants.{Usage, NoText, TooManyScripts, TwoInputs, Map, File, Input, Output, Memory}
+use Rattle.osdmapd.specs.declared.ending.Ending.TheVariants.{Usage, NoText, TooManyScripts, Unpaired, TwoInputs, TwoOutputs, Map, File, Input, Output, Told, Memory}
+use Rattle.osdmapd.specs.declared.part.Source.{Source}
+use Rattle.osdmapd.specs.declared.part.Source.TheVariants as source
+use Rattle.osdmapd.specs.declared.part.Target.{Target}
+use Rattle.osdmapd.specs.declared.part.Target.TheVariants as target
 
 -- ---- what is seen of an ending
 
@@ -18,23 +22,29 @@ abbrev pub status_of : Ending → ℕ
 status_of (Usage text) = 1
 status_of NoText = 1
 status_of TooManyScripts = 1
+status_of Unpaired = 1
 status_of TwoInputs = 1
+status_of TwoOutputs = 1
 status_of (Map refusal) = 2
 status_of (File path) = 3
 status_of Input = 3
 status_of Output = 3
+status_of Told = 3
 status_of Memory = 4
 
--- what is told: the parser's own text, or a line
+-- what is told: the parser's own text, or a line, or nothing where all was told before
 abbrev pub text_of : Ending → List ℕ
 text_of (Usage text) = text.now
 text_of NoText = codes "an argument is not UTF-8\n"
 text_of TooManyScripts = codes "too many scripts\n"
+text_of Unpaired = codes "not as many --to as scripts\n"
 text_of TwoInputs = codes "standard input is given twice\n"
+text_of TwoOutputs = codes "standard output is given twice\n"
 text_of (Map refusal) = codes "map: " ++ name_of refusal ++ codes "\n"
 text_of (File path) = codes "file: " ++ path.now ++ codes "\n"
 text_of Input = codes "input\n"
 text_of Output = codes "output\n"
+text_of Told = []
 text_of Memory = codes "memory\n"
 
 -- the exit status of a run: 0 where all is done
@@ -54,18 +64,28 @@ abbrev pub file_ending : ErrorKind → Bor (List ℕ) → Ending
 file_ending OutOfMemory path = Memory
 file_ending kind path = File path
 
--- a run that is served into memory, so that its output fails only for want of it, but for that of a live session
+-- what is told where the input of a live session is not read
+abbrev pub source_text : Source → List ℕ
+source_text (source.Standard input) = codes "input\n"
+source_text (source.File path) = codes "file: " ++ string_bytes path ++ codes "\n"
+
+-- and where its output is not written
+abbrev pub target_text : Target → List ℕ
+target_text (target.Standard output) = codes "output\n"
+target_text (target.File path) = codes "file: " ++ string_bytes path ++ codes "\n"
+
+-- a run that is served into memory, so that its output fails only for want of it
 abbrev pub fault_ending : Fault → Ending
 fault_ending (fault.Map refusal) = Map refusal
 fault_ending fault.Output = Memory
-fault_ending fault.Input = Input
-fault_ending fault.Answers = Output
+fault_ending fault.Told = Told
 fault_ending fault.Memory = Memory
 
 -- a command line that asks for no run: help is a text to show, and all else is an ending
 abbrev pub EndsLine : LineError → Result (Bor (List ℕ)) Ending → Type 0
 EndsLine (line.Help text) r = MatchResult r (λ help. help.now ≡ string_bytes text) (λ e. ⊥)
 EndsLine (line.Usage text) r = MatchResult r (λ help. ⊥) (λ e. (status_of e ≡ 1) × (text_of e ≡ string_bytes text))
+EndsLine line.Unpaired r = MatchResult r (λ help. ⊥) (λ e. e ≡ Unpaired)
 EndsLine line.TooMany r = MatchResult r (λ help. ⊥) (λ e. e ≡ TooManyScripts)
 EndsLine line.Memory r = MatchResult r (λ help. ⊥) (λ e. e ≡ Memory)
 
@@ -73,5 +93,6 @@ EndsLine line.Memory r = MatchResult r (λ help. ⊥) (λ e. e ≡ Memory)
 abbrev pub TellsLine : LineError → Result Unit Ending → Type 0
 TellsLine (line.Help text) r = IfErr r (λ e. e ≡ Output)
 TellsLine (line.Usage text) r = IsErrAnd r (λ e. (status_of e ≡ 1) × (text_of e ≡ string_bytes text))
+TellsLine line.Unpaired r = IsErrAnd r (λ e. e ≡ Unpaired)
 TellsLine line.TooMany r = IsErrAnd r (λ e. e ≡ TooManyScripts)
 TellsLine line.Memory r = IsErrAnd r (λ e. e ≡ Memory)

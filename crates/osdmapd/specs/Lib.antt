@@ -3,4 +3,3 @@ pub mod Endings
 pub mod Pairs
 pub mod Serving
 pub mod Players
-pub mod Faults

@@ -2,11 +2,10 @@
 use Rattle.std.specs.Prelude.{◌≡◌, ℕ}
 use Rattle.std.specs.declared.thread.PromisedHandle.{PromisedHandle}
 use Rattle.monitor.specs.Members.{Monitored}
-use Rattle.session.specs.declared.sink.Buffer.{Buffer}
-use Rattle.session.specs.Buffers.{buffered}
 use Rattle.osdmapd.specs.declared.part.Part.{Part}
+use Rattle.osdmapd.specs.declared.playing.Left.{Left}
 use Rattle.osdmapd.specs.declared.playing.LeftOf.{LeftOf}
-use Rattle.osdmapd.specs.Serving.{IsLeftBy}
+use Rattle.osdmapd.specs.Serving.{text_left, IsLeftBy}
 
 -- a thread that was started for a part, by its number
 abbrev pub IsStartedFor : {T : Type 0} → Monitored → ℕ → PromisedHandle T LeftOf → Part → Type 0
@@ -14,6 +13,6 @@ IsStartedFor monitor number player part =
     (player.promise.monitor.now ≡ monitor) × (player.promise.number ≡ number) × (player.promise.part.now ≡ part)
 
 -- what it promised
-abbrev pub Keeps : {T : Type 0} → ℕ → PromisedHandle T LeftOf → Buffer → Type 0
-Keeps number player text =
-    IsLeftBy player.promise.monitor.now player.promise.number player.promise.part.now (buffered text)
+abbrev pub Keeps : {T : Type 0} → ℕ → PromisedHandle T LeftOf → Left → Type 0
+Keeps number player left =
+    IsLeftBy player.promise.monitor.now player.promise.number player.promise.part.now (text_left left)

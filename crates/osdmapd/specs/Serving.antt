@@ -10,10 +10,12 @@ use Rattle.session.specs.Answers.{Sight, session_with}
 use Rattle.session.specs.Transcripts.{IsTranscript}
 use Rattle.session.specs.Sinks.{HasPut}
 use Rattle.osdmapd.specs.Pairs.{Pairs}
+use Rattle.session.specs.Buffers.{buffered}
+use Rattle.osdmapd.specs.declared.playing.Left.{Left}
 use Rattle.osdmapd.specs.declared.part.Part.{Part}
 use Rattle.osdmapd.specs.declared.part.Part.TheVariants.{Script, Live}
 use Rattle.osdmapd.specs.declared.fault.Fault.{Fault}
-use Rattle.osdmapd.specs.declared.fault.Fault.TheVariants.{Map, Output, Input, Answers, Memory}
+use Rattle.osdmapd.specs.declared.fault.Fault.TheVariants.{Map, Output, Told, Memory}
 
 -- ---- one session
 
@@ -44,7 +46,11 @@ IsTextBy monitor number script text = IsTextOf monitor.first (length monitor.row
 -- what is left to put out of the session of a part, once it has ended: the text of a script; of a live session nothing
 abbrev pub IsLeftOf : ClusterMap → ℕ → ℕ → Part → List ℕ → Type 0
 IsLeftOf first journal number (Script script) text = IsTextOf first journal number script.items text
-IsLeftOf first journal number (Live input output) text = text ≡ []
+IsLeftOf first journal number (Live source target) text = text ≡ []
+
+-- what is to be put out of what is left
+abbrev pub text_left : Left → List ℕ
+text_left left = buffered left.text
 
 -- the same of a session of this monitor
 abbrev pub IsLeftBy : Monitored → ℕ → Part → List ℕ → Type 0
@@ -57,20 +63,23 @@ abbrev pub AreTextsOf : ℕ → List ℕ → List Part → List (List ℕ) → T
 AreTextsOf journal stated parts texts =
     (m : ClusterMap) × StatesMap stated m × Pairs (IsLeftOf m journal) 1 parts texts
 
--- what is out at the end: the texts of a map that is not refused, one after the other, or where the output fails a
--- beginning of them; nothing where the map is refused, a live session fails, or memory is short
-abbrev pub Serves : ℕ → List ℕ → List Part → List ℕ → List ℕ → Result Unit Fault → Type 0
-Serves journal stated parts before after (Ok done) =
+-- the texts of a map that is not refused are out, one after the other
+abbrev pub IsServed : ℕ → List ℕ → List Part → List ℕ → List ℕ → Type 0
+IsServed journal stated parts before after =
     (map_text_fault stated ≡ None)
     × ((texts : List (List ℕ)) × AreTextsOf journal stated parts texts × (after ≡ before ++ concat texts))
+
+-- what is out at the end: the texts, also where a live session has told that a file of it failed, or where the output
+-- fails a beginning of them; nothing where the map is refused or memory is short
+abbrev pub Serves : ℕ → List ℕ → List Part → List ℕ → List ℕ → Result Unit Fault → Type 0
+Serves journal stated parts before after (Ok done) = IsServed journal stated parts before after
 Serves journal stated parts before after (Err (Map refusal)) =
     (map_text_fault stated ≡ Some refusal) × (after ≡ before)
 Serves journal stated parts before after (Err Output) =
     (map_text_fault stated ≡ None)
     × ((texts : List (List ℕ)) × (rest : List ℕ) × AreTextsOf journal stated parts texts
     × HasPut before (concat texts) rest after)
-Serves journal stated parts before after (Err Input) = after ≡ before
-Serves journal stated parts before after (Err Answers) = after ≡ before
+Serves journal stated parts before after (Err Told) = IsServed journal stated parts before after
 Serves journal stated parts before after (Err Memory) = after ≡ before
 
 -- whether the sink has failed: where the output is told to have, and else not
@@ -78,6 +87,5 @@ abbrev pub has_output_failed : Result Unit Fault → Bool
 has_output_failed (Ok done) = false
 has_output_failed (Err (Map refusal)) = false
 has_output_failed (Err Output) = true
-has_output_failed (Err Input) = false
-has_output_failed (Err Answers) = false
+has_output_failed (Err Told) = false
 has_output_failed (Err Memory) = false

@@ -11,6 +11,8 @@ pub struct Options {
     pub map: String,
     /// The paths of the scripts.
     pub scripts: Vec<String>,
+    /// The paths of their answers, one for each script, or none.
+    pub answers: Vec<String>,
 }
 
 /// Why there are no options.
@@ -25,6 +27,9 @@ pub enum LineError {
     /// More scripts than can be run.
     #[error("too many scripts")]
     TooMany,
+    /// There are files for answers, but not one for each script.
+    #[error("not as many --to as scripts")]
+    Unpaired,
     /// The parser found no memory.
     #[error("memory")]
     Memory,

@@ -15,16 +15,22 @@ pub enum Ending<'a> {
     NoText,
     /// There are more scripts than can be run.
     TooManyScripts,
+    /// There are files for answers, but not one for each script.
+    Unpaired,
     /// More than one of the scripts is standard input.
     TwoInputs,
+    /// More than one of the files for answers is standard output.
+    TwoOutputs,
     /// The map is refused.
     Map(Refusal),
-    /// A file is not read: its path.
+    /// A file is not read, or not written: its path.
     File(&'a str),
     /// Standard input is not read.
     Input,
     /// The output is not written.
     Output,
+    /// What live sessions have told.
+    Told,
     /// A growth was refused.
     Memory,
 }
@@ -55,15 +61,14 @@ impl<'a> Ending<'a> {
         }
     }
 
-    /// Of a run that is served into memory, so that its output fails only for want of it, but for that of a live session.
+    /// Of a run that is served into memory, so that its output fails only for want of it.
     pub fn of_fault(fault: Fault) -> Ending<'a>
         ensures ending { result ≡ fault_ending fault }
         ensures status { 2 ≤ status_of result }
     {
         match fault {
             Fault::Map(refusal) => Ending::Map(refusal),
-            Fault::Input => Ending::Input,
-            Fault::Answers => Ending::Output,
+            Fault::Told => Ending::Told,
             Fault::Output | Fault::Memory => Ending::Memory,
         }
     }
@@ -76,6 +81,7 @@ impl<'a> Ending<'a> {
             LineError::Help(text) => Ok(text.as_str()),
             LineError::Usage(text) => Err(Ending::Usage(text.as_str())),
             LineError::TooMany => Err(Ending::TooManyScripts),
+            LineError::Unpaired => Err(Ending::Unpaired),
             LineError::Memory => Err(Ending::Memory),
         }
     }
@@ -85,9 +91,10 @@ impl<'a> Ending<'a> {
         ensures { result ≡ status_of self.now }
     {
         match self {
-            Ending::Usage(_) | Ending::NoText | Ending::TooManyScripts | Ending::TwoInputs => 1,
+            Ending::Usage(_) | Ending::NoText | Ending::TooManyScripts | Ending::Unpaired => 1,
+            Ending::TwoInputs | Ending::TwoOutputs => 1,
             Ending::Map(_) => 2,
-            Ending::File(_) | Ending::Input | Ending::Output => 3,
+            Ending::File(_) | Ending::Input | Ending::Output | Ending::Told => 3,
             Ending::Memory => 4,
         }
     }
@@ -104,11 +111,14 @@ impl<'a> fmt::Display for Ending<'a> {
             Ending::Usage(text) => f.write_str(text),
             Ending::NoText => f.write_str("an argument is not UTF-8\n"),
             Ending::TooManyScripts => f.write_str("too many scripts\n"),
+            Ending::Unpaired => f.write_str("not as many --to as scripts\n"),
             Ending::TwoInputs => f.write_str("standard input is given twice\n"),
+            Ending::TwoOutputs => f.write_str("standard output is given twice\n"),
             Ending::Map(refusal) => writeln!(f, "map: {refusal}"),
             Ending::File(path) => writeln!(f, "file: {path}"),
             Ending::Input => f.write_str("input\n"),
             Ending::Output => f.write_str("output\n"),
+            Ending::Told => f.write_str(""),
             Ending::Memory => f.write_str("memory\n"),
         }
     }

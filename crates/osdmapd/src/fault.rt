@@ -1,12 +1,10 @@
 //! Why nothing is served, or not all of it.
 ghost use Rattle.std.specs.Prelude.{◌≡◌, ◌≢◌};
 ghost use Rattle.refusal.specs.declared.refused.Refusal.TheVariants.{Memory as OutOfMemory};
-ghost use Rattle.osdmapd.specs.declared.fault.Fault.TheVariants.{Output as NoOutput};
-ghost use Rattle.osdmapd.specs.Faults.{fault_of};
+ghost use Rattle.osdmapd.specs.declared.fault.Fault.TheVariants.{Output as NoOutput, Memory as ShortOfMemory};
 
-use refusal::Refusal;
+use refusal::{Memory, Refusal};
 use session::WriteFailed;
-use std::alloc::{AllocError, AllocFailed};
 use thiserror::Error;
 
 /// Why nothing is served, or not all of it.
@@ -18,12 +16,9 @@ pub enum Fault {
     /// The sink of the texts has failed.
     #[error("output")]
     Output,
-    /// The input of a live session is not read.
-    #[error("input")]
-    Input,
-    /// The answers of a live session are not written.
-    #[error("answers")]
-    Answers,
+    /// The files of a live session have failed, which its thread has told.
+    #[error("told")]
+    Told,
     /// A growth was refused.
     #[error("memory")]
     Memory,
@@ -37,41 +32,11 @@ impl From<WriteFailed> for Fault {
     }
 }
 
-/// Why a session has not come to its end.
-#[derive(Clone, Copy, Debug, PartialEq, Eq, Error)]
-pub enum Broken {
-    /// Its input is not read.
-    #[error("input")]
-    Input,
-    /// Its answers are not written.
-    #[error("answers")]
-    Answers,
-    /// A growth was refused.
-    #[error("memory")]
-    Memory,
-}
+impl From<Memory> for Fault {
+    ghost from_gives = { λ _ fault. fault ≡ ShortOfMemory };
 
-impl From<AllocError> for Broken {
-    fn from(_error: AllocError) -> Broken {
-        Broken::Memory
-    }
-}
-
-impl<T: Drop> From<AllocFailed<T>> for Broken {
-    fn from(_failed: AllocFailed<T>) -> Broken {
-        Broken::Memory
-    }
-}
-
-impl From<Broken> for Fault {
-    ghost from_gives = { λ broken fault. fault ≡ fault_of broken };
-
-    fn from(broken: Broken) -> Fault {
-        match broken {
-            Broken::Input => Fault::Input,
-            Broken::Answers => Fault::Answers,
-            Broken::Memory => Fault::Memory,
-        }
+    fn from(_memory: Memory) -> Fault {
+        Fault::Memory
     }
 }
 

@@ -1,13 +1,13 @@
 //! The command line.
 
-ghost use Rattle.std.specs.Prelude.{◌≡◌, ◌≤◌, IfOk, MatchOption, length, map, option_map, string_bytes, vec_len};
+ghost use Rattle.std.specs.Prelude.{◌≡◌, ◌≤◌, IfOk, MatchOption, length, map, option_map, unwrap_or, string_bytes, vec_len, []};
 ghost use Rattle.clap.specs.Matches.{found_of};
 ghost use Rattle.clap.specs.Simple.{app_of};
 ghost use Rattle.clap.specs.Values.{kind_of};
 ghost use Rattle.clap.specs.Walk.{rows_of};
 ghost use Rattle.epochlog.specs.Epochs.{max_capacity};
-ghost use Rattle.osdmapd.specs.CommandLine.{journal_rule, map_rule, script_rule, IsReadBy, app};
-ghost use Rattle.osdmapd.specs.CommandLine.{max_scripts, HasNoJournal, IsJournalIn, map_path_in, script_paths_in, Chooses, TellsOf, ReadsLine, ReadsUsual};
+ghost use Rattle.osdmapd.specs.CommandLine.{journal_rule, map_rule, script_rule, to_rule, IsReadBy, program, program_with_options, app};
+ghost use Rattle.osdmapd.specs.CommandLine.{max_scripts, HasNoJournal, IsJournalIn, map_path_in, script_paths_in, answer_paths_in, Chooses, ArePaired, TellsOf, ReadsLine, ReadsUsual};
 
 use crate::choices::{LineError, Options};
 use clap::error::ErrorKind;
@@ -17,6 +17,9 @@ use std::alloc::{AllocError, Global};
 
 /// How many scripts can be run.
 const MAX_SCRIPTS: usize = 64;
+
+/// What `--version` tells beside the program's name.
+const VERSION: &str = "0.1.0";
 
 /// What the program says of itself where help is asked for.
 const ABOUT: &str =
@@ -37,6 +40,17 @@ fn journal_option<'a>(alloc: Global) -> Arg<'a>
         .default_value("1024")
 }
 
+/// `--to ANSWERS`.
+fn to_option<'a>(alloc: Global) -> Arg<'a>
+    ensures { IsReadBy to_rule result }
+{
+    Arg::new(alloc, "to")
+        .long("to")
+        .value_name("ANSWERS")
+        .help("The file of a script's answers, each put out as its line is read; once for each SCRIPT, or not at all; - is standard output")
+        .action(ArgAction::Append)
+}
+
 /// MAP.
 fn map_word<'a>(alloc: Global) -> Arg<'a>
     ensures { IsReadBy map_rule result }
@@ -53,20 +67,36 @@ fn script_words<'a>(alloc: Global) -> Arg<'a>
 {
     Arg::new(alloc, "SCRIPT")
         .help(
-            "The file of a script: lines such as up 1.0, groups 2, epoch, await 3, dump, change {..}; 1 to 64 scripts",
+            "The file of a script: lines such as up 1.0, groups 2, epoch, await 3, dump, change {..}; 1 to 64 scripts; - is standard input, answered line by line",
         )
         .required(true)
         .num_args(1..)
         .action(ArgAction::Append)
 }
 
+/// The program by itself.
+fn program<'a>(alloc: Global) -> Command<'a>
+    ensures { app_of result ≡ program }
+{
+    Command::new(alloc, "osdmapd")
+        .about(ABOUT)
+        .version(VERSION)
+}
+
+/// The program with its options.
+fn program_with_options<'a>(alloc: Global) -> Result<Command<'a>, AllocError>
+    ensures { IfOk result (λ c. app_of c ≡ program_with_options) }
+{
+    program(alloc)
+        .arg(journal_option(alloc))?
+        .arg(to_option(alloc))
+}
+
 /// The command line that the program takes.
 fn command<'a>(alloc: Global) -> Result<Command<'a>, AllocError>
     ensures { IfOk result (λ c. app_of c ≡ app) }
 {
-    Command::new(alloc, "osdmapd")
-        .about(ABOUT)
-        .arg(journal_option(alloc))?
+    program_with_options(alloc)?
         .arg(map_word(alloc))?
         .arg(script_words(alloc))
 }
@@ -123,12 +153,31 @@ fn scripts_in<'m>(matches: &'m ArgMatches<'_>) -> Option<&'m [&'m str]>
     matches.get_strs("SCRIPT")
 }
 
+/// The words for files of answers.
+fn answers_in<'m>(matches: &'m ArgMatches<'_>) -> Option<&'m [&'m str]>
+    ensures { unwrap_or (option_map (λ words. map (λ word. word.now) words.now) result) []
+        ≡ answer_paths_in (rows_of (found_of matches.now)) }
+{
+    matches.get_strs("to")
+}
+
+/// Copies of the words for files of answers: none where there is no such option.
+fn answers(alloc: Global, matches: &ArgMatches<'_>) -> Result<Vec<String>, AllocError>
+    ensures { IfOk result (λ copies. map string_bytes copies.items ≡ answer_paths_in (rows_of (found_of matches.now))) }
+{
+    match answers_in(matches) {
+        Some(words) => copied(alloc, words),
+        None => Ok(Vec::new(alloc)),
+    }
+}
+
 /// The options of words that the parser took. A value that it had to find and did not is told as out of memory.
 fn taken(alloc: Global, matches: &ArgMatches<'_>) -> Result<Options, LineError>
     ensures least { IfOk result (λ o. 1 ≤ o.journal) }
     ensures most { IfOk result (λ o. o.journal ≤ max_capacity) }
     ensures some { IfOk result (λ o. 1 ≤ vec_len o.scripts) }
     ensures few { IfOk result (λ o. vec_len o.scripts ≤ max_scripts) }
+    ensures paired { IfOk result (λ o. ArePaired (vec_len o.scripts) (vec_len o.answers)) }
     ensures taken { Chooses (rows_of (found_of matches.now)) result }
 {
     let journal = journal_in(matches).ok_or(LineError::Memory)?;
@@ -140,23 +189,30 @@ fn taken(alloc: Global, matches: &ArgMatches<'_>) -> Result<Options, LineError>
     if scripts.len() > MAX_SCRIPTS {
         return Err(LineError::TooMany);
     }
+    let answers = answers(alloc, matches)?;
+    if !answers.is_empty() && answers.len() != scripts.len() {
+        return Err(LineError::Unpaired);
+    }
     Ok(Options {
         journal,
         map: String::from_str(alloc, map)?,
         scripts: copied(alloc, scripts)?,
+        answers,
     })
 }
 
-/// What a command line asks for, the program's name first: `[--journal N] MAP SCRIPT..`, N from 1 to 65,536 and 1,024
-/// where it is not given, and 1 to 64 scripts. The options are those that the parser finds in the words, exactly where
-/// it has nothing against them and there are no more scripts; `Help` where help was asked for, `Usage` for what else
-/// the parser has against the words, `TooMany` where there are more scripts, else `Memory`. So where MAP and the
-/// scripts begin with no hyphen, they are the map and the scripts, and the journal is N or 1,024.
+/// What a command line asks for, the program's name first: `[--journal N] [--to ANSWERS].. MAP SCRIPT..`, N from 1 to
+/// 65,536 and 1,024 where it is not given, 1 to 64 scripts, and as many files of answers or none. The options are those
+/// that the parser finds in the words, exactly where it has nothing against them and the numbers are so; `Help` where
+/// help was asked for, `Usage` for what else the parser has against the words, `TooMany` where there are more scripts,
+/// `Unpaired` where there are files of answers but another number of them, else `Memory`. So where MAP and the scripts
+/// begin with no hyphen, they are the map and the scripts, there is no file of answers, and the journal is N or 1,024.
 pub fn options(alloc: Global, words: &[String]) -> Result<Options, LineError>
     ensures least { IfOk result (λ o. 1 ≤ o.journal) }
     ensures most { IfOk result (λ o. o.journal ≤ max_capacity) }
     ensures some { IfOk result (λ o. 1 ≤ vec_len o.scripts) }
     ensures few { IfOk result (λ o. vec_len o.scripts ≤ max_scripts) }
+    ensures paired { IfOk result (λ o. ArePaired (vec_len o.scripts) (vec_len o.answers)) }
     ensures read { ReadsLine (map string_bytes words.now) result }
     ensures usual { ReadsUsual (map string_bytes words.now) result }
 {

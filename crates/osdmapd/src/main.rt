@@ -1,12 +1,13 @@
-//! Answers scripts of commands over the map of a cluster: `osdmapd [--journal N] MAP SCRIPT..`, where `-` for a script is
-//! standard input.
+//! Answers scripts of commands over the map of a cluster: `osdmapd [--journal N] [--to ANSWERS].. MAP SCRIPT..`, where `-` for
+//! a script is standard input, and for a file of answers standard output.
 #![tactic(auto)]
 
 ghost use Rattle.std.specs.Prelude.{◌≡◌, ◌≤◌, IfOk, IfErr, length, vec_len, nat_lt, count_by};
 ghost use Rattle.std.specs.declared.io.ErrorKind.{ErrorKind};
 ghost use Rattle.std.specs.Process.{exit_status};
 ghost use Rattle.epochlog.specs.Epochs.{max_capacity};
-ghost use Rattle.osdmapd.specs.CommandLine.{max_scripts, is_standard};
+ghost use Rattle.osdmapd.specs.CommandLine.{max_scripts, is_standard, ArePaired};
+ghost use Rattle.osdmapd.specs.declared.ending.Ending.TheVariants.{Output as NoOutput};
 ghost use Rattle.osdmapd.specs.Endings.{file_ending, run_status, status_of, TellsLine};
 
 mod choices;
@@ -20,16 +21,18 @@ mod serving;
 
 use choices::{LineError, Options};
 use ending::Ending;
-use part::Part;
+use fault::Fault;
+use part::{Part, Source, Target};
+use refusal::Memory;
 use session::Buffer;
-use std::io::{Stdin, Stdout};
+use std::alloc::AllocError;
 use std::process::ExitCode;
 use std::rt::Files;
 use std::sync::Wait;
 use std::thread::Threads;
 use std::{fs, io};
 
-/// The word for a script that is standard input.
+/// The word for a script that is standard input, and for a file of answers that is standard output.
 const STANDARD: &str = "-";
 
 /// Ends a run: where something kept it from being done, standard error tells why.
@@ -53,8 +56,8 @@ fn read<'a, R: Files + AllocGlobal>(rt: &R, path: &'a str) -> Result<Vec<u8>, En
     fs::read(rt, path).map_err(|error| Ending::of_file(&error, path))
 }
 
-/// Whether more than one of these paths is standard input.
-fn is_read_twice(paths: &[String]) -> bool
+/// Whether more than one of these paths is that of standard input or output.
+fn is_given_twice(paths: &[String]) -> bool
     ensures { result ≡ nat_lt 1 (count_by is_standard paths.now) }
 {
     let mut times: usize = 0;
@@ -66,10 +69,40 @@ fn is_read_twice(paths: &[String]) -> bool
     times > 1
 }
 
+/// Where the lines of a path come from.
+fn source(host: &HostRuntime, path: &str) -> Result<Source, AllocError> {
+    if path == STANDARD {
+        return Ok(Source::Standard(host.stdin()));
+    }
+    Ok(Source::File(String::from_str(host.alloc(), path)?))
+}
+
+/// Where the answers of a path go.
+fn target(host: &HostRuntime, path: &str) -> Result<Target, AllocError> {
+    if path == STANDARD {
+        return Ok(Target::Standard(host.stdout()));
+    }
+    Ok(Target::File(String::from_str(host.alloc(), path)?))
+}
+
+/// What the session of each of these paths is played from, its answers to the file of another path.
+fn live_parts(host: &HostRuntime, options: &Options) -> Result<Vec<Part>, Memory>
+    requires { vec_len options.now.answers ≡ vec_len options.now.scripts }
+    ensures { IfOk result (λ parts. vec_len parts ≡ vec_len options.now.scripts) }
+{
+    let mut parts = Vec::new(host.alloc());
+    for k in 0..options.scripts.len() {
+        let source = source(host, options.scripts[k].as_str())?;
+        let target = target(host, options.answers[k].as_str())?;
+        parts.push(Part::Live(source, target))?;
+    }
+    Ok(parts)
+}
+
 /// What the session of each of these paths is played from.
 fn parts_of<'a, R: Files + AllocGlobal>(
     rt: &R,
-    standard: (Stdin, Stdout),
+    host: &HostRuntime,
     paths: &'a [String],
 ) -> Result<Vec<Part>, Ending<'a>>
     ensures count { IfOk result (λ parts. vec_len parts ≡ length paths.now) }
@@ -78,7 +111,7 @@ fn parts_of<'a, R: Files + AllocGlobal>(
     let mut parts = Vec::new(rt.alloc());
     for path in paths {
         let part = if path.as_str() == STANDARD {
-            Part::Live(standard.0, standard.1)
+            Part::Live(Source::Standard(host.stdin()), Target::Standard(host.stdout()))
         } else {
             Part::Script(read(rt, path.as_str())?)
         };
@@ -89,25 +122,42 @@ fn parts_of<'a, R: Files + AllocGlobal>(
     Ok(parts)
 }
 
-/// Reads the files, the map first, and puts the answers to standard output.
-fn work<'a, R: Files + AllocGlobal + Print + Threads + Wait + Sync>(
+/// Puts the answers to standard output.
+fn put_out<'a>(rt: &impl Print, answers: &[u8]) -> Result<(), Ending<'a>>
+    ensures { IfErr result (λ e. e ≡ NoOutput) }
+{
+    io::Write::write_all(&mut io::writer(rt), answers).map_err(|_| Ending::Output)
+}
+
+/// Reads the files, the map first, and puts the answers to standard output; where there are files of answers, the map alone,
+/// and each session opens its own.
+fn work<'a, R: Files + AllocGlobal + Print + Eprint + Threads + Wait + Sync>(
     rt: &R,
-    standard: (Stdin, Stdout),
+    host: &HostRuntime,
     options: &'a Options,
 ) -> Result<(), Ending<'a>>
     requires least { 1 ≤ options.now.journal }
     requires most { options.now.journal ≤ max_capacity }
     requires some { 1 ≤ vec_len options.now.scripts }
     requires few { vec_len options.now.scripts ≤ max_scripts }
+    requires paired { ArePaired (vec_len options.now.scripts) (vec_len options.now.answers) }
     ensures { IfErr result (λ e. 2 ≤ status_of e) }
 {
     let map = read(rt, options.map.as_str())?;
-    let parts = parts_of(rt, standard, options.scripts.as_slice())?;
+    let parts = if options.answers.is_empty() {
+        parts_of(rt, host, options.scripts.as_slice())?
+    } else {
+        live_parts(host, options).map_err(|_| Ending::Memory)?
+    };
     let mut out = Buffer::new(rt.alloc());
-    if let Err(fault) = serving::serve(rt, options.journal, &map, &parts, &mut out) {
-        return Err(Ending::of_fault(fault));
+    match serving::serve((rt, host), options.journal, &map, &parts, &mut out) {
+        Ok(()) => put_out(rt, out.bytes()),
+        Err(Fault::Told) => {
+            put_out(rt, out.bytes())?;
+            Err(Ending::Told)
+        }
+        Err(fault) => Err(Ending::of_fault(fault)),
     }
-    io::Write::write_all(&mut io::writer(rt), out.bytes()).map_err(|_| Ending::Output)
 }
 
 /// Shows the help that a command line asks for, or says why it asks for no run.
@@ -128,10 +178,13 @@ fn main(rt: HostRuntime) -> ExitCode {
         return ended(&rt, Err(Ending::Memory));
     };
     match line::options(alloc, words.as_slice()) {
-        Ok(options) if is_read_twice(options.scripts.as_slice()) => {
+        Ok(options) if is_given_twice(options.scripts.as_slice()) => {
             ended(&rt, Err(Ending::TwoInputs))
         }
-        Ok(options) => ended(&rt, work(&rt, (rt.stdin(), rt.stdout()), &options)),
+        Ok(options) if is_given_twice(options.answers.as_slice()) => {
+            ended(&rt, Err(Ending::TwoOutputs))
+        }
+        Ok(options) => ended(&rt, work(&rt, &rt, &options)),
         Err(error) => ended(&rt, told(&rt, &error)),
     }
 }

@@ -1,5 +1,25 @@
-//! What a session is played from.
+//! What a session is played from, and where its answers go.
+
+use crate::ending::Ending;
 use std::io::{Stdin, Stdout};
+
+/// Where the lines of a live session come from.
+#[derive(Drop)]
+pub enum Source {
+    /// Standard input.
+    Standard(Stdin),
+    /// The file of a path, which the session's thread opens.
+    File(String),
+}
+
+/// Where the answers of a live session go.
+#[derive(Drop)]
+pub enum Target {
+    /// Standard output.
+    Standard(Stdout),
+    /// The file of a path, which the session's thread makes or empties.
+    File(String),
+}
 
 /// What a session is played from, and where its answers go.
 #[derive(Drop)]
@@ -7,5 +27,35 @@ pub enum Part {
     /// The bytes of a script, whose answers are put out once all sessions have ended.
     Script(Vec<u8>),
     /// Lines that come while the session runs, each answered as soon as it has ended.
-    Live(Stdin, Stdout),
+    Live(Source, Target),
+}
+
+impl Source {
+    ghost use Rattle.std.specs.Prelude.{◌≡◌};
+    ghost use Rattle.osdmapd.specs.Endings.{text_of, source_text};
+
+    /// How a session ends whose lines are not read.
+    pub fn ending(&self) -> Ending<'_>
+        ensures { text_of result ≡ source_text self.now }
+    {
+        match self {
+            Source::Standard(_) => Ending::Input,
+            Source::File(path) => Ending::File(path.as_str()),
+        }
+    }
+}
+
+impl Target {
+    ghost use Rattle.std.specs.Prelude.{◌≡◌};
+    ghost use Rattle.osdmapd.specs.Endings.{text_of, target_text};
+
+    /// How a session ends whose answers are not written.
+    pub fn ending(&self) -> Ending<'_>
+        ensures { text_of result ≡ target_text self.now }
+    {
+        match self {
+            Target::Standard(_) => Ending::Output,
+            Target::File(path) => Ending::File(path.as_str()),
+        }
+    }
 }

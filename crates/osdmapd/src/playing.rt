@@ -3,21 +3,31 @@ ghost use Rattle.std.specs.Prelude.{◌≡◌, ◌+◌, ◌++◌, ℕ, List, fal
 ghost use Rattle.monitor.specs.Members.{IsNewMemberOf};
 ghost use Rattle.session.specs.Buffers.{buffered, is_short};
 ghost use Rattle.osdmapd.specs.Pairs.{Pairs};
-ghost use Rattle.osdmapd.specs.Serving.{heading, IsTextBy, IsLeftBy};
+ghost use Rattle.osdmapd.specs.Serving.{heading, text_left, IsTextBy, IsLeftBy};
 ghost use Rattle.osdmapd.specs.Players.{IsStartedFor, Keeps};
 
-use crate::fault::Broken;
 use crate::out::Out;
-use crate::part::Part;
+use crate::ending::Ending;
+use crate::part::{Part, Source, Target};
 use monitor::{Member, Monitor};
+use refusal::Memory;
 use session::{Buffer, Desk, Open, SessionError, Sink, write_whole};
 use std::alloc::{AllocError, Global};
-use std::io::Read;
+use std::io::{ErrorKind, Read};
 use std::sync::Wait;
-use std::thread;
+use std::{fs, io, thread};
 use std::thread::{Promise, PromisedHandle, Scope, Threads};
 
-/// A session, and what its thread promises: what is left to put out of it, unless it failed.
+/// What is left of a session that has ended.
+#[derive(Drop)]
+pub struct Left {
+    /// What is to be put out of it.
+    pub text: Buffer,
+    /// Whether one of its files has failed, which its thread has told.
+    pub has_told: bool,
+}
+
+/// A session, and what its thread promises: what is left to put out of it, unless memory was short.
 #[derive(Clone, Copy)]
 pub struct LeftOf<'a> {
     monitor: &'a Monitor,
@@ -25,16 +35,15 @@ pub struct LeftOf<'a> {
     part: &'a Part,
 }
 
-impl<'a> Promise<Result<Buffer, Broken>> for LeftOf<'a> {
+impl<'a> Promise<Result<Left, Memory>> for LeftOf<'a> {
     ghost use Rattle.std.specs.Prelude.{IfOk};
-    ghost use Rattle.session.specs.Buffers.{buffered};
-    ghost use Rattle.osdmapd.specs.Serving.{IsLeftBy};
+    ghost use Rattle.osdmapd.specs.Serving.{IsLeftBy, text_left};
 
-    ghost kept_by = { λ p text. IfOk text (λ t. IsLeftBy p.monitor.now p.number p.part.now (buffered t)) };
+    ghost kept_by = { λ p left. IfOk left (λ l. IsLeftBy p.monitor.now p.number p.part.now (text_left l)) };
 }
 
 /// A thread that plays a session.
-type Player<'a> = PromisedHandle<Result<Buffer, Broken>, LeftOf<'a>>;
+type Player<'a> = PromisedHandle<Result<Left, Memory>, LeftOf<'a>>;
 
 /// A text that begins with the heading of the session of a number. `None` where memory is short.
 fn headed(alloc: Global, number: usize) -> Option<Buffer>
@@ -88,27 +97,124 @@ fn play_live<R: Wait, B: Read, W: Sink>(
     desk.run_from(&mut member, reader, out)
 }
 
-/// Plays a session: what is left to put out of it.
-fn play<R: Wait>(
+/// Plays the session of a reader's lines, its answers to a writer.
+fn play_into<R: Wait, B: Read, W: io::Write + Drop>(
     desk: &Desk<'_, R, Open>,
     member: Member,
     number: usize,
-    part: &Part,
-) -> Result<Buffer, Broken>
+    reader: &mut B,
+    to: W,
+) -> Result<(), SessionError>
     requires { IsNewMemberOf desk.now.monitor.now member }
-    ensures { IfOk result (λ text. IsLeftBy desk.now.monitor.now number part.now (buffered text)) }
+{
+    let mut out = Out::new(desk.alloc, to);
+    match play_live(desk, member, number, reader, &mut out) {
+        Err(SessionError::Write) if out.is_short() => Err(SessionError::Memory),
+        done => done,
+    }
+}
+
+/// How a session ends one of whose files is not opened: for want of memory, else as is said.
+fn unopened(error: &io::Error, otherwise: SessionError) -> SessionError {
+    match error.kind() {
+        ErrorKind::OutOfMemory => SessionError::Memory,
+        _ => otherwise,
+    }
+}
+
+/// Plays the session of a reader's lines; a file for its answers is made, or emptied.
+fn play_to<R: Wait, B: Read>(
+    desk: &Desk<'_, R, Open>,
+    member: Member,
+    number: usize,
+    reader: &mut B,
+    to: (&HostRuntime, &Target),
+) -> Result<(), SessionError>
+    requires { IsNewMemberOf desk.now.monitor.now member }
+{
+    let (files, target) = to;
+    match target {
+        Target::Standard(output) => play_into(desk, member, number, reader, *output),
+        Target::File(path) => match fs::create(files, path.as_str()) {
+            Ok(file) => play_into(desk, member, number, reader, file),
+            Err(error) => Err(unopened(&error, SessionError::Write)),
+        },
+    }
+}
+
+/// Plays a live session: opens the file of its lines first, then that of its answers.
+fn play_between<R: Wait>(
+    desk: &Desk<'_, R, Open>,
+    member: Member,
+    number: usize,
+    files: &HostRuntime,
+    ends: (&Source, &Target),
+) -> Result<(), SessionError>
+    requires { IsNewMemberOf desk.now.monitor.now member }
+{
+    let (source, target) = ends;
+    match source {
+        Source::Standard(input) => {
+            let mut reader = *input;
+            play_to(desk, member, number, &mut reader, (files, target))
+        }
+        Source::File(path) => match fs::open(files, path.as_str()) {
+            Ok(mut file) => play_to(desk, member, number, &mut file, (files, target)),
+            Err(error) => Err(unopened(&error, SessionError::Read)),
+        },
+    }
+}
+
+/// Tells on standard error how a live session has ended.
+fn tell(rt: &impl Eprint, ending: &Ending<'_>) {
+    let _ = eprint!(rt; "{ending}");
+}
+
+/// Plays a live session: whether one of its files has failed, which is told. The one error is that memory is short.
+fn play_told<R: Wait + Eprint>(
+    desk: &Desk<'_, R, Open>,
+    member: Member,
+    number: usize,
+    files: &HostRuntime,
+    ends: (&Source, &Target),
+) -> Result<bool, Memory>
+    requires { IsNewMemberOf desk.now.monitor.now member }
+{
+    let (source, target) = ends;
+    match play_between(desk, member, number, files, ends) {
+        Ok(()) => return Ok(false),
+        Err(SessionError::Read) => tell(desk.rt, &source.ending()),
+        Err(SessionError::Write) => tell(desk.rt, &target.ending()),
+        Err(_) => return Err(Memory),
+    }
+    Ok(true)
+}
+
+/// Plays a session: what is left of it. The one error is that memory is short.
+fn play<R: Wait + Eprint>(
+    desk: &Desk<'_, R, Open>,
+    member: Member,
+    number: usize,
+    files: &HostRuntime,
+    part: &Part,
+) -> Result<Left, Memory>
+    requires { IsNewMemberOf desk.now.monitor.now member }
+    ensures { IfOk result (λ left. IsLeftBy desk.now.monitor.now number part.now (text_left left)) }
 {
     match part {
-        Part::Script(script) => play_script(desk, member, number, script).ok_or(Broken::Memory),
-        Part::Live(input, output) => {
-            let mut reader = *input;
-            let mut out = Out::new(desk.alloc, *output);
-            match play_live(desk, member, number, &mut reader, &mut out) {
-                Ok(()) => Ok(Buffer::new(desk.alloc)),
-                Err(SessionError::Read) => Err(Broken::Input),
-                Err(SessionError::Write) if !out.is_short() => Err(Broken::Answers),
-                Err(_) => Err(Broken::Memory),
-            }
+        Part::Script(script) => {
+            let text = play_script(desk, member, number, script).ok_or(Memory)?;
+            Ok(Left {
+                text,
+                has_told: false,
+            })
+        }
+        Part::Live(source, target) => {
+            let has_told = play_told(desk, member, number, files, (source, target))?;
+            Ok(Left {
+                text: Buffer::new(desk.alloc),
+                has_told,
+            })
         }
     }
 }
@@ -124,11 +230,11 @@ pub fn next(monitor: &Monitor, members: &mut Vec<Member>) -> Option<Member>
     members.pop()
 }
 
-/// Starts the threads of the sessions of these parts, in their order. The one error is that memory is short, or that a
+/// Starts the threads of the sessions of these parts, in their order, which open files where a part names one. The one error is that memory is short, or that a
 /// thread cannot be made.
-fn start_all<'s, E, R: Wait + Sync>(
+fn start_all<'s, E, R: Wait + Eprint + Sync>(
     scope: &'s Scope<'s, E>,
-    rt: &'s R,
+    system: (&'s R, &'s HostRuntime),
     monitor: &'s Monitor,
     members: Vec<Member>,
     parts: &'s [Part],
@@ -137,6 +243,7 @@ fn start_all<'s, E, R: Wait + Sync>(
     requires count { vec_len members ≡ length parts.now }
     ensures { IfOk result (λ players. Pairs (IsStartedFor monitor.now) 1 players.items parts.now) }
 {
+    let (rt, files) = system;
     let alloc = *members.allocator();
     let mut players = Vec::with_capacity(alloc, parts.len())?;
     let mut free = members;
@@ -152,9 +259,9 @@ fn start_all<'s, E, R: Wait + Sync>(
         };
         let player = scope.spawn_with(
             promise,
-            move || -> Result<Buffer, Broken>
+            move || -> Result<Left, Memory>
                 requires { IsNewMemberOf monitor.now member }
-                ensures { IfOk result (λ t. IsLeftBy monitor.entry.now number part.entry.now (buffered t)) }
+                ensures { IfOk result (λ l. IsLeftBy monitor.entry.now number part.entry.now (text_left l)) }
             {
                 let desk = Desk {
                     alloc,
@@ -162,7 +269,7 @@ fn start_all<'s, E, R: Wait + Sync>(
                     monitor,
                     gate: &Open,
                 };
-                play(&desk, member, number, part)
+                play(&desk, member, number, files, part)
             },
         )?;
         players.push(player)?;
@@ -170,47 +277,48 @@ fn start_all<'s, E, R: Wait + Sync>(
     Ok(players)
 }
 
-/// Waits for the end of each thread: what is left to put out of its session, in the threads' order.
+/// Waits for the end of each thread: what is left of its session, in the threads' order.
 fn join_all<'s, R: Threads>(
     rt: &R,
     alloc: Global,
     players: Vec<Player<'s>>,
-) -> Result<Vec<Buffer>, Broken>
-    ensures { IfOk result (λ texts. Pairs Keeps 1 players.entry.items texts.items) }
+) -> Result<Vec<Left>, Memory>
+    ensures { IfOk result (λ lefts. Pairs Keeps 1 players.entry.items lefts.items) }
 {
-    let mut texts = Vec::with_capacity(alloc, players.len())?;
+    let mut lefts = Vec::with_capacity(alloc, players.len())?;
     for player in players {
-        let text = player.join(rt)?;
-        texts.push(text)?;
+        let left = player.join(rt)?;
+        lefts.push(left)?;
     }
-    Ok(texts)
+    Ok(lefts)
 }
 
-/// What is left to put out of the sessions of these parts, in their order, each played by a thread of its own, for which
-/// it takes one of the members, who have seen nothing. All threads are started before one is joined, and all have ended
-/// when it returns. The errors are that memory is short, that a thread cannot be made, and what a live session failed by.
-pub fn texts<R: Threads + Wait + Sync>(
-    rt: &R,
+/// What is left of the sessions of these parts, in their order, each played by a thread of its own, for which it takes
+/// one of the members, who have seen nothing. All threads are started before one is joined, and all have ended when it
+/// returns. The one error is that memory is short, or that a thread cannot be made.
+pub fn lefts<R: Threads + Wait + Eprint + Sync>(
+    system: (&R, &HostRuntime),
     monitor: Monitor,
     members: Vec<Member>,
     parts: &[Part],
-) -> Result<Vec<Buffer>, Broken>
+) -> Result<Vec<Left>, Memory>
     requires members { All (IsNewMemberOf monitor) members.items }
     requires count { vec_len members ≡ length parts.now }
-    ensures { IfOk result (λ texts. Pairs (λ number part text. IsLeftBy monitor number part (buffered text))
-        1 parts.now texts.items) }
+    ensures { IfOk result (λ lefts. Pairs (λ number part left. IsLeftBy monitor number part (text_left left))
+        1 parts.now lefts.items) }
 {
+    let (rt, files) = system;
     let alloc = *members.allocator();
     let shared = &monitor;
     thread::scope(
         thread::scope_env(),
         rt,
-        move |scope| -> Result<Vec<Buffer>, Broken>
+        move |scope| -> Result<Vec<Left>, Memory>
             requires { All (IsNewMemberOf shared.now) members.items × (vec_len members ≡ length parts.now) }
-            ensures { IfOk result (λ texts. Pairs (λ number part text. IsLeftBy shared.entry.now number part (buffered text))
-                1 parts.entry.now texts.items) }
+            ensures { IfOk result (λ lefts. Pairs (λ number part left. IsLeftBy shared.entry.now number part (text_left left))
+                1 parts.entry.now lefts.items) }
         {
-            let players = start_all(scope, rt, shared, members, parts)?;
+            let players = start_all(scope, (rt, files), shared, members, parts)?;
             join_all(rt, alloc, players)
         },
     )

@@ -1,34 +1,40 @@
 //! What the program does with its files.
 ghost use Rattle.std.specs.Prelude.{◌≡◌, ◌≤◌, ◌++◌, ℕ, List, length, map, false, is_err};
 ghost use Rattle.std.specs.Prelude.{OnOk, OnErr};
-ghost use Rattle.std.specs.List.{concat};
+ghost use Rattle.std.specs.List.{concat, list_any};
 ghost use Rattle.epochlog.specs.Epochs.{max_capacity};
 ghost use Rattle.session.specs.Sinks.{HasPut};
-ghost use Rattle.session.specs.Buffers.{buffered};
 ghost use Rattle.osdmapd.specs.CommandLine.{max_scripts};
-ghost use Rattle.osdmapd.specs.Serving.{Serves, has_output_failed};
+ghost use Rattle.osdmapd.specs.Serving.{Serves, has_output_failed, text_left};
 
 use crate::fault::Fault;
 use crate::part::Part;
-use crate::playing::texts;
+use crate::playing::{Left, lefts};
 use mapjson::read_map;
 use monitor::Monitor;
-use session::{Buffer, Sink, WriteFailed, write_whole};
+use session::{Sink, WriteFailed, write_whole};
 use std::sync::Wait;
 use std::thread::Threads;
 
-/// Puts texts to a sink, one after the other. At an `Err` the sink has failed, and has a beginning of them.
-fn put<W: Sink>(out: &mut W, texts: &[Buffer]) -> Result<(), WriteFailed>
+/// Puts the texts that are left to a sink, one after the other. At an `Err` the sink has failed, and has a beginning of them.
+fn put<W: Sink>(out: &mut W, lefts: &[Left]) -> Result<(), WriteFailed>
     requires { W.has_failed out.old ≡ false }
-    ensures whole { OnOk result (W.written out.new ≡ W.written out.old ++ concat (map buffered texts.now)) }
+    ensures whole { OnOk result (W.written out.new ≡ W.written out.old ++ concat (map text_left lefts.now)) }
     ensures part { OnErr result ((rest : List ℕ)
-        × HasPut (W.written out.old) (concat (map buffered texts.now)) rest (W.written out.new)) }
+        × HasPut (W.written out.old) (concat (map text_left lefts.now)) rest (W.written out.new)) }
     ensures failed { W.has_failed out.new ≡ is_err result }
 {
-    for text in texts {
-        write_whole(out, text.bytes())?;
+    for left in lefts {
+        write_whole(out, left.text.bytes())?;
     }
     Ok(())
+}
+
+/// Whether one of the sessions has told that a file of it has failed.
+fn have_told(lefts: &[Left]) -> bool
+    ensures { result ≡ list_any (λ left. left.has_told) lefts.now }
+{
+    lefts.iter().any(|left| left.has_told)
 }
 
 /// Runs sessions over the map that a text states, each in a thread of its own, with a seat at one monitor; after all
@@ -37,11 +43,12 @@ fn put<W: Sink>(out: &mut W, texts: &[Buffer]) -> Result<(), WriteFailed>
 /// be committed, 1 to 65,536; there are 1 to 64 parts.
 ///
 /// Where the map is refused (10 to 17), nothing is put, nor at `Memory`: a growth was refused (30) before the sessions
-/// or for one of their texts, or a thread could not be made; nor at `Input` and `Answers`, by which live sessions fail.
+/// or for one of their texts, or a thread could not be made. `Told` comes after all is put, where a file of a live
+/// session has failed, which its thread tells on standard error.
 /// `Output` comes only where the map is not refused and the sink has failed, which then has a beginning of the texts; at
 /// every other end it has not failed.
-pub fn serve<R: AllocGlobal + Threads + Wait + Sync, W: Sink>(
-    rt: &R,
+pub fn serve<R: AllocGlobal + Threads + Wait + Eprint + Sync, W: Sink>(
+    system: (&R, &HostRuntime),
     journal: u32,
     map: &[u8],
     parts: &[Part],
@@ -55,7 +62,7 @@ pub fn serve<R: AllocGlobal + Threads + Wait + Sync, W: Sink>(
     ensures served { Serves journal map.now parts.now (W.written out.old) (W.written out.new) result }
     ensures failed { W.has_failed out.new ≡ has_output_failed result }
 {
-    let alloc = rt.alloc();
+    let alloc = system.0.alloc();
     let map = match read_map(alloc, map) {
         Ok(map) => map,
         Err(refusal) => return Err(Fault::of_refusal(refusal)),
@@ -65,7 +72,10 @@ pub fn serve<R: AllocGlobal + Threads + Wait + Sync, W: Sink>(
     let Ok((monitor, members)) = Monitor::open(alloc, map, journal, parts.len() as u32) else {
         return Err(Fault::Memory);
     };
-    let texts = texts(rt, monitor, members, parts)?;
-    put(out, &texts)?;
+    let lefts = lefts(system, monitor, members, parts)?;
+    put(out, &lefts)?;
+    if have_told(&lefts) {
+        return Err(Fault::Told);
+    }
     Ok(())
 }

@@ -5,7 +5,7 @@ ghost use Rattle.std.specs.Prelude.{IfSome, All};
 ghost use Rattle.monitor.specs.Members.{IsMemberOf, IsNewMemberOf};
 
 use crate::choices::LineError;
-use crate::fault::{Broken, Fault};
+use crate::fault::Fault;
 use crate::playing::next;
 use crossbeam_utils::Backoff;
 use mapjson::{read_change, read_map};
@@ -496,12 +496,8 @@ fn errors_tell_what_they_are(rt: HostRuntime) -> Result<(), Fail> {
     assert!(rt; tells(alloc, &SessionError::Read, "the input could not be read"));
     assert!(rt; tells(alloc, &Fault::Map(Refusal::BadForest), "map: BadForest"));
     assert!(rt; tells(alloc, &Fault::Output, "output"));
-    assert!(rt; tells(alloc, &Fault::Input, "input"));
-    assert!(rt; tells(alloc, &Fault::Answers, "answers"));
+    assert!(rt; tells(alloc, &Fault::Told, "told"));
     assert!(rt; tells(alloc, &Fault::Memory, "memory"));
-    assert!(rt; tells(alloc, &Broken::Input, "input"));
-    assert!(rt; tells(alloc, &Broken::Answers, "answers"));
-    assert!(rt; tells(alloc, &Broken::Memory, "memory"));
     assert!(rt; tells(alloc, &LineError::TooMany, "too many scripts"));
     assert!(rt; tells(alloc, &LineError::Memory, "memory"));
     Ok(())

@@ -7,3 +7,4 @@ mod Told
 mod Passing
 mod Asked
 mod Coming
+mod Firsts

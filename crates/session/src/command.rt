@@ -7,6 +7,7 @@ ghost use Rattle.session.specs.Readings.{IsPart, BeginsWith};
 ghost use Rattle.session.specs.Commands.{is_newline, below, osd_in, epoch_in, two_words, limit_in, plan_in, balance, question_in, task_in, shown, command_in};
 
 use crate::plan::{MAX_MOVES, Plan};
+use memchr::memchr;
 use osdmap::Pg;
 
 const EPOCH: &[u8] = b"epoch";
@@ -77,7 +78,7 @@ fn newline(text: &[u8]) -> Option<usize>
     ensures place { result ≡ position is_newline text.now }
     ensures within { IfSome result (λ at. at < length text.now) }
 {
-    text.iter().position(|byte| *byte == b'\n')
+    memchr(b'\n', text)
 }
 
 /// The first line that ends in a text, and what stands behind its newline. `None` where no line ends in it.

@@ -1,5 +1,6 @@
 //! A session whose lines come while it runs: each is answered as soon as it has ended.
-ghost use Rattle.std.specs.Prelude.{◌≡◌, ◌<◌, ◌+◌, ◌^◌, ◌++◌, true, false, OnOk, IfErr};
+ghost use Rattle.std.specs.Prelude.{◌≡◌, ◌<◌, ◌≤◌, ◌+◌, ◌^◌, ◌++◌, true, false, length, take, IfOk, OnOk, IfErr, OnErr, MatchOption};
+ghost use Rattle.std.specs.Io.KnownBytes.{Consumes, Keeps, IsAtEnd};
 
 use crate::command::cut;
 use crate::desk::Desk;
@@ -32,6 +33,24 @@ fn may_wait<W: Sink>(sink: &W)
 /// Whether a read is to be asked for again.
 fn is_interrupted(error: &io::Error) -> bool {
     error.kind() == io::ErrorKind::Interrupted
+}
+
+/// Reads what is there: how many bytes came, none at the end of the input. `None` where the read is to be asked for again.
+fn read_some<B: Read>(reader: &mut B, chunk: &mut [u8]) -> Result<Option<usize>, SessionError>
+    requires { 0 < length chunk.old }
+    ensures room { length chunk.new ≡ length chunk.old }
+    ensures came { IfOk result (λ taken. MatchOption taken (Keeps (B.remaining reader.old) (B.remaining reader.new))
+        (λ n. (n ≤ length chunk.new)
+        × Consumes (B.remaining reader.old) (B.remaining reader.new) (take n chunk.new)
+        × (n ≡ 0 → IsAtEnd (B.remaining reader.new)))) }
+    ensures error { IfErr result (λ error. error ≡ SessionError.Read) }
+    ensures kept { OnErr result (Keeps (B.remaining reader.old) (B.remaining reader.new)) }
+{
+    match reader.read(chunk) {
+        Ok(taken) => Ok(Some(taken)),
+        Err(error) if is_interrupted(&error) => Ok(None),
+        Err(_) => Err(SessionError::Read),
+    }
 }
 
 /// Whether a line's number can count as many lines more.
@@ -170,15 +189,8 @@ impl<'a, R: Wait, G: Gate> Desk<'a, R, G> {
             return Err(SessionError::Read);
         }
         let mut chunk = [0; CHUNK];
-        let taken = match reader.read(&mut chunk) {
-            Ok(taken) => taken,
-            Err(error) => {
-                return if is_interrupted(&error) {
-                    Ok(false)
-                } else {
-                    Err(SessionError::Read)
-                };
-            }
+        let Some(taken) = read_some(reader, &mut chunk)? else {
+            return Ok(false);
         };
         self.answer_part(member, reading, &chunk[..taken], sink)?;
         Ok(taken == 0)

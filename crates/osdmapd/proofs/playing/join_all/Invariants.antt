@@ -7,4 +7,4 @@ use Rattle.osdmapd.proofs.playing.join_all.Given as goal
 -- the texts so far are those of the threads that have been joined
 abbrev pub invariant-loop-player : goal.invariant-loop-player
 invariant-loop-player g l =
-    (done : List _) × Pairs Keeps 1 done l.texts.items × (l.fn.players.items ≡ done ++ into_iter_items l.player-iterator)
+    (done : List _) × Pairs Keeps 1 done l.lefts.items × (l.fn.players.items ≡ done ++ into_iter_items l.player-iterator)

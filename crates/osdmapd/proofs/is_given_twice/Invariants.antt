@@ -1,6 +1,6 @@
 use Rattle.std.proofs.Common.{◌≡◌, take, count_by}
 use Rattle.osdmapd.specs.CommandLine.{is_standard}
-use Rattle.osdmapd.proofs.is_read_twice.Given as goal
+use Rattle.osdmapd.proofs.is_given_twice.Given as goal
 
 -- it is counted among the paths so far
 abbrev pub invariant-loop-path : goal.invariant-loop-path
