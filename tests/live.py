@@ -125,6 +125,15 @@ def test_beside_scripts(program):
         equal(live.end(), (0, "session 1\nok 2 evals 0\nepoch 4\nepoch 4\nsession 3\nepoch 2\nok 3 evals 0\nepoch 4\nup 4 1.0 [2,0] 2\n", ""))
 
 
+def test_fails_beside_scripts(program):
+    """Where a live session fails, the others are played to their ends and put out."""
+    with tempfile.TemporaryDirectory() as folder:
+        one = pathlib.Path(folder) / "one"
+        one.write_text('change {"base":1,"down":[2]}\nup 1.0')
+        told = "session 2\nsession 1\nok 2 evals 0\nup 2 1.0 [3,0] 3\n"
+        equal(Live(program, EXAMPLE, one, "-", stdin=None, close=True).end(), (3, told, "input\n"))
+
+
 def test_bad_input(program):
     """No UTF-8, a line of 100 MB, an input that is a folder or closed, and two inputs."""
     live = Live(program)

@@ -83,7 +83,7 @@ def picture(maps: list[Shares], names: dict[str, Any], titles: list[str]) -> str
         own, right, tall = drawn(shares, names, left)
         parts += [f'<text x="{left}" y="16" class="r">{html.escape(title)}</text>'] + own
         left, height = right, max(height, tall)
-    width = max(left, 580)
+    width = max(left, 660)
     legend = "".join(f'<rect x="{8 + at * 24}" y="{height + 8}" width="24" height="10" fill="{colour(round(ratio * 100), 100)}"/>'
                      for at, ratio in enumerate((0, 0.5, 1, 1.5, 2)))
     style = "text{font:11px sans-serif;fill:#333}.r{font-weight:bold}.n{font-size:8px;text-anchor:middle}.c{stroke:#999;stroke-width:.5}.m{stroke:#111;stroke-width:1.5;fill:none}"
