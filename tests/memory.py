@@ -6,7 +6,7 @@ A run with a growth refused ends with status 4, `memory` and nothing put out; or
 does, of a script in which the line that answers `err 30 Memory` is left out. The last run is the first without a refusal.
 In a second round each line that may find no memory stands twice, so that after a refusal the same line has its exact answer. In a
 third the script is a live session, whose answers before the refusal are out; in a fourth its session's answers go to a file, which
-is standard output.
+is standard output. At the end 63 sessions await what one changes that says each change twice, so that it comes whatever is refused.
 """
 
 import os
@@ -81,6 +81,34 @@ class Example:
         return f"growth {number}: status {got[0]}, output {got[1][:200]}, error {got[2][:200]}", came
 
 
+class Awaited:
+    """63 sessions that await the epoch that another makes, at its first attempt or its second."""
+
+    CHANGE = '{"base":1,"down":[2]}'
+
+    def __init__(self, command, library, folder):
+        self.command, self.library, self.folder = command, library, pathlib.Path(folder)
+        (self.folder / "makes").write_text(f"change {self.CHANGE}\n" * 2)
+        (self.folder / "awaits").write_text("await 2\n")
+
+    def difference(self, number):
+        """What is wrong with the run in which a growth is refused, or None; and whether it came to that growth."""
+        mark = self.folder / f"refused-{number}"
+        environment = dict(os.environ, LD_PRELOAD=str(self.library), REFUSE_NTH=str(number), REFUSED=str(mark))
+        words = [self.command, EXAMPLES / "map.json", self.folder / "makes"] + [self.folder / "awaits"] * 63
+        done = subprocess.run(words, env=environment, timeout=SECONDS, stdin=subprocess.DEVNULL, capture_output=True)
+        came = mark.exists()
+        if came:
+            mark.unlink()
+        if came and (done.returncode, done.stdout, done.stderr) == (4, b"", b"memory\n"):
+            return None, came
+        waited = "".join(f"session {session}\nepoch 2\n" for session in range(2, 65))
+        ends = ["ok 2 evals 0\nerr 20 StaleEpoch 2\n"] + ["err 30 Memory\nok 2 evals 0\n"] * came
+        if done.returncode == 0 and done.stdout.decode() in [f"session 1\n{end}{waited}" for end in ends]:
+            return None, came
+        return f"growth {number}: status {done.returncode}, output {done.stdout[:200]}, error {done.stderr[:200]}", came
+
+
 def sweep(example, pool):
     """How many growths were refused, and what is wrong."""
     wrong, first, step = [], 1, 64
@@ -107,6 +135,7 @@ def sweeps(command, pool):
                 own = pathlib.Path(folder) / name
                 own.mkdir()
                 found.append((name, *sweep(Example(command, library, script.parent, own, way), pool)))
+        found.append(("63 sessions that await", *sweep(Awaited(command, library, folder), pool)))
         return found
 
 
