@@ -1,5 +1,5 @@
 -- The search for the best move.
-use Rattle.std.proofs.Common.{◌≡◌, ◌∙◌, ◌++◌, ◌∷◌, [], refl, sym, subst, All, map, ap, ℕ, ◌+◌, ◌<◌, ◌≤◌, Bool, true, false, ◌&&◌, ℤ, pos, List, length, get_or, take, position, Option, Some, None, inl, inr, eqb, arith}
+use Rattle.std.proofs.Common.{◌≡◌, ◌∙◌, ◌++◌, ◌∷◌, [], refl, sym, subst, All, map, set, ap, ℕ, ◌+◌, ◌<◌, ◌≤◌, Bool, true, false, ◌&&◌, ℤ, pos, List, length, get_or, take, position, Option, Some, None, inl, inr, eqb, arith}
 use Rattle.std.specs.Prelude.{int_lt, nat_lt, ◌||◌, ◌-ℤ◌, IfSome}
 use Rattle.std.specs.Ordering.{int_eq, int_cmp, ordering_then}
 use Rattle.std.proofs.Common.{Ordering, nat_cmp, is_lt, is_eq, cond, Less, Greater, Equal, zero, suc, ◌-◌}
@@ -8,8 +8,8 @@ use Rattle.std.proofs.lemmas.Bool.{false_from_ne_true, eqb-true, and_parts, and_
 use Rattle.std.proofs.lemmas.Int.{ints}
 use mathlib.Core.Bool.{false≢true}
 use Rattle.std.proofs.lemmas.List.FromFn.{length-map-range_with_len, get_or-map-range_with_len}
-use Rattle.std.proofs.lemmas.List.{take_all, take_more, map-append, get_or_default, get_or-take, length-take-le}
-use Rattle.std.proofs.lemmas.List.Sorted.{All-permutation, IsPermutation-map, IsPermutation-sym}
+use Rattle.std.proofs.lemmas.List.{take_all, take_more, map_push, get_or_default, get_or-map, get_or-set_other, get_or-set_same, length-map, get_or-take, length-take-le}
+use Rattle.std.proofs.lemmas.List.Sorted.{All-permutation, IsPermutation-map, IsPermutation-refl, IsPermutation-sym, IsPermutation-trans}
 use Rattle.std.proofs.lemmas.List.Elements.{filter_passes, All-map, All-weaker, All-more}
 use Rattle.std.proofs.lemmas.List.Quantifiers.{position-Some}
 use Rattle.std.proofs.lemmas.Bool.Decides.{nat_tests}
@@ -206,10 +206,6 @@ module _ (m : ClusterMap) (p : PoolFacts) where
 
 -- ---- the emptiest first
 
--- an OSD with its deviation
-abbrev pub told : ClusterMap → PoolFacts → ℕ → ℤ × ℕ
-told n p osd = (deviation n p osd, osd)
-
 -- a move to an OSD that is not emptier is no wider, and taken rather than another only where one to the other OSD is
 wider : (m : ClusterMap) (p : PoolFacts) (from to osd : ℕ) → beats m p (move_of from to 0) (move_of from osd 0) ≡ false → int_lt (pos (total m p)) (gap m p from to) ≡ true → int_lt (pos (total m p)) (gap m p from osd) ≡ true
 unfolding beats
@@ -233,10 +229,32 @@ rather_than m p from to osd b less taken_is = elim (cases_Bool (beats m p (move_
       rw same taken_is
 ]
 
--- the OSDs alone
-untold : (n : ClusterMap) (p : PoolFacts) (osds : List ℕ) → map (λ (e : ℤ × ℕ). e.1) (map (told n p) osds) ≡ osds
-untold n p [] = refl
-untold n p (osd ∷ osds) = ap (λ xs. osd ∷ xs) (untold n p osds)
+-- each of the candidates in any order is one
+pub each_candidate : (m : ClusterMap) (p : PoolFacts) (order : List (ℤ × ℕ)) → IsPermutation (map (λ e. e.1) order) (candidates m p) → (k : ℕ) (d : ℤ × ℕ) → k < length order
+    → is_candidate m p (get_or order k d).1 ≡ true
+each_candidate m p order all k d inside =
+    let one : All (λ osd. is_candidate m p osd ≡ true) (candidates m p) =
+    λ i e below. subst (λ x. is_candidate m p x ≡ true) (get_or_default (candidates m p) i 0 e below) (candidate_at m p (candidates m p) i refl below) in
+    let each = All-permutation (λ osd. is_candidate m p osd ≡ true) (candidates m p) (map (λ (e : ℤ × ℕ). e.1) order) (IsPermutation-sym (map (λ (e : ℤ × ℕ). e.1) order) (candidates m p) all) one in
+    subst (λ x. is_candidate m p x ≡ true) (get_or-map (λ (e : ℤ × ℕ). e.1) order k d 0 inside) (each k 0 (omega (arith, inside, length-map order (λ (e : ℤ × ℕ). e.1))))
+
+-- one OSD more
+pub listed_more : (osds : List ℕ) (order next : List (ℤ × ℕ)) (i : ℕ) (d : ℤ) → i < length osds → map (λ (e : ℤ × ℕ). e.1) order ≡ take i osds → next ≡ order ++ (d, get_or osds i 0) ∷ []
+    → map (λ (e : ℤ × ℕ). e.1) next ≡ take (i + 1) osds
+listed_more osds order next i d inside is put =
+    ap (map (λ (e : ℤ × ℕ). e.1)) put ∙ map_push (λ (e : ℤ × ℕ). e.1) order (d, get_or osds i 0) ∙ ap (λ xs. xs ++ get_or osds i 0 ∷ []) is ∙ sym (take_more osds i 0 inside)
+
+-- all of them
+pub listed_all : (m : ClusterMap) (p : PoolFacts) (osds : List ℕ) (order : List (ℤ × ℕ)) (i : ℕ) → osds ≡ candidates m p → map (λ (e : ℤ × ℕ). e.1) order ≡ take i osds → length osds ≤ i
+    → IsPermutation (map (λ e. e.1) order) (candidates m p)
+listed_all m p osds order i are is past =
+    subst (λ xs. IsPermutation (map (λ (e : ℤ × ℕ). e.1) order) xs) (is ∙ take_all i osds past ∙ are) (IsPermutation-refl (map (λ (e : ℤ × ℕ). e.1) order))
+
+-- one entry with another deviation is of the same OSD
+pub same_osds : (order : List (ℤ × ℕ)) (k : ℕ) (e : ℤ × ℕ) → e.1 ≡ (get_or order k e).1 → map (λ (f : ℤ × ℕ). f.1) (set order k e) ≡ map (λ (f : ℤ × ℕ). f.1) order
+same_osds [] k e is = refl
+same_osds (f ∷ order) zero e is = ap (λ x. x ∷ map (λ (g : ℤ × ℕ). g.1) order) is
+same_osds (f ∷ order) (suc k) e is = ap (λ xs. f.1 ∷ xs) (same_osds order k e is)
 
 -- where one of two pairs is not less, its number is not, and where the numbers are alike its second is not
 no_less : (d e : ℤ) (b a : ℕ) → is_lt (ordering_then (int_cmp d e) (nat_cmp b a)) ≡ false → (int_lt d e ≡ false) × (int_eq d e ≡ true → nat_lt b a ≡ false)
@@ -311,11 +329,16 @@ module _ (n : ClusterMap) (p : PoolFacts) where
       let rather = rather_than n p from to osd b less both.1 in
       absurd (false≢true (sym stays ∙ and_from (int_lt (pos (total n p)) (gap n p from osd)) (beats n p (move_of from osd 0) b) wide rather)))
 
-  -- one OSD more with its deviation
-  pub told_more : (osds : List ℕ) (order next : List (ℤ × ℕ)) (i : ℕ) (d : ℤ) → i < length osds → order ≡ map (told n p) (take i osds) → d ≡ deviation n p (get_or osds i 0)
-      → next ≡ order ++ (d, get_or osds i 0) ∷ [] → next ≡ map (told n p) (take (i + 1) osds)
-  told_more osds order next i d inside is dev put =
-      rw (put, is, dev, take_more osds i 0 inside, map-append (told n p) (take i osds) (get_or osds i 0 ∷ [])) refl
+  -- one entry more with its deviation
+  pub measured_more : (order after : List (ℤ × ℕ)) (i : ℕ) (e : ℤ × ℕ) → i < length order → after ≡ set order i e → e.0 ≡ deviation n p e.1
+      → ((j : ℕ) (d : ℤ × ℕ) → j < i → (get_or order j d).0 ≡ deviation n p (get_or order j d).1)
+      → (j : ℕ) (d : ℤ × ℕ) → j < i + 1 → (get_or after j d).0 ≡ deviation n p (get_or after j d).1
+  measured_more order after i e inside is dev before j d below = rw is (elim (cases_lt j i) [
+    | inl less ↦ subst (λ (f : ℤ × ℕ). f.0 ≡ deviation n p f.1) (sym (get_or-set_other order i j e d (λ same. omega (arith, less, same)))) (before j d less)
+    | inr over ↦
+        let same : j ≡ i = omega (arith, below, over) in
+        subst (λ (f : ℤ × ℕ). f.0 ≡ deviation n p f.1) (sym (ap (λ x. get_or (set order i e) x d) same ∙ get_or-set_same order i e d inside)) dev
+  ])
 
   -- in the order, each OSD stands behind one that is no fuller
   rises : (order : List (ℤ × ℕ)) → All (λ e. e.0 ≡ deviation n p e.1) order
@@ -332,19 +355,18 @@ module _ (n : ClusterMap) (p : PoolFacts) where
       (later_still (move_of from (get_or order i d).1 0) (move_of from (get_or order (i + 1 + k) d).1 0) (move_of from (get_or order (i + 1 + k + 1) d).1 0) before here)
 
   -- the candidates in order, from what a sort gives
-  pub in_order : (m : ClusterMap) (osds : List ℕ) (before after : List (ℤ × ℕ)) (i : ℕ) → osds ≡ candidates m p → before ≡ map (told n p) (take i osds) → length osds ≤ i → IsPermutation before after
+  pub in_order : (m : ClusterMap) (osds : List ℕ) (before after : List (ℤ × ℕ)) → osds ≡ candidates m p → IsPermutation (map (λ e. e.1) before) (candidates m p) → All (λ e. e.0 ≡ deviation n p e.1) before → IsPermutation before after
       → ((k : ℕ) (d : ℤ × ℕ) → 0 ≤ k → k + 1 < length after → is_lt (ordering_then (int_cmp (get_or after (k + 1) d).0 (get_or after k d).0) (nat_cmp (get_or after (k + 1) d).1 (get_or after k d).1)) ≡ false)
       → IsOrder m n p osds after
-  in_order m osds before after i are is past moved sorted =
-      let whole : before ≡ map (told n p) osds = is ∙ ap (map (told n p)) (take_all i osds past) in
-      let back : map (λ (e : ℤ × ℕ). e.1) before ≡ osds = ap (map (λ (e : ℤ × ℕ). e.1)) whole ∙ untold n p osds in
-      let dev : All (λ (e : ℤ × ℕ). e.0 ≡ deviation n p e.1) after =
-      All-permutation (λ (e : ℤ × ℕ). e.0 ≡ deviation n p e.1) before after moved (rw whole (All-map (λ (e : ℤ × ℕ). e.0 ≡ deviation n p e.1) (told n p) osds (λ k d inside. refl))) in
+  in_order m osds before after are all told moved sorted =
+      let dev : All (λ (e : ℤ × ℕ). e.0 ≡ deviation n p e.1) after = All-permutation (λ (e : ℤ × ℕ). e.0 ≡ deviation n p e.1) before after moved told in
+      let back : IsPermutation (map (λ (e : ℤ × ℕ). e.1) after) (candidates m p) =
+      IsPermutation-trans (map (λ (e : ℤ × ℕ). e.1) after) (map (λ (e : ℤ × ℕ). e.1) before) (candidates m p)
+      (IsPermutation-map (λ (e : ℤ × ℕ). e.1) after before (IsPermutation-sym before after moved)) all in
       record {
-        same = subst (λ xs. IsPermutation (map (λ (e : ℤ × ℕ). e.1) after) xs) back (IsPermutation-map (λ (e : ℤ × ℕ). e.1) after before (IsPermutation-sym before after moved));
+        same = subst (λ xs. IsPermutation (map (λ (e : ℤ × ℕ). e.1) after) xs) (sym are) back;
         rising = λ k j d less inside from. rises after dev sorted k (j - k - 1) j d (omega (arith, less)) inside from;
-        candidates = All-permutation (λ (e : ℤ × ℕ). is_candidate m p e.1 ≡ true) before after moved
-            (rw whole (All-map (λ (e : ℤ × ℕ). is_candidate m p e.1 ≡ true) (told n p) osds (λ k d inside. subst (λ x. is_candidate m p x ≡ true) (get_or_default osds k 0 d inside) (candidate_at m p osds k are inside))));
+        candidates = λ k d inside. each_candidate m p after back k d inside;
       }
 
   -- one OSD of the order more

@@ -22,7 +22,7 @@ impl Board<'_> {
     ghost use Rattle.balancer.specs.Shares.{is_candidate, total, deviation};
     ghost use Rattle.balancer.specs.Moves.{are_beside, last_level, levels_of};
     ghost use Rattle.balancer.specs.Greedy.{gap, beats, good_moves, greedy, after_moves};
-    ghost use Rattle.balancer.specs.Reached.{reached, IsOrderOf};
+    ghost use Rattle.balancer.specs.Reached.{reached, AreAll, AreMeasured, IsOrderOf};
     ghost use Rattle.balancer.specs.Marks.{NoneGoes, IsMarked};
     ghost use Rattle.balancer.specs.Boards.{may_go, is_wanted, IsGood, IsBest, IsBetter, CoversPair, CoversFrom};
 
@@ -131,16 +131,36 @@ impl Board<'_> {
         }
     }
 
-    /// Puts the candidates in order, with their deviations: the emptiest first, to which a move would rather go; or `Memory`
-    /// (30).
+    /// The candidates, without an order yet; or `Memory` (30).
+    fn listed(&self, alloc: Global) -> Result<Vec<(i128, u32)>, Memory>
+        ensures { IfOk result (λ order. AreAll self.now order.items) }
+    {
+        let mut order = Vec::with_capacity(alloc, self.frame.osds.len())?;
+        for osd in &self.frame.osds {
+            order.push((0, *osd))?;
+        }
+        Ok(order)
+    }
+
+    /// Gives each candidate its deviation.
+    fn measure(&self, order: &mut Vec<(i128, u32)>)
+        requires { AreAll self.now order.old.items }
+        ensures { AreMeasured self.now order.new.items }
+    {
+        for k in 0..order.len() {
+            let osd = order[k].1;
+            order[k].0 = self.deviation(osd);
+        }
+    }
+
+    /// Puts the candidates in order, the emptiest first, to which a move would rather go; or `Memory` (30). They are
+    /// mostly in order but for the two of the last move.
     fn order(&self, order: &mut Vec<(i128, u32)>) -> Result<(), Memory>
+        requires { AreAll self.now order.old.items }
         ensures { OnOk result (IsOrderOf self.now order.new.items) }
     {
-        order.clear();
-        for osd in &self.frame.osds {
-            order.push((self.deviation(*osd), *osd))?;
-        }
-        order.sort_unstable();
+        self.measure(order);
+        order.sort()?;
         Ok(())
     }
 
@@ -177,6 +197,8 @@ impl Board<'_> {
         order: &mut Vec<(i128, u32)>,
     ) -> Result<Option<Move>, Memory>
         requires marks { IsMarked self.now.frame.map.now.map self.now.frame.pool self.now.groups.items marks.old }
+        requires order { AreAll self.now order.old.items }
+        ensures order { OnOk result (AreAll self.now order.new.items) }
         ensures best { IfOk result (λ best. MatchOption best (good_moves (reached self.now) self.now.frame.pool ≡ [])
             (λ v. IsBest (reached self.now) self.now.frame.pool v)) }
         ensures marks { OnOk result (IsMarked self.now.frame.map.now.map self.now.frame.pool self.now.groups.items marks.new) }
@@ -219,7 +241,7 @@ impl Board<'_> {
         ensures pool { self.new.frame.pool ≡ self.old.frame.pool }
     {
         let mut marks = Marks::new(alloc, self.frame.map.max_osd())?;
-        let mut order = Vec::with_capacity(alloc, self.frame.osds.len())?;
+        let mut order = self.listed(alloc)?;
         for _count in 0..limit {
             match self.best(&mut marks, &mut order)? {
                 Some(step) => self.go(step, &mut marks)?,

@@ -15,6 +15,7 @@ loop-count-preserved c =
     let best : best_move (after_moves c.args.self.now.frame.map.now.map c.args.self.now.frame.pool c.loop-count.self.moves.items) c.args.self.now.frame.pool ≡ Some c.in-Some.step = rw (i.map, i.pool) at (rw c.in-Some.is at c.in_ok-step.ensures.best).best in
     let way = way_goes_on c.args.self.now.frame.map.now.map c.args.self.now.frame.pool c.args.limit c.loop-count.self.moves.items c.loop-count._count c.in-Some.step c.loop-count-test.true i.way best in
     record {
+      order = rw (i.map, i.pool) at c.in_ok-step.ensures.order;
       way = rw c.in_ok-go-in-Some.ensures.moves way;
       map = c.go.ensures.map ∙ i.map;
       pool = c.go.ensures.pool ∙ i.pool;
