@@ -106,6 +106,7 @@ marked_more rows from to f t known = elim (cases_Bool (eqb f from)) [
   ]
 ]
 
+-- a mark more, where none goes, is so as well
 pub shut_marked : (m : ClusterMap) (p : PoolFacts) (gs : List Group) (rows : List (List Bool)) (from to : ℕ) → NoneGoes m p gs from to → IsMarked m p gs rows → IsMarked m p gs (shut_in rows from to)
 shut_marked m p gs rows from to none marked = λ f t known. elim (marked_more rows from to f t known) [
   | inl before ↦ marked f t before
@@ -149,6 +150,7 @@ opened_row rows osd f t known = elim (cases_Bool (eqb osd f)) [
       | inr past ↦ get_or_past (replicate n false) k false (omega (arith, length-replicate n false))
     ]
 
+-- what is still known once that of a place is forgotten was known, and is of another OSD
 pub opened_marks : (place : Option ℕ) (rows : List (List Bool)) (f t : ℕ) → is_shut (opened place rows) f t ≡ true → (is_shut rows f t ≡ true) × (is_of f place ≡ false)
 opened_marks None rows f t known = (known, refl)
 opened_marks (Some osd) rows f t known = opened_row rows osd f t known

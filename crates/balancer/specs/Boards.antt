@@ -102,8 +102,8 @@ pub record IsBetter (m : ClusterMap) (p : PoolFacts) (old new : Option Move) : T
 pub record CoversPair (m : ClusterMap) (p : PoolFacts) (best : Option Move) (from to : ℕ) : Type 0 where
   pub each : (g : ℕ) → g < p.pg_num → IsCovered m p best (move_of from to g)
 
--- some OSDs with their deviations, each of them once, the emptiest first: a move would rather go to none that stands later,
--- whatever OSD it goes from
+-- some OSDs with their deviations, each of them once, the emptiest first: a move would rather go to none that stands
+-- later, whatever OSD it goes from
 pub record IsOrder (m n : ClusterMap) (p : PoolFacts) (osds : List ℕ) (order : List (ℤ × ℕ)) : Type 0 where
   pub same : IsPermutation (map (λ e. e.1) order) osds
   pub rising : AllPairs (λ a b. (from : ℕ) → beats n p (move_of from b.1 0) (move_of from a.1 0) ≡ false) order

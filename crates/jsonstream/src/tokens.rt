@@ -157,7 +157,8 @@ fn digits<'a>(token: &Token<'a>) -> Option<&'a str>
     }
 }
 
-/// The whole number that a value is, `None` where it is another value: `BadJson` (10) where none comes. It takes no memory.
+/// The whole number that a value is, `None` where it is another value: `BadJson` (10) where none comes. It takes no
+/// memory.
 pub fn number(reader: &mut Reader<'_>, depth: usize) -> Result<Option<i128>, Refusal>
     ensures { TakesPlain (parse_map number_in_data (next depth reader.old)) result reader.new }
 {
@@ -255,7 +256,8 @@ fn truth(token: &Token<'_>) -> Option<bool>
     }
 }
 
-/// Whether a value is true or false, `None` where it is another value: `BadJson` (10) where none comes. It takes no memory.
+/// Whether a value is true or false, `None` where it is another value: `BadJson` (10) where none comes. It takes no
+/// memory.
 pub fn flag(reader: &mut Reader<'_>, depth: usize) -> Result<Option<bool>, Refusal>
     ensures { TakesPlain (parse_map as_bool (next depth reader.old)) result reader.new }
 {

@@ -46,8 +46,8 @@ IsOneHistory first ahead (change seat before s ∷ told) =
     IsLawful first (before ++ s ∷ []) × (s.epoch ≡ first.epoch + length before + 1)
     × Begins (before ++ s ∷ []) ahead × IsOneHistory first before told
 
--- what a table stores and counts is what a map defines: each group's up set, and for each OSD the groups in whose up set
--- it stands, how many these are, and how many of a pool
+-- what a table stores and counts is what a map defines: each group's up set, and for each OSD the groups in whose up
+-- set it stands, how many these are, and how many of a pool
 pub record ShowsMap (t : TableFacts) (m : ClusterMap) : Type 0 where
   pub ups : (g : Pg) → shown_at t g ≡ up_at m g
   pub groups : (osd : ℕ) → shown_groups t osd ≡ index_of m osd
@@ -65,7 +65,8 @@ pub record IsSound (first : ClusterMap) (w : World) : Type 0 where
   pub lawful : IsLawful first w.sealed
   -- each stored up set is the one that its rule and exceptions define, and the index and counts by OSD are theirs
   pub table : NoneWrites w.lock.views → ShowsMap w.table (after first w.sealed)
-  -- all looks and changes, by whomever, are of one history, each look at a beginning of the next, each change in it once
+  -- all looks and changes, by whomever, are of one history, each look at a beginning of the next, each change in it
+  -- once
   pub told : IsOneHistory first w.sealed w.told
   -- and what a follower has read without the lock, whoever holds it, begins that same history
   pub followers : (j : ℕ) (read : List Step) → slice_get w.followers j ≡ Some read → Begins read w.sealed

@@ -1,5 +1,5 @@
-//! Answers scripts of commands over the map of a cluster: `osdmapd [--journal N] [--to ANSWERS].. MAP SCRIPT..`, where `-` for
-//! a script is standard input, and for a file of answers standard output.
+//! Answers scripts of commands over the map of a cluster: `osdmapd [--journal N] [--to ANSWERS].. MAP SCRIPT..`, where
+//! `-` for a script is standard input, and for a file of answers standard output.
 #![tactic(auto)]
 
 ghost use Rattle.std.specs.Prelude.{◌≡◌, ◌≤◌, IfOk, IfErr, length, vec_len, nat_lt, count_by};
@@ -129,8 +129,8 @@ fn put_out<'a>(rt: &impl Print, answers: &[u8]) -> Result<(), Ending<'a>>
     io::Write::write_all(&mut io::writer(rt), answers).map_err(|_| Ending::Output)
 }
 
-/// Reads the files, the map first, and puts the answers to standard output; where there are files of answers, the map alone,
-/// and each session opens its own.
+/// Reads the files, the map first, and puts the answers to standard output; where there are files of answers, the map
+/// alone, and each session opens its own.
 fn work<'a, R: Files + AllocGlobal + Print + Eprint + Threads + Wait + Sync>(
     rt: &R,
     host: &HostRuntime,

@@ -230,8 +230,8 @@ pub fn next(monitor: &Monitor, members: &mut Vec<Member>) -> Option<Member>
     members.pop()
 }
 
-/// Starts the threads of the sessions of these parts, in their order, which open files where a part names one. The one error is that memory is short, or that a
-/// thread cannot be made.
+/// Starts the threads of the sessions of these parts, in their order, which open files where a part names one. The one
+/// error is that memory is short, or that a thread cannot be made.
 fn start_all<'s, E, R: Wait + Eprint + Sync>(
     scope: &'s Scope<'s, E>,
     system: (&'s R, &'s HostRuntime),

@@ -16,7 +16,8 @@ use session::{Sink, WriteFailed, write_whole};
 use std::sync::Wait;
 use std::thread::Threads;
 
-/// Puts the texts that are left to a sink, one after the other. At an `Err` the sink has failed, and has a beginning of them.
+/// Puts the texts that are left to a sink, one after the other. At an `Err` the sink has failed, and has a beginning of
+/// them.
 fn put<W: Sink>(out: &mut W, lefts: &[Left]) -> Result<(), WriteFailed>
     requires { W.has_failed out.old ≡ false }
     ensures whole { OnOk result (W.written out.new ≡ W.written out.old ++ concat (map text_left lefts.now)) }
@@ -45,8 +46,8 @@ fn have_told(lefts: &[Left]) -> bool
 /// Where the map is refused (10 to 17), nothing is put, nor at `Memory`: a growth was refused (30) before the sessions
 /// or for one of their texts, or a thread could not be made. `Told` comes after all is put, where a file of a live
 /// session has failed, which its thread tells on standard error.
-/// `Output` comes only where the map is not refused and the sink has failed, which then has a beginning of the texts; at
-/// every other end it has not failed.
+/// `Output` comes only where the map is not refused and the sink has failed, which then has a beginning of the texts;
+/// at every other end it has not failed.
 pub fn serve<R: AllocGlobal + Threads + Wait + Eprint + Sync, W: Sink>(
     system: (&R, &HostRuntime),
     journal: u32,

@@ -39,6 +39,7 @@ passes_more m number next after first between last text put rest more end (whole
 
 -- ---- where it stops
 
+-- a line that breaks off does so with more before it
 by_break : {S : Type 0} (m : Manner S) (number : ℕ) (between last : S) (others : List (List ℕ)) (put before out : List ℕ)
     → Breaks m number between others before out last → Breaks m number between others (put ++ before) (put ++ out) last
 by_break m number between last others put before out (line, more, answer, part, missing, is, taken, cut, same) =

@@ -46,9 +46,9 @@ StopsTaking m known left Read number first begun out last = Keeps known left × 
 StopsTaking m known left error number first begun out last =
     (text : List ℕ) × Consumes known left text × Halted m error number first (begun ++ text) out last
 
--- how a session stops whose reader had these bytes left before and has those left now, as far as they are known: where a
--- read fails, each line that has ended in what was read is answered, and nothing else is out; else at one of the lines
--- of all that the reader has
+-- how a session stops whose reader had these bytes left before and has those left now, as far as they are known: where
+-- a read fails, each line that has ended in what was read is answered, and nothing else is out; else at one of the
+-- lines of all that the reader has
 abbrev pub StopsReading : {S : Type 0} → Manner S → Option (List ℕ) → Option (List ℕ) → SessionError → S → List ℕ → S → Type 0
 StopsReading m known left Read first out last =
     (read : List ℕ) × (number : ℕ) × (begun : List ℕ) × Consumes known left read

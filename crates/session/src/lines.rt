@@ -172,8 +172,8 @@ impl<'a, R: Wait, G: Gate> Desk<'a, R, G> {
         Ok(rest)
     }
 
-    /// Whether a run of questions may be answered in one hold of the lock: no gate is to be asked, no write may wait, and
-    /// as many draws are left as the text can have lines, so that the seat is spent at the same line as by a draw a
+    /// Whether a run of questions may be answered in one hold of the lock: no gate is to be asked, no write may wait,
+    /// and as many draws are left as the text can have lines, so that the seat is spent at the same line as by a draw a
     /// line.
     fn may_share<W: Sink>(&self, member: &Member, text: &[u8], sink: &W) -> bool
         requires { IsMemberOf self.now.monitor.now member.now }

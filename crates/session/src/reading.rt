@@ -35,7 +35,8 @@ fn is_interrupted(error: &io::Error) -> bool {
     error.kind() == io::ErrorKind::Interrupted
 }
 
-/// Reads what is there: how many bytes came, none at the end of the input. `None` where the read is to be asked for again.
+/// Reads what is there: how many bytes came, none at the end of the input. `None` where the read is to be asked for
+/// again.
 fn read_some<B: Read>(reader: &mut B, chunk: &mut [u8]) -> Result<Option<usize>, SessionError>
     requires { 0 < length chunk.old }
     ensures room { length chunk.new ≡ length chunk.old }
