@@ -37,7 +37,7 @@ def made(folder):
     with open(os.path.join(proofs, "Lib.antt"), "w", encoding="utf-8"):
         pass
     with open(os.path.join(folder, "crates.txt"), "w", encoding="utf-8") as f:
-        f.write("ticketlock: atomic_table counted_slot crossbeam_utils\nlockbench: ticketlock\n")
+        f.write("ticketlock: atomic_table counted_slot crossbeam_utils thiserror\nlockbench: ticketlock\n")
     with open(os.path.join(folder, "HANDLES"), "w", encoding="utf-8") as f:
         f.write("Handles allowed: Threads, Wait.\n")
     ours = os.path.join(crates, "lockbench", "out", "lockbench")

@@ -22,6 +22,8 @@ def pasted(page, heading, table):
 
 
 def main():
+    if len(sys.argv) != 2:
+        sys.exit(__doc__.strip())
     printed = sys.stdin.read()
     with open(sys.argv[1], encoding="utf-8") as text:
         page = text.read()

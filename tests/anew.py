@@ -14,6 +14,8 @@ import subprocess
 import sys
 import tempfile
 
+import given
+
 SEED = 20261123
 HISTORIES = 30
 CHANGES = 12
@@ -144,10 +146,10 @@ def history(program, folder, seed):
 
 
 def main():
-    wrong = []
+    command, wrong = given.program(__doc__), []
     for seed in range(SEED, SEED + HISTORIES):
         with tempfile.TemporaryDirectory() as folder:
-            wrong += history(sys.argv[1], pathlib.Path(folder), seed)
+            wrong += history(command, pathlib.Path(folder), seed)
     print("\n".join(wrong[:10] + [f"{HISTORIES * CHANGES} tables that patches led to beside tables built anew: {len(wrong)} answers differ"]))
     sys.exit(1 if wrong else 0)
 

@@ -15,6 +15,8 @@ import sys
 import tempfile
 import xml.etree.ElementTree
 
+import given
+
 HERE = pathlib.Path(__file__).resolve().parent
 CLUSTERS = json.loads(gzip.decompress((HERE / "clusters.json.gz").read_bytes()))
 SECONDS = 120
@@ -309,11 +311,9 @@ def faults(program, test):
 
 
 def main():
-    if len(sys.argv) != 2:
-        sys.exit(__doc__.strip())
-    failed = 0
+    program, failed = given.program(__doc__), 0
     for name, test in tests():
-        found = faults(sys.argv[1], test)
+        found = faults(program, test)
         failed += bool(found)
         print(f"{'FAILED' if found else 'passed'}: {name}", *found, sep="\n    ", flush=True)
     return 1 if failed else 0

@@ -14,6 +14,8 @@ import subprocess
 import sys
 import tempfile
 
+import given
+
 RUNS, SECONDS = 1000, 60
 OSDS, GROUPS, FIRST = 16, 64, 1
 EPOCH = re.compile(r"^(?:up|count|groups|epoch) (\d+)")
@@ -92,7 +94,7 @@ class Race:
 
 
 def main():
-    command, runs = pathlib.Path(sys.argv[1]).resolve(), int(sys.argv[2]) if len(sys.argv) > 2 else RUNS
+    command, runs = given.program(__doc__, most=2), int(sys.argv[2]) if len(sys.argv) > 2 else RUNS
     with tempfile.TemporaryDirectory() as folder:
         race = Race(command, folder)
         faults = [fault for fault in (race.fault(race.run(race.paths)) for _ in range(runs)) if fault]

@@ -18,6 +18,7 @@ import tempfile
 import time
 from concurrent.futures import ThreadPoolExecutor
 
+import given
 import model
 import soak
 
@@ -307,10 +308,9 @@ def tests():
 
 
 def main():
-    if len(sys.argv) != 2:
-        sys.exit(__doc__)
+    program = given.program(__doc__)
     for name, test in tests():
-        test(pathlib.Path(sys.argv[1]).resolve())
+        test(program)
         print(f"{name}: passed")
 
 

@@ -17,6 +17,8 @@ import sys
 import tempfile
 from concurrent.futures import ThreadPoolExecutor
 
+import given
+
 HERE = pathlib.Path(__file__).resolve().parent
 EXAMPLES = HERE.parent / "examples"
 REFUSED = b"err 30 Memory\n"
@@ -140,8 +142,9 @@ def sweeps(command, pool):
 
 
 def main():
+    command = given.program(__doc__)
     with ThreadPoolExecutor(4) as pool:
-        found = sweeps(pathlib.Path(sys.argv[1]).resolve(), pool)
+        found = sweeps(command, pool)
     if found is None:
         print("memory: NOT RUN, since there is no gcc to build tests/refuse_nth.c", file=sys.stderr)
         return 1

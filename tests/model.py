@@ -384,6 +384,8 @@ def answers(value, lines):
 
 
 def main():
+    if len(sys.argv) != 3:
+        sys.exit(__doc__.strip())
     with open(sys.argv[1], encoding="utf-8") as text, open(sys.argv[2], encoding="utf-8") as script:
         print("\n".join(["session 1"] + answers(json.load(text), script.read().splitlines())))
 

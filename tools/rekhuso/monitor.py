@@ -168,6 +168,8 @@ class Monitor(Session):
     `with`, or by `close`."""
 
     def __init__(self, value: Any, program: str | os.PathLike[str] = BUILT, journal: int = 65536, sessions: int = 1) -> None:
+        if not 1 <= sessions <= 64:
+            raise ValueError("1 to 64 sessions")
         if not os.access(program, os.X_OK):
             raise Fault(f"{program}: no program; `make run` proves and builds it, or --program names another")
         self.errors = tempfile.TemporaryFile()
