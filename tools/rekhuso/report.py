@@ -50,7 +50,7 @@ def page(value: dict[str, Any], names: dict[str, Any], program: Any, title: str)
     osds = [[named(names, "osds", row["id"]), f"{row['weight']:.5f}", f"{row['reweight']:.5f}", row["state"], row["groups"], row["share"], row["deviation"]]
             for row in (shares.osd_row(osd) for osd in sorted(shares.osds))]
     pools = [[named(names, "pools", pool["id"]), pool["groups"], pool["size"], named(names, "rules", pool["rule"]), pool["places"], pool["short"]] for pool in shares.pools()]
-    parts = [f"<h1>{html.escape(title)}</h1><p>Epoch {value['epoch']}; {len(shares.osds)} OSDs, {len(pools)} pools. An OSD has {even['least']} to {even['greatest']} "
+    parts = [f"<h1>{html.escape(title)}</h1><p>Epoch {value['epoch']}; {len(shares.osds)} OSDs, {len(pools)} pool{'s' * (len(pools) != 1)}. An OSD has {even['least']} to {even['greatest']} "
              f"groups; the standard deviation from the shares is {even['deviation']}.</p>", "<h2>Where the groups are</h2><figure>",
              picture([shares], names, [title]), "</figure><h2>OSDs</h2>",
              table(["OSD", "weight", "reweight", "state", "groups", "share", "deviation"], osds), "<h2>Pools</h2>",
