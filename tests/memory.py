@@ -105,7 +105,7 @@ class Awaited:
         if came and (done.returncode, done.stdout, done.stderr) == (4, b"", b"memory\n"):
             return None, came
         waited = "".join(f"session {session}\nepoch 2\n" for session in range(2, 65))
-        ends = ["ok 2 evals 0\nerr 20 StaleEpoch 2\n"] + ["err 30 Memory\nok 2 evals 0\n"] * came
+        ends = ["ok 2 evals 0\nerr 20 StaleEpoch 2\n"] + ["err 30 Memory\nok 2 evals 0\n", "ok 2 evals 0\nerr 30 Memory\n"] * came
         if done.returncode == 0 and done.stdout.decode() in [f"session 1\n{end}{waited}" for end in ends]:
             return None, came
         return f"growth {number}: status {done.returncode}, output {done.stdout[:200]}, error {done.stderr[:200]}", came
