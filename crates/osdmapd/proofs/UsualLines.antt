@@ -331,9 +331,12 @@ gives_options : (words : List Text) (journal map_word : Text) (scripts : List Te
 gives_options words journal map_word scripts n finds few number (Ok o) (none, chosen) =
     let found = chosen.0 in
     let map_same : Some (string_bytes o.map) ≡ Some map_word = sym found.map_found ∙ finds.map_is in
-    let script_same : Some (map string_bytes o.scripts.items) ≡ Some scripts = sym found.scripts_found ∙ finds.scripts_are in
-    (journal_of (found_in words) o.journal journal finds.journal_is found.journal_found ∙ number, cc, cc,
-    no_answers o.answers.items (sym found.answers_found ∙ ap (λ (a : Option (List Text)). unwrap_or a []) finds.answers_are))
+    let script_same : Some (map string_bytes o.scripts.items) ≡ Some scripts = sym found.scripts_found ∙ finds.scripts_are in (
+      journal_of (found_in words) o.journal journal finds.journal_is found.journal_found ∙ number,
+      cc,
+      cc,
+      no_answers o.answers.items (sym found.answers_found ∙ ap (λ (a : Option (List Text)). unwrap_or a []) finds.answers_are),
+    )
 gives_options words journal map_word scripts n finds few number (Err (Help text)) (kind, among, is) =
     absurd (none_among kind (faults_of words) finds.passes among)
 gives_options words journal map_word scripts n finds few number (Err (Usage text)) (kind, among, is) =

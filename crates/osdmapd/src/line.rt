@@ -47,7 +47,9 @@ fn to_option<'a>(alloc: Global) -> Arg<'a>
     Arg::new(alloc, "to")
         .long("to")
         .value_name("ANSWERS")
-        .help("The file of a script's answers, each put out as its line is read; once for each SCRIPT, or not at all; - is standard output")
+        .help(
+            "The file of a script's answers, each put out as its line is read; once for each SCRIPT, or not at all; - is standard output",
+        )
         .action(ArgAction::Append)
 }
 
@@ -78,9 +80,7 @@ fn script_words<'a>(alloc: Global) -> Arg<'a>
 fn program<'a>(alloc: Global) -> Command<'a>
     ensures { app_of result ≡ program }
 {
-    Command::new(alloc, "osdmapd")
-        .about(ABOUT)
-        .version(VERSION)
+    Command::new(alloc, "osdmapd").about(ABOUT).version(VERSION)
 }
 
 /// The program with its options.

@@ -111,7 +111,10 @@ fn parts_of<'a, R: Files + AllocGlobal>(
     let mut parts = Vec::new(rt.alloc());
     for path in paths {
         let part = if path.as_str() == STANDARD {
-            Part::Live(Source::Standard(host.stdin()), Target::Standard(host.stdout()))
+            Part::Live(
+                Source::Standard(host.stdin()),
+                Target::Standard(host.stdout()),
+            )
         } else {
             Part::Script(read(rt, path.as_str())?)
         };

@@ -6,8 +6,8 @@ ghost use Rattle.osdmapd.specs.Pairs.{Pairs};
 ghost use Rattle.osdmapd.specs.Serving.{heading, text_left, IsTextBy, IsLeftBy};
 ghost use Rattle.osdmapd.specs.Players.{IsStartedFor, Keeps};
 
-use crate::out::Out;
 use crate::ending::Ending;
+use crate::out::Out;
 use crate::part::{Part, Source, Target};
 use monitor::{Member, Monitor};
 use refusal::Memory;
@@ -15,8 +15,8 @@ use session::{Buffer, Desk, Open, SessionError, Sink, write_whole};
 use std::alloc::{AllocError, Global};
 use std::io::{ErrorKind, Read};
 use std::sync::Wait;
-use std::{fs, io, thread};
 use std::thread::{Promise, PromisedHandle, Scope, Threads};
+use std::{fs, io, thread};
 
 /// What is left of a session that has ended.
 #[derive(Drop)]
