@@ -6,6 +6,7 @@ pub mod ListWinners
 pub mod Descents
 pub mod LeafTries
 pub mod ReplicaTries
+pub mod FailedTries
 pub mod Segments
 pub mod ForestLimits
 pub mod Above

@@ -11,10 +11,12 @@ pub mod Tree
 pub mod Walks
 pub mod Pick
 pub mod World
+pub mod Remembered
 pub mod Placed
 pub mod Choosing
 pub mod Descent
 pub mod Firstn
+pub mod Tried
 pub mod Indep
 pub mod Run
 pub mod Slots

@@ -8,6 +8,7 @@ use crate::bucket::Bucket;
 use crate::choose::{Attempt, Choice};
 use crate::chooser::Chooser;
 use crate::placement::Start;
+use crate::remembered::Picks;
 use std::alloc::AllocError;
 
 /// Whether an item is among the choices.
@@ -29,6 +30,8 @@ impl Chooser<'_> {
     ghost use Rattle.crush.specs.Forest.{IsPickable};
     ghost use Rattle.crush.specs.Placed.{world, choosing};
     ghost use Rattle.crush.specs.Descent.{leaf_below};
+    ghost use Rattle.crush.specs.Remembered.{Remembers};
+    ghost use Rattle.crush.specs.Tried.{HaveFailed};
     ghost use Rattle.crush.specs.Firstn.{numbers_from, is_free, attempt_with, attempt_of, replica_of, firstn};
 
     /// Whether a device is in, and no leaf yet.
@@ -39,15 +42,20 @@ impl Chooser<'_> {
     }
 
     /// The leaf below a chosen item.
-    fn leaf(&self, chosen: &[Choice], item: i32, r: u32) -> Option<i32>
-        requires { r < 2 ^ 30 }
-        ensures { let w = world self.now.placement in
+    fn leaf(&self, picks: &mut Picks, chosen: &[Choice], item: i32, r: u32) -> Option<i32>
+        requires room { r < 2 ^ 30 }
+        requires picks { Remembers (world self.now.placement) picks.old }
+        ensures value { let w = world self.now.placement in
             result ≡ leaf_below w (is_free w chosen.now) (numbers_from r self.now.tries.leaf) item }
+        ensures picks { Remembers (world self.now.placement) picks.new }
     {
         let bucket = self.placement.forest.bucket(item)?;
         let below = Start::new(bucket, self.placement.x, 1);
         for turn in 0..self.tries.leaf {
-            if let Some(picked) = self.placement.descend_at(&below, 0, r + u32::from(turn)) {
+            let device = self
+                .placement
+                .device_at(picks, item, &below, r + u32::from(turn), turn);
+            if let Some(picked) = device {
                 if self.is_free(chosen, picked.item) {
                     return Some(picked.item);
                 }
@@ -58,14 +66,16 @@ impl Chooser<'_> {
 
     /// What an item comes to beside those chosen so far.
     #[tactic(auto, unfolding(crate::specs::Firstn::attempt_with))]
-    fn attempt_with(&self, chosen: &[Choice], r: u32, item: i32) -> Attempt
-        requires { r < 2 ^ 30 }
-        ensures { result ≡ attempt_with (choosing self.now) chosen.now r item }
+    fn attempt_with(&self, picks: &mut Picks, chosen: &[Choice], r: u32, item: i32) -> Attempt
+        requires room { r < 2 ^ 30 }
+        requires picks { Remembers (world self.now.placement) picks.old }
+        ensures value { result ≡ attempt_with (choosing self.now) chosen.now r item }
+        ensures picks { Remembers (world self.now.placement) picks.new }
     {
         if has_item(chosen, item) {
             Attempt::Failed
         } else if self.choose.to_leaf {
-            match self.leaf(chosen, item, r) {
+            match self.leaf(picks, chosen, item, r) {
                 Some(leaf) => Attempt::Chosen(Choice { item, leaf }),
                 None => Attempt::Failed,
             }
@@ -78,28 +88,46 @@ impl Chooser<'_> {
 
     /// What a try with replica number `r` comes to.
     #[tactic(auto, unfolding(crate::specs::Firstn::attempt_of))]
-    fn attempt(&self, chosen: &[Choice], start: &Start, r: u32) -> Attempt
+    fn attempt(&self, picks: &mut Picks, chosen: &[Choice], start: &Start, r: u32) -> Attempt
         requires input { start.now.x ≡ self.now.placement.x }
         requires room { r < 2 ^ 30 }
-        ensures { result ≡ attempt_of (choosing self.now) chosen.now start.now.bucket.now r }
+        requires picks { Remembers (world self.now.placement) picks.old }
+        ensures value { result ≡ attempt_of (choosing self.now) chosen.now start.now.bucket.now r }
+        ensures picks { Remembers (world self.now.placement) picks.new }
     {
         match self.placement.descend_at(start, self.choose.level, r) {
-            Some(picked) => self.attempt_with(chosen, r, picked.item),
+            Some(picked) => self.attempt_with(picks, chosen, r, picked.item),
             None => Attempt::Abandoned,
         }
     }
 
-    /// What the first try that does not fail comes to.
-    fn replica(&self, chosen: &[Choice], start: &Start, rep: u8) -> Attempt
-        requires { start.now.x ≡ self.now.placement.x }
-        ensures { result ≡ replica_of (choosing self.now) chosen.now start.now.bucket.now self.now.tries.total rep }
+    /// What the first try that does not fail comes to. The first `known` tries are known to fail, and then those of the
+    /// next replica.
+    fn replica(
+        &self,
+        picks: &mut Picks,
+        chosen: &[Choice],
+        start: &Start,
+        rep: u8,
+        known: &mut u8,
+    ) -> Attempt
+        requires input { start.now.x ≡ self.now.placement.x }
+        requires picks { Remembers (world self.now.placement) picks.old }
+        requires known { HaveFailed (choosing self.now) chosen.now start.now.bucket.now rep (rep + known.old) }
+        ensures value { result ≡ replica_of (choosing self.now) chosen.now start.now.bucket.now self.now.tries.total rep }
+        ensures picks { Remembers (world self.now.placement) picks.new }
+        ensures known { HaveFailed (choosing self.now) chosen.now start.now.bucket.now (rep + 1) (rep + 1 + known.new) }
     {
-        for failures in 0..self.tries.total {
-            match self.attempt(chosen, start, u32::from(rep) + u32::from(failures)) {
+        for failures in *known..self.tries.total {
+            match self.attempt(picks, chosen, start, u32::from(rep) + u32::from(failures)) {
                 Attempt::Failed => {}
-                decided => return decided,
+                decided => {
+                    *known = failures.saturating_sub(1);
+                    return decided;
+                }
             }
         }
+        *known = self.tries.total.saturating_sub(1);
         Attempt::Failed
     }
 
@@ -107,20 +135,24 @@ impl Chooser<'_> {
     #[tactic(auto, unfolding(crate::specs::Firstn::firstn))]
     pub(crate) fn firstn(
         &self,
+        picks: &mut Picks,
         start: &Bucket,
         limit: usize,
         chosen: &mut Vec<Choice>,
     ) -> Result<(), AllocError>
-        requires { IsPickable start.now }
-        ensures { OnOk result (chosen.new.items ≡ firstn (choosing self.now) start.now limit) }
+        requires within { IsPickable start.now }
+        requires picks { Remembers (world self.now.placement) picks.old }
+        ensures value { OnOk result (chosen.new.items ≡ firstn (choosing self.now) start.now limit) }
+        ensures picks { Remembers (world self.now.placement) picks.new }
     {
         let below = Start::new(start, self.placement.x, self.numrep);
         chosen.clear();
+        let mut known = 0;
         for rep in 0..self.numrep {
             if chosen.len() >= limit {
                 break;
             }
-            if let Attempt::Chosen(choice) = self.replica(chosen, &below, rep) {
+            if let Attempt::Chosen(choice) = self.replica(picks, chosen, &below, rep, &mut known) {
                 chosen.push(choice)?;
             }
         }

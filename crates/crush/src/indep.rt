@@ -8,6 +8,7 @@ use crate::bucket::Bucket;
 use crate::choose::{Choice, Draw, Picked, Position};
 use crate::chooser::Chooser;
 use crate::placement::Start;
+use crate::remembered::Picks;
 
 /// Whether an item stands at some position.
 fn is_held(positions: &[Position], item: i32) -> bool
@@ -30,16 +31,19 @@ impl Chooser<'_> {
     ghost use Rattle.std.specs.Prelude.{◌≡◌, ◌+◌, ◌^◌, ◌<◌, ◌≤◌, length};
     ghost use Rattle.crush.specs.Forest.{IsPickable};
     ghost use Rattle.crush.specs.Limits.{max_size};
-    ghost use Rattle.crush.specs.Placed.{choosing};
+    ghost use Rattle.crush.specs.Placed.{world, choosing};
+    ghost use Rattle.crush.specs.Remembered.{Remembers};
     ghost use Rattle.crush.specs.Descent.{leaf_below};
     ghost use Rattle.crush.specs.Indep.{is_in, replica_numbers, position_with, position_of, after_turn, after_round, indep};
 
     /// The leaf below an item chosen for a position.
-    fn position_leaf(&self, item: i32, base: u32) -> Option<i32>
+    fn position_leaf(&self, picks: &mut Picks, item: i32, base: u32) -> Option<i32>
         requires some { 0 < self.now.numrep }
         requires fits { base < 2 ^ 31 }
-        ensures { let k = choosing self.now in
+        requires picks { Remembers (world self.now.placement) picks.old }
+        ensures value { let k = choosing self.now in
             result ≡ leaf_below k.world (is_in k.world) (replica_numbers k.numrep base k.tries.leaf) item }
+        ensures picks { Remembers (world self.now.placement) picks.new }
     {
         let bucket = self.placement.forest.bucket(item)?;
         let below = Start::new(bucket, self.placement.x, 1);
@@ -49,7 +53,7 @@ impl Chooser<'_> {
                 base,
                 round,
             };
-            if let Some(picked) = self.placement.descend(&below, 0, draw) {
+            if let Some(picked) = self.placement.device(picks, item, &below, draw, round) {
                 if !self.placement.is_out(picked.item) {
                     return Some(picked.item);
                 }
@@ -60,16 +64,24 @@ impl Chooser<'_> {
 
     /// What an item makes of a position.
     #[tactic(auto, unfolding(crate::specs::Indep::position_with))]
-    fn position_with(&self, positions: &[Position], rep: u32, picked: Picked) -> Position
+    fn position_with(
+        &self,
+        picks: &mut Picks,
+        positions: &[Position],
+        rep: u32,
+        picked: Picked,
+    ) -> Position
         requires some { 0 < self.now.numrep }
         requires fits { rep + picked.r < 2 ^ 31 }
-        ensures { result ≡ position_with (choosing self.now) positions.now rep picked }
+        requires picks { Remembers (world self.now.placement) picks.old }
+        ensures value { result ≡ position_with (choosing self.now) positions.now rep picked }
+        ensures picks { Remembers (world self.now.placement) picks.new }
     {
         let item = picked.item;
         if is_held(positions, item) {
             Position::Open
         } else if self.choose.to_leaf {
-            match self.position_leaf(item, rep + picked.r) {
+            match self.position_leaf(picks, item, rep + picked.r) {
                 Some(leaf) => Position::Filled(Choice { item, leaf }),
                 None => Position::Open,
             }
@@ -82,11 +94,20 @@ impl Chooser<'_> {
 
     /// What a position becomes in a round.
     #[tactic(auto, unfolding(crate::specs::Indep::position_of))]
-    fn position(&self, start: &Start, round: u8, positions: &[Position], rep: u32) -> Position
+    fn position(
+        &self,
+        picks: &mut Picks,
+        start: &Start,
+        round: u8,
+        positions: &[Position],
+        rep: u32,
+    ) -> Position
         requires input { start.now.x ≡ self.now.placement.x }
         requires some { 0 < self.now.numrep }
         requires fits { rep < 256 }
-        ensures { result ≡ position_of (choosing self.now) start.now.bucket.now round positions.now rep }
+        requires picks { Remembers (world self.now.placement) picks.old }
+        ensures value { result ≡ position_of (choosing self.now) start.now.bucket.now round positions.now rep }
+        ensures picks { Remembers (world self.now.placement) picks.new }
     {
         let draw = Draw {
             numrep: self.numrep,
@@ -94,45 +115,58 @@ impl Chooser<'_> {
             round,
         };
         match self.placement.descend(start, self.choose.level, draw) {
-            Some(picked) => self.position_with(positions, rep, picked),
+            Some(picked) => self.position_with(picks, positions, rep, picked),
             None => Position::Hole,
         }
     }
 
     /// Tries a position, if it is open.
-    fn take_turn(&self, start: &Start, round: u8, positions: &mut [Position], rep: usize)
+    fn take_turn(
+        &self,
+        picks: &mut Picks,
+        start: &Start,
+        round: u8,
+        positions: &mut [Position],
+        rep: usize,
+    )
         requires input { start.now.x ≡ self.now.placement.x }
         requires some { 0 < self.now.numrep }
         requires few { length positions.old ≤ max_size }
         requires place { rep < length positions.old }
-        ensures { positions.new ≡ after_turn (choosing self.now) start.now.bucket.now round positions.old rep }
+        requires picks { Remembers (world self.now.placement) picks.old }
+        ensures value { positions.new ≡ after_turn (choosing self.now) start.now.bucket.now round positions.old rep }
+        ensures picks { Remembers (world self.now.placement) picks.new }
     {
         if positions[rep].is_open() {
-            let position = self.position(start, round, positions, rep as u32);
+            let position = self.position(picks, start, round, positions, rep as u32);
             positions[rep] = position;
         }
     }
 
     /// A round takes the positions in order.
     #[tactic(auto, unfolding(crate::specs::Indep::after_round))]
-    fn take_round(&self, start: &Start, positions: &mut [Position], round: u8)
+    fn take_round(&self, picks: &mut Picks, start: &Start, positions: &mut [Position], round: u8)
         requires input { start.now.x ≡ self.now.placement.x }
         requires some { 0 < self.now.numrep }
         requires few { length positions.old ≤ max_size }
-        ensures { positions.new ≡ after_round (choosing self.now) start.now.bucket.now positions.old round }
+        requires picks { Remembers (world self.now.placement) picks.old }
+        ensures value { positions.new ≡ after_round (choosing self.now) start.now.bucket.now positions.old round }
+        ensures picks { Remembers (world self.now.placement) picks.new }
     {
         for rep in 0..positions.len() {
-            self.take_turn(start, round, positions, rep);
+            self.take_turn(picks, start, round, positions, rep);
         }
     }
 
     /// Fills the positions, in all rounds.
     #[tactic(auto, unfolding(crate::specs::Indep::indep))]
-    pub(crate) fn indep(&self, start: &Bucket, positions: &mut [Position])
+    pub(crate) fn indep(&self, picks: &mut Picks, start: &Bucket, positions: &mut [Position])
         requires within { IsPickable start.now }
         requires some { 0 < self.now.numrep }
         requires few { length positions.old ≤ max_size }
-        ensures { positions.new ≡ indep (choosing self.now) start.now (length positions.old) }
+        requires picks { Remembers (world self.now.placement) picks.old }
+        ensures value { positions.new ≡ indep (choosing self.now) start.now (length positions.old) }
+        ensures picks { Remembers (world self.now.placement) picks.new }
     {
         let below = Start::new(start, self.placement.x, self.numrep);
         positions.fill(Position::Open);
@@ -140,7 +174,8 @@ impl Chooser<'_> {
             if !has_open(positions) {
                 break;
             }
-            self.take_round(&below, positions, round);
+            picks.tire(round);
+            self.take_round(picks, &below, positions, round);
         }
     }
 }

@@ -13,6 +13,7 @@ mod met;
 mod parents;
 mod pick;
 pub mod placement;
+mod remembered;
 pub mod rule;
 mod run;
 mod search;

@@ -8,6 +8,7 @@ use crate::choose::{Choice, Position};
 use crate::chooser::Chooser;
 use crate::limits::MAX_SIZE;
 use crate::placement::Placement;
+use crate::remembered::Picks;
 use crate::rule::Rule;
 use crate::step::{Choose, Mode, Step};
 use crate::work::{FIRST_TRIES, Lists, Work};
@@ -30,24 +31,28 @@ impl Chooser<'_> {
     ghost use Rattle.std.specs.Prelude.{◌≡◌, ◌-◌, ◌<◌, ◌≤◌, length, OnOk, ◌++◌};
     ghost use Rattle.crush.specs.Forest.{IsPickable};
     ghost use Rattle.crush.specs.Limits.{max_size};
-    ghost use Rattle.crush.specs.Placed.{choosing};
+    ghost use Rattle.crush.specs.Placed.{world, choosing};
+    ghost use Rattle.crush.specs.Remembered.{Remembers};
     ghost use Rattle.crush.specs.Run.{segment_of, after_entry, chosen_from};
 
     /// Adds what a step that packs gives below one bucket.
     fn add_packed(
         &self,
         size: u8,
+        picks: &mut Picks,
         start: &Bucket,
         chosen: &mut Vec<Choice>,
         found: &mut Vec<Option<i32>>,
     ) -> Result<(), AllocError>
         requires within { IsPickable start.now }
         requires packed { self.now.choose.mode ≡ Mode.Firstn }
-        ensures { OnOk result (found.new.items ≡ found.old.items
+        requires picks { Remembers (world self.now.placement) picks.old }
+        ensures value { OnOk result (found.new.items ≡ found.old.items
             ++ segment_of (choosing self.now) start.now (size - length found.old.items)) }
+        ensures picks { Remembers (world self.now.placement) picks.new }
     {
         let room = usize::from(size).saturating_sub(found.len());
-        self.firstn(start, room, chosen)?;
+        self.firstn(picks, start, room, chosen)?;
         for choice in chosen.iter() {
             found.push(Some(choice.leaf))?;
         }
@@ -58,6 +63,7 @@ impl Chooser<'_> {
     fn add_positions(
         &self,
         size: u8,
+        picks: &mut Picks,
         start: &Bucket,
         found: &mut Vec<Option<i32>>,
     ) -> Result<(), AllocError>
@@ -65,13 +71,15 @@ impl Chooser<'_> {
         requires kept { self.now.choose.mode ≡ Mode.Indep }
         requires some { 0 < self.now.numrep }
         requires few { size ≤ max_size }
-        ensures { OnOk result (found.new.items ≡ found.old.items
+        requires picks { Remembers (world self.now.placement) picks.old }
+        ensures value { OnOk result (found.new.items ≡ found.old.items
             ++ segment_of (choosing self.now) start.now (size - length found.old.items)) }
+        ensures picks { Remembers (world self.now.placement) picks.new }
     {
         let room = usize::from(size).saturating_sub(found.len());
         let mut all = [Position::Open; MAX_SIZE];
         let positions = &mut all[..room.min(usize::from(self.numrep))];
-        self.indep(start, positions);
+        self.indep(picks, start, positions);
         for position in positions.iter() {
             found.push(position.leaf())?;
         }
@@ -82,13 +90,16 @@ impl Chooser<'_> {
     fn add_entry(
         &self,
         size: u8,
+        picks: &mut Picks,
         entry: Option<i32>,
         chosen: &mut Vec<Choice>,
         found: &mut Vec<Option<i32>>,
     ) -> Result<(), AllocError>
         requires some { 0 < self.now.numrep }
         requires few { size ≤ max_size }
-        ensures { OnOk result (found.new.items ≡ after_entry (choosing self.now) size found.old.items entry) }
+        requires picks { Remembers (world self.now.placement) picks.old }
+        ensures value { OnOk result (found.new.items ≡ after_entry (choosing self.now) size found.old.items entry) }
+        ensures picks { Remembers (world self.now.placement) picks.new }
     {
         let Some(item) = entry else {
             return Ok(());
@@ -97,8 +108,8 @@ impl Chooser<'_> {
             return Ok(());
         };
         match self.choose.mode {
-            Mode::Firstn => self.add_packed(size, bucket, chosen, found),
-            Mode::Indep => self.add_positions(size, bucket, found),
+            Mode::Firstn => self.add_packed(size, picks, bucket, chosen, found),
+            Mode::Indep => self.add_positions(size, picks, bucket, found),
         }
     }
 
@@ -106,17 +117,20 @@ impl Chooser<'_> {
     fn segments(
         &self,
         size: u8,
+        picks: &mut Picks,
         working: &[Option<i32>],
         chosen: &mut Vec<Choice>,
         found: &mut Vec<Option<i32>>,
     ) -> Result<(), AllocError>
         requires some { 0 < self.now.numrep }
         requires few { size ≤ max_size }
-        ensures { OnOk result (found.new.items ≡ chosen_from (choosing self.now) size working.now) }
+        requires picks { Remembers (world self.now.placement) picks.old }
+        ensures value { OnOk result (found.new.items ≡ chosen_from (choosing self.now) size working.now) }
+        ensures picks { Remembers (world self.now.placement) picks.new }
     {
         found.clear();
         for entry in working {
-            self.add_entry(size, *entry, chosen, found)?;
+            self.add_entry(size, picks, *entry, chosen, found)?;
         }
         Ok(())
     }
@@ -127,16 +141,19 @@ impl Placement<'_> {
     ghost use Rattle.std.specs.List.{fold};
     ghost use Rattle.crush.specs.Limits.{max_size};
     ghost use Rattle.crush.specs.Placed.{world, progress};
+    ghost use Rattle.crush.specs.Remembered.{Remembers};
     ghost use Rattle.crush.specs.Run.{choosing_of, chosen_from, no_progress, after_step};
 
     /// Chooses below the buckets of the working list.
     fn choose(&self, choose: Choose, size: u8, lists: &mut Lists) -> Result<(), AllocError>
         requires some { 1 ≤ size }
         requires few { size ≤ max_size }
+        requires picks { Remembers (world self.now) lists.old.picks }
         ensures working { OnOk result (lists.new.working.items
             ≡ chosen_from (choosing_of (world self.now) size lists.old.tries choose) size lists.old.working.items) }
         ensures emitted { lists.new.emitted ≡ lists.old.emitted }
         ensures tries { lists.new.tries ≡ lists.old.tries }
+        ensures picks { Remembers (world self.now) lists.new.picks }
     {
         let chooser = Chooser {
             placement: *self,
@@ -144,7 +161,13 @@ impl Placement<'_> {
             tries: lists.tries,
             numrep: numrep(choose, size),
         };
-        chooser.segments(size, &lists.working, &mut lists.chosen, &mut lists.found)?;
+        chooser.segments(
+            size,
+            &mut lists.picks,
+            &lists.working,
+            &mut lists.chosen,
+            &mut lists.found,
+        )?;
         mem::swap(&mut lists.working, &mut lists.found);
         Ok(())
     }
@@ -154,7 +177,9 @@ impl Placement<'_> {
     fn step(&self, step: Step, size: u8, lists: &mut Lists) -> Result<(), AllocError>
         requires some { 1 ≤ size }
         requires few { size ≤ max_size }
-        ensures { OnOk result (progress lists.new ≡ after_step (world self.now) size (progress lists.old) step) }
+        requires picks { Remembers (world self.now) lists.old.picks }
+        ensures value { OnOk result (progress lists.new ≡ after_step (world self.now) size (progress lists.old) step) }
+        ensures picks { Remembers (world self.now) lists.new.picks }
     {
         match step {
             Step::SetChooseTries(tries) => lists.tries.total = tries,
@@ -179,6 +204,7 @@ impl Placement<'_> {
         requires few { size ≤ max_size }
         ensures { OnOk result (progress lists.new ≡ fold (after_step (world self.now) size) no_progress steps.now) }
     {
+        lists.picks.forget();
         lists.tries = FIRST_TRIES;
         lists.working.clear();
         lists.emitted.clear();

@@ -3,6 +3,7 @@
 use crate::choose::{Choice, Tries};
 use crate::forest::Forest;
 use crate::limits::MAX_SIZE;
+use crate::remembered::{PATIENCE, PLACES, Picks};
 use refusal::Memory;
 use std::alloc::Global;
 use std::marker::Model;
@@ -20,6 +21,8 @@ pub(crate) struct Lists {
     pub emitted: Vec<Option<i32>>,
     /// What a step that packs has chosen below one bucket.
     pub chosen: Vec<Choice>,
+    /// What the present run remembers.
+    pub picks: Picks,
 }
 
 /// How often the choose steps of a rule try that sets no tries: 50 tries after the first one (Ceph's
@@ -55,6 +58,11 @@ impl Work {
             found: Vec::with_capacity(alloc, MAX_SIZE)?,
             emitted: Vec::with_capacity(alloc, 2 * MAX_SIZE)?,
             chosen: Vec::with_capacity(alloc, MAX_SIZE)?,
+            picks: Picks {
+                patience: PATIENCE,
+                is_on: false,
+                kept: Vec::with_capacity(alloc, PLACES)?,
+            },
         };
         Ok(Work { lists, runs: 0 })
     }

@@ -5,8 +5,8 @@ use Rattle.crush.specs.Placed.{choosing}
 use Rattle.crush.proofs.Segments.{packed_is}
 use Rattle.crush.proofs.chooser.Chooser.add_packed.Goals as goal
 
-pub returns : goal.returns
-returns c =
+pub returns-clause-value : goal.returns-clause-value
+returns-clause-value c =
     let a = c.args in
     let items = c.deref-choice-items.result.now in
     let found = a.found.now.items in
@@ -14,4 +14,4 @@ returns c =
     let all : take c.loop-choice.choice-index items ≡ items = take_all c.loop-choice.choice-index items (omega arith) in
     c.loop-choice.invariant
     ∙ ap (λ (ys : List Choice). found ++ map (λ (e : Choice). Some e.leaf) ys) all
-    ∙ packed_is (choosing a.self.now) a.start.now a.size c.saturating_sub-room.result found items c.requires.packed room (c.deref-choice-items.ensures.value ∙ c.in_ok-firstn.ensures)
+    ∙ packed_is (choosing a.self.now) a.start.now a.size c.saturating_sub-room.result found items c.requires.packed room (c.deref-choice-items.ensures.value ∙ c.in_ok-firstn.ensures.value)

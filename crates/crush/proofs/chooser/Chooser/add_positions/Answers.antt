@@ -6,8 +6,8 @@ use Rattle.crush.specs.Indep.{leaf_at, indep}
 use Rattle.crush.proofs.Segments.{positions_is}
 use Rattle.crush.proofs.chooser.Chooser.add_positions.Goals as goal
 
-pub returns : goal.returns
-returns c =
+pub returns-clause-value : goal.returns-clause-value
+returns-clause-value c =
     let a = c.args in
     let k = choosing a.self.now in
     let items = c.indep.new.positions in
@@ -17,4 +17,4 @@ returns c =
     let all : take c.loop-position.position-index items ≡ items = take_all c.loop-position.position-index items (omega arith) in
     c.loop-position.invariant
     ∙ ap (λ (ys : List Position). found ++ map leaf_at ys) all
-    ∙ positions_is k a.start.now a.size (length items) found items c.requires.kept count (c.indep.ensures ∙ ap (indep k a.start.now) (sym c.indep.auto.positions))
+    ∙ positions_is k a.start.now a.size (length items) found items c.requires.kept count (c.indep.ensures.value ∙ ap (indep k a.start.now) (sym c.indep.auto.positions))

@@ -1,9 +1,16 @@
-use Rattle.std.proofs.Common.{◌≡◌, []}
+use Rattle.std.proofs.Common.{◌≡◌, ◌+◌, []}
 use Rattle.std.specs.List.{fold, range_with_len}
-use Rattle.crush.specs.Placed.{choosing}
+use Rattle.crush.specs.Placed.{world, choosing}
 use Rattle.crush.specs.Firstn.{after_replica}
+use Rattle.crush.specs.Tried.{HaveFailed}
+use Rattle.crush.specs.Remembered.{Remembers}
 use Rattle.crush.proofs.chooser.Chooser.firstn.Given as goal
 
 -- what was chosen for the replicas so far
 abbrev pub invariant-loop-rep : goal.invariant-loop-rep
-invariant-loop-rep l = l.chosen.items ≡ fold (after_replica (choosing l.self) l.start l.limit) [] (range_with_len 0 l.rep)
+invariant-loop-rep l =
+    record {
+      done : l.chosen.items ≡ fold (after_replica (choosing l.self) l.start l.limit) [] (range_with_len 0 l.rep);
+      known : HaveFailed (choosing l.self) l.chosen.items l.start l.rep (l.rep + l.known);
+      picks : Remembers (world l.self.placement) l.picks;
+    }

@@ -10,10 +10,13 @@ pub loop-round-preserved : goal.loop-round-preserved
 loop-round-preserved c =
     let a = c.args in
     let f = after_round (choosing a.self.now) a.start.now in
-    rw c.new-below.ensures.bucket at c.take_round.ensures ∙ ap (λ ps. f ps c.loop-round.round) c.loop-round.invariant ∙ fold_range f (replicate (length a.positions.now) Open) c.loop-round.round
+    record {
+      done = rw c.new-below.ensures.bucket at c.take_round.ensures.value ∙ ap (λ ps. f ps c.loop-round.round) c.loop-round.invariant.done ∙ fold_range f (replicate (length a.positions.now) Open) c.loop-round.round;
+      picks = c.take_round.ensures.picks;
+    }
 
-pub returns-then-not-has_open : goal.returns-then-not-has_open
+pub returns-then-not-has_open-clause-value : goal.returns-then-not-has_open-clause-value
 unfolding indep
-returns-then-not-has_open c =
+returns-then-not-has_open-clause-value c =
     let a = c.args in
-    rounds_over (choosing a.self.now) a.start.now (replicate (length a.positions.now) Open) c.loop-round.positions c.loop-round.round a.self.now.tries.total (omega arith) c.loop-round.invariant (sym c.has_open.ensures ∙ c.if-not-has_open.true)
+    rounds_over (choosing a.self.now) a.start.now (replicate (length a.positions.now) Open) c.loop-round.positions c.loop-round.round a.self.now.tries.total (omega arith) c.loop-round.invariant.done (sym c.has_open.ensures ∙ c.if-not-has_open.true)

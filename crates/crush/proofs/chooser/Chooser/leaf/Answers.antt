@@ -9,15 +9,15 @@ use Rattle.crush.proofs.LeafTries.{leaf_nowhere, leaf_in, leaf_found, leaf_refus
 use Rattle.crush.proofs.chooser.Chooser.leaf.Goals as goal
 use Rattle.crush.proofs.chooser.Chooser.leaf.Goals.{in-Some+else-is_free, in_default}
 
-pub returns-in_err-bucket : goal.returns-in_err-bucket
-returns-in_err-bucket c =
+pub returns-in_err-bucket-clause-value : goal.returns-in_err-bucket-clause-value
+returns-in_err-bucket-clause-value c =
     let a = c.args in
     let w = world a.self.now.placement in
     let passed : SFits w32 a.item = c.ranges.item in
     c.from_residual.ensures ∙ sym (leaf_nowhere w (is_free w a.chosen.now) (numbers_from a.r a.self.now.tries.leaf) a.item (ap (bucket_at w.buckets) (sym (to_z-of_z w32 a.item passed)) ∙ sym c.in_err-bucket.ensures.value))
 
-pub returns-then-is_free : goal.returns-then-is_free
-returns-then-is_free c =
+pub returns-then-is_free-clause-value : goal.returns-then-is_free-clause-value
+returns-then-is_free-clause-value c =
     let a = c.args in
     let w = world a.self.now.placement in
     let ok = is_free w a.chosen.now in
@@ -28,7 +28,7 @@ returns-then-is_free c =
     let p = c.in-Some.picked in
     let fits : SFits w32 p.item = search rules in
     let at : a.r + c.from.result ≡ a.r + c.loop-turn.turn = omega arith in
-    sym (leaf_found w ok b F a.r a.self.now.tries.leaf c.loop-turn.turn p (to_z w32 (of_z w32 p.item)) c.is_free.result (omega arith) (c.in-Some.ensures ∙ ap (λ m. item_below w (F m) 0 b) at) (to_z-of_z w32 p.item fits) c.is_free.ensures c.if-is_free.true) ∙ c.loop-turn.invariant ∙ sym start
+    sym (leaf_found w ok b F a.r a.self.now.tries.leaf c.loop-turn.turn p (to_z w32 (of_z w32 p.item)) c.is_free.result (omega arith) (c.in-Some.ensures.value ∙ ap (λ m. item_below w (F m) 0 b) at) (to_z-of_z w32 p.item fits) c.is_free.ensures c.if-is_free.true) ∙ c.loop-turn.invariant.done ∙ sym start
 
 pub loop-turn-preserved : goal.loop-turn-preserved
 loop-turn-preserved c =
@@ -38,15 +38,18 @@ loop-turn-preserved c =
     let b = c.new-below.result.bucket.now in
     let F : ℕ → Bucket → ℕ = λ r b. r in
     let at : a.r + c.from.result ≡ a.r + c.loop-turn.turn = omega arith in
-    elim c.match-descend_at.branch [
-      | in-Some+else-is_free v ↦ (let p = v.in-Some.picked in
-          let fits : SFits w32 p.item = search rules in
-          sym (leaf_refused w ok b F a.r a.self.now.tries.leaf c.loop-turn.turn p (to_z w32 (of_z w32 p.item)) v.is_free.result (omega arith) (v.in-Some.ensures ∙ ap (λ m. item_below w (F m) 0 b) at) (to_z-of_z w32 p.item fits) v.is_free.ensures v.if-is_free.false) ∙ c.loop-turn.invariant)
-      | in_default v ↦ sym (leaf_missing w ok b F a.r a.self.now.tries.leaf c.loop-turn.turn (omega arith) (v.in_default.ensures ∙ ap (λ m. item_below w (F m) 0 b) at)) ∙ c.loop-turn.invariant
-    ]
+    record {
+      done = elim c.match-device.branch [
+        | in-Some+else-is_free v ↦ (let p = v.in-Some.picked in
+            let fits : SFits w32 p.item = search rules in
+            sym (leaf_refused w ok b F a.r a.self.now.tries.leaf c.loop-turn.turn p (to_z w32 (of_z w32 p.item)) v.is_free.result (omega arith) (v.in-Some.ensures.value ∙ ap (λ m. item_below w (F m) 0 b) at) (to_z-of_z w32 p.item fits) v.is_free.ensures v.if-is_free.false) ∙ c.loop-turn.invariant.done)
+        | in_default v ↦ sym (leaf_missing w ok b F a.r a.self.now.tries.leaf c.loop-turn.turn (omega arith) (v.in_default.ensures.value ∙ ap (λ m. item_below w (F m) 0 b) at)) ∙ c.loop-turn.invariant.done
+      ];
+      picks = c.device_at-device.ensures.picks;
+    }
 
-pub returns : goal.returns
-returns c =
+pub returns-clause-value : goal.returns-clause-value
+returns-clause-value c =
     let a = c.args in
     let w = world a.self.now.placement in
     let ok = is_free w a.chosen.now in
@@ -54,4 +57,4 @@ returns c =
     let F : ℕ → Bucket → ℕ = λ r b. r in
     let passed : SFits w32 a.item = c.ranges.item in
     let start = leaf_in w ok F a.r a.self.now.tries.leaf a.item b (ap (bucket_at w.buckets) (sym (to_z-of_z w32 a.item passed)) ∙ sym c.in_ok-bucket.ensures.value ∙ ap Some (sym c.new-below.ensures.bucket)) in
-    sym (leaf_over w ok b F a.r a.self.now.tries.leaf c.loop-turn.turn (omega arith)) ∙ c.loop-turn.invariant ∙ sym start
+    sym (leaf_over w ok b F a.r a.self.now.tries.leaf c.loop-turn.turn (omega arith)) ∙ c.loop-turn.invariant.done ∙ sym start

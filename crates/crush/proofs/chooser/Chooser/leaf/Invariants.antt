@@ -3,10 +3,14 @@ use Rattle.crush.specs.declared.bucket.Bucket.{Bucket}
 use Rattle.crush.specs.Placed.{world}
 use Rattle.crush.specs.Firstn.{is_free}
 use Rattle.crush.proofs.LeafTries.{first_leaf}
+use Rattle.crush.specs.Remembered.{Remembers}
 use Rattle.crush.proofs.chooser.Chooser.leaf.Given as goal
 
 abbrev pub invariant-loop-turn : goal.invariant-loop-turn
 invariant-loop-turn l =
     let w = world l.self.placement in
     let F : ℕ → Bucket → ℕ = λ r b. r in
-    first_leaf w (is_free w l.chosen) l.below.bucket.now F (l.r + l.turn) (l.self.tries.leaf - l.turn) ≡ first_leaf w (is_free w l.chosen) l.below.bucket.now F l.r l.self.tries.leaf
+    record {
+      done : first_leaf w (is_free w l.chosen) l.below.bucket.now F (l.r + l.turn) (l.self.tries.leaf - l.turn) ≡ first_leaf w (is_free w l.chosen) l.below.bucket.now F l.r l.self.tries.leaf;
+      picks : Remembers w l.picks;
+    }

@@ -8,4 +8,7 @@ pub loop-rep-preserved : goal.loop-rep-preserved
 loop-rep-preserved c =
     let a = c.args in
     let f = after_turn (choosing a.self.now) a.start.now.bucket.now a.round in
-    c.take_turn.ensures ∙ ap (λ ps. f ps c.loop-rep.rep) c.loop-rep.invariant ∙ fold_range f a.positions.now c.loop-rep.rep
+    record {
+      done = c.take_turn.ensures.value ∙ ap (λ ps. f ps c.loop-rep.rep) c.loop-rep.invariant.done ∙ fold_range f a.positions.now c.loop-rep.rep;
+      picks = c.take_turn.ensures.picks;
+    }

@@ -2,7 +2,12 @@ use Rattle.std.proofs.Common.{◌≡◌, take}
 use Rattle.std.specs.List.{fold}
 use Rattle.crush.specs.Placed.{world, progress}
 use Rattle.crush.specs.Run.{no_progress, after_step}
+use Rattle.crush.specs.Remembered.{Remembers}
 use Rattle.crush.proofs.placement.Placement.steps.Given as goal
 
 abbrev pub invariant-loop-step : goal.invariant-loop-step
-invariant-loop-step l = progress l.lists ≡ fold (after_step (world l.self) l.size) no_progress (take l.step-index l.steps)
+invariant-loop-step l =
+    record {
+      done : progress l.lists ≡ fold (after_step (world l.self) l.size) no_progress (take l.step-index l.steps);
+      picks : Remembers (world l.self) l.lists.picks;
+    }
