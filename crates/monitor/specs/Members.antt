@@ -8,31 +8,38 @@ use Rattle.ticketlock.specs.Callers.{IsNewAt}
 use Rattle.ticketlock.specs.Guards.{first_of_read, first_of_write}
 use Rattle.osdmap.specs.Maps.{ClusterMap}
 use Rattle.osdmap.specs.Changes.{IsLawful}
-use Rattle.epochlog.specs.Epochs.{Line}
-use Rattle.state.specs.States.{Kept}
+use Rattle.epochlog.specs.Epochs.{Line, Seen}
+use Rattle.state.specs.States.{Kept, opened}
 use Rattle.monitor.specs.declared.locked.Locked.{Locked}
 use Rattle.monitor.specs.declared.member.Member.{Member}
 
--- what callers see of a monitor: the first map, the row of epochs, and the words of the lock from which its seats draw
+-- what callers see of a monitor: the first map, the row of epochs, the words of the lock from which its seats draw, and
+-- the state that the lock was made with
 pub record Monitored : Type 0 where
   pub first : ClusterMap
   pub row : Line
   pub words : Words
+  pub made : Kept
 
 -- a monitor by its parts
-abbrev pub monitored : ClusterMap → Line → Words → Monitored
-monitored first row words = record { first = first; row = row; words = words }
+abbrev pub monitored : ClusterMap → Line → Words → Kept → Monitored
+monitored first row words made = record { first = first; row = row; words = words; made = made }
 
 -- the state is one of this monitor: its first map is the monitor's, and its pass is of the monitor's row
 pub record IsStateOf (monitor : Monitored) (state : Kept) : Type 0 where
   pub first : state.first ≡ monitor.first
   pub row : state.pass.row ≡ monitor.row
 
--- the fact of every monitor, and of the state that its lock was made with: it is one of this monitor, whose row goes on
--- from the epoch of the first map
-pub record IsOpened (monitor : Monitored) (opened : Kept) : Type 0 where
-  pub state : IsStateOf monitor opened
+-- the fact of every monitor: its lock was made with a state at its beginning, that of the first map and the monitor's
+-- row with nothing in the journal; and the row goes on from the epoch of the first map
+pub record IsOpened (monitor : Monitored) : Type 0 where
+  pub made : monitor.made ≡ opened monitor.first monitor.row
   pub begins : monitor.row.first ≡ monitor.first.epoch
+
+-- the pass is of the monitor's row, with a history that is lawful from the first map
+pub record IsPassOf (monitor : Monitored) (pass : Seen) : Type 0 where
+  pub row : pass.row ≡ monitor.row
+  pub lawful : IsLawful monitor.first pass.history
 
 -- the member has a seat of this monitor; its pass is of the monitor's row, with a history that is lawful from the first
 -- map

@@ -2,6 +2,7 @@
 use Rattle.std.specs.Prelude.{◌≡◌, ℕ, ◌&&◌, ◌^◌, Bool, nat_le, List, length, All}
 use Rattle.osdmap.specs.Maps.{ClusterMap}
 use Rattle.epochlog.specs.Epochs.{is_within_limits}
+use Rattle.state.specs.States.{opened}
 use Rattle.monitor.specs.declared.member.Member.{Member}
 use Rattle.monitor.specs.Members.{Monitored, IsNewMemberOf, draws_of}
 
@@ -19,13 +20,15 @@ can_open epoch journal seats draws =
     is_within_limits epoch journal
     && (nat_le 1 seats && nat_le seats max_seats && (nat_le 1 draws && nat_le draws max_draws))
 
--- a monitor with this first map and a journal of such a capacity, and so many members, each with so many draws, who
--- have seen nothing
+-- a monitor with this first map and a journal of such a capacity, whose lock was made with the state at its beginning:
+-- the first map is the present one, and the journal is empty; and so many members, each with so many draws, who have
+-- seen nothing
 pub record IsOpening (map : ClusterMap) (journal seats draws : ℕ) (monitor : Monitored) (members : List Member)
     : Type 0 where
   pub first : monitor.first ≡ map
   pub begins : monitor.row.first ≡ map.epoch
   pub capacity : length monitor.row.cells ≡ journal
+  pub made : monitor.made ≡ opened map monitor.row
   pub limit : draws_of monitor ≡ draws
   pub count : length members ≡ seats
   pub each : All (IsNewMemberOf monitor) members

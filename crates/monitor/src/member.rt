@@ -25,4 +25,11 @@ impl Member {
     {
         self.pass.meet(&mut other.pass);
     }
+
+    /// What it has seen of its row.
+    pub fn pass(&self) -> &Pass
+        ensures { result.now ≡ self.now.pass }
+    {
+        &self.pass
+    }
 }

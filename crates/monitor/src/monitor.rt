@@ -3,8 +3,10 @@
 ghost use Rattle.std.specs.Prelude.{◌≡◌};
 
 use crate::locked::Locked;
-use epochlog::Row;
+use epochlog::{Pass, Row};
 use osdmap::OsdMap;
+use refusal::Memory;
+use std::alloc::Global;
 use std::marker::Model;
 use ticketlock::Lock;
 
@@ -18,7 +20,8 @@ pub struct Monitor {
 }
 
 impl Monitor {
-    ghost use Rattle.std.specs.Prelude.{◌≡◌, ◌+◌, ◌<◌, ◌≤◌, length, true, false};
+    ghost use Rattle.std.specs.Prelude.{◌≡◌, ◌+◌, ◌<◌, ◌≤◌, [], length, true, false, IfOk};
+    ghost use Rattle.monitor.specs.Members.{IsPassOf};
 
     /// Whether the monitor has reached an epoch by now: it is the first map's or one before it, or the row shows it. It
     /// takes no turn at the lock, no memory, and waits for no one. Who then shares the lock finds the state there, or
@@ -29,6 +32,14 @@ impl Monitor {
     {
         self.row.is_sealed(epoch)
     }
+
+    /// A pass that has seen nothing, to join what members have seen. The one error is `Memory` (30).
+    #[tactic(auto, using(crate::proofs::Histories::lawful_none))]
+    pub fn pass(&self, alloc: Global) -> Result<Pass, Memory>
+        ensures { IfOk result (λ pass. IsPassOf self.now pass × (pass.history ≡ [])) }
+    {
+        self.row.pass(alloc)
+    }
 }
 
 impl Model for Monitor {
@@ -37,7 +48,7 @@ impl Model for Monitor {
 
     ghost Value = { Monitored };
 
-    ghost view = { λ m. monitored m.first.map m.row m.lock.words };
+    ghost view = { λ m. monitored m.first.map m.row m.lock.words (first_of m.lock).state.value };
 
-    ghost invariant = { λ m. IsOpened (monitored m.first.map m.row m.lock.words) (first_of m.lock).state.value };
+    ghost invariant = { λ m. IsOpened (monitored m.first.map m.row m.lock.words (first_of m.lock).state.value) };
 }

@@ -1,4 +1,5 @@
 mod CommandLines
+mod Joined
 mod Paired
 mod Outs
 mod PlainWords

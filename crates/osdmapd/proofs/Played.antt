@@ -2,7 +2,9 @@
 use Rattle.std.proofs.Common.{◌≡◌, ◌∙◌, ◌++◌, false, refl, ap, subst, append_assoc, ℕ, List, map, length, Option, None, IfSome, OnOk, Result, Ok, Err}
 use Rattle.std.specs.List.{concat}
 use Rattle.std.specs.Result.{IsErrAnd}
+use Rattle.stated.specs.Incrementals.{Step}
 use Rattle.osdmap.specs.Maps.{ClusterMap}
+use Rattle.osdmap.specs.Changes.{IsLawful}
 use Rattle.mapjson.specs.MapTexts.{map_text_fault, StatesMap}
 use Rattle.monitor.specs.Members.{Monitored}
 use Rattle.session.specs.declared.error.SessionError.{SessionError}
@@ -17,34 +19,42 @@ use Rattle.osdmapd.specs.declared.playing.Left.{Left}
 use Rattle.osdmapd.specs.declared.playing.LeftOf.{LeftOf}
 use Rattle.osdmapd.specs.declared.fault.Fault.{Fault}
 use Rattle.osdmapd.specs.declared.fault.Fault.TheVariants.{Output, Memory}
-use Rattle.osdmapd.specs.Players.{IsStartedFor}
+use Rattle.osdmapd.specs.Players.{IsStartedFor, Keeps}
 use Rattle.osdmapd.specs.Pairs.{Pairs}
-use Rattle.osdmapd.specs.Serving.{heading, text_left, unseen, lets_all, IsTextBy, IsLeftOf, IsLeftBy, AreTextsOf, Serves, has_output_failed}
-use Rattle.osdmapd.proofs.Paired.{pairs_made}
+use Rattle.osdmapd.specs.Serving.{heading, text_left, unseen, lets_all, IsTextBy, IsLeftBy, IsLeftIn, AreLeftBy, AreTextsOf, Serves, has_output_failed}
+use Rattle.osdmapd.proofs.Paired.{pairs_made, pairs_through}
 
--- a text is that of the same monitor, number and part
-pub text_for : (monitor monitor' : Monitored) (number number' : ℕ) (part part' : Part) (text : List ℕ) → monitor' ≡ monitor → number' ≡ number
-    → part' ≡ part → IsLeftBy monitor' number' part' text → IsLeftBy monitor number part text
-text_for monitor monitor' number number' part part' text same numbered played is =
-    subst (λ m. IsLeftBy m number part text) same (subst (λ n. IsLeftBy monitor' n part text) numbered
-    (subst (λ s. IsLeftBy monitor' number' s text) played is))
+-- what is left is of the same monitor, number and part
+pub left_for : (monitor monitor' : Monitored) (number number' : ℕ) (part part' : Part) (left : Left) → monitor' ≡ monitor → number' ≡ number
+    → part' ≡ part → IsLeftBy monitor' number' part' left → IsLeftBy monitor number part left
+left_for monitor monitor' number number' part part' left same numbered played is =
+    subst (λ m. IsLeftBy m number part left) same (subst (λ n. IsLeftBy monitor' n part left) numbered
+    (subst (λ s. IsLeftBy monitor' number' s left) played is))
+
+-- what is left by threads that were started for these parts
+pub left_by : {T : Type 0} (monitor : Monitored) (players : List (PromisedHandle T LeftOf)) (parts : List Part) (lefts : List Left)
+    → Pairs (IsStartedFor monitor) 1 players parts → Pairs Keeps 1 players lefts → Pairs (IsLeftBy monitor) 1 parts lefts
+left_by monitor players parts lefts started kept =
+    pairs_through (IsStartedFor monitor) Keeps (IsLeftBy monitor)
+    (λ number player part left begun keeps. left_for _ _ _ _ _ _ left begun.0 begun.1 begun.2 keeps)
+    1 players parts lefts started kept
 
 -- texts of a monitor with this first map and journal
-pub texts_from : (monitor : Monitored) (m : ClusterMap) (journal : ℕ) (parts : List Part) (lefts : List Left) → monitor.first ≡ m
-    → length monitor.row.cells ≡ journal → Pairs (λ number part left. IsLeftBy monitor number part (text_left left)) 1 parts lefts
-    → Pairs (IsLeftOf m journal) 1 parts (map text_left lefts)
-texts_from monitor m journal parts lefts first room paired =
-    subst (λ k. Pairs (IsLeftOf m k) 1 parts (map text_left lefts)) room
-    (subst (λ f. Pairs (IsLeftOf f (length monitor.row.cells)) 1 parts (map text_left lefts)) first
-    (pairs_made (IsLeftBy monitor) text_left 1 parts lefts paired))
+texts_from : (monitor : Monitored) (m : ClusterMap) (journal : ℕ) (all : List Step) (parts : List Part) (lefts : List Left)
+    → monitor.first ≡ m → length monitor.row.cells ≡ journal
+    → Pairs (λ number part left. IsLeftIn monitor.first (length monitor.row.cells) all number part (text_left left)) 1 parts lefts
+    → Pairs (IsLeftIn m journal all) 1 parts (map text_left lefts)
+texts_from monitor m journal all parts lefts first room paired =
+    subst (λ k. Pairs (IsLeftIn m k all) 1 parts (map text_left lefts)) room
+    (subst (λ f. Pairs (IsLeftIn f (length monitor.row.cells) all) 1 parts (map text_left lefts)) first
+    (pairs_made (IsLeftIn monitor.first (length monitor.row.cells) all) text_left 1 parts lefts paired))
 
 -- the texts from the map that a text states
 pub texts_of : (monitor : Monitored) (m : ClusterMap) (journal : ℕ) (stated : List ℕ) (parts : List Part) (lefts : List Left)
     → StatesMap stated m → monitor.first ≡ m → length monitor.row.cells ≡ journal
-    → Pairs (λ number part left. IsLeftBy monitor number part (text_left left)) 1 parts lefts
-    → AreTextsOf journal stated parts (map text_left lefts)
-texts_of monitor m journal stated parts lefts states first room paired =
-    (m, states, texts_from monitor m journal parts lefts first room paired)
+    → AreLeftBy monitor parts lefts → AreTextsOf journal stated parts (map text_left lefts)
+texts_of monitor m journal stated parts lefts states first room (all, lawful, paired) =
+    (m, states, all, subst (λ f. IsLawful f all) first lawful, texts_from monitor m journal all parts lefts first room paired)
 
 -- what is out where the output fails, at whatever error is told
 pub served_part : (r : Result Unit Fault) (journal : ℕ) (stated : List ℕ) (parts : List Part) (before after : List ℕ)
@@ -72,16 +82,17 @@ pub started_for : {T : Type 0} (monitor : Monitored) (number : ℕ) (player : Pr
 started_for monitor number player part same numbered played = (same, numbered, played)
 
 -- what a live session has put is its heading and its answers
-pub told_live : (monitor : Monitored) (number : ℕ) (seen : Sight) (P : Sight → Type 0) (old mid after : List ℕ) (known : Option (List ℕ))
+pub told_live : (monitor : Monitored) (number : ℕ) (seen : Sight) (ends : List Step) (old mid after : List ℕ) (known : Option (List ℕ))
     (r : Result Unit SessionError) → seen ≡ unseen → mid ≡ old ++ heading number
     → OnOk r ((read : List ℕ) × (bytes : List ℕ) × (last : Sight) × IfSome known (λ xs. xs ≡ read)
-    × IsTranscript (session_of monitor lets_all) 1 seen (lines_in read) bytes last × P last × (after ≡ mid ++ bytes))
-    → OnOk r ((read : List ℕ) × (text : List ℕ) × IfSome known (λ xs. xs ≡ read) × IsTextBy monitor number read text × (after ≡ old ++ text))
-told_live monitor number seen P old mid after known (Ok done) same out (read, bytes, last, all, told, is, put) = (
+    × IsTranscript (session_of monitor lets_all) 1 seen (lines_in read) bytes last × (last.member ≡ ends) × (after ≡ mid ++ bytes))
+    → OnOk r ((read : List ℕ) × (text : List ℕ) × IfSome known (λ xs. xs ≡ read) × IsTextBy monitor number read text ends
+    × (after ≡ old ++ text))
+told_live monitor number seen ends old mid after known (Ok done) same out (read, bytes, last, all, told, is, put) = (
   read,
   heading number ++ bytes,
   all,
-  (bytes, last, subst (λ s. IsTranscript (session_of monitor lets_all) 1 s (lines_in read) bytes last) same told, refl),
+  (bytes, last, subst (λ s. IsTranscript (session_of monitor lets_all) 1 s (lines_in read) bytes last) same told, is, refl),
   put ∙ ap (λ o. o ++ bytes) out ∙ append_assoc old (heading number) bytes,
 )
-told_live monitor number seen P old mid after known (Err e) same out told = tt
+told_live monitor number seen ends old mid after known (Err e) same out told = tt

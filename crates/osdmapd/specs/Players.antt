@@ -5,7 +5,7 @@ use Rattle.monitor.specs.Members.{Monitored}
 use Rattle.osdmapd.specs.declared.part.Part.{Part}
 use Rattle.osdmapd.specs.declared.playing.Left.{Left}
 use Rattle.osdmapd.specs.declared.playing.LeftOf.{LeftOf}
-use Rattle.osdmapd.specs.Serving.{text_left, IsLeftBy}
+use Rattle.osdmapd.specs.Serving.{IsLeftBy}
 
 -- a thread that was started for a part, by its number
 abbrev pub IsStartedFor : {T : Type 0} → Monitored → ℕ → PromisedHandle T LeftOf → Part → Type 0
@@ -15,4 +15,4 @@ IsStartedFor monitor number player part =
 -- what it promised
 abbrev pub Keeps : {T : Type 0} → ℕ → PromisedHandle T LeftOf → Left → Type 0
 Keeps number player left =
-    IsLeftBy player.promise.monitor.now player.promise.number player.promise.part.now (text_left left)
+    IsLeftBy player.promise.monitor.now player.promise.number player.promise.part.now left

@@ -2,9 +2,12 @@
 use Rattle.std.specs.Prelude.{◌≡◌, ℕ, Bool, true, false, List, [], ◌++◌, codes, length, Some, None, Result, Ok, Err}
 use Rattle.std.specs.Fmt.{decimal}
 use Rattle.std.specs.List.{concat}
+use Rattle.stated.specs.Incrementals.{Step}
 use Rattle.osdmap.specs.Maps.{ClusterMap}
+use Rattle.osdmap.specs.Changes.{IsLawful}
+use Rattle.epochlog.specs.Epochs.{Begins}
 use Rattle.mapjson.specs.MapTexts.{map_text_fault, StatesMap}
-use Rattle.monitor.specs.Members.{Monitored}
+use Rattle.monitor.specs.Members.{Monitored, IsMemberOf}
 use Rattle.session.specs.Commands.{lines_in}
 use Rattle.session.specs.Answers.{Sight, session_with}
 use Rattle.session.specs.Transcripts.{IsTranscript}
@@ -32,36 +35,57 @@ abbrev pub unseen : Sight
 unseen = record { member = []; follower = [] }
 
 -- the text of the session of a number: its heading, and the answers of its script, from this first map and with a
--- journal for so many changes
-abbrev pub IsTextOf : ClusterMap → ℕ → ℕ → List ℕ → List ℕ → Type 0
-IsTextOf first journal number script text =
+-- journal for so many changes; the last of them leaves its member with this history
+abbrev pub IsTextOf : ClusterMap → ℕ → ℕ → List ℕ → List ℕ → List Step → Type 0
+IsTextOf first journal number script text seen =
     (answers : List ℕ) × (last : Sight) × IsTranscript (session_with first journal lets_all) 1 unseen
     (lines_in script) answers last
-    × (text ≡ heading number ++ answers)
+    × (last.member ≡ seen) × (text ≡ heading number ++ answers)
 
 -- the same of a session of this monitor
-abbrev pub IsTextBy : Monitored → ℕ → List ℕ → List ℕ → Type 0
-IsTextBy monitor number script text = IsTextOf monitor.first (length monitor.row.cells) number script text
+abbrev pub IsTextBy : Monitored → ℕ → List ℕ → List ℕ → List Step → Type 0
+IsTextBy monitor number script text seen = IsTextOf monitor.first (length monitor.row.cells) number script text seen
 
 -- what is left to put out of the session of a part, once it has ended: the text of a script; of a live session nothing
-abbrev pub IsLeftOf : ClusterMap → ℕ → ℕ → Part → List ℕ → Type 0
-IsLeftOf first journal number (Script script) text = IsTextOf first journal number script.items text
-IsLeftOf first journal number (Live source target) text = text ≡ []
+abbrev pub IsLeftOf : ClusterMap → ℕ → ℕ → Part → List ℕ → List Step → Type 0
+IsLeftOf first journal number (Script script) text seen = IsTextOf first journal number script.items text seen
+IsLeftOf first journal number (Live source target) text seen = text ≡ []
 
 -- what is to be put out of what is left
 abbrev pub text_left : Left → List ℕ
 text_left left = buffered left.text
 
--- the same of a session of this monitor
-abbrev pub IsLeftBy : Monitored → ℕ → Part → List ℕ → Type 0
-IsLeftBy monitor number part text = IsLeftOf monitor.first (length monitor.row.cells) number part text
+-- what the member has seen that is left
+abbrev pub seen_left : Left → List Step
+seen_left left = left.member.pass.history
+
+-- the same of a session of this monitor, and its member is left too
+abbrev pub IsLeftBy : Monitored → ℕ → Part → Left → Type 0
+IsLeftBy monitor number part left =
+    IsMemberOf monitor left.member
+    × IsLeftOf monitor.first (length monitor.row.cells) number part (text_left left) (seen_left left)
 
 -- ---- all sessions
 
--- what is left of the sessions of these parts, numbered from 1, from the map that a text states
+-- what is left of a session whose last history begins this one
+abbrev pub IsLeftIn : ClusterMap → ℕ → List Step → ℕ → Part → List ℕ → Type 0
+IsLeftIn first journal all number part text =
+    (seen : List Step) × Begins seen all × IsLeftOf first journal number part text seen
+
+-- what is left of the sessions of these parts, numbered from 1, at one monitor: the last history of each begins one
+-- that is lawful from the first map
+abbrev pub AreLeftBy : Monitored → List Part → List Left → Type 0
+AreLeftBy monitor parts lefts =
+    (all : List Step) × IsLawful monitor.first all
+    × Pairs (λ number part left. IsLeftIn monitor.first (length monitor.row.cells) all number part (text_left left))
+    1 parts lefts
+
+-- what is left of the sessions of these parts, numbered from 1, from the map that a text states: there is one history,
+-- lawful from that map, which the last history of each session begins
 abbrev pub AreTextsOf : ℕ → List ℕ → List Part → List (List ℕ) → Type 0
 AreTextsOf journal stated parts texts =
-    (m : ClusterMap) × StatesMap stated m × Pairs (IsLeftOf m journal) 1 parts texts
+    (m : ClusterMap) × StatesMap stated m × (all : List Step) × IsLawful m all
+    × Pairs (IsLeftIn m journal all) 1 parts texts
 
 -- the texts of a map that is not refused are out, one after the other
 abbrev pub IsServed : ℕ → List ℕ → List Part → List ℕ → List ℕ → Type 0

@@ -1,14 +1,16 @@
 //! The sessions of a run, each in a thread of its own.
 ghost use Rattle.std.specs.Prelude.{◌≡◌, ◌+◌, ◌++◌, ℕ, List, false, All, OnOk, IfOk, IfSome, MatchOption, length, vec_len};
-ghost use Rattle.monitor.specs.Members.{IsNewMemberOf};
+ghost use Rattle.epochlog.specs.Epochs.{Begins};
+ghost use Rattle.monitor.specs.Members.{IsMemberOf, IsNewMemberOf, IsPassOf};
 ghost use Rattle.session.specs.Buffers.{buffered, is_short};
 ghost use Rattle.osdmapd.specs.Pairs.{Pairs};
-ghost use Rattle.osdmapd.specs.Serving.{heading, text_left, IsTextBy, IsLeftBy};
+ghost use Rattle.osdmapd.specs.Serving.{heading, seen_left, IsTextBy, IsLeftBy, AreLeftBy};
 ghost use Rattle.osdmapd.specs.Players.{IsStartedFor, Keeps};
 
 use crate::ending::Ending;
 use crate::out::Out;
 use crate::part::{Part, Source, Target};
+use epochlog::Pass;
 use monitor::{Member, Monitor};
 use refusal::Memory;
 use session::{Buffer, Desk, Open, SessionError, Sink, write_whole};
@@ -23,11 +25,13 @@ use std::{fs, io, thread};
 pub struct Left {
     /// What is to be put out of it.
     pub text: Buffer,
+    /// Its member, with what it has seen.
+    pub member: Member,
     /// Whether one of its files has failed, which its thread has told.
     pub has_told: bool,
 }
 
-/// A session, and what its thread promises: what is left to put out of it, unless memory was short.
+/// A session, and what its thread promises: what is left to put out of it, and its member, unless memory was short.
 #[derive(Clone, Copy)]
 pub struct LeftOf<'a> {
     monitor: &'a Monitor,
@@ -37,9 +41,9 @@ pub struct LeftOf<'a> {
 
 impl<'a> Promise<Result<Left, Memory>> for LeftOf<'a> {
     ghost use Rattle.std.specs.Prelude.{IfOk};
-    ghost use Rattle.osdmapd.specs.Serving.{IsLeftBy, text_left};
+    ghost use Rattle.osdmapd.specs.Serving.{IsLeftBy};
 
-    ghost kept_by = { λ p left. IfOk left (λ l. IsLeftBy p.monitor.now p.number p.part.now (text_left l)) };
+    ghost kept_by = { λ p left. IfOk left (IsLeftBy p.monitor.now p.number p.part.now) };
 }
 
 /// A thread that plays a session.
@@ -59,16 +63,17 @@ fn headed(alloc: Global, number: usize) -> Option<Buffer>
 /// The text of the session of a script: its heading and its answers. The one error is that memory is short.
 fn play_script<R: Wait>(
     desk: &Desk<'_, R, Open>,
-    member: Member,
+    member: &mut Member,
     number: usize,
     script: &[u8],
 ) -> Option<Buffer>
-    requires { IsNewMemberOf desk.now.monitor.now member }
-    ensures { IfSome result (λ text. IsTextBy desk.now.monitor.now number script.now (buffered text)) }
+    requires { IsNewMemberOf desk.now.monitor.now member.old }
+    ensures member { IsMemberOf desk.now.monitor.now member.new }
+    ensures text { IfSome result (λ text.
+        IsTextBy desk.now.monitor.now number script.now (buffered text) member.new.pass.history) }
 {
-    let mut member = member;
     let mut text = headed(desk.alloc, number)?;
-    desk.run(&mut member, script, &mut text).ok()?;
+    desk.run(member, script, &mut text).ok()?;
     Some(text)
 }
 
@@ -76,36 +81,37 @@ fn play_script<R: Wait>(
 /// and at its end.
 fn play_live<R: Wait, B: Read, W: Sink>(
     desk: &Desk<'_, R, Open>,
-    member: Member,
+    member: &mut Member,
     number: usize,
     reader: &mut B,
     out: &mut W,
 ) -> Result<(), SessionError>
-    requires member { IsNewMemberOf desk.now.monitor.now member }
+    requires member { IsNewMemberOf desk.now.monitor.now member.old }
     requires unfailed { W.has_failed out.old ≡ false }
+    ensures member { IsMemberOf desk.now.monitor.now member.new }
     ensures out { OnOk result (W.holds_back out.new ≡ false) }
     ensures ok { OnOk result ((read : List ℕ) × (text : List ℕ)
         × IfSome (B.remaining reader.old) (λ xs. xs ≡ read)
-        × IsTextBy desk.now.monitor.now number read text
+        × IsTextBy desk.now.monitor.now number read text member.new.pass.history
         × (W.written out.new ≡ W.written out.old ++ text)) }
 {
-    let mut member = member;
     let Some(text) = headed(desk.alloc, number) else {
         return Err(SessionError::Memory);
     };
     write_whole(out, text.bytes())?;
-    desk.run_from(&mut member, reader, out)
+    desk.run_from(member, reader, out)
 }
 
 /// Plays the session of a reader's lines, its answers to a writer.
 fn play_into<R: Wait, B: Read, W: io::Write + Drop>(
     desk: &Desk<'_, R, Open>,
-    member: Member,
+    member: &mut Member,
     number: usize,
     reader: &mut B,
     to: W,
 ) -> Result<(), SessionError>
-    requires { IsNewMemberOf desk.now.monitor.now member }
+    requires { IsNewMemberOf desk.now.monitor.now member.old }
+    ensures { IsMemberOf desk.now.monitor.now member.new }
 {
     let mut out = Out::new(desk.alloc, to);
     match play_live(desk, member, number, reader, &mut out) {
@@ -125,12 +131,13 @@ fn unopened(error: &io::Error, otherwise: SessionError) -> SessionError {
 /// Plays the session of a reader's lines; a file for its answers is made, or emptied.
 fn play_to<R: Wait, B: Read>(
     desk: &Desk<'_, R, Open>,
-    member: Member,
+    member: &mut Member,
     number: usize,
     reader: &mut B,
     to: (&HostRuntime, &Target),
 ) -> Result<(), SessionError>
-    requires { IsNewMemberOf desk.now.monitor.now member }
+    requires { IsNewMemberOf desk.now.monitor.now member.old }
+    ensures { IsMemberOf desk.now.monitor.now member.new }
 {
     let (files, target) = to;
     match target {
@@ -145,12 +152,13 @@ fn play_to<R: Wait, B: Read>(
 /// Plays a live session: opens the file of its lines first, then that of its answers.
 fn play_between<R: Wait>(
     desk: &Desk<'_, R, Open>,
-    member: Member,
+    member: &mut Member,
     number: usize,
     files: &HostRuntime,
     ends: (&Source, &Target),
 ) -> Result<(), SessionError>
-    requires { IsNewMemberOf desk.now.monitor.now member }
+    requires { IsNewMemberOf desk.now.monitor.now member.old }
+    ensures { IsMemberOf desk.now.monitor.now member.new }
 {
     let (source, target) = ends;
     match source {
@@ -173,12 +181,13 @@ fn tell(rt: &impl Eprint, ending: &Ending<'_>) {
 /// Plays a live session: whether one of its files has failed, which is told. The one error is that memory is short.
 fn play_told<R: Wait + Eprint>(
     desk: &Desk<'_, R, Open>,
-    member: Member,
+    member: &mut Member,
     number: usize,
     files: &HostRuntime,
     ends: (&Source, &Target),
 ) -> Result<bool, Memory>
-    requires { IsNewMemberOf desk.now.monitor.now member }
+    requires { IsNewMemberOf desk.now.monitor.now member.old }
+    ensures { IsMemberOf desk.now.monitor.now member.new }
 {
     let (source, target) = ends;
     match play_between(desk, member, number, files, ends) {
@@ -190,7 +199,7 @@ fn play_told<R: Wait + Eprint>(
     Ok(true)
 }
 
-/// Plays a session: what is left of it. The one error is that memory is short.
+/// Plays a session: what is left of it, and its member. The one error is that memory is short.
 fn play<R: Wait + Eprint>(
     desk: &Desk<'_, R, Open>,
     member: Member,
@@ -199,20 +208,23 @@ fn play<R: Wait + Eprint>(
     part: &Part,
 ) -> Result<Left, Memory>
     requires { IsNewMemberOf desk.now.monitor.now member }
-    ensures { IfOk result (λ left. IsLeftBy desk.now.monitor.now number part.now (text_left left)) }
+    ensures { IfOk result (IsLeftBy desk.now.monitor.now number part.now) }
 {
+    let mut member = member;
     match part {
         Part::Script(script) => {
-            let text = play_script(desk, member, number, script).ok_or(Memory)?;
+            let text = play_script(desk, &mut member, number, script).ok_or(Memory)?;
             Ok(Left {
                 text,
+                member,
                 has_told: false,
             })
         }
         Part::Live(source, target) => {
-            let has_told = play_told(desk, member, number, files, (source, target))?;
+            let has_told = play_told(desk, &mut member, number, files, (source, target))?;
             Ok(Left {
                 text: Buffer::new(desk.alloc),
+                member,
                 has_told,
             })
         }
@@ -261,7 +273,7 @@ fn start_all<'s, E, R: Wait + Eprint + Sync>(
             promise,
             move || -> Result<Left, Memory>
                 requires { IsNewMemberOf monitor.now member }
-                ensures { IfOk result (λ l. IsLeftBy monitor.entry.now number part.entry.now (text_left l)) }
+                ensures { IfOk result (IsLeftBy monitor.entry.now number part.entry.now) }
             {
                 let desk = Desk {
                     alloc,
@@ -293,8 +305,21 @@ fn join_all<'s, R: Threads>(
     Ok(lefts)
 }
 
+/// Joins what the members have seen that are left: after it each of their histories begins the one of the pass.
+fn join_seen(all: &mut Pass, monitor: &Monitor, lefts: &[Left])
+    requires pass { IsPassOf monitor.now all.old }
+    requires members { All (λ left. IsMemberOf monitor.now left.member) lefts.now }
+    ensures pass { IsPassOf monitor.now all.new }
+    ensures begin { All (λ left. Begins (seen_left left) all.new.history) lefts.now }
+{
+    let _ = monitor;
+    for left in lefts {
+        all.join(left.member.pass());
+    }
+}
+
 /// What is left of the sessions of these parts, in their order, each played by a thread of its own, for which it takes
-/// one of the members, who have seen nothing. All threads are started before one is joined, and all have ended when it
+/// one of the members, who have seen nothing. What the members have seen at the end is of one history. All threads are started before one is joined, and all have ended when it
 /// returns. The one error is that memory is short, or that a thread cannot be made.
 pub fn lefts<R: Threads + Wait + Eprint + Sync>(
     system: (&R, &HostRuntime),
@@ -304,8 +329,7 @@ pub fn lefts<R: Threads + Wait + Eprint + Sync>(
 ) -> Result<Vec<Left>, Memory>
     requires members { All (IsNewMemberOf monitor) members.items }
     requires count { vec_len members ≡ length parts.now }
-    ensures { IfOk result (λ lefts. Pairs (λ number part left. IsLeftBy monitor number part (text_left left))
-        1 parts.now lefts.items) }
+    ensures { IfOk result (λ lefts. AreLeftBy monitor parts.now lefts.items) }
 {
     let (rt, files) = system;
     let alloc = *members.allocator();
@@ -315,11 +339,13 @@ pub fn lefts<R: Threads + Wait + Eprint + Sync>(
         rt,
         move |scope| -> Result<Vec<Left>, Memory>
             requires { All (IsNewMemberOf shared.now) members.items × (vec_len members ≡ length parts.now) }
-            ensures { IfOk result (λ lefts. Pairs (λ number part left. IsLeftBy shared.entry.now number part (text_left left))
-                1 parts.entry.now lefts.items) }
+            ensures { IfOk result (λ lefts. AreLeftBy shared.entry.now parts.entry.now lefts.items) }
         {
+            let mut all = shared.pass(alloc)?;
             let players = start_all(scope, (rt, files), shared, members, parts)?;
-            join_all(rt, alloc, players)
+            let lefts = join_all(rt, alloc, players)?;
+            join_seen(&mut all, shared, lefts.as_slice());
+            Ok(lefts)
         },
     )
 }
