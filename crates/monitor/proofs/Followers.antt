@@ -1,13 +1,13 @@
 -- Followers: what one more incremental does to one, and to what it has seen.
-use Rattle.std.proofs.Common.{◌≡◌, ◌∙◌, sym, ap, refl, subst, ℕ, zero, suc, ◌+◌, ◌-◌, ◌≤◌, Bool, true, false, List, [], ◌∷◌, ◌++◌, length, take, Some, None, Result, Ok, Err, IfOk, OnErr, slice_get, inl, inr, arith, length-append}
-use Rattle.std.proofs.lemmas.List.{take-append-le, length-take, append-nil}
+use Rattle.std.proofs.Common.{◌≡◌, ◌∙◌, sym, ap, refl, subst, ℕ, zero, suc, ◌+◌, ◌-◌, ◌≤◌, Bool, true, false, List, [], ◌∷◌, ◌++◌, length, take, Some, None, Result, Ok, Err, IfOk, OnErr, IsSome, slice_get, inl, inr, arith, length-append}
+use Rattle.std.proofs.lemmas.List.{take-append-le, length-take, append-nil, take_all}
 use Rattle.stated.specs.Incrementals.{Step}
 use Rattle.osdmap.specs.Maps.{ClusterMap}
 use Rattle.osdmap.specs.Changes.{IsLawful, after, apply, change_fault, epoch_after}
 use Rattle.epochlog.specs.Epochs.{Line, Seen, Begins, OneBegins}
 use Rattle.sealed.proofs.Beginnings.{begins_on, begins_by}
 use Rattle.state.proofs.Journals.{after-snoc, IsLawful-snoc}
-use Rattle.monitor.specs.Followers.{IsFollowed, Steps, GoesOnFrom, applied, followed}
+use Rattle.monitor.specs.Followers.{Followed, IsFollowed, Steps, GoesOnFrom, IsCaughtUp, Advances, applied, followed}
 
 -- ---- lists that begin one another
 
@@ -54,6 +54,7 @@ followed_new first m pass same none begins =
     let nothing : applied first m pass.history ≡ [] = take_none (m.epoch - first.epoch) pass.history none in
     record {
       begins = begins;
+      front = begins_by (applied first m pass.history) pass.history (m.epoch - first.epoch) refl;
       lawful = subst (IsLawful first) (sym nothing) tt;
       map = same ∙ ap (after first) (sym nothing);
       epoch = ap (λ (x : ClusterMap). x.epoch) same ∙ omega (arith, ap length nothing);
@@ -91,15 +92,16 @@ module _ (first m : ClusterMap) (seen more : Seen) (is : IsFollowed (followed fi
   stands_by m2 rest history lawful map epoch = (
     record {
       begins = ap (λ (l : Line). l.first) rows ∙ is.begins;
+      front = begins_by (applied first m2 more.history) more.history (m2.epoch - first.epoch) refl;
       lawful = subst (IsLawful first) (sym history) lawful;
       map = map ∙ ap (after first) (sym history);
       epoch = epoch ∙ ap (epoch_after first) (sym history);
     },
-    record { first = refl; row = rows; begins = (rest, sym history) },
+    record { first = refl; row = rows; begins = (rest, sym history); seen = goes },
   )
 
   -- nothing is applied
-  stands_same : (m2 : ClusterMap) → m2 ≡ m → Stands m2
+  pub stands_same : (m2 : ClusterMap) → m2 ≡ m → Stands m2
   stands_same m2 same =
       let none : applied first m seen.history ++ [] ≡ applied first m seen.history = append-nil (applied first m seen.history) in
       stands_by m2 [] (ap (λ x. applied first x more.history) same ∙ same_part ∙ sym none) (subst (IsLawful first) (sym none) is.lawful)
@@ -127,10 +129,51 @@ module _ (first m : ClusterMap) (seen more : Seen) (is : IsFollowed (followed fi
   stands_step : (m2 : ClusterMap) (step : Step) (made : Bool) → step.epoch ≡ m.epoch + 1
       → slice_get more.history (m.epoch - seen.row.first) ≡ Some step → Steps m m2 step made → Stands m2
   stands_step m2 step true next place steps = stands_next m2 step next place steps.0 steps.1
-  stands_step m2 step false next place steps = stands_same m2 steps
+  stands_step m2 step false next place steps = stands_same m2 steps.1
 
   -- a step that is made, or is not, or for which there is no memory
   pub stands_on : {E : Type 0} → (m2 : ClusterMap) (step : Step) (r : Result Bool E) → step.epoch ≡ m.epoch + 1
       → slice_get more.history (m.epoch - seen.row.first) ≡ Some step → IfOk r (Steps m m2 step) → OnErr r (m2 ≡ m) → Stands m2
   stands_on m2 step (Ok made) next place steps same = stands_step m2 step made next place steps
   stands_on m2 step (Err e) next place steps same = stands_same m2 same
+
+  -- how many are applied
+  count_is : length (applied first m more.history) ≡ m.epoch - first.epoch
+  count_is = omega (arith, is.epoch, ap length same_part)
+
+  -- all that is seen is applied
+  pub caught_up : more.row.first + length more.history ≤ m.epoch → IsCaughtUp (followed first more m)
+  caught_up few = inl (take_all (m.epoch - first.epoch) more.history (omega (arith, few, ap (λ (l : Line). l.first) rows, is.begins)))
+
+  -- the next change is refused
+  refused : (step : Step) → slice_get more.history (m.epoch - seen.row.first) ≡ Some step → IsSome (change_fault m step.change)
+      → IsCaughtUp (followed first more m)
+  refused step place fault =
+      inr (step, ap (slice_get more.history) (omega (arith, count_is, is.begins)) ∙ place, fault)
+
+  advances_step : (m2 : ClusterMap) (step : Step) (made : Bool) → step.epoch ≡ m.epoch + 1
+      → slice_get more.history (m.epoch - seen.row.first) ≡ Some step → Steps m m2 step made
+      → Advances (followed first seen m) (followed first more m2) made
+  advances_step m2 step true next place steps =
+      let epoch : m2.epoch ≡ m.epoch + 1 = ap (λ (x : ClusterMap). x.epoch) steps.1 ∙ epoch_made m step ∙ next in
+      omega (arith, epoch, is.epoch, (stands_step m2 step true next place steps).0.epoch)
+  advances_step m2 step false next place steps =
+      subst (λ (x : ClusterMap). IsCaughtUp (followed first more x)) (sym steps.1) (refused step place steps.0)
+
+  -- a step that is made, or is not: that it is one more, or why it is not
+  pub advances_on : {E : Type 0} → (m2 : ClusterMap) (step : Step) (r : Result Bool E) → step.epoch ≡ m.epoch + 1
+      → slice_get more.history (m.epoch - seen.row.first) ≡ Some step → IfOk r (Steps m m2 step)
+      → IfOk r (Advances (followed first seen m) (followed first more m2))
+  advances_on m2 step (Ok made) next place steps = advances_step m2 step made next place steps
+  advances_on m2 step (Err e) next place steps = tt
+
+-- a follower that has applied as many as there are cells has caught up
+pub all_applied : (f : Followed) (count : ℕ) → Begins f.history f.seen → count ≤ length f.history → length f.seen ≤ count
+    → IsCaughtUp f
+all_applied f count front many few =
+    let none : length front.0 ≡ 0 = omega (arith, many, few, length-append f.history front.0, ap length front.1) in
+    inl (sym (append-nil f.history) ∙ ap (λ xs. f.history ++ xs) (sym (nil_of front.0 none)) ∙ front.1)
+  where
+    nil_of : (xs : List Step) → length xs ≡ 0 → xs ≡ []
+    nil_of [] e = refl
+    nil_of (x ∷ xs) e = absurd (omega (arith, e))

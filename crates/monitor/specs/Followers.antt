@@ -1,5 +1,5 @@
 -- Followers: who reads the row of epochs without the lock.
-use Rattle.std.specs.Prelude.{◌≡◌, ◌-◌, Bool, true, false, None, List, take}
+use Rattle.std.specs.Prelude.{◌≡◌, ◌⊎◌, ◌+◌, ◌-◌, Bool, true, false, None, Some, IsSome, List, length, take, slice_get}
 use Rattle.stated.specs.Incrementals.{Step}
 use Rattle.osdmap.specs.Maps.{ClusterMap}
 use Rattle.osdmap.specs.Changes.{change_fault, apply, after, IsLawful, epoch_after}
@@ -7,11 +7,12 @@ use Rattle.epochlog.specs.Epochs.{Line, Seen, Begins}
 use Rattle.monitor.specs.Members.{Monitored}
 
 -- what callers see of a follower: the first map, the row that it reads, its history, which are the incrementals that it
--- has applied, and its map
+-- has applied, what its pass has seen, which may be more, and its map
 pub record Followed : Type 0 where
   pub first : ClusterMap
   pub row : Line
   pub history : List Step
+  pub seen : List Step
   pub map : ClusterMap
 
 -- the follower reads the row of this monitor, from the monitor's first map
@@ -26,23 +27,44 @@ applied first now seen = take (now.epoch - first.epoch) seen
 -- a follower by its first map, its pass, which may have seen more than it has applied, and its present map
 abbrev pub followed : ClusterMap → Seen → ClusterMap → Followed
 followed first pass now =
-    record { first = first; row = pass.row; history = applied first now pass.history; map = now }
+    record {
+      first = first;
+      row = pass.row;
+      history = applied first now pass.history;
+      seen = pass.history;
+      map = now;
+    }
 
--- the fact of every follower: its history is lawful from the first map, after whose epoch its row begins; and its map
--- is the first map with the history applied in the order of epochs, without gaps
+-- the fact of every follower: its history is lawful from the first map, after whose epoch its row begins, and begins
+-- what its pass has seen; and its map is the first map with the history applied in the order of epochs, without gaps
 pub record IsFollowed (f : Followed) : Type 0 where
   pub begins : f.row.first ≡ f.first.epoch
+  pub front : Begins f.history f.seen
   pub lawful : IsLawful f.first f.history
   pub map : f.map ≡ after f.first f.history
   pub epoch : f.map.epoch ≡ epoch_after f.first f.history
 
--- the same follower, whose history has not become shorter
+-- the same follower, which has neither lost what it had applied nor what its pass had seen
 pub record GoesOnFrom (before now : Followed) : Type 0 where
   pub first : now.first ≡ before.first
   pub row : now.row ≡ before.row
   pub begins : Begins before.history now.history
+  pub seen : Begins before.seen now.seen
 
--- an incremental is applied to a map that does not refuse its change; or the map stays
+-- an incremental is applied to a map that does not refuse its change; or the map stays, as it refuses the change
 abbrev pub Steps : ClusterMap → ClusterMap → Step → Bool → Type 0
 Steps before now step true = (change_fault before step.change ≡ None) × (now ≡ apply before step)
-Steps before now step false = now ≡ before
+Steps before now step false = IsSome (change_fault before step.change) × (now ≡ before)
+
+-- a follower has applied all that its pass has seen, or its map refuses the next change of that
+abbrev pub IsCaughtUp : Followed → Type 0
+IsCaughtUp f =
+    (f.history ≡ f.seen)
+    ⊎ ((step : Step)
+    × (slice_get f.seen (length f.history) ≡ Some step)
+    × IsSome (change_fault f.map step.change))
+
+-- a follower applies one incremental more; or it stops, as it has caught up
+abbrev pub Advances : Followed → Followed → Bool → Type 0
+Advances before now true = length now.history ≡ length before.history + 1
+Advances before now false = IsCaughtUp now

@@ -1,6 +1,6 @@
 //! Who follows the row of a monitor without its lock.
 
-ghost use Rattle.std.specs.Prelude.{◌≡◌, ◌+◌, ◌-◌, ◌≤◌, slice_get, Some, IfSome, IfOk, OnErr};
+ghost use Rattle.std.specs.Prelude.{◌≡◌, ◌+◌, ◌-◌, ◌≤◌, length, slice_get, Some, IfSome, IfNone, IfOk, OnErr};
 ghost use Rattle.epochlog.specs.Epochs.{Begins};
 ghost use Rattle.monitor.specs.Followers.{Steps};
 
@@ -42,6 +42,8 @@ fn next_after<'r>(row: &'r Row, pass: &mut Pass, epoch: u64) -> Option<&'r Incre
     ensures begins { Begins pass.old.history pass.new.history }
     ensures epoch { IfSome result (λ step. step.now.epoch ≡ epoch + 1) }
     ensures place { IfSome result (λ step. slice_get pass.new.history (epoch - row.now.first) ≡ Some step.now) }
+    ensures seen { IfNone result (row.now.first + length pass.new.history ≤ epoch) }
+    ensures within { length pass.new.history ≤ length row.now.cells }
 {
     if pass.epoch() <= epoch {
         let _ = row.read_next(pass);
@@ -53,7 +55,7 @@ fn next_after<'r>(row: &'r Row, pass: &mut Pass, epoch: u64) -> Option<&'r Incre
     }
 }
 
-/// Applies an incremental of the next epoch, unless the map refuses its change; or `Memory` (30).
+/// Applies an incremental of the next epoch, unless the map refuses its change, and only then not; or `Memory` (30).
 fn step_on(map: &mut OsdMap, alloc: Global, step: &Incremental) -> Result<bool, Memory>
     requires { step.now.epoch ≡ map.old.map.epoch + 1 }
     ensures made { IfOk result (λ made. Steps map.old.map map.new.map step.now made) }
@@ -68,15 +70,15 @@ fn step_on(map: &mut OsdMap, alloc: Global, step: &Incremental) -> Result<bool, 
 }
 
 impl Follower {
-    ghost use Rattle.std.specs.Prelude.{◌≡◌, [], IfOk, Some};
+    ghost use Rattle.std.specs.Prelude.{◌≡◌, ◌≤◌, [], length, IfOk, OnOk, Some};
     ghost use Rattle.std.specs.Str.{IsUtf8};
     ghost use Rattle.refusal.specs.Outcomes.{Gives};
     ghost use Rattle.osdmap.specs.Placement.{group_fault};
     ghost use Rattle.osdmap.specs.Changes.{epoch_after, after, IsLawful};
-    ghost use Rattle.epochlog.specs.Epochs.{Begins, OneBegins};
+    ghost use Rattle.epochlog.specs.Epochs.{Begins, OneBegins, longer};
     ghost use Rattle.pgtable.specs.Index.{up_at};
     ghost use Rattle.mapjson.specs.Written.{written};
-    ghost use Rattle.monitor.specs.Followers.{Follows, GoesOnFrom};
+    ghost use Rattle.monitor.specs.Followers.{Follows, GoesOnFrom, Advances, IsCaughtUp};
 
     /// A follower of this monitor, at the first map. The one error is `Memory` (30).
     pub fn new(alloc: Global, monitor: &Monitor) -> Result<Follower, Memory>
@@ -101,14 +103,18 @@ impl Follower {
         ensures reached { result ≡ epoch_after self.now.first self.now.history }
         ensures map { self.now.map ≡ after self.now.first self.now.history }
         ensures lawful { IsLawful self.now.first self.now.history }
+        ensures seen { Begins self.now.history self.now.seen }
     {
         self.map.epoch()
     }
 
-    /// Applies the incremental of the next epoch, if the row shows one and the map does not refuse it.
+    /// Applies the incremental of the next epoch, unless the row shows none or the map refuses it.
     fn advance(&mut self, alloc: Global, row: &Row) -> Result<bool, Memory>
         requires { self.old.row ≡ row.now }
-        ensures { GoesOnFrom self.old self.new }
+        ensures goes_on { GoesOnFrom self.old self.new }
+        ensures advances { IfOk result (Advances self.old self.new) }
+        ensures front { Begins self.new.history self.new.seen }
+        ensures within { length self.new.seen ≤ length row.now.cells }
     {
         match next_after(row, &mut self.pass, self.map.epoch()) {
             Some(step) => step_on(&mut self.map, alloc, step),
@@ -116,19 +122,30 @@ impl Follower {
         }
     }
 
+    /// Applies the incrementals of the next epochs, until it has caught up.
+    fn go_on(&mut self, alloc: Global, row: &Row) -> Result<(), Memory>
+        requires { self.old.row ≡ row.now }
+        ensures goes_on { GoesOnFrom self.old self.new }
+        ensures ends { OnOk result (IsCaughtUp self.new) }
+    {
+        for _ in 0..row.capacity() {
+            if !self.advance(alloc, row)? {
+                return Ok(());
+            }
+        }
+        Ok(())
+    }
+
     /// Applies what the row shows after the follower's epoch, one incremental after another, and answers the epoch that
-    /// it has reached. It stops before one that its map refuses. After `Memory` (30) it stands at an epoch that it has
-    /// fully applied. It waits for no one.
+    /// it has reached: the last one that its pass has seen, or the one before that of a change that its map refuses.
+    /// After `Memory` (30) it stands at an epoch that it has fully applied. It waits for no one.
     pub fn catch_up(&mut self, alloc: Global, monitor: &Monitor) -> Result<u64, Memory>
         requires { Follows monitor.now self.old }
         ensures goes_on { GoesOnFrom self.old self.new }
         ensures epoch { IfOk result (λ epoch. epoch ≡ epoch_after self.new.first self.new.history) }
+        ensures ends { OnOk result (IsCaughtUp self.new) }
     {
-        for _ in 0..monitor.row.capacity() {
-            if !self.advance(alloc, &monitor.row)? {
-                break;
-            }
-        }
+        self.go_on(alloc, &monitor.row)?;
         Ok(self.epoch())
     }
 
@@ -160,5 +177,17 @@ impl Follower {
         ensures begins { OneBegins self.old.history member.old.pass.history }
     {
         self.pass.meet(&mut member.pass);
+    }
+
+    /// The follower's pass has seen then what the member's has, so that [`Follower::catch_up`] goes on at least to
+    /// there. Both are of one monitor. It takes no memory and waits for no one.
+    pub fn join(&mut self, member: &Member)
+        requires { self.old.row ≡ member.now.pass.row }
+        ensures goes_on { GoesOnFrom self.old self.new }
+        ensures seen { self.new.seen ≡ longer self.old.seen member.now.pass.history }
+        ensures history { self.new.history ≡ self.old.history }
+        ensures map { self.new.map ≡ self.old.map }
+    {
+        self.pass.join(&member.pass);
     }
 }
