@@ -1,5 +1,5 @@
 -- What is written of a map is read as that map.
-use Rattle.std.proofs.Common.{◌≡◌, ℕ, ◌≤◌, nat_abs, map, List, Bool, true, false, not, if◌then◌else◌, Some, None, Ok, Err, IfOk, refl, sym, ap, subst, ◌∙◌, arith}
+use Rattle.std.proofs.Common.{◌≡◌, ◌⊎◌, inl, inr, ℕ, ◌≤◌, nat_abs, map, List, Bool, true, false, not, if◌then◌else◌, Some, None, Ok, Err, IfOk, refl, sym, ap, subst, ◌∙◌, arith}
 use Rattle.std.specs.List.{list_all}
 use Rattle.std.specs.Option.{option_map_or}
 use Rattle.std.specs.Str.{IsUtf8}
@@ -8,7 +8,8 @@ use Rattle.serde_json.specs.Data.{Data, depth}
 use Rattle.serde_json.specs.Read.{read, max_depth}
 use Rattle.serde_json.specs.Written.{has_float, compact_text}
 use Rattle.stated.specs.declared.parts.MapParts.{MapParts}
-use Rattle.refusal.specs.declared.refused.Refusal.TheVariants.{BadJson, BadField, BadLimit, BadForest, BadRule, BadPool, BadOsd, BadException}
+use Rattle.refusal.specs.declared.refused.Refusal.{Refusal}
+use Rattle.refusal.specs.declared.refused.Refusal.TheVariants.{Memory as OutOfMemory, BadJson, BadField, BadLimit, BadForest, BadRule, BadPool, BadOsd, BadException}
 use Rattle.osdmap.specs.Maps.{ClusterMap}
 use Rattle.crush.specs.WellFormed.{forest_ok}
 use Rattle.stated.specs.Exceptions.{target, sides, is_set, are_pairs}
@@ -25,6 +26,8 @@ use Rattle.mapjson.proofs.Shallow.{map_whole, map_flat}
 use Rattle.mapjson.proofs.ReadBack.{map_back}
 use Rattle.mapjson.proofs.Named.{exceptions_named}
 use Rattle.mapjson.specs.MapTexts.{fault_of_stated, map_text_fault, StatesMap}
+use Rattle.osdmap_laws.specs.Laws.{StatesOneMap}
+use Rattle.mapjson_laws.specs.Laws.{IsTextOf}
 use Rattle.mapjson.proofs.Texted.{states_parts}
 use Rattle.mapjson.proofs.Versions.{own_version}
 
@@ -66,10 +69,25 @@ lawful_named p fits ok =
       exceptions_named sides are_pairs (is_listed p.osds) pair_of pair_fits p.pools pools p.pg_upmap_items (and_parts _ (list_all (exception_fits pair_fits) p.pg_upmap_items) items.1).1 (and_parts _ _ each.1).1,
     )
 
--- what is written of a map whose own parts state it, without a fault, states that map
-pub written_back : (m : ClusterMap) → map_fault (parts_of m) ≡ None → IsStated (parts_of m) m → (map_text_fault (written m) ≡ None) × StatesMap (written m) m
-written_back m lawful is =
+-- what is written of a map whose own parts state it, without a fault, states that map alone
+pub written_back : (m : ClusterMap) → map_fault (parts_of m) ≡ None → IsStated (parts_of m) m → StatesOneMap → IsTextOf (written m) m
+written_back m lawful is one =
     let ok = lawful_fits (parts_of m) lawful in
     let named = lawful_named (parts_of m) ok.0 ok.1 in
     let states = written_states m ok.0 named.0 named.1 in
-    (ap fault_of_stated states ∙ lawful, subst (λ r. IfOk r (λ parts. IsStated parts m)) (sym states) is)
+    record {
+      faultless = ap fault_of_stated states ∙ lawful;
+      states = subst (λ r. IfOk r (λ parts. IsStated parts m)) (sym states) is;
+      alone = λ n stated. one (parts_of m) n m (subst (λ r. IfOk r (λ parts. IsStated parts n)) states stated) is;
+    }
+
+-- who reads such a text has the map
+pub read_is : (text : List ℕ) (m : ClusterMap) (bytes : List ℕ) (n : ClusterMap) → IsTextOf text m → bytes ≡ text → StatesMap bytes n → n ≡ m
+read_is text m bytes n of is stated = of.alone n (rw is at stated)
+
+-- and where there is none memory was short
+pub only_memory : (text : List ℕ) (m : ClusterMap) (bytes : List ℕ) (e : Refusal) → IsTextOf text m → bytes ≡ text → (e ≡ OutOfMemory) ⊎ (map_text_fault bytes ≡ Some e) → e ≡ OutOfMemory
+only_memory text m bytes e of is told = elim told [
+  | inl short ↦ short
+  | inr wrong ↦ let w : None ≡ Some e = sym of.faultless ∙ (rw is at wrong) in absurd (cc)
+]

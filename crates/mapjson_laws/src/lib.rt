@@ -1,14 +1,36 @@
-//! What follows from the definitions of the texts of maps: each law is the contract of a function that does nothing.
+//! What follows from the definitions of the texts of maps: a law is the contract of a
+//! function that does nothing, or of one that writes a map and reads it back.
 #![tactic(auto)]
 
+ghost use Rattle.std.specs.Prelude.{◌≡◌, IfOk};
+ghost use Rattle.osdmap_laws.specs.Laws.{IsTextEpoch};
 ghost use Rattle.mapjson_laws.specs.Laws.{IsReadBack};
 
+use mapjson::{read_map, write_map};
 use osdmap::OsdMap;
-use osdmap_laws::maps::states_itself;
+use osdmap_laws::maps::{parts_state_one_map, states_itself};
+use refusal::{Memory, Refusal};
+use std::alloc::Global;
 
-/// The text of a map of an epoch of 1 to 2,147,483,648 is read back as that map.
+/// The text of a map of an epoch of 1 to 2,147,483,648 is read back as that map: it has no fault, and states that map
+/// and no other.
 pub fn written_map_is_read_back(map: &OsdMap)
     ensures { IsReadBack map.now.map }
 {
     states_itself(map);
+    parts_state_one_map();
+}
+
+/// A map of an epoch of 1 to 2,147,483,648 written and read back: the same map, or `Memory` (30).
+pub fn there_and_back(alloc: Global, map: &OsdMap) -> Result<OsdMap, Memory>
+    requires { IsTextEpoch map.now.map.epoch }
+    ensures { IfOk result (λ back. back.map ≡ map.now.map) }
+{
+    written_map_is_read_back(map);
+    let text = write_map(alloc, map)?;
+    match read_map(alloc, &text) {
+        Ok(back) => Ok(back),
+        Err(Refusal::Memory) => Err(Memory),
+        Err(_) => unreachable!(),
+    }
 }

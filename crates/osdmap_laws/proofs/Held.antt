@@ -24,7 +24,7 @@ use Rattle.osdmap.specs.Built.{without_exceptions}
 use Rattle.stated.specs.Incrementals.{Step}
 use Rattle.osdmap.specs.Changes.{apply, after, IsLawful}
 use Rattle.stated.specs.Ordered.{IsChange}
-use Rattle.osdmap_laws.specs.Laws.{AreChanges, JournalsKeepMaps}
+use Rattle.osdmap_laws.specs.Laws.{AreChanges, JournalsKeepMaps, at_epoch}
 use Rattle.keylist.proofs.Tests.{and_first, and_second}
 use Rattle.osdmap.proofs.Accepted.{passes}
 use Rattle.osdmap.proofs.Built.{IsBuilt, parts_fit_each, some_osds, few_osds, pools_same, osds_same, presences_same, weights_same, no_fault, is_stated, holds}
@@ -157,7 +157,32 @@ holds_after m (step ∷ steps) holds brings lawful =
     let rest = All-tail (λ (s : Step). IsChange s.change) step steps brings in
     holds_after (apply m step) steps (HoldsTogether-after m step lawful.1 here holds) rest lawful.2
 
--- the law: a lawful journal of a map that was accepted leads to one that would be
+-- what holds in a map does not go by its epoch
+holds_at : (m : ClusterMap) (epoch : ℕ) → HoldsTogether m → HoldsTogether (at_epoch m epoch)
+holds_at m epoch holds = record {
+  some = holds.some;
+  few = holds.few;
+  present = holds.present;
+  weighed = holds.weighed;
+  weigh_little = holds.weigh_little;
+  forest = holds.forest;
+  over_osds = holds.over_osds;
+  some_rules = holds.some_rules;
+  few_rules = holds.few_rules;
+  rules_rise = holds.rules_rise;
+  rules_over = holds.rules_over;
+  few_pools = holds.few_pools;
+  pools_rise = holds.pools_rise;
+  pools_within = holds.pools_within;
+  ruled = holds.ruled;
+  explicit_rise = holds.explicit_rise;
+  explicit_sound = holds.explicit_sound;
+  items_rise = holds.items_rise;
+  items_sound = holds.items_sound;
+}
+
+-- the law: a lawful journal of a map that was accepted leads to one that would be, at each epoch of a text
 pub journals_keep_maps : JournalsKeepMaps
-journals_keep_maps p m journal accepted brings lawful epoch =
-    states_itself (after m journal) (holds_after m journal (accepted_holds p m accepted.faultless accepted.stated) brings lawful) epoch
+journals_keep_maps p m journal accepted brings lawful epoch within =
+    let holds = holds_after m journal (accepted_holds p m accepted.faultless accepted.stated) brings lawful in
+    states_itself (at_epoch (after m journal) epoch) (holds_at (after m journal) epoch holds) within

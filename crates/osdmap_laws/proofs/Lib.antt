@@ -4,3 +4,4 @@ mod OwnFits
 mod OwnOsds
 pub mod OwnParts
 mod Held
+mod OneMap

@@ -39,6 +39,10 @@ pub record IsAccepted (p : MapParts) (m : ClusterMap) : Type 0 where
   pub faultless : map_fault p ≡ None
   pub stated : IsStated p m
 
+-- parts state one map: two that the same parts state are equal
+abbrev pub StatesOneMap : Type 0
+StatesOneMap = (p : MapParts) (m n : ClusterMap) → IsStated p m → IsStated p n → m ≡ n
+
 -- a map's own parts are such
 abbrev pub StatesItself : ClusterMap → Type 0
 StatesItself m = IsAccepted (parts_of m) m
@@ -47,11 +51,15 @@ StatesItself m = IsAccepted (parts_of m) m
 abbrev pub AreChanges : List Step → Type 0
 AreChanges journal = All (λ step. IsChange step.change) journal
 
--- a lawful journal of a map that was accepted leads to one that would be, where its epoch is one of a text
+-- the same map at another epoch
+abbrev pub at_epoch : ClusterMap → ℕ → ClusterMap
+at_epoch m epoch = record m { epoch = epoch }
+
+-- a lawful journal of a map that was accepted, however long, leads to one that would be at each epoch of a text
 abbrev pub JournalsKeepMaps : Type 0
 JournalsKeepMaps =
     (p : MapParts) (m : ClusterMap) (journal : List Step) → IsAccepted p m → AreChanges journal → IsLawful m journal
-    → IsTextEpoch (after m journal).epoch → StatesItself (after m journal)
+    → (epoch : ℕ) → IsTextEpoch epoch → StatesItself (at_epoch (after m journal) epoch)
 
 -- a change that is not refused leads to a map that states itself, whatever epoch of a text it is given
 abbrev pub LeadsToAMap : ClusterMap → ChangeParts → Type 0
