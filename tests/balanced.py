@@ -1,5 +1,7 @@
 """A larger map that is balanced, and what must then hold of it, reckoned from the answers alone.
 
+    tests/run.py --table balanced PROGRAM
+
 Three pools lie over 40 OSDs of different weights, some of them down, out or lighter: one of copies in hosts, one of copies in racks and then hosts, one of
 coded parts. The script tells all mapped sets, by `up` lines while every OSD is up, before and after balancing, and the pairs by `dump`. From these
 `faults` counts the groups of each OSD and its deviation, and finds whether the plan had fewer moves than its limit, whether each took 2T or more from the
@@ -7,6 +9,7 @@ sum of the squares of the deviations, and, over all groups and pairs of OSDs, wh
 """
 
 import json
+import sys
 
 import model
 
@@ -113,3 +116,7 @@ def case():
     """The map, the script, and the answers by the model."""
     value = a_map()
     return value, script(), model.answers(json.loads(json.dumps(value)), script())
+
+
+if __name__ == "__main__":
+    sys.exit(__doc__.strip())

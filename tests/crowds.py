@@ -92,12 +92,22 @@ class Race:
                 low = epoch
         return None
 
+    def faults(self, runs):
+        """What is wrong with so many runs. One that does not end is wrong, and the last."""
+        found = []
+        for number in range(1, runs + 1):
+            try:
+                fault = self.fault(self.run(self.paths))
+            except subprocess.TimeoutExpired:
+                return found + [f"run {number}: no end after {SECONDS} seconds"]
+            found += [f"run {number}: {fault}"] if fault else []
+        return found
+
 
 def main():
     command, runs = given.program(__doc__, most=2), int(sys.argv[2]) if len(sys.argv) > 2 else RUNS
     with tempfile.TemporaryDirectory() as folder:
-        race = Race(command, folder)
-        faults = [fault for fault in (race.fault(race.run(race.paths)) for _ in range(runs)) if fault]
+        faults = Race(command, folder).faults(runs)
     print(f"{runs} runs, {len(faults)} wrong", *faults[:5], sep="\n    ")
     return 1 if faults else 0
 

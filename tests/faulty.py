@@ -1,5 +1,9 @@
-"""The places that `tools/rekhuso check` finds, beside the refusals of the tables: each refused map or change has a place of its refusal's number,
-and each that is accepted has none."""
+"""The places that `tools/rekhuso check` finds, beside the refusals of the tables.
+
+    tests/run.py --table clusters --only 'places at fault' PROGRAM
+
+Each refused map or change has a place of its refusal's number, and each that is accepted has none.
+"""
 
 import functools
 import pathlib
@@ -61,3 +65,7 @@ def faults(runs):
         if all(isinstance(run.files.get(name), str) for name in ("map", "script")) and isinstance(run.wanted["output"], str):
             found += [fault for fault in [map_fault(run)] if fault] + change_faults(run)
     return found
+
+
+if __name__ == "__main__":
+    sys.exit(__doc__.strip())

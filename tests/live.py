@@ -3,20 +3,27 @@
 
     tests/live.py PROGRAM
 
-Each test is a function of the program, and fails by an assertion; whatever waits for an answer gives up after a minute.
+Each test is a function of the program, and fails by an assertion. Whatever waits gives up after a minute: a program that has not ended
+by then is ended, so that nobody waits for its pipes either.
 """
 
 import doctest
+import errno
+import functools
 import json
 import os
 import pathlib
 import random
+import re
 import select
+import signal
 import subprocess
 import sys
 import tempfile
+import threading
 import time
 from concurrent.futures import ThreadPoolExecutor
+from unittest import mock
 
 import given
 import model
@@ -24,10 +31,37 @@ import soak
 
 HERE = pathlib.Path(__file__).resolve().parent
 sys.path.insert(0, str(HERE.parent / "tools"))
-from rekhuso import Monitor, Refused  # noqa: E402
+from rekhuso import Fault, Monitor, Refused  # noqa: E402
 
 EXAMPLE = HERE.parent / "examples" / "map.json"
 SECONDS = 60
+
+
+def limited(process):
+    """A process that is ended after a minute, so that whoever waits for it then goes on."""
+    timer = threading.Timer(SECONDS, process.kill)
+    timer.daemon = True
+    timer.start()
+    return process
+
+
+class Lines:
+    """The lines that come out of a pipe."""
+
+    def __init__(self, pipe):
+        self.pipe, self.left = pipe, b""
+
+    def next(self, seconds=SECONDS):
+        """The next line; None where there is none within some seconds, or the pipe has ended."""
+        end = time.monotonic() + seconds
+        while b"\n" not in self.left:
+            ready, _, _ = select.select([self.pipe], [], [], max(0, end - time.monotonic()))
+            more = os.read(self.pipe, 1 << 20) if ready else b""
+            if not more:
+                return None
+            self.left += more
+        line, self.left = self.left.split(b"\n", 1)
+        return line.decode()
 
 
 class Live:
@@ -37,8 +71,8 @@ class Live:
         words = [program, *map(str, words or (EXAMPLE, "-"))]
         if close:
             words = ["sh", "-c", 'exec "$0" "$@" <&-', *words]
-        self.process = subprocess.Popen(words, stdin=stdin, stdout=subprocess.PIPE, stderr=subprocess.PIPE)
-        self.left = b""
+        self.process = limited(subprocess.Popen(words, stdin=stdin, stdout=subprocess.PIPE, stderr=subprocess.PIPE))
+        self.lines = Lines(self.process.stdout.fileno())
 
     def put(self, text):
         """Puts bytes to it."""
@@ -46,16 +80,8 @@ class Live:
         self.process.stdin.flush()
 
     def line(self, seconds=SECONDS):
-        """The next line that it puts out; None where there is none within some seconds, or it has ended."""
-        end = time.monotonic() + seconds
-        while b"\n" not in self.left:
-            ready, _, _ = select.select([self.process.stdout], [], [], max(0, end - time.monotonic()))
-            more = os.read(self.process.stdout.fileno(), 1 << 20) if ready else b""
-            if not more:
-                return None
-            self.left += more
-        line, self.left = self.left.split(b"\n", 1)
-        return line.decode()
+        """The next line that it puts out."""
+        return self.lines.next(seconds)
 
     def ask(self, line):
         """The answer of a line."""
@@ -65,7 +91,7 @@ class Live:
     def end(self):
         """Its status, what it still puts out, and what it tells on standard error, once the input has ended."""
         output, error = self.process.communicate(timeout=SECONDS)
-        return self.process.returncode, (self.left + output).decode(), error.decode()
+        return self.process.returncode, (self.lines.left + output).decode(), error.decode()
 
 
 def equal(got, wanted):
@@ -171,7 +197,7 @@ def test_monitor(program):
         key, osd = made.choice(["down", "up", "weight"]), made.choice(value["osds"])["id"]
         part = [[osd, made.choice([0, 20000, 65536])]] if key == "weight" else [osd]
         script += ["change " + json.dumps({"base": base, key: part}, separators=(",", ":")), f"up {made.choice(groups)}", f"count {osd}"]
-    with Monitor(value, program) as monitor:
+    with Monitor(value, program, timeout=SECONDS) as monitor:
         for line, wanted in zip(script, model.answers(value, script), strict=True):
             equal(monitor.raw([line]), [wanted])
         equal(monitor.epoch(), value["epoch"] + 100)
@@ -230,40 +256,56 @@ def test_files_that_fail(program):
         equal(ran(program, folder, "-", "-", "--to", "x", "--to", "y"), (1, "", "standard input is given twice\n"))
 
 
+class Client:
+    """A client of two named pipes, which opens the one for its lines first."""
+
+    def __init__(self, lines, answers):
+        self.pipe = opened(lines)
+        self.lines = Lines(os.open(answers, os.O_RDONLY | os.O_NONBLOCK))
+
+    def ask(self, line):
+        """The answer of a line."""
+        os.write(self.pipe, line.encode() + b"\n")
+        return self.lines.next()
+
+    def close(self):
+        """Ends the lines, and answers what then still comes."""
+        os.close(self.pipe)
+        left = self.lines.next()
+        os.close(self.lines.pipe)
+        return left
+
+
+def opened(path):
+    """A named pipe to write into, once somebody reads it."""
+    end = time.monotonic() + SECONDS
+    while True:
+        try:
+            return os.open(path, os.O_WRONLY | os.O_NONBLOCK)
+        except OSError as fault:
+            if fault.errno != errno.ENXIO or time.monotonic() > end:
+                raise
+        time.sleep(0.001)
+
+
 def test_named_pipes(program):
     """Two clients over named pipes, the second there before the first: each line is answered before the next is put."""
     with tempfile.TemporaryDirectory() as name:
         folder = pathlib.Path(name)
         for pipe in "abcd":
             os.mkfifo(folder / pipe)
-        process = subprocess.Popen([program, EXAMPLE, "a", "b", "--to", "c", "--to", "d"], cwd=folder)
-        clients = {}
-        for lines, answers in (("b", "d"), ("a", "c")):
-            clients[lines] = open(folder / lines, "wb", buffering=0), open(folder / answers, "rb", buffering=0)
-
-        def ask(client, line):
-            clients[client][0].write(line.encode() + b"\n")
-            return told(client)
-
-        def told(client):
-            found = b""
-            while not found.endswith(b"\n"):
-                found += clients[client][1].read(1)
-            return found.decode()[:-1]
-
-        equal([told("a"), told("b")], ["session 1", "session 2"])
+        process = limited(subprocess.Popen([program, EXAMPLE, "a", "b", "--to", "c", "--to", "d"], cwd=folder))
+        two, one = Client(folder / "b", folder / "d"), Client(folder / "a", folder / "c")
+        equal([one.lines.next(), two.lines.next()], ["session 1", "session 2"])
         for turn in range(50):
-            who, other = ("a", "b") if turn % 2 else ("b", "a")
-            base = int(ask(other, "epoch").split(" ")[1])
-            equal(ask(who, f'change {{"base":{base},"{"up" if turn % 2 else "down"}":[2]}}'), f"ok {base + 1} evals 0")
-            equal(ask(other, "up 1.0"), f"up {base + 1} 1.0 {'[3,2,0] 3' if turn % 2 else '[3,0] 3'}")
-        clients["b"][0].close()
-        equal(clients["b"][1].read(1), b"")
-        equal(ask("a", "epoch"), "epoch 51")
-        clients["a"][0].close()
+            who, other = (one, two) if turn % 2 else (two, one)
+            base = int(other.ask("epoch").split(" ")[1])
+            equal(who.ask(f'change {{"base":{base},"{"up" if turn % 2 else "down"}":[2]}}'), f"ok {base + 1} evals 0")
+            equal(other.ask("up 1.0"), f"up {base + 1} 1.0 {'[3,2,0] 3' if turn % 2 else '[3,0] 3'}")
+        equal(two.close(), None)
+        equal(one.ask("epoch"), "epoch 51")
+        equal(one.close(), None)
         equal(process.wait(SECONDS), 0)
-        for _, answers in clients.values():
-            answers.close()
 
 
 def test_sessions(program):
@@ -271,17 +313,32 @@ def test_sessions(program):
     with tempfile.TemporaryDirectory() as folder:
         value, scripts = soak.scripts(11, 4, 200, 4, 32)
         _, play = soak.run(program, pathlib.Path(folder), scripts, value)
-        with Monitor(value, program, sessions=4) as monitor, ThreadPoolExecutor(4) as threads:
+        with Monitor(value, program, sessions=4, timeout=SECONDS) as monitor, ThreadPoolExecutor(4) as threads:
             asked = threads.map(lambda pair: [pair[0].raw([line])[0] for line in pair[1]], zip(monitor.sessions, scripts))
             output = "".join(f"session {number}\n" + "".join(answer + "\n" for answer in answers) for number, answers in enumerate(asked, 1))
             equal(monitor.epoch(), monitor.sessions[3].epoch())
         wrong, made, _ = soak.faults(scripts, output, play)
         assert not wrong and made, (wrong[:3], made)
         try:
-            Monitor({}, program, sessions=3)
+            Monitor({}, program, sessions=3, timeout=SECONDS)
             raise AssertionError("BadField wanted")
         except Refused as refused:
             equal(refused.name, "BadField")
+
+
+def test_timeout(program):
+    """A question that takes longer than a monitor's timeout ends the program; so does a program that opens no pipe."""
+    with tempfile.TemporaryDirectory() as folder:
+        silent = pathlib.Path(folder) / "silent"
+        silent.write_text("#!/bin/sh\nexec sleep 60\n")
+        silent.chmod(0o755)
+        for tried, sessions in ((program, 1), (program, 2), (silent, 1), (silent, 2)):
+            try:
+                with Monitor(EXAMPLE.read_text(), tried, sessions=sessions, timeout=0.2) as monitor:
+                    monitor.raw(["await 2"])
+                raise AssertionError("no end of waiting")
+            except Fault as fault:
+                equal(str(fault), "no answer within 0.2 seconds")
 
 
 def test_shell(program):
@@ -296,9 +353,50 @@ def test_shell(program):
         equal(done.stdout.splitlines(), ["epoch 2", "up 2 1.0 [3,0] 3"])
 
 
-def test_page(program):
-    """Every line of the page of examples."""
-    done = doctest.testfile(str(HERE.parent / "docs" / "LIVE.md"), module_relative=False, globs={"PROGRAM": program, "EXAMPLE": EXAMPLE})
+def shown(line):
+    """A line of a page without the remark behind it."""
+    return re.sub(r" {2,}\(.*\)$", "", line) + "\n"
+
+
+def dialogues(page):
+    """Of each block of a page that begins with a command behind `$`: the commands, what is typed, and what is put out."""
+    for block in re.findall(r"(?:^ {4}.*\n)+", (HERE.parent / page).read_text(), re.M):
+        lines = [line.removeprefix("    ") for line in block.splitlines()]
+        if lines[0].startswith("$ "):
+            commands = [shown(line[2:]) for line in lines if line.startswith("$ ")]
+            typed = [shown(line) for line in lines if line.endswith("(typed)")]
+            yield commands, typed, [shown(line) for line in lines if not line.startswith("$ ") and not line.endswith("(typed)")]
+
+
+def in_a_shell(program, commands, typed):
+    """What commands put out, in a folder with the examples and with the program as `osdmapd`. What they leave behind is ended."""
+    with tempfile.TemporaryDirectory() as name:
+        folder = pathlib.Path(name)
+        (folder / "osdmapd").symlink_to(program)
+        (folder / "examples").symlink_to(HERE.parent / "examples")
+        words = ["bash", "-c", "".join([*commands, "kill $! 2> /dev/null\n"])]
+        shell = subprocess.Popen(words, cwd=folder, stdin=subprocess.PIPE, stdout=subprocess.PIPE, text=True, start_new_session=True,
+                                 env=os.environ | {"PATH": f"{folder}:{os.environ['PATH']}"})
+        try:
+            return shell.communicate("".join(typed), timeout=SECONDS)[0]
+        except subprocess.TimeoutExpired:
+            os.killpg(shell.pid, signal.SIGKILL)
+            raise
+
+
+def test_dialogues_of_the_page(program):
+    """Every block of the page of examples that shows a dialogue in a shell."""
+    found = list(dialogues("docs/LIVE.md"))
+    equal(len(found), 2)
+    for commands, typed, answers in found:
+        equal(in_a_shell(program, commands, typed), "".join(answers))
+
+
+def test_python_of_the_page(program):
+    """Every line of Python of the page of examples."""
+    with mock.patch("rekhuso.Monitor", functools.partial(Monitor, timeout=SECONDS)):
+        done = doctest.testfile(str(HERE.parent / "docs" / "LIVE.md"), module_relative=False, optionflags=doctest.FAIL_FAST,
+                                globs={"PROGRAM": program, "EXAMPLE": EXAMPLE})
     assert done.attempted > 10 and not done.failed, done
 
 
@@ -308,11 +406,16 @@ def tests():
 
 
 def main():
-    program = given.program(__doc__)
+    program, failed = given.program(__doc__), 0
     for name, test in tests():
-        test(program)
-        print(f"{name}: passed")
+        try:
+            test(program)
+            print(f"{name}: passed", flush=True)
+        except Exception as fault:  # A test that fails is told, and the others go on.
+            failed += 1
+            print(f"{name}: FAILED: {type(fault).__name__}: {fault}"[:500], flush=True)
+    return 1 if failed else 0
 
 
 if __name__ == "__main__":
-    main()
+    sys.exit(main())

@@ -1,7 +1,8 @@
 """Runs the built program over each example with one growth refused, for each growth in turn (refuse_nth.c).
 
-    tests/memory.py PROGRAM
+    tests/memory.py PROGRAM [NAME [NUMBER]]
 
+With a name only the sweep of that name is run (`racks, typed`), with a number the one run of it in which that growth is refused.
 A run with a growth refused ends with status 4, `memory` and nothing put out; or it puts out what a run without refusals
 does, of a script in which the line that answers `err 30 Memory` is left out. The last run is the first without a refusal.
 In a second round each line that may find no memory stands twice, so that after a refusal the same line has its exact answer. In a
@@ -11,6 +12,7 @@ is standard output. At the end 63 sessions await what one changes that says each
 
 import os
 import pathlib
+import shlex
 import shutil
 import subprocess
 import sys
@@ -21,6 +23,7 @@ import given
 
 HERE = pathlib.Path(__file__).resolve().parent
 EXAMPLES = HERE.parent / "examples"
+WAYS = ("a script", "lines twice", "typed", "to a file")
 REFUSED = b"err 30 Memory\n"
 SECONDS = 60
 TWICE = (b"change ", b"balance ", b"groups ", b"follow", b"dump")
@@ -80,7 +83,7 @@ class Example:
         answers = done.stdout.splitlines(keepends=True)
         if came and REFUSED in answers and got == (0, self.without[answers.index(REFUSED) - 1], b""):
             return None, came
-        return f"growth {number}: status {got[0]}, output {got[1][:200]}, error {got[2][:200]}", came
+        return f"status {got[0]}, output {got[1][:200]}, error {got[2][:200]}", came
 
 
 class Awaited:
@@ -108,49 +111,61 @@ class Awaited:
         ends = ["ok 2 evals 0\nerr 20 StaleEpoch 2\n"] + ["err 30 Memory\nok 2 evals 0\n", "ok 2 evals 0\nerr 30 Memory\n"] * came
         if done.returncode == 0 and done.stdout.decode() in [f"session 1\n{end}{waited}" for end in ends]:
             return None, came
-        return f"growth {number}: status {done.returncode}, output {done.stdout[:200]}, error {done.stderr[:200]}", came
+        return f"status {done.returncode}, output {done.stdout[:200]}, error {done.stderr[:200]}", came
 
 
-def sweep(example, pool):
-    """How many growths were refused, and what is wrong."""
-    wrong, first, step = [], 1, 64
-    while True:
-        numbers = range(first, first + step)
-        for number, (found, came) in zip(numbers, pool.map(example.difference, numbers)):
-            if found:
-                wrong.append(found)
-            if not came:
-                return number - 1, wrong or ([] if number > 1 else ["no growth was refused"])
-        first += step
+def sweeps(command, library, folder):
+    """What makes the example of each sweep, by its name."""
+    def made(script, way):
+        own = pathlib.Path(folder) / f"{script.parent.name}, {way}"
+        own.mkdir()
+        return Example(command, library, script.parent, own, way)
+
+    makers = {f"{script.parent.name}, {way}": lambda script=script, way=way: made(script, way)
+              for script in sorted(EXAMPLES.rglob("script.txt")) for way in WAYS}
+    return makers | {"63 sessions that await": lambda: Awaited(command, library, folder)}
 
 
-def sweeps(command, pool):
-    """Each example's name, how many growths were refused, and what is wrong; None where there is no gcc."""
-    with tempfile.TemporaryDirectory() as folder:
-        library = refuser(folder)
-        if library is None:
-            return None
-        found = []
-        for script in sorted(EXAMPLES.rglob("script.txt")):
-            for way in ("a script", "lines twice", "typed", "to a file"):
-                name = f"{script.parent.name}, {way}"
-                own = pathlib.Path(folder) / name
-                own.mkdir()
-                found.append((name, *sweep(Example(command, library, script.parent, own, way), pool)))
-        found.append(("63 sessions that await", *sweep(Awaited(command, library, folder), pool)))
-        return found
+def sweep(make, pool):
+    """How many growths were refused, and what is wrong at which. A run that does not end is wrong, and the last."""
+    wrong, number, step = [], 0, 64
+    try:
+        example = make()
+        while True:
+            numbers = range(number + 1, number + 1 + step)
+            for number, (found, came) in zip(numbers, pool.map(example.difference, numbers)):
+                if not came:
+                    wrong += [(number, found)] if found else [(1, "no growth was refused")] if number == 1 else []
+                    return number - 1, wrong
+                wrong += [(number, found)] if found else []
+    except subprocess.TimeoutExpired:
+        return number + 1, wrong + [(number + 1, f"no end after {SECONDS} seconds")]
+
+
+def shown(command, name, wrong):
+    """What is wrong in a sweep, each with the command that runs it again."""
+    return [f"FAILED: memory, {name}, growth {number}\n    {found}\n    again: tests/memory.py {command} {shlex.quote(name)} {number}"
+            for number, found in wrong]
 
 
 def main():
-    command = given.program(__doc__)
-    with ThreadPoolExecutor(4) as pool:
-        found = sweeps(command, pool)
-    if found is None:
-        print("memory: NOT RUN, since there is no gcc to build tests/refuse_nth.c", file=sys.stderr)
-        return 1
-    for name, count, wrong in found:
-        print("\n    ".join([f"{name}: {count} growths refused, {len(wrong)} wrong ends"] + wrong[:10]))
-    return 1 if any(wrong for _, _, wrong in found) else 0
+    command, words, failed = given.program(__doc__, most=3), sys.argv[2:], 0
+    with tempfile.TemporaryDirectory() as folder, ThreadPoolExecutor(4) as pool:
+        library = refuser(folder)
+        if library is None:
+            sys.exit("memory: NOT RUN, since there is no gcc to build tests/refuse_nth.c")
+        makers = sweeps(command, library, folder)
+        if words and words[0] not in makers:
+            sys.exit("\n    ".join([f"there is no sweep {words[0]!r}, but", *makers]))
+        if len(words) == 2:
+            found, _ = makers[words[0]]().difference(int(words[1]))
+            print(found or "passed")
+            return 1 if found else 0
+        for name in words or makers:
+            count, wrong = sweep(makers[name], pool)
+            print(*shown(command, name, wrong)[:10], f"{name}: {count} growths refused, {len(wrong)} wrong ends", sep="\n", flush=True)
+            failed += len(wrong)
+    return 1 if failed else 0
 
 
 if __name__ == "__main__":

@@ -1,5 +1,7 @@
 """Greedy plans by brute force, over small random maps.
 
+    tests/run.py --table plans PROGRAM
+
 Each group has an explicit set, so that its mapped set is known without hashes. The plan is the one of the definition: as long as some allowed move
 closes a difference of deviations above the weight of all candidates, the move with the greatest difference, ties to the lowest OSD that is left, then to
 the lowest that comes, then to the lowest group.
@@ -7,6 +9,7 @@ the lowest that comes, then to the lowest group.
 
 import json
 import random
+import sys
 
 SEED = 20261123
 
@@ -107,3 +110,7 @@ def cases(how_many):
             lines.append(f"count {osd}")
             answers.append(f"count {epoch} {osd} {sum(osd in places for places in mapped)}")
         yield f"plan {case}", json.dumps(value, sort_keys=True, separators=(",", ":")), lines, answers
+
+
+if __name__ == "__main__":
+    sys.exit(__doc__.strip())

@@ -16,7 +16,8 @@ have their answers beside them. `plans` and `balanced` are plans of a balancer r
 many sessions whose answers must be those of one history (soak.py), `patched` tables that random changes led to beside tables
 built anew (anew.py), and `apart` holds what reckons apart against Ceph's placements and the kept answers, and the kept picture.
 `clusters` are the tools over clusters of Ceph's (clusters.py), `live` sessions that are answered as they are typed (live.py). At
-the end each growth of the examples' runs is refused in turn (memory.py).
+the end each growth of the examples' runs is refused in turn (memory.py). What is being run is told on standard error meanwhile. Each
+run, and whatever waits in a check, has a limit of time; past it the row has failed, and the others go on.
 """
 
 import argparse
@@ -29,6 +30,7 @@ import shutil
 import subprocess
 import sys
 import tempfile
+import threading
 from concurrent.futures import ThreadPoolExecutor, wait
 
 import anew
@@ -548,8 +550,7 @@ def races():
     """Two sessions that change beside eight that look, a thousand times; and 64 sessions on one processor."""
     def raced(command):
         with tempfile.TemporaryDirectory() as folder:
-            race = crowds.Race(command, folder)
-            return [fault for fault in (race.fault(race.run(race.paths)) for _ in range(crowds.RUNS)) if fault]
+            return crowds.Race(command, folder).faults(crowds.RUNS)
 
     def pinned(command):
         value, scripts = soak.scripts(5, 64, 100, 6, 16)
@@ -587,6 +588,86 @@ def table_of(name):
     return (run for row in rows for run in runs_of(row))
 
 
+class Shown:
+    """Tells on standard error what is being run: on a terminal in one line that is written anew, else in a line now and then."""
+
+    def __init__(self):
+        self.at, self.done, self.is_terminal, self.ended = {}, [], sys.stderr.isatty(), threading.Event()
+
+    def __enter__(self):
+        threading.Thread(target=self.tell_all, daemon=True).start()
+        return self
+
+    def __exit__(self, *_):
+        self.ended.set()
+        self.clear()
+
+    def during(self, name, work, *given):
+        """What some work answers, which is shown by a name while it goes on."""
+        self.at[name] = None
+        try:
+            return work(*given)
+        finally:
+            self.at.pop(name, None)
+            self.done.append(name)
+
+    def tell_all(self):
+        """Tells what is being run, until all is done."""
+        while not self.ended.wait(0.2 if self.is_terminal else 30):
+            text = f"{len(self.done):,} runs are done; now: {'; '.join(list(self.at)) or 'the next are made'}"
+            print(f"\r{text[:100]}\x1b[K" if self.is_terminal else text[:300], end="" if self.is_terminal else "\n", file=sys.stderr, flush=True)
+
+    def clear(self):
+        """Takes the line away that was told, so that another can be put out."""
+        if self.is_terminal:
+            print("\r\x1b[K", end="", file=sys.stderr, flush=True)
+
+    def print(self, *lines):
+        """Puts lines out."""
+        self.clear()
+        print(*lines, sep="\n", flush=True)
+
+
+def run_tables(options, command, shown):
+    """Runs tables and puts out what was found: how many runs there were, and how many have failed."""
+    tables, later, total, wrong = {name: [] for name in TABLES if name in (options.table or TABLES)}, [], 0, 0
+    with ThreadPoolExecutor(4) as pool, ThreadPoolExecutor(1) as alone:
+        # The greatest runs begin first, since they take the longest.
+        for name in reversed(list(tables)):
+            for run in table_of(name):
+                if options.only in run.name and not run.alone:
+                    tables[name].append((run, pool.submit(shown.during, run.name, differences, run, command)))
+                elif options.only in run.name:
+                    later.append((name, run))
+        wait([found for runs in tables.values() for _, found in runs])
+        for name, run in later:
+            tables[name].append((run, alone.submit(shown.during, run.name, differences, run, command)))
+        for name, runs in tables.items():
+            failed = [(run, found.result()) for run, found in runs if found.result()]
+            for run, found in failed[:options.show]:
+                again = f"again: tests/run.py --table {name} --only {shlex.quote(run.name)} {options.program}"
+                shown.print("\n    ".join([f"FAILED: {run.name}", *found, again]))
+            shown.print(f"{name}: {len(runs) - len(failed)} of {len(runs)} runs passed")
+            total, wrong = total + len(runs), wrong + len(failed)
+    return total, wrong
+
+
+def run_sweeps(options, command, shown):
+    """Refuses each growth of the examples' runs in turn: how many runs there were, and how many have failed."""
+    total, wrong = 0, 0
+    with tempfile.TemporaryDirectory() as folder, ThreadPoolExecutor(4) as pool:
+        library = memory.refuser(folder)
+        if library is None:
+            shown.print("memory: NOT RUN, since there is no gcc to build tests/refuse_nth.c")
+            return total, wrong
+        for name, make in memory.sweeps(command, library, folder).items():
+            count, failed = shown.during(f"memory, {name}", memory.sweep, make, pool)
+            shown.print(*memory.shown(options.program, name, failed[:options.show]),
+                        f"memory, {name}: {count - len(failed)} of {count} runs passed, a growth refused in each")
+            total, wrong = total + count, wrong + len(failed)
+    return total, wrong
+
+
 def main():
     parser = argparse.ArgumentParser(description=__doc__, formatter_class=argparse.RawDescriptionHelpFormatter)
     parser.add_argument("program", type=pathlib.Path)
@@ -595,35 +676,14 @@ def main():
     parser.add_argument("--table", choices=TABLES, action="append", help="only this table")
     parser.add_argument("--show", type=int, default=10, help="how many failed runs of a table are shown")
     options = parser.parse_args()
-    command, total, wrong, chosen = options.program.resolve(), 0, 0, options.table or TABLES
+    command = options.program.resolve()
     if not os.access(command, os.X_OK):
         parser.error(f"there is no program at {options.program}: `make run` proves and builds it")
-    with ThreadPoolExecutor(4) as pool, ThreadPoolExecutor(1) as alone:
-        # The greatest runs begin first, since they take the longest.
-        tables, later = {name: [] for name in TABLES if name in chosen}, []
-        for name in reversed(list(tables)):
-            for run in table_of(name):
-                if options.only in run.name and not run.alone:
-                    tables[name].append((run, pool.submit(differences, run, command)))
-                elif options.only in run.name:
-                    later.append((name, run))
-        wait([found for runs in tables.values() for _, found in runs])
-        for name, run in later:
-            tables[name].append((run, alone.submit(differences, run, command)))
-        for name, runs in tables.items():
-            failed = [(run, found.result()) for run, found in runs if found.result()]
-            for run, found in failed[:options.show]:
-                print("\n    ".join([f"FAILED: {run.name}"] + found + [f"again: tests/run.py --table {name} --only {shlex.quote(run.name)} {options.program}"]))
-            print(f"{name}: {len(runs) - len(failed)} of {len(runs)} runs passed", flush=True)
-            total, wrong = total + len(runs), wrong + len(failed)
-        swept = [] if options.only or options.table else memory.sweeps(command, pool)
-    if swept is None:
-        print("memory: NOT RUN, since there is no gcc to build tests/refuse_nth.c")
-    for name, count, failed in swept or []:
-        for found in failed[:options.show]:
-            print(f"FAILED: want of memory in the example {name}\n    {found}")
-        print(f"memory, {name}: {count - len(failed)} of {count} runs passed, a growth refused in each")
-        total, wrong = total + count, wrong + len(failed)
+    with Shown() as shown:
+        total, wrong = run_tables(options, command, shown)
+        if not (options.only or options.table):
+            swept, failed = run_sweeps(options, command, shown)
+            total, wrong = total + swept, wrong + failed
     if options.total:
         print(f"{total - wrong} passed, {wrong} failed")
     return 1 if wrong else 0

@@ -1,5 +1,7 @@
 """Many sessions at once, each answer checked by one history.
 
+    tests/run.py --table soak PROGRAM
+
 Each session has a script of mixed look-ups and changes over many pools, from a seed. The epochs are cut into stretches, and half of the sessions wait for
 each stretch and then all try to change the map at each of its epochs in turn. One of them does so by something that the map cannot refuse, so that
 the epochs go on however the sessions fall; plans of a balancer go in between. `faults` rebuilds from the answers the one order in which changes were accepted, plays that order by one session, with
@@ -10,6 +12,7 @@ import json
 import random
 import re
 import subprocess
+import sys
 
 FIRST, OSDS, HOSTS = 1, 24, 8
 CLASSES, STRETCH = 2, 10
@@ -267,3 +270,7 @@ def run(command, folder, all_scripts, value):
     stated = file("map", json.dumps(value))
     names = [file(f"script-{number}", "\n".join(script) + "\n") for number, script in enumerate(all_scripts, 1)]
     return [str(command), "--journal", "65536", stated] + names, play
+
+
+if __name__ == "__main__":
+    sys.exit(__doc__.strip())

@@ -6,7 +6,10 @@
     with Monitor(value, sessions=4) as monitor:
         one, two, three, four = monitor.sessions
 
-The program runs until the monitor is closed. Each question is put to it as a line, and its answer is there before the
+    with Monitor(value, timeout=60) as monitor:
+        monitor.balance(1)
+
+The program runs until the monitor is closed, or until it lets a question wait for longer than `timeout` seconds. Each question is put to it as a line, and its answer is there before the
 next is asked; many lines at once go by `raw`, `ask` and `ups`. Sessions may be used by several threads at once, each of them by
 one; they are all at one monitor, and what one changes the others see.
 """
@@ -68,11 +71,37 @@ def checked(answer: str) -> str:
     return answer
 
 
-class Session:
-    """A session of a program that runs: where its lines go, where its answers come from, and what tells why it has ended."""
+class Patience:
+    """Ends a program that lets somebody wait for longer than some seconds, if any are given: whoever waits stands in a `with` of it."""
 
-    def __init__(self, lines: BinaryIO, answers: BinaryIO, gone: Callable[[], NoReturn]) -> None:
-        self.lines, self.answers, self.gone = lines, answers, gone
+    def __init__(self, process: subprocess.Popen[bytes], seconds: float | None) -> None:
+        self.process, self.seconds, self.is_spent = process, seconds, False
+        self.since: dict[int, float] = {}
+        self.done = threading.Event()
+        if seconds is not None:
+            threading.Thread(target=self.watch, args=(seconds,), daemon=True).start()
+
+    def watch(self, seconds: float) -> None:
+        """Looks from time to time, until all is done, whether somebody has waited for too long."""
+        while not self.done.wait(seconds / 20):
+            if any(time.monotonic() - since > seconds for since in list(self.since.values())):
+                self.is_spent = True
+                self.process.kill()
+                return
+
+    def __enter__(self) -> None:
+        self.since[threading.get_ident()] = time.monotonic()
+
+    def __exit__(self, *_: object) -> None:
+        self.since.pop(threading.get_ident(), None)
+
+
+class Session:
+    """A session of a program that runs: where its lines go, where its answers come from, what tells why it has ended, and how long an
+    answer may take."""
+
+    def __init__(self, lines: BinaryIO, answers: BinaryIO, gone: Callable[[], NoReturn], patience: Patience) -> None:
+        self.lines, self.answers, self.gone, self.patience = lines, answers, gone, patience
 
     # Lines and their answers
 
@@ -95,8 +124,9 @@ class Session:
         """The answer of one line, which is not empty and has no newline; a refusal ends this as `Refused`."""
         if not line or "\n" in line:
             raise ValueError("a line that is empty, or more than one")
-        self.send((line + "\n").encode("utf-8", "surrogateescape"))
-        return checked(self.answer())
+        with self.patience:
+            self.send((line + "\n").encode("utf-8", "surrogateescape"))
+            return checked(self.answer())
 
     def raw(self, lines: list[str]) -> list[str]:
         """The answer of each line, refusals among them. The lines go in beside the answers that come out."""
@@ -104,10 +134,11 @@ class Session:
         sender = threading.Thread(target=self.send, args=(text,), daemon=True)
         sender.start()
         wanted = sum(map(bool, text.split(b"\n")))
-        answers = b"".join(islice(self.answers, wanted)).decode("utf-8").split("\n")
-        if len(answers) <= wanted:
-            self.gone()
-        sender.join()
+        with self.patience:
+            answers = b"".join(islice(self.answers, wanted)).decode("utf-8").split("\n")
+            if len(answers) <= wanted:
+                self.gone()
+            sender.join()
         return answers[:wanted]
 
     def ask(self, lines: list[str]) -> list[str]:
@@ -165,9 +196,10 @@ class Session:
 
 class Monitor(Session):
     """A run of the program over a map: a value as JSON has it, or its text; itself the first of its sessions. It is closed by
-    `with`, or by `close`."""
+    `with`, or by `close`. Where a timeout is given, a start, a question or an end that takes more seconds ends the program."""
 
-    def __init__(self, value: Any, program: str | os.PathLike[str] = BUILT, journal: int = 65536, sessions: int = 1) -> None:
+    def __init__(self, value: Any, program: str | os.PathLike[str] = BUILT, journal: int = 65536, sessions: int = 1,
+                 timeout: float | None = None) -> None:
         if not 1 <= sessions <= 64:
             raise ValueError("1 to 64 sessions")
         if not os.access(program, os.X_OK):
@@ -180,19 +212,23 @@ class Monitor(Session):
         words = [str(pathlib.Path(program).resolve()), "--journal", str(journal), "map.json"]
         if sessions == 1:
             self.process = subprocess.Popen([*words, "-"], stdin=subprocess.PIPE, stdout=subprocess.PIPE, stderr=self.errors, cwd=folder)
-            super().__init__(self.process.stdin, self.process.stdout, self.ended)
+            super().__init__(self.process.stdin, self.process.stdout, self.ended, Patience(self.process, timeout))
         else:
             pipes = [(f"lines-{k}", f"answers-{k}") for k in range(1, sessions + 1)]
             for name in (name for pair in pipes for name in pair):
                 os.mkfifo(folder / name)
             words += [lines for lines, _ in pipes] + [word for _, answers in pipes for word in ("--to", answers)]
             self.process = subprocess.Popen(words, stdin=subprocess.DEVNULL, stdout=subprocess.DEVNULL, stderr=self.errors, cwd=folder)
-            self.sessions = [Session(self.writer(folder / lines), self.reader(folder / answers), self.ended) for lines, answers in pipes]
-            super().__init__(self.sessions[0].lines, self.sessions[0].answers, self.ended)
+            self.patience = Patience(self.process, timeout)
+            with self.patience:
+                ends = [(self.writer(folder / lines), self.reader(folder / answers)) for lines, answers in pipes]
+            self.sessions = [Session(*pair, self.ended, self.patience) for pair in ends]
+            super().__init__(*ends[0], self.ended, self.patience)
         self.sessions = self.sessions or [self]
-        for number, session in enumerate(self.sessions, 1):
-            if session.answers.readline() != f"session {number}\n".encode():
-                self.ended()
+        with self.patience:
+            for number, session in enumerate(self.sessions, 1):
+                if session.answers.readline() != f"session {number}\n".encode():
+                    self.ended()
 
     def writer(self, path: pathlib.Path) -> BinaryIO:
         """A named pipe for lines, once the program has opened its end."""
@@ -220,6 +256,9 @@ class Monitor(Session):
     def ended(self) -> NoReturn:
         """Tells why the program has ended."""
         status = self.process.wait()
+        if self.patience.is_spent:
+            self.close()
+            raise Fault(f"no answer within {self.patience.seconds} seconds")
         self.errors.seek(0)
         error = self.errors.read().decode("utf-8", "replace").strip()
         self.close()
@@ -236,7 +275,9 @@ class Monitor(Session):
                     stream.close()
             except BrokenPipeError:
                 pass
-        self.process.wait()
+        with self.patience:
+            self.process.wait()
+        self.patience.done.set()
         self.errors.close()
         self.folder.cleanup()
 
