@@ -9,9 +9,9 @@ part of the gate.
 """
 
 from maps import KINDS, few_hosts, levels
-from running import heading, in_folder, output, program, seconds, table
+from running import found, heading, in_folder, judged, output, program, seconds, table
 
-LIMIT = 1024
+MOVES, GROUPS = 1024, 4096
 
 
 def greatest_deviation(stated, counts):
@@ -24,30 +24,42 @@ def counted(lines):
     return [int(line.split()[3]) for line in lines if line.startswith("count")]
 
 
-def row(runs, name, stated, goal):
-    """A plan's time, its moves, and deviations before and after."""
+def planned(runs, stated):
+    """A plan's moves, its milliseconds, and the deviations before and after."""
     path = runs.map(stated)
     count = "".join(f"count {osd}\n" for osd in range(stated["max_osd"]))
-    line = f"balance 1 {LIMIT}\n"
+    line = f"balance 1 {MOVES}\n"
     answers = output(runs.words(path, count + line + count))
     before, after = answers[:stated["max_osd"]], answers[stated["max_osd"] + 1:]
-    moves = int(answers[stated["max_osd"]].split()[1])
     spent = seconds(runs.words(path, line)) - seconds(runs.words(path, ""))
-    return [name, str(moves), spent * 1e3, goal, spent * 1e6 / max(moves, 1), greatest_deviation(stated, counted(before)),
-            greatest_deviation(stated, counted(after))]
+    return [int(answers[stated["max_osd"]].split()[1]), spent * 1e3, greatest_deviation(stated, counted(before)), greatest_deviation(stated, counted(after))]
+
+
+def even(kind, groups):
+    """1,024 OSDs in 256 hosts of four in 16 racks of sixteen."""
+    return levels(kind, groups, racks=16, hosts=256)
+
+
+# Maps whose OSDs and hosts all weigh the same, by their names, with the milliseconds that a plan may take.
+EVEN = (("64 OSDs in 8 hosts", few_hosts, 50), ("1,024 OSDs in 256 hosts in 16 racks", even, 1000))
 
 
 def rows(runs):
-    for kind in KINDS:
-        yield row(runs, f"4,096 groups over 64 OSDs in 8 hosts, {kind}", few_hosts(kind, 4096), "50")
-    for kind in KINDS:
-        yield row(runs, f"4,096 groups over 1,024 OSDs in 256 hosts in 16 racks, {kind}", levels(kind, 4096, racks=16, hosts=256), "1,000")
+    """A row for each map."""
+    for name, shape, goal in EVEN:
+        for kind in KINDS:
+            cells = found(planned, runs, shape(kind, GROUPS))
+            if isinstance(cells, str):
+                yield [f"{GROUPS:,} groups over {name}, {kind}", "", cells, *judged(cells, goal)]
+            else:
+                moves, spent, before, after = cells
+                yield [f"{GROUPS:,} groups over {name}, {kind}", moves, spent, *judged(spent, goal), spent * 1e3 / max(moves, 1), before, after]
 
 
 def main():
     path = program(__doc__)
-    heading(f"Balancing one pool of size 3, at most {LIMIT:,} moves")
-    columns = ["map", "moves", "time, ms", "goal", "a move, µs", "greatest deviation before", "after"]
+    heading(f"Balancing one pool of size 3, at most {MOVES:,} moves")
+    columns = ["map", "moves", "time, ms", "goal", "", "a move, µs", "greatest deviation before", "after"]
     in_folder(path, lambda runs: table(columns, rows(runs)))
 
 

@@ -53,7 +53,7 @@ def crush_text(stated):
 
 
 def quietly(*words):
-    subprocess.run(words, check=True, stdout=subprocess.DEVNULL, stderr=subprocess.DEVNULL)
+    subprocess.run(words, check=True, stdout=subprocess.DEVNULL, stderr=subprocess.DEVNULL, timeout=60)
 
 
 def osdmap(stated, folder):
@@ -77,7 +77,7 @@ def words(path):
 def sets(path):
     """The up set of each group, in order."""
     with open(path + ".sets", "w+", encoding="utf-8") as found:
-        subprocess.run(["osdmaptool", path, "--mark-up-in", "--test-map-pgs-dump-all", "--pool", "1"], check=True, stdout=found,
+        subprocess.run(["osdmaptool", path, "--mark-up-in", "--test-map-pgs-dump-all", "--pool", "1"], check=True, stdout=found, timeout=60,
                        stderr=subprocess.DEVNULL)
         found.seek(0)
         return re.findall(r"^1\.\S+ raw .* up \((\[[-\d,]*\]), p-?\d+\) acting", found.read(), re.M)

@@ -8,14 +8,20 @@ resident size, less that of the run beside it. It is no part of the gate.
 """
 
 import json
-from maps import a_map, flat, osds, pool
-from running import LIMIT, greatest, heading, in_folder, judged, output, program, seconds, table, within
 
-GROUPS = 4096
+from maps import a_map, flat, osds, paired, pool
+from running import GOALS, LIMIT, found, goal_row, greatest, heading, in_folder, once, output, program, seconds, table
+
+GROUPS, POOLS = 4096, 32
+# So many lines are timed: of changes, of those that move half of a full list, of those that are kept, of questions. Opening a map with
+# as many exceptions as there may be takes a second, more or less by some milliseconds, so that a few lines would tell nothing.
+CHANGES, MOVING, KEPT, ASKED = 40_000, 4_000, 20_000, 20_000
+# The group in the middle of all groups, whose pair comes and goes.
+MIDDLE = "16.800"
 
 
-def racks(hosts):
-    """Racks of so many hosts of 8 OSDs each, and a pool of three over racks."""
+def racks(hosts, size=3):
+    """Racks of so many hosts of 8 OSDs each, and a pool of so many copies over racks."""
     count = sum(hosts) * 8
     buckets = [{"id": -1, "items": [[-2 - r, n * 8 * 65536] for r, n in enumerate(hosts)], "kind": "list", "type": 3}]
     host, first = -2 - len(hosts), 0
@@ -25,10 +31,23 @@ def racks(hosts):
             buckets.append({"id": host - h, "items": [[first + i, 65536] for i in range(8)], "kind": "list", "type": 1})
             first += 8
         host -= n
-    return a_map(buckets, count, [["chooseleaf_firstn", 0, 2]], 1, GROUPS)
+    stated = a_map(buckets, count, [["chooseleaf_firstn", 0, 2]], 1, GROUPS)
+    stated["pools"] = [pool(1, GROUPS, size)]
+    return stated
 
 
-def in_vain():
+def one_heavy():
+    """64 OSDs in 8 hosts, of which one OSD weighs a thousand times as much as each other."""
+    def weight(osd):
+        return 65536 * (1000 if osd == 0 else 1)
+
+    hosts = [[[osd, weight(osd)] for osd in range(8 * host, 8 * host + 8)] for host in range(8)]
+    buckets = [{"id": -1, "items": [[-2 - host, sum(weight for _, weight in items)] for host, items in enumerate(hosts)], "kind": "list", "type": 10}]
+    buckets += [{"id": -2 - host, "items": items, "kind": "list", "type": 1} for host, items in enumerate(hosts)]
+    return a_map(buckets, 64, [["chooseleaf_firstn", 0, 1]], 1, GROUPS)
+
+
+def in_vain(is_coded=False):
     """One group under four blocks with 200 and 200 tries, over fifteen lists of 64 items of which the heavy one stands first; all
     OSDs are out."""
     buckets, device = [], 0
@@ -37,10 +56,11 @@ def in_vain():
         light = range(device, device + 64 - len(heavy))
         buckets.append({"id": -(16 - level), "items": heavy + [[d, 1] for d in light], "kind": "list", "type": level})
         device += len(light)
-    block = [["take", -1], ["chooseleaf_firstn", 0, 14], ["emit"]]
-    rule = {"id": 0, "kind": "replicated", "steps": [["set_choose_tries", 200], ["set_chooseleaf_tries", 200]] + block * 4}
+    kind, step = ("erasure", "chooseleaf_indep") if is_coded else ("replicated", "chooseleaf_firstn")
+    block = [["take", -1], [step, 0, 14], ["emit"]]
+    rule = {"id": 0, "kind": kind, "steps": [["set_choose_tries", 200], ["set_chooseleaf_tries", 200]] + block * 4}
     return {"buckets": buckets, "epoch": 1, "max_osd": device, "osds": [{"exists": True, "id": i, "up": True, "weight": 0} for i in range(device)],
-            "pools": [pool(1, 1, 10)], "rules": [rule], "version": 2}
+            "pools": [dict(pool(1, 1, 10), kind=kind)], "rules": [rule], "version": 2}
 
 
 def one_host():
@@ -52,21 +72,8 @@ def one_host():
     return {"buckets": buckets, "epoch": 1, "max_osd": 64, "osds": osds(64), "pools": [pool(1, 256, 10)], "rules": [rule], "version": 2}
 
 
-def group(number, of):
-    return f"{number}.{of:x}"
-
-
-def paired(pools, explicit=False):
-    """Pools of 4,096 groups, each group with a pair that changes nothing, and with an explicit set too."""
-    stated = flat("uniform", GROUPS, pools)
-    groups = [group(p, g) for p in range(1, pools + 1) for g in range(GROUPS)]
-    stated["pg_upmap_items"] = [[g, [[62, 63]]] for g in groups]
-    if explicit:
-        stated["pg_upmap"] = [[g, [0, 1, 2]] for g in groups]
-    return stated
-
-
 def lines(parts, count, first):
+    """Lines of changes, by the parts in turn."""
     return "".join(f'change {{"base":{first + at},{parts[at % len(parts)]}}}\n' for at in range(count))
 
 
@@ -76,53 +83,84 @@ def a_change(runs, stated, parts, count):
 
 
 def a_pair(runs, stated, count):
-    return a_change(runs, runs.map(stated), ['"new_items":[["1.0",[[61,63]]]]', '"new_items":[["1.0",[[60,63]]]]'], count)
+    """The microseconds of a change that replaces a group's pair."""
+    return a_change(runs, stated, [f'"new_items":[["{MIDDLE}",[[{osd},63]]]]' for osd in (61, 60)], count)
 
 
-def kept(runs, count):
-    """The most memory of so many changes that are accepted, beyond that of the same lines refused."""
+def a_key(runs, stated, count):
+    """The microseconds of a change by which a group's pair comes or goes."""
+    return a_change(runs, stated, [f'"new_items":[["{MIDDLE}",[[61,63]]]]', f'"old_items":["{MIDDLE}"]'], count)
+
+
+def kept(runs):
+    """The bytes that a change takes in the journal."""
+    def beyond_refused(count):
+        scripts = [lines(['"down":[5]', '"up":[5]'], count, first) for first in (100_000, 900_000)]
+        taken, refused = (greatest(runs.words(stated, script)) for script in scripts)
+        return taken - refused
+
     stated = runs.map(flat("uniform", 64))
-    parts = ['"down":[5]', '"up":[5]']
-    return greatest(runs.words(stated, lines(parts, count, 100_000))) - greatest(runs.words(stated, lines(parts, count, 900_000)))
+    return (beyond_refused(2 * KEPT) - beyond_refused(KEPT)) / KEPT
 
 
 def beyond(runs, stated, line, without="epoch\n"):
-    """What a run holds beyond the same map with another script, and the length of its answers."""
+    """What a run holds beyond the same map with another script, to the length of its answers."""
     words = runs.words(stated, line)
-    return greatest(words) - greatest(runs.words(stated, without)), sum(len(answer) + 1 for answer in output(words))
+    return (greatest(words) - greatest(runs.words(stated, without))) / sum(len(answer) + 1 for answer in output(words))
+
+
+def plans(runs):
+    """Plans over maps that cannot be made even, or hardly."""
+    def spent(stated):
+        return (once(runs.words(stated, "balance 1 1024\n")) - once(runs.words(stated, ""))) * 1e3
+
+    for name, value, goal in (("3 racks of 2, 2, 4 hosts of 8", racks((2, 2, 4)), 50), ("3 racks of 8, 8, 16 hosts", racks((8, 8, 16)), 200),
+                              ("3 racks of 32, 32, 64 hosts", racks((32, 32, 64)), 300),
+                              ("10 racks of 1 to 10 hosts, groups of 10", racks(range(1, 11), 10), None),
+                              ("64 OSDs in 8 hosts, one of a thousandfold weight", one_heavy(), None)):
+        stated = runs.map(value)
+        yield goal_row(f"`balance` over {name}", lambda: spent(stated), "ms", goal)
+
+
+def in_vain_rows(runs):
+    """Rules that seek in vain."""
+    for name, value, goal in (("one group that 200 and 200 tries seek in vain", in_vain(), 300),
+                              ("the same for positions, in an erasure pool", in_vain(is_coded=True), 300),
+                              ("256 groups that seek hosts where there is one", one_host(), 50)):
+        yield goal_row(name, lambda: once(runs.words(runs.map(value), "")) * 1e3, "ms", goal)
+
+
+def exceptions(runs):
+    """Changes of one exception beside as many as there may be, to the same beside none."""
+    none, full, lacking = (runs.map(value) for value in (flat("uniform", GROUPS, POOLS), paired(POOLS), paired(POOLS, [MIDDLE])))
+    for name, change, many, count in (("a pair of a group", a_pair, full, CHANGES), ("a key that comes or goes", a_key, lacking, MOVING)):
+        alone = found(change, runs, none, CHANGES)
+        goal = 2 * alone if change is a_pair and not isinstance(alone, str) else None
+        yield [f"{name}, no other having one", alone, "µs"]
+        yield goal_row(f"{name}, 131,071 others having one", lambda: change(runs, many, count), "µs", goal)
+
+
+def memory(runs):
+    """What is held beside what it is for."""
+    yield goal_row("a change kept in the journal (one OSD down)", lambda: kept(runs), "bytes", 700)
+    value = paired(POOLS, explicit=True)
+    text, stated = len(json.dumps(value, separators=(",", ":"))), runs.map(value)
+    yield goal_row("a map with 262,144 exceptions, to its text", lambda: greatest(runs.words(stated, "")) / text, "times", 8)
+    yield goal_row("its `dump` while it is made, to the dump's text", lambda: beyond(runs, stated, "dump\n"), "times", 2.5)
+    few = runs.map(flat("uniform", GROUPS))
+    yield goal_row("answers of a session, to their text", lambda: beyond(runs, few, "groups 1\n" * ASKED, "epoch\n" * ASKED), "times", 1.2)
 
 
 def rows(runs):
-    """What, how much, the unit and the goal, one after another."""
-    for name, hosts, goal in (("3 racks of 2, 2, 4 hosts of 8", (2, 2, 4), 50), ("3 racks of 8, 8, 16 hosts", (8, 8, 16), 200),
-                              ("3 racks of 32, 32, 64 hosts", (32, 32, 64), 300)):
-        stated = runs.map(racks(hosts))
-        yield f"`balance` over {name}", within(lambda: (seconds(runs.words(stated, "balance 1 1024\n"), 1) - seconds(runs.words(stated, ""), 1)) * 1e3), "ms", goal
-    yield "one group that 200 and 200 tries seek in vain", within(lambda: seconds(runs.words(runs.map(in_vain()), ""), 1) * 1e3), "ms", 300
-    yield "256 groups that seek hosts where there is one", within(lambda: seconds(runs.words(runs.map(one_host()), ""), 1) * 1e3), "ms", 50
-    alone = a_pair(runs, flat("uniform", GROUPS, 32), 40_000)
-    yield "a pair of a group, no other having one", alone, "µs", None
-    yield "a pair of a group, 131,072 having one", a_pair(runs, paired(32), 4_000), "µs", 2 * alone
-    yield "a change kept in the journal (one OSD down)", (kept(runs, 40_000) - kept(runs, 20_000)) / 20_000, "bytes", 700
-    many = paired(32, explicit=True)
-    text, stated = len(json.dumps(many, separators=(",", ":"))), runs.map(many)
-    yield "a map with 262,144 exceptions, to its text", greatest(runs.words(stated, "")) / text, "times", 8
-    more, long = beyond(runs, stated, "dump\n")
-    yield "its `dump` while it is made, to the dump's text", more / long, "times", 2.5
-    more, long = beyond(runs, runs.map(flat("uniform", GROUPS)), "groups 1\n" * 20_000, "epoch\n" * 20_000)
-    yield "answers of a session, to their text", more / long, "times", 1.2
+    """All rows, one after another."""
+    for part in (plans, in_vain_rows, exceptions, memory):
+        yield from part(runs)
 
 
 def main():
     path = program(__doc__)
     heading(f"Lawful input that is not ordinary (a run may take {LIMIT} seconds)")
-    in_folder(path, lambda runs: table(["what", "it takes", "", "goal", ""], told(runs)))
-
-
-def told(runs):
-    """The rows of the table, each as soon as it is known."""
-    for name, took, unit, goal in rows(runs):
-        yield [name, took, unit, "" if goal is None else goal, judged(took, goal)]
+    in_folder(path, lambda runs: table(GOALS, rows(runs)))
 
 
 if __name__ == "__main__":

@@ -4,71 +4,78 @@ lines through a pipe, beside the same lines as a file.
 
     live.py PROGRAM
 
-The time of a question is the median of many, asked one by one; Python's own part of it is in both.
+The time of a question is the median of many, asked one by one; Python's own part of it is in both. It is no part of the gate.
 """
 
 import os
-import shutil
+import select
 import statistics
 import subprocess
 import time
 
 from maps import few_hosts
-from running import heading, in_folder, program, table
+from running import GOALS, LIMIT, goal_row, heading, in_folder, once, program, several, table
 
 ASKED, LINES = 20_000, 1_000_000
-GOAL_QUESTION, GOAL_LINES = 30, 1.3
 ECHO = r"""
 #include <unistd.h>
 int main(void) { char text[65536]; for (;;) { long n = read(0, text, sizeof text); if (n <= 0) return 0; if (write(1, text, n) != n) return 1; } }
 """
 
 
-def asked(words, question, heading):
+def answered(pipe):
+    """Takes what comes out of a pipe, once it has come."""
+    if not select.select([pipe], [], [], LIMIT)[0]:
+        raise subprocess.TimeoutExpired("an answer", LIMIT)
+    os.read(pipe, 65536)
+
+
+def asked(words, question, has_heading):
     """The median of the microseconds from a question to its answer."""
     with subprocess.Popen(words, stdin=subprocess.PIPE, stdout=subprocess.PIPE) as process:
         to, back, times = process.stdin.fileno(), process.stdout.fileno(), []
-        if heading:
-            os.read(back, 65536)
-        for _ in range(ASKED):
-            begun = time.perf_counter()
-            os.write(to, question)
-            os.read(back, 65536)
-            times.append(time.perf_counter() - begun)
+        try:
+            if has_heading:
+                answered(back)
+            for _ in range(ASKED):
+                begun = time.perf_counter()
+                os.write(to, question)
+                answered(back)
+                times.append(time.perf_counter() - begun)
+        except subprocess.TimeoutExpired:
+            process.kill()
+            raise
         process.stdin.close()
     return statistics.median(times) * 1e6
 
 
-def through(words, typed, path):
-    """The least of five times of a run whose input is the text of a file, through a pipe or by its name."""
-    times = []
-    for _ in range(5):
-        begun = time.perf_counter()
-        source = subprocess.Popen(["cat", path], stdout=subprocess.PIPE) if typed else None
-        subprocess.run(words + ["-" if typed else path], stdin=source.stdout if source else subprocess.DEVNULL, stdout=subprocess.DEVNULL, check=True)
-        times.append(time.perf_counter() - begun)
-    return min(times)
+def beyond_echo(runs, stated):
+    """The microseconds of a question and its answer, beyond an echo in C."""
+    echo = runs.compiled(runs.file(ECHO), "echo")
+    return asked([runs.program, stated, "-"], b"up 1.0\n", True) - asked([echo], b"up 1.0\n", False)
 
 
-def measured(runs):
+def through_a_pipe(words, path):
+    """The time of a run whose input is the text of a file, through a pipe."""
+    begun = time.perf_counter()
+    with subprocess.Popen(["cat", path], stdout=subprocess.PIPE) as source:
+        subprocess.run(words + ["-"], stdin=source.stdout, stdout=subprocess.DEVNULL, check=True, timeout=LIMIT)
+    return time.perf_counter() - begun
+
+
+def rows(runs):
     """The rows of the table."""
-    stated, rows = runs.map(few_hosts("uniform", 4096)), []
-    if shutil.which("cc"):
-        source, echo = runs.file(ECHO), os.path.join(runs.folder, "echo")
-        subprocess.run(["cc", "-O2", "-x", "c", source, "-o", echo], check=True)
-        plain, own = asked([echo], b"up 1.0\n", False), asked([runs.program, stated, "-"], b"up 1.0\n", True)
-        rows.append(["a question and its answer, beyond an echo in C", f"{own - plain:.1f} us", f"{GOAL_QUESTION} us",
-                     "met" if own - plain <= GOAL_QUESTION else "missed"])
-    path = runs.file("up 1.0\n" * LINES)
-    ratio = through([runs.program, stated], True, path) / through([runs.program, stated], False, path)
-    rows.append([f"{LINES:,} lines through a pipe, to a file's time", f"{ratio:.2f}", f"{GOAL_LINES}", "met" if ratio <= GOAL_LINES else "missed"])
-    return rows
+    stated, path = runs.map(few_hosts("uniform", 4096)), runs.file("up 1.0\n" * LINES)
+    words = [runs.program, stated]
+    yield goal_row("a question and its answer, beyond an echo in C", lambda: beyond_echo(runs, stated), "µs", 30)
+    yield goal_row(f"{LINES:,} lines through a pipe, to a file's time",
+                   lambda: several(lambda: through_a_pipe(words, path)) / several(lambda: once(words + [path])), "times", 1.3)
 
 
 def main():
-    command = program(__doc__)
+    path = program(__doc__)
     heading("Live sessions: through pipes")
-    table(["What", "found", "goal", ""], in_folder(command, measured))
+    in_folder(path, lambda runs: table(GOALS, rows(runs)))
 
 
 if __name__ == "__main__":

@@ -43,4 +43,15 @@ def levels(kind, groups, pools=1, racks=30, hosts=480):
     return a_map(buckets, 1024, [["chooseleaf_firstn", 0, 1]], pools, groups)
 
 
+def paired(pools, without=(), explicit=False):
+    """64 devices in one bucket, and pools of 4,096 groups, each group but some with a pair that changes nothing, and with an explicit set
+    too."""
+    stated = flat("uniform", 4096, pools)
+    groups = [group for number in range(1, pools + 1) for of in range(4096) if (group := f"{number}.{of:x}") not in without]
+    stated["pg_upmap_items"] = [[group, [[62, 63]]] for group in groups]
+    if explicit:
+        stated["pg_upmap"] = [[group, [0, 1, 2]] for group in groups]
+    return stated
+
+
 SHAPES = (("64 OSDs in 8 hosts", few_hosts), ("1,024 OSDs, 511 buckets, 3 levels", levels), ("64 OSDs in one bucket", flat))

@@ -8,8 +8,8 @@ A map is opened by a run of its rule for each group, so the cost of a placement 
 map with 1,024, over 3,072: reading the map and all else cancels. Plain C and `osdmaptool` place the same groups, and their cost is told apart in the
 same way. All sets of the 4,096 groups are compared in the same run. The program does more than plain C, which adds a set up and forgets it: it looks
 for the group's exceptions, keeps the set in the table, and puts the group into the lists of its OSDs. What the function costs that finds a group's mapped
-set (the rule's run and the exceptions, without the table) is told apart, by its name in the built program. Where there is no valgrind, microseconds
-are told in place of instructions. It is no part of the gate.
+set (the rule's run and the exceptions) is told apart, by its name in the built program; the rest is the table's own part. Where there is no valgrind,
+microseconds are told in place of instructions, and that function is not told apart. It is no part of the gate.
 """
 
 import os
@@ -19,11 +19,12 @@ import sys
 
 import ceph
 from maps import KINDS, SHAPES
-from running import HAS_VALGRIND, heading, in_folder, instructions, output, program, seconds, table
+from running import HAS_VALGRIND, LIMIT, found, heading, in_folder, instructions, judged, output, program, ratio, seconds, table
 
 FEW, MANY = 1024, 4096
 MAPPED = "*Placing::mapped*"
 GOALS = {"uniform": [0.75, 0.75, 0.75], "list": [0.6, 0.5, 0.4], "tree": [0.95, 0.95, 0.95]}
+OWN_PART = 350
 HERE = os.path.dirname(os.path.abspath(__file__))
 
 
@@ -38,8 +39,8 @@ def a_placement(few, many, measure=cost):
 
 
 def mapped_cost(words):
-    """The instructions that finding mapped sets takes in a run; 0 where they cannot be told apart."""
-    return instructions(words, MAPPED) if HAS_VALGRIND else 0
+    """The instructions that finding mapped sets takes in a run."""
+    return instructions(words, MAPPED)
 
 
 def plain_text(stated):
@@ -60,7 +61,8 @@ def program_sets(runs, stated):
 
 def plain_sets(words):
     """The sets of all groups as plain C prints them."""
-    return re.findall(r"^\S+ (\[[-\d,]*\])", subprocess.run(words + ["print"], stdout=subprocess.PIPE, text=True, check=True).stdout, re.M)
+    said = subprocess.run(words + ["print"], stdout=subprocess.PIPE, text=True, check=True, timeout=LIMIT).stdout
+    return re.findall(r"^\S+ (\[[-\d,]*\])", said, re.M)
 
 
 def agree(ours, others, who):
@@ -69,40 +71,52 @@ def agree(ours, others, who):
         sys.exit(f"the program and {who} place differently")
 
 
-def compared(runs, plain, shape, kind):
-    """What a placement costs the program, and in it the mapped set; plain C; and Ceph where it is installed."""
-    few, many = shape(kind, FEW), shape(kind, MANY)
-    ours = [runs.map(stated) for stated in (few, many)]
+def by_plain_c(runs, many, sets):
+    """What a placement costs plain C, which places the same sets."""
     rough = runs.file(plain_text(many))
-    theirs = [[plain, rough, "0", str(count)] for count in (FEW, MANY)]
-    sets = program_sets(runs, ours[1])
-    agree(sets, plain_sets(theirs[1]), "plain C")
+    words = [[runs.compiled(os.path.join(HERE, "plain.c"), "plain"), rough, "0", str(count)] for count in (FEW, MANY)]
+    agree(sets, plain_sets(words[1]), "plain C")
+    return a_placement(*words)
+
+
+def by_ceph(runs, both, sets):
+    """What a placement costs `osdmaptool`, which places the same sets."""
+    paths = [ceph.osdmap(stated, runs.folder) for stated in both]
+    agree(sets, ceph.sets(paths[1]), "osdmaptool")
+    return a_placement(*map(ceph.words, paths))
+
+
+def cells(runs, shape, kind, goal):
+    """What a placement costs the program, in it the mapped set and the table; plain C; and Ceph where it is installed."""
+    both = [shape(kind, groups) for groups in (FEW, MANY)]
+    ours = [runs.map(stated) for stated in both]
     opened = [runs.words(stated, "") for stated in ours]
-    found = [a_placement(*opened), a_placement(*opened, mapped_cost), a_placement(*theirs)]
+    whole, mapped = found(a_placement, *opened), found(a_placement, *opened, mapped_cost)
+    sets = program_sets(runs, ours[1])
+    own = mapped if isinstance(mapped, str) else whole - mapped
+    theirs = found(by_plain_c, runs, both[1], sets)
+    yield from [whole, mapped, own, *judged(own, OWN_PART), theirs]
+    for part in (whole, mapped):
+        yield from [to_plain := ratio(part, theirs), *judged(to_plain, goal)]
     if ceph.is_installed():
-        paths = [ceph.osdmap(stated, runs.folder) for stated in (few, many)]
-        agree(sets, ceph.sets(paths[1]), "osdmaptool")
-        found.append(a_placement(*map(ceph.words, paths)))
-    return found
+        tool = found(by_ceph, runs, both, sets)
+        yield from [tool, ratio(whole, tool)]
 
 
 def rows(runs):
     """A row for each of the nine maps."""
-    plain = os.path.join(runs.folder, "plain")
-    subprocess.run(["cc", "-O2", "-o", plain, os.path.join(HERE, "plain.c")], check=True)
     for place, (name, shape) in enumerate(SHAPES):
         for kind in KINDS:
-            ours, mapped, theirs, *tool = compared(runs, plain, shape, kind)
-            ratios = [ours / theirs, f"{GOALS[kind][place]}", mapped / theirs]
-            yield [f"{name}, {kind}", ours, mapped, theirs] + ratios + [cell for cost in tool for cell in (cost, ours / cost)]
+            measured = found(lambda: list(cells(runs, shape, kind, GOALS[kind][place])))
+            yield [f"{name}, {kind}"] + (measured if isinstance(measured, list) else [measured])
 
 
 def main():
     path = program(__doc__)
     heading(f"A placement of size 3, in {'instructions' if HAS_VALGRIND else 'microseconds'}")
     tool = ["`osdmaptool`", "to `osdmaptool`"] if ceph.is_installed() else []
-    columns = ["map", "program", "of it the mapped set", "plain C", "to plain C", "goal", "the set to plain C"] + tool
-    in_folder(path, lambda runs: table(columns, rows(runs)))
+    columns = ["map", "program", "the mapped set", "the table's part", "goal", "", "plain C", "to plain C", "goal", "", "the set to plain C", "goal", ""]
+    in_folder(path, lambda runs: table(columns + tool, rows(runs)))
     if not tool:
         print("\nNot beside Ceph: no `osdmaptool` and `crushtool` here.")
 

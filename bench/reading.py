@@ -8,7 +8,8 @@ the text, what was read of it, and the two or three million of the program itsel
 """
 
 import json
-from running import greatest, heading, in_folder, program, table
+
+from running import found, greatest, heading, in_folder, judged, program, table
 
 GOAL = 12
 GROUPS = [f"{pool}.{number:x}" for pool in range(1, 33) for number in range(4096)]
@@ -43,14 +44,15 @@ def texts():
 def rows(runs):
     """How long each text is, what it takes, and how many times its length that is."""
     for about, text in texts():
-        took = greatest(runs.words(runs.file(text), ""))
-        yield [about, len(text) / 1e6, took / 1e6, took / len(text), str(GOAL)]
+        took = found(greatest, runs.words(runs.file(text), ""))
+        to_text = took if isinstance(took, str) else took / len(text)
+        yield [about, len(text) / 1e6, took if isinstance(took, str) else took / 1e6, to_text, *judged(to_text, GOAL)]
 
 
 def main():
     path = program(__doc__)
     heading("Memory of reading a map")
-    table(["map", "its text, MB", "the most at once, MB", "to the text", "goal"], in_folder(path, lambda runs: list(rows(runs))))
+    in_folder(path, lambda runs: table(["map", "its text, MB", "the most at once, MB", "to the text", "goal", ""], rows(runs)))
 
 
 if __name__ == "__main__":

@@ -1,15 +1,30 @@
-"""How the benches run the program and measure: times, instructions, peak memory; and how they print what they found."""
+"""How the benches run the program and measure: times, instructions, peak memory; and how they print what they found.
 
+Every run has a limit of time. What cannot be measured is a row too, which says why: `past 60 s`, `no valgrind`, `no cc`. A goal stands
+beside what it is for, with `met` or `missed`.
+"""
+
+import datetime
 import json
 import os
 import re
 import shutil
+import signal
+import statistics
 import subprocess
 import sys
 import tempfile
+import threading
 import time
 
 HAS_VALGRIND = shutil.which("valgrind") is not None
+
+# The seconds that one run may take, and one under valgrind.
+LIMIT, COUNTED_LIMIT = 60, 1200
+
+
+class Absent(Exception):
+    """What a measure needs is not on this machine."""
 
 
 class Folder:
@@ -34,14 +49,27 @@ class Folder:
         """The words of a run over a map, by its file, with some scripts' texts and room for all changes."""
         return [self.program, "--journal", "65536", stated] + [self.file(script) for script in scripts]
 
+    def compiled(self, source, name):
+        """The program of a C source, by its path, at the compiler's usual speed."""
+        if shutil.which("cc") is None:
+            raise Absent("no cc")
+        made = os.path.join(self.folder, name)
+        subprocess.run(["cc", "-O2", "-x", "c", "-o", made, source], check=True, timeout=LIMIT)
+        return made
+
 
 def program(usage):
     """The path of the program, which is the first word of the command line; without one the run ends, and says how it is used."""
     if len(sys.argv) < 2 or sys.argv[1].startswith("-"):
         sys.exit(usage.strip())
-    if not os.access(sys.argv[1], os.X_OK) or os.path.isdir(sys.argv[1]):
-        sys.exit(f"{sys.argv[1]} is no program: `make run` proves and builds crates/osdmapd/out/osdmapd")
-    return sys.argv[1]
+    return program_at(sys.argv[1])
+
+
+def program_at(path):
+    """The path of a program; where there is none, the run ends."""
+    if not os.access(path, os.X_OK) or os.path.isdir(path):
+        sys.exit(f"{path} is no program: `make run` proves and builds crates/osdmapd/out/osdmapd")
+    return path
 
 
 def in_folder(program, work):
@@ -50,56 +78,91 @@ def in_folder(program, work):
         return work(Folder(program, folder))
 
 
-# The seconds that one run may take.
-LIMIT = 60
+# Limits, medians and goals
 
-
-def within(measure):
-    """What is measured, or that a run did not end in time."""
+def found(measure, *given):
+    """What some work measures; or why it cannot, in words that stand in its place."""
     try:
-        return measure()
-    except subprocess.TimeoutExpired:
-        return f"above {LIMIT} s"
+        return measure(*given)
+    except subprocess.TimeoutExpired as fault:
+        return f"past {fault.timeout:.0f} s"
+    except Absent as fault:
+        return str(fault)
+    except subprocess.CalledProcessError as fault:
+        return f"ended with status {fault.returncode}"
+    except OSError as fault:
+        return f"failed: {fault.strerror}"
 
 
-def judged(value, goal):
-    """Whether what was measured meets its goal, where it has one."""
-    if goal in ("", None):
-        return ""
-    return "met" if not isinstance(value, str) and value <= float(goal) else "missed"
+def several(measure, runs=5, of=min):
+    """The best of some runs of a measure, or their median."""
+    return of([measure() for _ in range(runs)])
 
+
+def median(measure, runs=5):
+    """The median of some runs of a measure."""
+    return several(measure, runs, statistics.median)
+
+
+def ratio(one, other):
+    """One measure to another; nothing where one of them is none."""
+    return "" if isinstance(one, str) or isinstance(other, str) else one / other
+
+
+def judged(value, goal, at_least=False):
+    """A goal beside what was found, which may be several values, and whether all of them meet it. A run past its limit misses it."""
+    if goal is None:
+        return ["", ""]
+    values = value if isinstance(value, list) else [value]
+    measured = [one for one in values if not isinstance(one, str)]
+    if len(measured) < len(values):
+        return [told(goal), "missed" if any(str(one).startswith("past ") for one in values) else "not measured"]
+    is_met = all(one >= goal if at_least else one <= goal for one in measured)
+    return [told(goal), "met" if is_met else "missed"]
+
+
+# Runs
 
 def output(words):
     """What a run puts out, by lines, without the heading of its one session."""
     return subprocess.run(words, stdout=subprocess.PIPE, text=True, check=True, timeout=LIMIT).stdout.splitlines()[1:]
 
 
+def once(words):
+    """The time of one run."""
+    begin = time.perf_counter()
+    subprocess.run(words, stdin=subprocess.DEVNULL, stdout=subprocess.DEVNULL, check=True, timeout=LIMIT)
+    return time.perf_counter() - begin
+
+
 def seconds(words, runs=5):
     """The time of a run, the best of some."""
-    times = []
-    for _ in range(runs):
-        begin = time.perf_counter()
-        subprocess.run(words, stdout=subprocess.DEVNULL, check=True, timeout=LIMIT)
-        times.append(time.perf_counter() - begin)
-    return min(times)
+    return several(lambda: once(words), runs)
 
 
 def instructions(words, inside=None):
     """The instructions of a run; where a pattern is given, those of the functions of such names and of all that they call."""
+    if not HAS_VALGRIND:
+        raise Absent("no valgrind")
     inside = [f"--toggle-collect={inside}"] if inside else []
     done = subprocess.run(["valgrind", "--tool=callgrind", "--callgrind-out-file=/dev/null"] + inside + words,
-                          stdout=subprocess.DEVNULL, stderr=subprocess.PIPE, text=True, check=True, timeout=20 * LIMIT)
+                          stdout=subprocess.DEVNULL, stderr=subprocess.PIPE, text=True, check=True, timeout=COUNTED_LIMIT)
     return int(re.search(r"Collected : (\d+)", done.stderr).group(1))
 
 
 def watched(words):
-    """What a run puts out, and the most bytes that it had in memory at once. It must put out more than a pipe holds: the program writes when all is
-    done, and is looked at while it waits for its reader."""
-    with subprocess.Popen(words, stdout=subprocess.PIPE) as run:
+    """What a run puts out, and the most bytes that it had in memory at once. It must put out more than a pipe holds: the program writes
+    when all is done, and is looked at while it waits for its reader."""
+    with subprocess.Popen(words, stdin=subprocess.DEVNULL, stdout=subprocess.PIPE) as run:
+        late = threading.Timer(LIMIT, run.kill)
+        late.start()
         begin = run.stdout.read(1)
         with open(f"/proc/{run.pid}/status", encoding="utf-8") as text:
             most = re.search(r"^VmHWM:\s+(\d+) kB", text.read(), re.M)
         said = begin + run.stdout.read()
+        late.cancel()
+    if run.returncode == -signal.SIGKILL:
+        raise subprocess.TimeoutExpired(words, LIMIT)
     if run.returncode != 0 or most is None:
         raise subprocess.CalledProcessError(run.returncode, words)
     return said.decode(), int(most.group(1)) * 1024
@@ -115,19 +178,52 @@ ASKED = "import resource, subprocess, sys; subprocess.run(sys.argv[1:], stdout=s
 
 
 def greatest(words):
-    """The most bytes that a run had in memory at once, however it ends. A small process asks, since the system counts with a run what its
-    parent held."""
+    """The most bytes that a run had in memory at once, however it ends, of more than ten million. A small process asks, since the system
+    counts with a run what its parent held."""
     return int(subprocess.run([sys.executable, "-c", ASKED] + words, stdout=subprocess.PIPE, check=True, timeout=LIMIT).stdout) * 1024
 
 
+def held(words):
+    """The most bytes that a run had asked for at once."""
+    if not HAS_VALGRIND:
+        raise Absent("no valgrind")
+    done = subprocess.run(["valgrind", "--tool=dhat", "--dhat-out-file=/dev/null"] + words, stdout=subprocess.DEVNULL, stderr=subprocess.PIPE,
+                          text=True, check=True, timeout=COUNTED_LIMIT)
+    return int(re.search(r"At t-gmax:\s+([\d,]+) bytes", done.stderr).group(1).replace(",", ""))
+
+
+# Tables
+
 def heading(text):
-    print(f"\n### {text}\n", flush=True)
+    """The heading of a table, with the time and the load at which it was begun."""
+    print(f"\n### {text}\n\nMeasured {datetime.datetime.now():%Y-%m-%d %H:%M}, load {os.getloadavg()[0]:.1f}.\n", flush=True)
+
+
+def told(cell):
+    """A cell as text: of a number more digits where it is small."""
+    if isinstance(cell, str):
+        return cell
+    return f"{cell:,}" if isinstance(cell, int) else f"{cell:,.{2 if abs(cell) < 100 else 0}f}"
 
 
 def table(columns, rows):
-    """Prints a table, each row as soon as it is known."""
+    """Prints a table, each row as soon as it is known; what a row has no cells for stays empty."""
     print("| " + " | ".join(columns) + " |", flush=True)
     print("|---" + "|--:" * (len(columns) - 1) + "|", flush=True)
     for row in rows:
-        print("| " + " | ".join(cell if isinstance(cell, str) else f"{cell:,.{2 if abs(cell) < 100 else 0}f}" for cell in row) + " |",
-              flush=True)
+        print("| " + " | ".join(map(told, row + [""] * (len(columns) - len(row)))) + " |", flush=True)
+
+
+def row(name, measure, *given):
+    """A row: what it is, and the cells that some work measures, or why it cannot."""
+    cells = found(measure, *given)
+    return [name, *(cells if isinstance(cells, list) else [cells])]
+
+
+GOALS = ["what", "it takes", "", "goal", ""]
+
+
+def goal_row(name, measure, unit, goal, at_least=False):
+    """A row of a table of `GOALS`."""
+    value = found(measure)
+    return [name, value, unit, *judged(value, goal, at_least)]

@@ -3,16 +3,22 @@
 
     steps.py PROGRAM
 
-Needs valgrind. Each is the difference of two runs that differ only in how often it is done; a change is the difference of a line
-that is accepted and the same line refused as stale. It is no part of the gate.
+Needs valgrind; without it each row says so. Each is the difference of two runs that differ only in how often it is done; a change is
+the difference of a line that is accepted and the same line refused as stale. It is no part of the gate.
 """
 
 import sys
 
-from maps import flat, levels
-from running import HAS_VALGRIND, heading, in_folder, instructions, output, program, table
+from maps import flat, levels, paired
+from running import heading, in_folder, instructions, output, program, row, table
 
 EPOCH, STALE = 100_000, 900_000
+FEW, MANY, POOLS = 1_024, 4_096, 32
+STATES = ['"down":[5]', '"up":[5]']
+# The group in the middle of all groups of 32 pools: its pair replaced by another, and its pair there and not there.
+MIDDLE = "16.800"
+REPLACED = [f'"new_items":[["{MIDDLE}",[[{osd},63]]]]' for osd in (61, 60)]
+COMES_AND_GOES = [REPLACED[0], f'"old_items":["{MIDDLE}"]']
 
 
 def a_line(runs, stated, line, few=200, many=1_200):
@@ -21,6 +27,7 @@ def a_line(runs, stated, line, few=200, many=1_200):
 
 
 def changes(parts, count, first):
+    """Lines of changes, by the parts in turn."""
     return "".join(f'change {{"base":{first + at},{parts[at % len(parts)]}}}\n' for at in range(count))
 
 
@@ -40,27 +47,32 @@ def pairs(runs, stated):
     return [f'"new_items":[["1.0",[[{places[0]},{osd}]]]]' for osd in others]
 
 
-def rows(runs):
+def single_rows(runs):
     """Each thing with what it costs over one uniform bucket of 64 OSDs, and over 1,024 OSDs in three levels."""
-    shapes = [flat, levels]
-    few, many = 1_024, 4_096
-    small, large = ([runs.map(shape("uniform", groups)) for shape in shapes] for groups in (few, many))
-    yield "opening a group", [(instructions(runs.words(b, "")) - instructions(runs.words(a, ""))) / (many - few) for a, b in zip(small, large)]
+    small, large, tiny = ([runs.map(shape("uniform", groups)) for shape in (flat, levels)] for groups in (FEW, MANY, 32))
+    yield row("opening a group", lambda: [(instructions(runs.words(many, "")) - instructions(runs.words(few, ""))) / (MANY - FEW)
+                                          for few, many in zip(small, large)])
     for name, line in (("`up`", "up 1.7f\n"), ("`epoch`", "epoch\n"), ("`count`", "count 7\n"), ("`groups`", "groups 7\n")):
-        yield f"a line {name}", [a_line(runs, stated, line) for stated in large]
-    yield "one OSD down or up", [a_change(runs, stated, ['"down":[5]', '"up":[5]']) for stated in large]
-    yield "one pair of a group", [a_change(runs, stated, pairs(runs, stated)) for stated in large]
-    tiny = [runs.map(shape("uniform", 32)) for shape in shapes]
-    yield "the same in a pool of 32 groups", [a_change(runs, stated, pairs(runs, stated)) for stated in tiny]
+        yield row(f"a line {name}", lambda: [a_line(runs, stated, line) for stated in large])
+    yield row("one OSD down or up", lambda: [a_change(runs, stated, STATES) for stated in large])
+    yield row("one pair of a group", lambda: [a_change(runs, stated, pairs(runs, stated)) for stated in large])
+    yield row("the same in a pool of 32 groups", lambda: [a_change(runs, stated, pairs(runs, stated)) for stated in tiny])
+
+
+def list_rows(runs):
+    """What a change of one pair costs beside no other exceptions, and beside the most that there may be."""
+    none = runs.map(flat("uniform", MANY, POOLS))
+    full, lacking = (runs.map(paired(POOLS, without)) for without in ([], [MIDDLE]))
+    yield row("a pair that replaces another", lambda: [a_change(runs, stated, REPLACED) for stated in (none, full)])
+    yield row("a key that comes or goes", lambda: [a_change(runs, stated, COMES_AND_GOES) for stated in (none, lacking)])
 
 
 def main():
     path = program(__doc__)
-    if not HAS_VALGRIND:
-        sys.exit("steps.py needs valgrind")
     heading("Single things, in instructions")
-    columns = ["what", "64 OSDs in one bucket", "1,024 OSDs in 3 levels"]
-    in_folder(path, lambda runs: table(columns, ([name, *cells] for name, cells in rows(runs))))
+    in_folder(path, lambda runs: table(["what", "64 OSDs in one bucket", "1,024 OSDs in 3 levels"], single_rows(runs)))
+    heading("A change of one pair among exceptions, in instructions")
+    in_folder(path, lambda runs: table(["what", "no other group has one", "131,071 others have one"], list_rows(runs)))
 
 
 if __name__ == "__main__":

@@ -5,21 +5,20 @@
 
 All of it is over 32 pools of 4,096 groups of size 3. *Opening* is the time of an empty script less that over pools of one group each.
 *A rule's run* is that of a line `fup`, which runs the rule, less that of a line `up`, which reads the table, over all groups of a pool. *Memory* is the
-peak resident set less that over pools of 1,024 groups. *Lines* are the time of many changes that are accepted less that of the
-same lines refused as stale, which are read and turned down: so it is what the change itself costs. It is no part of the gate.
+peak resident set less that over pools of 1,024 groups; *a pool of one group* is a 31st of what is asked for at once over 32 such pools beyond one. *Lines* are the time of many
+changes that are accepted less that of the same lines refused as stale, which are read and turned down: so it is what the change itself costs. It is no part
+of the gate.
 """
 
+import functools
 import sys
 
-from maps import KINDS, levels
-from running import heading, in_folder, output, peak, program, seconds, table
+from maps import KINDS, flat, levels
+from running import found, heading, held, in_folder, judged, output, peak, program, seconds, table
 
 POOLS, GROUPS, FEW = 32, 4096, 1024
 FIRST, STALE = 100_000, 900_000
-LINES, REWEIGHTS = 20_000, 4
-ROWS = (("opening, ms", ""), ("opening a group, ns", ""), ("a rule's run, ns", ""), ("opening to runs", ""),
-        ("memory a group, bytes", "120"), ("one OSD down or up, µs", "20"), ("one new pair, µs", ""), ("a new pair to a rule's run", "1.2"),
-        ("a reweight, µs a group evaluated", "1.2"))
+LINES, REWEIGHTS, ASKED = 20_000, 4, 8
 TALK = "epoch\n" * 20_000
 
 
@@ -41,14 +40,6 @@ def accepted(runs, stated, parts, lines):
     return (seconds(good, 3) - seconds(runs.words(stated, changes(parts, lines, STALE)), 3)) / lines, int(last[3])
 
 
-def rule_run(runs, kind):
-    """The seconds of one run of the rule."""
-    stated = runs.map(levels(kind, GROUPS))
-    lines = "".join(f"{{}} 1.{number:x}\n" for number in range(GROUPS)) * 8
-    by_rule, by_table = (seconds(runs.words(stated, lines.replace("{}", word))) for word in ("fup", "up"))
-    return (by_rule - by_table) / (8 * GROUPS)
-
-
 def pairs(runs, stated):
     """Two lists of one pair each for the first group, which move it to one OSD or another."""
     places = [int(osd) for osd in output(runs.words(stated, "up 1.0\n"))[0].split()[3].strip("[]").split(",")]
@@ -56,24 +47,84 @@ def pairs(runs, stated):
     return [f'"new_items":[["1.0",[[{places[0]},{osd}]]]]' for osd in others]
 
 
-def column(runs, kind):
-    """What all of it costs over the buckets of a kind, in the order of `ROWS`."""
-    whole, few, least = (runs.map(levels(kind, groups, POOLS)) for groups in (GROUPS, FEW, 1))
-    run = rule_run(runs, kind)
-    opening = seconds(runs.words(whole, "")) - seconds(runs.words(least, ""))
-    memory = (peak(runs.words(whole, TALK)) - peak(runs.words(few, TALK))) / (POOLS * (GROUPS - FEW))
-    state, _ = accepted(runs, whole, ['"down":[5]', '"up":[5]'], LINES)
-    pair, _ = accepted(runs, whole, pairs(runs, whole), LINES)
-    reweight, evals = accepted(runs, whole, ['"weight":[[5,32768]]', '"weight":[[5,65536]]'], REWEIGHTS)
-    each = opening / (POOLS * GROUPS - POOLS)
-    return [opening * 1e3, each * 1e9, run * 1e9, each / run, memory, state * 1e6, pair * 1e6, pair / run, reweight / evals * 1e6]
+class Measured:
+    """What all of it costs over the buckets of a kind."""
+
+    def __init__(self, runs, kind):
+        self.runs, self.kind = runs, kind
+
+    def map(self, groups, pools=POOLS, shape=levels):
+        return self.runs.map(shape(self.kind, groups, pools))
+
+    @functools.cached_property
+    def whole(self):
+        """The map's file."""
+        return self.map(GROUPS)
+
+    @functools.cached_property
+    def opened(self):
+        """The seconds of opening."""
+        return seconds(self.runs.words(self.whole, "")) - seconds(self.runs.words(self.map(1), ""))
+
+    @functools.cached_property
+    def rule_run(self):
+        """The seconds of one run of the rule."""
+        stated = self.map(GROUPS, 1)
+        lines = "".join(f"{{}} 1.{number:x}\n" for number in range(GROUPS)) * ASKED
+        by_rule, by_table = (seconds(self.runs.words(stated, lines.replace("{}", word))) for word in ("fup", "up"))
+        return (by_rule - by_table) / (ASKED * GROUPS)
+
+    @functools.cached_property
+    def pair(self):
+        """The seconds of a change of one pair."""
+        return accepted(self.runs, self.whole, pairs(self.runs, self.whole), LINES)[0]
+
+    def a_group(self):
+        """The seconds of opening a group."""
+        return self.opened / (POOLS * GROUPS - POOLS)
+
+    def memory(self, shape):
+        """The bytes of a group."""
+        many, few = (peak(self.runs.words(self.map(groups, POOLS, shape), TALK)) for groups in (GROUPS, FEW))
+        return (many - few) / (POOLS * (GROUPS - FEW))
+
+    def small_pool(self):
+        """The bytes of a pool of one group."""
+        many, one = (held(self.runs.words(self.map(1, pools), "")) for pools in (POOLS, 1))
+        return (many - one) / (POOLS - 1)
+
+    def reweight(self):
+        """The seconds of a reweight, for each group that it evaluates."""
+        spent, evals = accepted(self.runs, self.whole, ['"weight":[[5,32768]]', '"weight":[[5,65536]]'], REWEIGHTS)
+        return spent / evals
+
+
+ROWS = (("opening, ms", None, lambda of: of.opened * 1e3),
+        ("opening a group, ns", None, lambda of: of.a_group() * 1e9),
+        ("a rule's run, ns", None, lambda of: of.rule_run * 1e9),
+        ("opening to runs", 1.15, lambda of: of.a_group() / of.rule_run),
+        ("memory a group, bytes", 50, lambda of: of.memory(levels)),
+        ("the same over 64 OSDs, bytes", 40, lambda of: of.memory(flat)),
+        ("a pool of one group, bytes", None, lambda of: of.small_pool()),
+        ("one OSD down or up, µs", 20, lambda of: accepted(of.runs, of.whole, ['"down":[5]', '"up":[5]'], LINES)[0] * 1e6),
+        ("one new pair, µs", None, lambda of: of.pair * 1e6),
+        ("a new pair to a rule's run", 1.2, lambda of: of.pair / of.rule_run),
+        ("a reweight, µs a group evaluated", None, lambda of: of.reweight() * 1e6),
+        ("the same to a rule's run", 1.2, lambda of: of.reweight() / of.rule_run))
+
+
+def rows(runs):
+    """A row for each thing that is measured, over each kind of buckets."""
+    kinds = [Measured(runs, kind) for kind in KINDS]
+    for name, goal, measure in ROWS:
+        cells = [found(measure, of) for of in kinds]
+        yield [name, *cells, *judged(cells, goal)]
 
 
 def main():
     path = program(__doc__)
     heading("The table: 32 pools of 4,096 groups of size 3 over 1,024 OSDs in 511 buckets")
-    columns = in_folder(path, lambda runs: [column(runs, kind) for kind in KINDS])
-    table(["what"] + [f"{kind} buckets" for kind in KINDS] + ["goal"], ([name, *cells, goal] for (name, goal), *cells in zip(ROWS, *columns)))
+    in_folder(path, lambda runs: table(["what"] + [f"{kind} buckets" for kind in KINDS] + ["goal", ""], rows(runs)))
 
 
 if __name__ == "__main__":
