@@ -238,7 +238,7 @@ def test_answers_to_files(program):
 
 
 def test_files_that_fail(program):
-    """A session whose files fail tells it and ends; the others go on. The status is that of the first fault."""
+    """A session whose files fail tells it and ends; the others go on, and the status is 3."""
     with tempfile.TemporaryDirectory() as name:
         folder = pathlib.Path(name)
         (folder / "a").write_text("epoch\n" * 3)
