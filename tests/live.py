@@ -384,12 +384,24 @@ def in_a_shell(program, commands, typed):
             raise
 
 
-def test_dialogues_of_the_page(program):
-    """Every block of the page of examples that shows a dialogue in a shell."""
-    found = list(dialogues("docs/LIVE.md"))
-    equal(len(found), 2)
+def test_dialogues_of_the_pages(program):
+    """Every block of README.md and of the page of examples that shows a dialogue in a shell."""
+    found = [*dialogues("README.md"), *dialogues("docs/LIVE.md")]
+    equal(len(found), 3)
     for commands, typed, answers in found:
         equal(in_a_shell(program, commands, typed), "".join(answers))
+
+
+def test_first_screen(program):
+    """The script of README.md and its answers beside it, where two points stand for the rest of a line."""
+    block = next(block for block in re.findall(r"(?:^ {4}.*\n)+", (HERE.parent / "README.md").read_text(), re.M) if block.startswith("    up "))
+    script, wanted = zip(*(re.split(" {2,}", line.strip()) for line in block.splitlines()))
+    equal("".join(line + "\n" for line in script), (HERE.parent / "examples" / "script.txt").read_text())
+    status, output, _ = ran(program, HERE, "-", text="\n".join(script).encode())
+    answers = output.splitlines()[1:]
+    equal((status, len(answers)), (0, len(wanted)))
+    for answer, text in zip(answers, wanted):
+        equal(answer[:len(text) - 2] + ".." if text.endswith("..") else answer, text)
 
 
 def test_python_of_the_page(program):
