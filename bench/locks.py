@@ -53,7 +53,7 @@ def nanoseconds(program, threads, every):
     """The nanoseconds a hold, at best."""
     times = []
     for _ in range(3):
-        run = subprocess.run([program, str(threads), str(every), str(HOLDS)], capture_output=True, text=True, check=True)
+        run = subprocess.run([program, str(threads), str(every), str(HOLDS)], capture_output=True, text=True, check=True, timeout=60)
         times.append(int(run.stdout.split()[0]))
     return min(times) / (threads * HOLDS)
 

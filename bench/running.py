@@ -105,8 +105,8 @@ def median(measure, runs=5):
 
 
 def ratio(one, other):
-    """One measure to another; nothing where one of them is none."""
-    return "" if isinstance(one, str) or isinstance(other, str) else one / other
+    """One measure to another; where one of them is none, why not."""
+    return next((why for why in (one, other) if isinstance(why, str)), None) or one / other
 
 
 def judged(value, goal, at_least=False):

@@ -73,10 +73,11 @@ def look_rows(runs, stated):
     for sessions, goal in ((1, None), (2, 1.8), (4, 3.2)):
         by_up, by_epoch = (found(lambda: spent(runs, stated, [text] * sessions) / LOOKS) for text in (lines, epochs))
         alone = by_up if alone is None else alone
-        times = ratio(alone, by_up) if sessions == 1 or isinstance(alone, str) or isinstance(by_up, str) else alone / by_up * sessions
+        rate, alone_rate = ratio(sessions, by_up), ratio(1, alone)
+        times = ratio(rate, alone_rate)
         measured = not isinstance(by_up, str) and not isinstance(by_epoch, str)
-        each = [by_up * 1e9, by_epoch * 1e9, (by_up - by_epoch) * 1e9] if measured else [by_up, by_epoch, ""]
-        yield [str(sessions), ratio(float(sessions), by_up), times, *judged(times, goal, at_least=True), *each, *judged(each[2], 250)]
+        each = [by_up * 1e9, by_epoch * 1e9, (by_up - by_epoch) * 1e9] if measured else [by_up, by_epoch, ratio(by_up, by_epoch)]
+        yield [str(sessions), rate, times, *judged(times, goal, at_least=True), *each, *judged(each[2], 250)]
 
 
 def looks_answered(runs, stated, sessions, processors):
@@ -98,8 +99,8 @@ def crowd_rows(runs, stated):
         yield [name, "1", alone]
         for sessions in (4, 16, MOST):
             answered = found(rate, runs, stated, sessions, TWO)
-            to_one = answered if isinstance(answered, str) else ratio(answered, alone)
-            yield [name, str(sessions), answered, ratio(answered, alone), *judged(to_one, goal, at_least=True)]
+            to_one = ratio(answered, alone)
+            yield [name, str(sessions), answered, to_one, *judged(to_one, goal, at_least=True)]
 
 
 def chained(session):
@@ -172,7 +173,7 @@ def change_rows(runs, stated):
         for sessions in (1, 4):
             cells = row(name, made_and_stale, runs, stated, [form(session, sessions) for session in range(sessions)], count)
             alone = cells[-1] if alone is None else alone
-            yield [name, str(sessions), *cells[1:], ratio(cells[-1], alone)]
+            yield [name, str(sessions), *cells[1:]] + ([ratio(cells[-1], alone)] if len(cells) > 2 else [])
 
 
 def soaked(runs, seed):
