@@ -1,5 +1,6 @@
 mod CommandLines
 mod Joined
+mod Opened
 mod Paired
 mod Outs
 mod PlainWords

@@ -3,3 +3,4 @@ pub mod Endings
 pub mod Pairs
 pub mod Serving
 pub mod Players
+pub mod Outs

@@ -195,4 +195,6 @@ fn main(rt: HostRuntime) -> ExitCode {
 #[cfg(test)]
 mod racing;
 #[cfg(test)]
+mod sharing;
+#[cfg(test)]
 mod tests;

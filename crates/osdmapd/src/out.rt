@@ -1,10 +1,12 @@
 //! A writer as a sink that keeps answers until a session has them out.
-ghost use Rattle.std.specs.Prelude.{ℕ, List};
+ghost use Rattle.std.specs.Prelude.{◌≡◌, ℕ, List, false};
+ghost use Rattle.osdmapd.specs.Outs.{IsOut};
 
 use session::{Sink, WriteFailed};
 use std::alloc::Global;
 use std::io;
 use std::marker::Model;
+use std::snapshot::Snapshot;
 
 /// With so many bytes or more a sink is full.
 const FULL: usize = 65_536;
@@ -45,14 +47,17 @@ impl Gone {
     }
 }
 
-/// A writer, with the answers that are not out yet. A write keeps bytes, and waits for nobody; `flush` writes them.
+/// A writer, with the answers that are not out yet. A write keeps bytes, and waits for nobody; `flush` writes them. Until
+/// it has failed, the writer has what is out behind what it had at first, where its contents are known.
 #[derive(Drop)]
-pub struct Out<W> {
+pub struct Out<W: io::Write> {
     to: W,
+    first: Snapshot<W>,
     gone: Gone,
     kept: Kept,
     failed: bool,
     short: bool,
+    ghost out: { failed ≡ false → IsOut gone.bytes (W.contents first.value) (W.contents to) },
 }
 
 impl<W: io::Write> Out<W> {
@@ -63,8 +68,10 @@ impl<W: io::Write> Out<W> {
         ensures failed { result.failed ≡ false }
         ensures none { result.gone.bytes ++ result.kept.bytes.items ≡ [] }
     {
+        let first = Snapshot::of(&to);
         Out {
             to,
+            first,
             gone: Gone::new(),
             kept: Kept {
                 bytes: Vec::new(alloc),

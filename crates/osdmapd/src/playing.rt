@@ -1,5 +1,5 @@
 //! The sessions of a run, each in a thread of its own.
-ghost use Rattle.std.specs.Prelude.{◌≡◌, ◌+◌, ◌++◌, ℕ, List, false, All, OnOk, IfOk, IfSome, MatchOption, length, vec_len};
+ghost use Rattle.std.specs.Prelude.{◌≡◌, ◌≢◌, ◌+◌, ◌++◌, ℕ, List, false, All, OnOk, IfOk, IfErr, IfSome, MatchOption, length, vec_len};
 ghost use Rattle.epochlog.specs.Epochs.{Begins};
 ghost use Rattle.monitor.specs.Members.{IsMemberOf, IsNewMemberOf, IsPassOf};
 ghost use Rattle.session.specs.Buffers.{buffered, is_short};
@@ -73,8 +73,11 @@ fn play_script<R: Wait>(
         IsTextBy desk.now.monitor.now number script.now (buffered text) member.new.pass.history) }
 {
     let mut text = headed(desk.alloc, number)?;
-    desk.run(member, script, &mut text).ok()?;
-    Some(text)
+    match desk.run(member, script, &mut text) {
+        Ok(()) => Some(text),
+        Err(SessionError::Write | SessionError::Memory) => None,
+        Err(SessionError::Held | SessionError::Read) => unreachable!(),
+    }
 }
 
 /// Plays the session of a reader's lines: puts its heading and its answers to a sink, and has all out before each read
@@ -89,6 +92,7 @@ fn play_live<R: Wait, B: Read, W: Sink>(
     requires member { IsNewMemberOf desk.now.monitor.now member.old }
     requires unfailed { W.has_failed out.old ≡ false }
     ensures member { IsMemberOf desk.now.monitor.now member.new }
+    ensures held { IfErr result (λ e. e ≢ SessionError.Held) }
     ensures out { OnOk result (W.holds_back out.new ≡ false) }
     ensures ok { OnOk result ((read : List ℕ) × (text : List ℕ)
         × IfSome (B.remaining reader.old) (λ xs. xs ≡ read)
@@ -111,7 +115,8 @@ fn play_into<R: Wait, B: Read, W: io::Write + Drop>(
     to: W,
 ) -> Result<(), SessionError>
     requires { IsNewMemberOf desk.now.monitor.now member.old }
-    ensures { IsMemberOf desk.now.monitor.now member.new }
+    ensures member { IsMemberOf desk.now.monitor.now member.new }
+    ensures held { IfErr result (λ e. e ≢ SessionError.Held) }
 {
     let mut out = Out::new(desk.alloc, to);
     match play_live(desk, member, number, reader, &mut out) {
@@ -121,7 +126,10 @@ fn play_into<R: Wait, B: Read, W: io::Write + Drop>(
 }
 
 /// How a session ends one of whose files is not opened: for want of memory, else as is said.
-fn unopened(error: &io::Error, otherwise: SessionError) -> SessionError {
+fn unopened(error: &io::Error, otherwise: SessionError) -> SessionError
+    requires { otherwise ≢ SessionError.Held }
+    ensures { result ≢ SessionError.Held }
+{
     match error.kind() {
         ErrorKind::OutOfMemory => SessionError::Memory,
         _ => otherwise,
@@ -137,7 +145,8 @@ fn play_to<R: Wait, B: Read>(
     to: (&HostRuntime, &Target),
 ) -> Result<(), SessionError>
     requires { IsNewMemberOf desk.now.monitor.now member.old }
-    ensures { IsMemberOf desk.now.monitor.now member.new }
+    ensures member { IsMemberOf desk.now.monitor.now member.new }
+    ensures held { IfErr result (λ e. e ≢ SessionError.Held) }
 {
     let (files, target) = to;
     match target {
@@ -158,7 +167,8 @@ fn play_between<R: Wait>(
     ends: (&Source, &Target),
 ) -> Result<(), SessionError>
     requires { IsNewMemberOf desk.now.monitor.now member.old }
-    ensures { IsMemberOf desk.now.monitor.now member.new }
+    ensures member { IsMemberOf desk.now.monitor.now member.new }
+    ensures held { IfErr result (λ e. e ≢ SessionError.Held) }
 {
     let (source, target) = ends;
     match source {
@@ -194,7 +204,8 @@ fn play_told<R: Wait + Eprint>(
         Ok(()) => return Ok(false),
         Err(SessionError::Read) => tell(desk.rt, &source.ending()),
         Err(SessionError::Write) => tell(desk.rt, &target.ending()),
-        Err(_) => return Err(Memory),
+        Err(SessionError::Memory) => return Err(Memory),
+        Err(SessionError::Held) => unreachable!(),
     }
     Ok(true)
 }

@@ -1,8 +1,9 @@
 //! What the program does with its files.
-ghost use Rattle.std.specs.Prelude.{◌≡◌, ◌≤◌, ◌++◌, ℕ, List, length, map, false, is_err};
-ghost use Rattle.std.specs.Prelude.{OnOk, OnErr};
+ghost use Rattle.std.specs.Prelude.{◌≡◌, ◌≤◌, ◌++◌, ℕ, List, length, map, true, false, is_err};
+ghost use Rattle.std.specs.Prelude.{IfOk, OnOk, OnErr};
 ghost use Rattle.std.specs.List.{concat, list_any};
 ghost use Rattle.epochlog.specs.Epochs.{max_capacity};
+ghost use Rattle.monitor.specs.Opening.{can_open, max_draws, IsOpening};
 ghost use Rattle.session.specs.Sinks.{HasPut};
 ghost use Rattle.osdmapd.specs.CommandLine.{max_scripts};
 ghost use Rattle.osdmapd.specs.Serving.{Serves, has_output_failed, text_left};
@@ -11,8 +12,11 @@ use crate::fault::Fault;
 use crate::part::Part;
 use crate::playing::{Left, lefts};
 use mapjson::read_map;
-use monitor::Monitor;
+use monitor::{Member, Monitor};
+use osdmap::OsdMap;
+use refusal::{Memory, Refusal};
 use session::{Sink, WriteFailed, write_whole};
+use std::alloc::Global;
 use std::sync::Wait;
 use std::thread::Threads;
 
@@ -36,6 +40,23 @@ fn have_told(lefts: &[Left]) -> bool
     ensures { result ≡ list_any (λ left. left.has_told) lefts.now }
 {
     lefts.iter().any(|left| left.has_told)
+}
+
+/// A monitor that begins with a map, and its members, where all limits hold; or `Memory` (30).
+fn opened(
+    alloc: Global,
+    map: OsdMap,
+    journal: u32,
+    seats: usize,
+) -> Result<(Monitor, Vec<Member>), Memory>
+    requires { can_open map.map.epoch journal seats max_draws ≡ true }
+    ensures { IfOk result (λ r. IsOpening map.map journal seats max_draws r.0 r.1.items) }
+{
+    match Monitor::open(alloc, map, journal, seats as u32) {
+        Ok(made) => Ok(made),
+        Err(Refusal::Memory) => Err(Memory),
+        Err(_) => unreachable!(),
+    }
 }
 
 /// Runs sessions over the map that a text states, each in a thread of its own, with a seat at one monitor; after all
@@ -68,9 +89,7 @@ pub fn serve<R: AllocGlobal + Threads + Wait + Eprint + Sync, W: Sink>(
         Ok(map) => map,
         Err(refusal) => return Err(Fault::of_refusal(refusal)),
     };
-    // The epoch of a map that was read, the journal and the number of parts are within their limits, so that only
-    // memory can be short.
-    let Ok((monitor, members)) = Monitor::open(alloc, map, journal, parts.len() as u32) else {
+    let Ok((monitor, members)) = opened(alloc, map, journal, parts.len()) else {
         return Err(Fault::Memory);
     };
     let lefts = lefts(system, monitor, members, parts)?;

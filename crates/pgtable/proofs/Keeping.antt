@@ -64,6 +64,10 @@ evals_touched m c p touched = rw touched (count_of_true (range_with_len 0 p.pg_n
 pub evals_concerned : (m : ClusterMap) (c : ChangeParts) (p : PoolFacts) → is_touched m c p ≡ false → evals_in m c p ≡ length (concerned m c p)
 evals_concerned m c p touched = rw touched (sym (length-filter (λ n. concerns m c (group_of p n)) (range_with_len 0 p.pg_num)))
 
+-- so many as it then changes
+pub evals_changes : (m : ClusterMap) (c : ChangeParts) (p : PoolFacts) (cs : List (ℕ × Places)) (n : ℕ) → is_touched m c p ≡ false → cs ≡ changes_of m c p → n ≡ length cs → n ≡ evals_in m c p
+evals_changes m c p cs n touched is long = long ∙ ap length is ∙ length-map (concerned m c p) (λ k. (k, mapped_set m p k)) ∙ sym (evals_concerned m c p touched)
+
 -- ---- changes
 
 -- all of a range is below its end
@@ -76,11 +80,15 @@ rising n i j d less inside =
     let long = length-range_with_len 0 n in
     rw (get_or-range_with_len 0 n i d (omega arith), get_or-range_with_len 0 n j d (omega arith)) (omega arith)
 
+-- the groups of a pool that a change concerns are among its own
+pub concerned_within : (m : ClusterMap) (c : ChangeParts) (p : PoolFacts) → All (λ k. k < p.pg_num) (concerned m c p)
+concerned_within m c p = All-filter (λ k. concerns m c (group_of p k)) (λ k. k < p.pg_num) (range_with_len 0 p.pg_num) (below p.pg_num)
+
 -- the changes of a pool are of groups that it has
 pub changes_within : (m n : ClusterMap) (c : ChangeParts) (p : PoolFacts) → All (λ e. e.0 < length (sets_of m p)) (changes_of n c p)
 changes_within m n c p =
     All-map (λ (e : ℕ × Places). e.0 < length (sets_of m p)) (λ k. (k, mapped_set n p k)) (concerned n c p)
-    (rw (length-map-range_with_len (mapped_set m p) 0 p.pg_num) (All-filter (λ k. concerns n c (group_of p k)) (λ k. k < p.pg_num) (range_with_len 0 p.pg_num) (below p.pg_num)))
+    (rw (length-map-range_with_len (mapped_set m p) 0 p.pg_num) (concerned_within n c p))
 
 -- they ascend by number
 pub changes_ascend : (n : ClusterMap) (c : ChangeParts) (p : PoolFacts) → AllPairs (λ a b. a.0 < b.0) (changes_of n c p)

@@ -145,10 +145,9 @@ few_evals m c (p ∷ ps) within =
     let sum = sum_by-cons (evals_in m c) p ps in
     omega (arith, here.groups_most)
 
--- a change has at most 131,072
-pub evals_few : (m : ClusterMap) (c : ChangeParts) → HoldsTogether m → evals_of m c ≤ 131072
-unfolding evals_of
-evals_few m c holds = omega (arith, few_evals m c m.pools holds.pools_within, holds.few_pools)
+-- all pools have at most 131,072
+pub evals_whole : (m : ClusterMap) (c : ChangeParts) → HoldsTogether m → sum_by (evals_in m c) m.pools ≤ 131072
+evals_whole m c holds = omega (arith, few_evals m c m.pools holds.pools_within, holds.few_pools)
 
 -- the evaluations of the pools so far, at the end, are all
 pub evals_all : (m : ClusterMap) (c : ChangeParts) (n : ℕ) → length m.pools ≤ n → sum_by (evals_in m c) (take n m.pools) ≡ evals_of m c

@@ -37,7 +37,7 @@ use Rattle.pgtable.specs.Patches.{next, LeadsFrom, is_empty, leaves_pools, leave
 use Rattle.pgtable.proofs.Carrying.{same_lists, get_set_other, get_set_same, long_zip, get_zip}
 use Rattle.pgtable.proofs.Found.{found_at, mapped_small}
 use Rattle.pgtable.proofs.Keeping.{sets_kept, changes_within, changes_ascend}
-use Rattle.pgtable.proofs.Making.{element, get_before, get_behind, get_past}
+use Rattle.pgtable.proofs.Making.{element, get_before, get_behind, get_past, evals_whole}
 
 -- ---- what such a change leaves
 
@@ -311,6 +311,14 @@ unfolding evals_of
 evals_regrouped t m c i is s past =
     let of = λ (q : PoolTable). evals_in (next m c) c q.pool in
     ap (sum_by of) (take_all i t.pools past ∙ is.pools) ∙ evals_of_tables m (next m c) c m.pools ∙ ap (sum_by (evals_in (next m c) c)) (sym (pools_stay m c s))
+
+-- which are few
+pub evals_of_regrouped : (t : TableFacts) (m : ClusterMap) (c : ChangeParts) → IsTableOf t m → LeavesRawSets c → HoldsTogether (next m c) → sum_by (λ (q : PoolTable). evals_in (next m c) c q.pool) t.pools ≤ 131072
+evals_of_regrouped t m c is s holds =
+    let of = λ (q : PoolTable). evals_in (next m c) c q.pool in
+    let all : sum_by of t.pools ≡ sum_by (evals_in (next m c) c) (next m c).pools =
+    ap (sum_by of) is.pools ∙ evals_of_tables m (next m c) c m.pools ∙ ap (sum_by (evals_in (next m c) c)) (sym (pools_stay m c s)) in
+    rw all (evals_whole (next m c) c holds)
 
 -- ---- one pool
 

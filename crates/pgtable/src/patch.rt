@@ -44,12 +44,12 @@ pub(crate) enum Brought {
     Pools(NewTables),
 }
 
-/// All that a change makes of a table, and the work by which it was found.
+/// All that a change makes of a table, and how many groups were evaluated for it.
 #[derive(Drop)]
 pub struct Patch {
     pub(crate) brought: Brought,
     pub(crate) up: Vec<bool>,
-    pub(crate) work: Work,
+    pub(crate) evals: usize,
 }
 
 /// Whether a list has no entries.
@@ -92,11 +92,11 @@ fn turn(ups: &mut [bool], osds: &[u32], up: bool)
 impl Patch {
     ghost use Rattle.std.specs.Prelude.{◌≡◌};
 
-    /// How many rules were run for the patch.
-    pub fn runs(&self) -> u64
-        ensures { result ≡ self.now.work.runs }
+    /// How many groups were evaluated for the patch, each by one run of a rule.
+    pub fn evals(&self) -> usize
+        ensures { result ≡ self.now.evals }
     {
-        self.work.runs()
+        self.evals
     }
 }
 
@@ -180,59 +180,66 @@ impl PgTable {
         place_of(self.pools(), id).unwrap()
     }
 
-    /// What is kept of the table of a pool that a change does not touch as a whole.
+    /// What is kept of the table of a pool that a change does not touch as a whole, and how many of its groups are
+    /// evaluated.
     fn kept(
         &self,
         alloc: Global,
         update: &Update,
         pool: &Pool,
         work: &mut Work,
-    ) -> Result<Kept, Memory>
+    ) -> Result<(Kept, usize), Memory>
         requires table { IsTableOf self.now update.now.before.now.map }
         requires there { pool_at update.now.after.now.map.pools pool.now.id ≡ Some pool.now }
         requires untouched { is_touched update.now.after.now.map update.now.change.now pool.now ≡ false }
-        ensures kept { IfOk result (KeepsPool self.now.pools update.now.after.now.map pool.now) }
+        ensures kept { IfOk result (λ r. KeepsPool self.now.pools update.now.after.now.map pool.now r.0) }
+        ensures evals { IfOk result (λ r. r.1 ≡ evals_in update.now.after.now.map update.now.change.now pool.now) }
         ensures runs { OnOk result (RunsMore (evals_in update.now.after.now.map update.now.change.now pool.now)
             work.old work.new) }
     {
         update.leads();
         let at = self.place(pool.id());
         let changes = update.changes(alloc, pool, work)?;
+        let evals = changes.len();
         let patch = self.pools()[at].groups.prepare(alloc, changes)?;
-        Ok(Kept { at, patch })
+        Ok((Kept { at, patch }, evals))
     }
 
-    /// A pool's table as a change makes it: anew, or kept with other sets for some groups.
+    /// A pool's table as a change makes it: anew, or kept with other sets for some groups; and how many of its groups
+    /// are evaluated.
     fn made(
         &self,
         alloc: Global,
         update: &Update,
         pool: &Pool,
         work: &mut Work,
-    ) -> Result<(PoolTable, Option<Kept>), Memory>
+    ) -> Result<(PoolTable, Option<Kept>, usize), Memory>
         requires table { IsTableOf self.now update.now.before.now.map }
         requires there { pool_at update.now.after.now.map.pools pool.now.id ≡ Some pool.now }
         ensures made { IfOk result (λ r. MakesPool self.now.pools update.now.after.now.map pool.now r.0 r.1) }
+        ensures evals { IfOk result (λ r. r.2 ≡ evals_in update.now.after.now.map update.now.change.now pool.now) }
         ensures runs { OnOk result (RunsMore (evals_in update.now.after.now.map update.now.change.now pool.now)
             work.old work.new) }
     {
         if update.is_touched(pool) {
             let table = PoolTable::of(alloc, update.after, *pool, work)?;
-            return Ok((table, None));
+            return Ok((table, None, pool.pg_num() as usize));
         }
-        let kept = self.kept(alloc, update, pool, work)?;
-        Ok((PoolTable::empty(alloc, *pool), Some(kept)))
+        let (kept, evals) = self.kept(alloc, update, pool, work)?;
+        Ok((PoolTable::empty(alloc, *pool), Some(kept), evals))
     }
 
-    /// The tables of all pools as a change makes them.
+    /// The tables of all pools as a change makes them, and how many groups are evaluated.
     fn all_made(
         &self,
         alloc: Global,
         update: &Update,
         work: &mut Work,
-    ) -> Result<(Vec<PoolTable>, Vec<Option<Kept>>), Memory>
+    ) -> Result<(NewTables, usize), Memory>
         requires { IsTableOf self.now update.now.before.now.map }
-        ensures made { IfOk result (λ r. MakesAll self.now.pools update.now.after.now.map r.0.items r.1.items) }
+        ensures made { IfOk result (λ r.
+            MakesAll self.now.pools update.now.after.now.map r.0.pools.items r.0.kept.items) }
+        ensures evals { IfOk result (λ r. r.1 ≡ evals_of update.now.after.now.map update.now.change.now) }
         ensures runs { OnOk result (RunsMore (evals_of update.now.after.now.map update.now.change.now)
             work.old work.new) }
     {
@@ -240,68 +247,76 @@ impl PgTable {
         let _ = work.runs();
         let mut pools = Vec::with_capacity(alloc, update.after.pools().len())?;
         let mut kept = Vec::with_capacity(alloc, update.after.pools().len())?;
+        let mut evals = 0;
         for pool in update.after.pools() {
-            let (table, one) = self.made(alloc, update, pool, work)?;
+            let (table, one, count) = self.made(alloc, update, pool, work)?;
             pools.push(table)?;
             kept.push(one)?;
+            evals += count;
         }
-        Ok((pools, kept))
+        Ok((NewTables { pools, kept }, evals))
     }
 
-    /// All that a change makes of the table of a map that does not refuse it, where the map after it is there; or
-    /// `Memory` (30).
-    pub fn prepare_to(
+    /// All that a change makes of the table of a map that does not refuse it, by the map after it; or `Memory` (30).
+    fn prepare_after(
         &self,
         alloc: Global,
-        before: &OsdMap,
+        map: &OsdMap,
         change: &Change,
-        after: &OsdMap,
+        work: &mut Work,
     ) -> Result<Patch, Memory>
-        requires table { IsTableOf self.now before.now.map }
-        requires lawful { change_fault before.now.map change.now ≡ None }
-        requires next { after.now.map ≡ next before.now.map change.now }
-        ensures leads { IfOk result (LeadsTo after.now.map self.now) }
-        ensures counted { IfOk result (λ p. p.work.runs ≡ evals_of after.now.map change.now) }
+        requires table { IsTableOf self.now map.now.map }
+        requires lawful { change_fault map.now.map change.now ≡ None }
+        requires epoch { map.now.map.epoch + 1 < 2 ^ 64 }
+        ensures leads { IfOk result (LeadsTo (next map.now.map change.now) self.now) }
+        ensures counted { IfOk result (λ p. p.evals ≡ evals_of (next map.now.map change.now) change.now) }
+        ensures runs { IfOk result (λ p. RunsMore p.evals work.old work.new) }
     {
-        before.holds_together();
+        let after = map.after(alloc, change)?;
+        map.holds_together();
         after.holds_together();
-        let groups = candidates(alloc, before, change, after)?;
+        let groups = candidates(alloc, map, change, &after)?;
         let update = Update {
-            before,
+            before: map,
             change,
-            after,
+            after: &after,
             groups: &groups,
         };
-        let mut work = Work::new(alloc, after.forest())?;
-        let (pools, kept) = self.all_made(alloc, &update, &mut work)?;
-        let up = ups_of(alloc, after)?;
+        let (tables, evals) = self.all_made(alloc, &update, work)?;
+        let up = ups_of(alloc, &after)?;
         Ok(Patch {
-            brought: Brought::Pools(NewTables { pools, kept }),
+            brought: Brought::Pools(tables),
             up,
-            work,
+            evals,
         })
     }
 
-    /// Other sets for the groups of a pool that a change names, by which its table is that of the map after it.
+    /// Other sets for the groups of a pool that a change names, by which its table is that of the map after it; and how
+    /// many of its groups are evaluated.
     fn regrouped(
         alloc: Global,
         regroup: &Regroup,
         table: &PoolTable,
         work: &mut Work,
-    ) -> Result<Option<GroupPatch>, Memory>
+    ) -> Result<(Option<GroupPatch>, usize), Memory>
         requires table { table.now ≡ pool_table regroup.now.map.now.map table.now.pool }
         requires there { pool_at regroup.now.map.now.map.pools table.now.pool.id ≡ Some table.now.pool }
-        ensures made { IfOk result (RegroupsPool (next regroup.now.map.now.map regroup.now.change.now) table.now) }
+        ensures made { IfOk result (λ r.
+            RegroupsPool (next regroup.now.map.now.map regroup.now.change.now) table.now r.0) }
+        ensures evals { IfOk result (λ r. r.1 ≡ evals_in
+            (next regroup.now.map.now.map regroup.now.change.now) regroup.now.change.now table.now.pool) }
         ensures runs { OnOk result (RunsMore (evals_in
             (next regroup.now.map.now.map regroup.now.change.now) regroup.now.change.now table.now.pool)
             work.old work.new) }
     {
         regroup.holds();
         let changes = regroup.changes(alloc, &table.pool, work)?;
+        let evals = changes.len();
         if changes.is_empty() {
-            return Ok(None);
+            return Ok((None, evals));
         }
-        Ok(Some(table.groups.prepare(alloc, changes)?))
+        let patch = table.groups.prepare(alloc, changes)?;
+        Ok((Some(patch), evals))
     }
 
     /// The same for each pool.
@@ -310,30 +325,42 @@ impl PgTable {
         alloc: Global,
         regroup: &Regroup,
         work: &mut Work,
-    ) -> Result<Vec<Option<GroupPatch>>, Memory>
+    ) -> Result<(Vec<Option<GroupPatch>>, usize), Memory>
         requires { IsTableOf self.now regroup.now.map.now.map }
-        ensures made { IfOk result (λ patches. RegroupsAll self.now.pools
-            (next regroup.now.map.now.map regroup.now.change.now) patches.items) }
+        ensures made { IfOk result (λ r. RegroupsAll self.now.pools
+            (next regroup.now.map.now.map regroup.now.change.now) r.0.items) }
+        ensures evals { IfOk result (λ r. r.1 ≡ evals_of
+            (next regroup.now.map.now.map regroup.now.change.now) regroup.now.change.now) }
         ensures runs { OnOk result (RunsMore (evals_of
             (next regroup.now.map.now.map regroup.now.change.now) regroup.now.change.now) work.old work.new) }
     {
         regroup.holds();
         let _ = work.runs();
         let mut patches = Vec::with_capacity(alloc, self.pools().len())?;
+        let mut evals = 0;
         for table in self.pools() {
-            patches.push(PgTable::regrouped(alloc, regroup, table, work)?)?;
+            let (patch, count) = PgTable::regrouped(alloc, regroup, table, work)?;
+            patches.push(patch)?;
+            evals += count;
         }
-        Ok(patches)
+        Ok((patches, evals))
     }
 
     /// All that a change makes of the table of a map that does not refuse it, where it leaves all raw sets: the map
     /// after it need not be there. Or `Memory` (30).
-    fn prepare_groups(&self, alloc: Global, map: &OsdMap, change: &Change) -> Result<Patch, Memory>
+    fn prepare_groups(
+        &self,
+        alloc: Global,
+        map: &OsdMap,
+        change: &Change,
+        work: &mut Work,
+    ) -> Result<Patch, Memory>
         requires table { IsTableOf self.now map.now.map }
         requires lawful { change_fault map.now.map change.now ≡ None }
         requires leaves { leaves_raw_sets change.now ≡ true }
         ensures leads { IfOk result (LeadsTo (next map.now.map change.now) self.now) }
-        ensures counted { IfOk result (λ p. p.work.runs ≡ evals_of (next map.now.map change.now) change.now) }
+        ensures counted { IfOk result (λ p. p.evals ≡ evals_of (next map.now.map change.now) change.now) }
+        ensures runs { IfOk result (λ p. RunsMore p.evals work.old work.new) }
     {
         map.holds_together();
         let _ = change.parts();
@@ -343,13 +370,12 @@ impl PgTable {
             change,
             groups: &groups,
         };
-        let mut work = Work::new(alloc, map.forest())?;
-        let patches = self.all_regrouped(alloc, &regroup, &mut work)?;
+        let (patches, evals) = self.all_regrouped(alloc, &regroup, work)?;
         let up = self.ups_after(alloc, change)?;
         Ok(Patch {
             brought: Brought::Groups(patches),
             up,
-            work,
+            evals,
         })
     }
 
@@ -365,20 +391,27 @@ impl PgTable {
         Ok(up)
     }
 
-    /// All that a change makes of the table of a map that does not refuse it; or `Memory` (30). Its work counts a rule
-    /// run for each of the evaluations of the change, and no other.
-    pub fn prepare(&self, alloc: Global, map: &OsdMap, change: &Change) -> Result<Patch, Memory>
+    /// All that a change makes of the table of a map that does not refuse it; or `Memory` (30). It tells the evaluations
+    /// of the change, and `work` counts a rule run for each of them, and no other.
+    pub fn prepare(
+        &self,
+        alloc: Global,
+        map: &OsdMap,
+        change: &Change,
+        work: &mut Work,
+    ) -> Result<Patch, Memory>
         requires table { IsTableOf self.now map.now.map }
         requires lawful { change_fault map.now.map change.now ≡ None }
         requires epoch { map.now.map.epoch + 1 < 2 ^ 64 }
         ensures leads { IfOk result (LeadsTo (next map.now.map change.now) self.now) }
-        ensures counted { IfOk result (λ p. p.work.runs ≡ evals_of (next map.now.map change.now) change.now) }
+        ensures counted { IfOk result (λ p. p.evals ≡ evals_of (next map.now.map change.now) change.now) }
+        ensures runs { IfOk result (λ p. RunsMore p.evals work.old work.new) }
     {
         if leaves_raw_sets(change) {
-            return self.prepare_groups(alloc, map, change);
+            self.prepare_groups(alloc, map, change, work)
+        } else {
+            self.prepare_after(alloc, map, change, work)
         }
-        let after = map.after(alloc, change)?;
-        self.prepare_to(alloc, map, change, &after)
     }
 
     /// Makes of the table what a patch of it leads to. It takes no memory.

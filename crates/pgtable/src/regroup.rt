@@ -15,7 +15,7 @@ use crush::Work;
 use grouptable::OsdSet;
 use keylist::{entry_of, has};
 use osdmap::{Change, Exception, OsdMap, Pg, Pool};
-use refusal::Memory;
+use refusal::{Memory, Refusal};
 use stated::Blank;
 use std::alloc::Global;
 
@@ -52,7 +52,7 @@ fn said_after<'a, E: Blank>(
 }
 
 impl Regroup<'_> {
-    ghost use Rattle.std.specs.Prelude.{◌≡◌, ◌*◌, ◌^◌, length, Some, IfOk, OnOk};
+    ghost use Rattle.std.specs.Prelude.{◌≡◌, ◌<◌, ◌*◌, ◌^◌, length, Some, IfOk, OnOk, All};
     ghost use Rattle.osdmap.specs.Maps.{pool_at};
     ghost use Rattle.osdmap.specs.Placement.{mapped_set, RunsOnce};
     ghost use Rattle.pgtable.specs.Tables.{RunsMore};
@@ -71,7 +71,8 @@ impl Regroup<'_> {
 
     /// The mapped set of a group of a pool after the change, by one run of the pool's rule; or `Memory` (30).
     fn mapped(&self, pool: &Pool, number: u32, work: &mut Work) -> Result<OsdSet, Memory>
-        requires { pool_at self.now.map.now.map.pools pool.now.id ≡ Some pool.now }
+        requires there { pool_at self.now.map.now.map.pools pool.now.id ≡ Some pool.now }
+        requires within { number < pool.now.pg_num }
         ensures set { IfOk result (λ set. set ≡ mapped_set
             (next self.now.map.now.map self.now.change.now) pool.now number) }
         ensures run { RunsOnce work.old work.new result }
@@ -92,7 +93,8 @@ impl Regroup<'_> {
         let items = said_after(&parts.old_items, &parts.new_items, self.map.items(pg), pg);
         match self.map.mapped_with(pg, explicit, items, work) {
             Ok(set) => Ok(stored(&set)),
-            Err(_) => Err(Memory),
+            Err(Refusal::Memory) => Err(Memory),
+            Err(_) => unreachable!(),
         }
     }
 
@@ -169,7 +171,8 @@ impl Regroup<'_> {
         numbers: &[u32],
         work: &mut Work,
     ) -> Result<Vec<(u32, OsdSet)>, Memory>
-        requires { pool_at self.now.map.now.map.pools pool.now.id ≡ Some pool.now }
+        requires there { pool_at self.now.map.now.map.pools pool.now.id ≡ Some pool.now }
+        requires within { All (λ number. number < pool.now.pg_num) numbers.now }
         ensures changes { IfOk result (λ changes. changes.items
             ≡ with_sets (next self.now.map.now.map self.now.change.now) pool.now numbers.now) }
         ensures runs { OnOk result (RunsMore (length numbers.now) work.old work.new) }

@@ -50,32 +50,34 @@ pub(crate) fn ups_of(alloc: Global, map: &OsdMap) -> Result<Vec<bool>, Memory>
 
 impl PgTable {
     ghost use Rattle.std.specs.Prelude.{◌≡◌, ◌≤◌, ◌<◌, true, false, length, Option, slice_index_or, IfOk, OnOk, MatchOption};
-    ghost use Rattle.std.specs.List.{find};
+    ghost use Rattle.std.specs.List.{find, sum_by};
     ghost use Rattle.std.specs.Option.{option_copied, option_map_or};
     ghost use Rattle.grouptable.specs.Sets.{groups_of};
     ghost use Rattle.osdmap.specs.Maps.{ClusterMap};
     ghost use Rattle.pgtable.specs.Index.{up_at, index_of, count_of, count_in};
-    ghost use Rattle.pgtable.specs.Tables.{IsTableOf, pool_in, tables_of, shown_at, shown_groups, shown_in};
+    ghost use Rattle.pgtable.specs.Tables.{IsTableOf, pool_in, tables_of, shown_at, shown_groups, shown_in, RunsMore};
 
     /// The table of a map, by a run of a rule for each of its groups; or `Memory` (30).
-    pub fn build(alloc: Global, map: &OsdMap) -> Result<PgTable, Memory>
-        ensures { IfOk result (λ t. IsTableOf t map.now.map) }
+    pub fn build(alloc: Global, map: &OsdMap, work: &mut Work) -> Result<PgTable, Memory>
+        ensures table { IfOk result (λ t. IsTableOf t map.now.map) }
+        ensures runs { OnOk result (RunsMore (sum_by (λ p. p.pg_num) map.now.map.pools) work.old work.new) }
     {
         map.holds_together();
-        let pools = PgTable::pools_of(alloc, map)?;
+        let pools = PgTable::pools_of(alloc, map, work)?;
         let up = ups_of(alloc, map)?;
         Ok(PgTable { pools, up })
     }
 
     /// The tables of all pools of a map.
-    fn pools_of(alloc: Global, map: &OsdMap) -> Result<Vec<PoolTable>, Memory>
-        ensures { IfOk result (λ pools. pools.items ≡ tables_of map.now.map) }
+    fn pools_of(alloc: Global, map: &OsdMap, work: &mut Work) -> Result<Vec<PoolTable>, Memory>
+        ensures tables { IfOk result (λ pools. pools.items ≡ tables_of map.now.map) }
+        ensures runs { OnOk result (RunsMore (sum_by (λ p. p.pg_num) map.now.map.pools) work.old work.new) }
     {
         map.holds_together();
-        let mut work = Work::new(alloc, map.forest())?;
+        let _ = work.runs();
         let mut pools = Vec::with_capacity(alloc, map.pools().len())?;
         for pool in map.pools() {
-            pools.push(PoolTable::of(alloc, map, *pool, &mut work)?)?;
+            pools.push(PoolTable::of(alloc, map, *pool, work)?)?;
         }
         Ok(pools)
     }

@@ -81,10 +81,9 @@ Commits old new base change r =
     × OnErr r (new ≡ old)
 
 -- all that a commit needs is ready: room in the map, a patch that makes of the table that of the map after the change
--- and whose work counts the evaluations, and the incremental
-pub record IsReady (m : StoredMap) (t : TableFacts) (number : ℕ) (change : ChangeParts) (patch : Patch) (made : Step) :
-    Type 0 where
-  pub step : made ≡ record { epoch = number; change = change }
+-- and tells the evaluations, and the incremental
+pub record IsReady (m : StoredMap) (t : TableFacts) (change : ChangeParts) (patch : Patch) (made : Step) : Type 0 where
+  pub step : made ≡ next_step m.map change
   pub room : HasRoomFor change m
   pub leads : LeadsTo (next m.map change) t patch
-  pub counted : patch.work.runs ≡ evals_of (next m.map change) change
+  pub counted : patch.evals ≡ evals_of (next m.map change) change

@@ -1,12 +1,13 @@
 //! The state of a monitor: the first map, what its pass has seen of the row of epochs, the present map and its table.
 
-ghost use Rattle.std.specs.Prelude.{◌≡◌, ◌+◌, IfOk, None};
+ghost use Rattle.std.specs.Prelude.{◌≡◌, ◌+◌, ◌^◌, ◌<◌, IfOk, None};
 ghost use Rattle.osdmap.specs.Changes.{change_fault, apply};
-ghost use Rattle.pgtable.specs.Tables.{IsTableOf};
+ghost use Rattle.pgtable.specs.Tables.{IsTableOf, RunsMore};
 ghost use Rattle.pgtable.specs.Patches.{LeadsTo};
 ghost use Rattle.osdmap.specs.Stored.{HasRoomFor};
 ghost use Rattle.state.specs.States.{IsReady};
 
+use crush::Work;
 use epochlog::{Pass, Row};
 use osdmap::{Change, Incremental, OsdMap};
 use pgtable::{Patch, PgTable};
@@ -14,7 +15,7 @@ use refusal::{Memory, Refusal};
 use std::alloc::Global;
 use std::marker::Model;
 
-/// The state of a monitor, and where it takes memory.
+/// The state of a monitor, where it takes memory, and the work that it lends to each change of its table.
 #[derive(Drop)]
 pub struct State {
     pub(crate) alloc: Global,
@@ -22,6 +23,7 @@ pub struct State {
     pub(crate) pass: Pass,
     pub(crate) map: OsdMap,
     pub(crate) table: PgTable,
+    pub(crate) work: Work,
 }
 
 impl Model for State {
@@ -34,24 +36,25 @@ impl Model for State {
     ghost invariant = { λ s. IsKept (record { first = s.first.map; pass = s.pass; map = s.map.map }) s.table };
 }
 
-/// All that a commit needs memory for: room in the map, the patch of its table, and the incremental of the epoch in a
-/// box.
+/// All that a commit needs memory for: room in the map, the patch of its table, for which `work` counts a rule run for
+/// each evaluation, and the incremental of the next epoch in a box.
 fn prepared(
     alloc: Global,
     map: &mut OsdMap,
     table: &PgTable,
-    epoch: u64,
+    work: &mut Work,
     change: Change,
 ) -> Result<(Patch, Box<Incremental>), Memory>
     requires table { IsTableOf table.now map.old.map }
     requires lawful { change_fault map.old.map change ≡ None }
-    requires next { epoch ≡ map.old.map.epoch + 1 }
+    requires early { map.old.map.epoch + 1 < 2 ^ 64 }
     ensures same { map.new.map ≡ map.old.map }
-    ensures ready { IfOk result (λ r. IsReady map.new table.now epoch change r.0 r.1.value) }
+    ensures ready { IfOk result (λ r. IsReady map.new table.now change r.0 r.1.value) }
+    ensures runs { IfOk result (λ r. RunsMore r.0.evals work.old work.new) }
 {
     map.reserve_for(alloc, &change)?;
-    let patch = table.prepare(alloc, map, &change)?;
-    let step = Box::new(alloc, Incremental::new(epoch, change))?;
+    let patch = table.prepare(alloc, map, &change, work)?;
+    let step = Box::new(alloc, Incremental::new(map.epoch() + 1, change))?;
     Ok((patch, step))
 }
 
@@ -82,7 +85,8 @@ impl State {
         ensures { IfOk result (λ s. s ≡ opened map.map row.now) }
     {
         let first = map.copy(alloc)?;
-        let table = PgTable::build(alloc, &map)?;
+        let mut work = Work::new(alloc, map.forest())?;
+        let table = PgTable::build(alloc, &map, &mut work)?;
         let pass = row.pass(alloc)?;
         Ok(State {
             alloc,
@@ -90,6 +94,7 @@ impl State {
             pass,
             map,
             table,
+            work,
         })
     }
 
@@ -139,12 +144,18 @@ impl State {
         ensures pass { pass.new ≡ self.new.pass }
     {
         self.accepts(row, base, &change)?;
-        let (patch, step) = prepared(self.alloc, &mut self.map, &self.table, base + 1, change)?;
+        let (patch, step) = prepared(
+            self.alloc,
+            &mut self.map,
+            &self.table,
+            &mut self.work,
+            change,
+        )?;
         let Ok(epoch) = row.seal(pass, step) else {
             return Err(Refusal::NotSealed);
         };
         self.pass.join(pass);
-        let evals = patch.runs() as usize;
+        let evals = patch.evals();
         make(
             &mut self.map,
             &mut self.table,

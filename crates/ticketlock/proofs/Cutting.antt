@@ -11,7 +11,7 @@ use Rattle.ticketlock.proofs.Totals.{total_set, total_append}
 use Rattle.ticketlock.proofs.Views.{each_set, length_set}
 
 -- one seat more that is idle, cut from one that still may be cut, keeps the rule
-cut_keeps : (w : World) (id : ℕ) (v : View) → IsKept w → get_elem? w.views id ≡ some v → 0 < v.spare → IsKept (record { draw_word = w.draw_word; reader_word = w.reader_word; writer_word = w.writer_word; views = set w.views id (one_cut v) ++ newcomer ∷ [] })
+pub cut_keeps : (w : World) (id : ℕ) (v : View) → IsKept w → get_elem? w.views id ≡ some v → 0 < v.spare → IsKept (record { draw_word = w.draw_word; reader_word = w.reader_word; writer_word = w.writer_word; views = set w.views id (one_cut v) ++ newcomer ∷ [] })
 cut_keeps w id v k at some_spare = let views : List View = set w.views id (one_cut v) in
     let same_total : (f : View → ℕ) → f (one_cut v) ≡ f v → f newcomer ≡ 0 → total f (views ++ newcomer ∷ []) ≡ total f w.views = λ f e z. (
     let a = total_append f views newcomer in let s = total_set f w.views id v (one_cut v) at in omega arith

@@ -8,3 +8,4 @@ pub mod Steps
 pub mod Runs
 pub mod Moves
 pub mod Cutting
+pub mod Made

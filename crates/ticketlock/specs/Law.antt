@@ -1,11 +1,12 @@
 -- What every list of steps keeps.
-use Rattle.std.specs.Prelude.{◌≡◌, ℕ, ◌≤◌, List, [], ◌∷◌, replicate}
+use Rattle.std.specs.Prelude.{◌≡◌, ℕ, ◌<◌, ◌≤◌, List, [], ◌∷◌, ◌++◌, replicate, slice_set}
 use mathlib.Core.Option.{some}
 use lib.ListN.{get_elem?}
 use Rattle.ticketlock.specs.declared.view.View.{View}
 use Rattle.ticketlock.specs.declared.view.Stage.{Stage}
 use Rattle.ticketlock.specs.declared.view.Stage.TheVariants.{Idle, Waiting, Next, Reading, Writing, Closing}
 use Rattle.ticketlock.specs.Rule.{World, Step, Takes, IsKept, newcomer}
+use Rattle.ticketlock.specs.Places.{opener, one_cut}
 
 -- so many seats that are idle, and three words of 0
 abbrev pub start : ℕ → World
@@ -45,6 +46,32 @@ IsAlone views = (i j : ℕ) (v u : View) → get_elem? views i ≡ some v → ge
 abbrev pub Excludes : Type 0
 Excludes = (seats : ℕ) (steps : List (Step × ℕ)) (last : World) → seats ≤ 1024 → Runs (start seats) steps last
     → IsKept last × IsAlone last.views
+
+-- the world that a lock is made with: three words of 0, and one seat, from which all others may be cut off
+abbrev pub made_with : ℕ → World
+made_with seats = record { draw_word = 0; reader_word = 0; writer_word = 0; views = opener seats ∷ [] }
+
+-- the world with one more seat, which is cut off from the seat of the view v
+abbrev pub with_cut : World → ℕ → View → World
+with_cut w seat v = record w { views = slice_set w.views seat (one_cut v) ++ newcomer ∷ [] }
+
+-- what befalls a lock: a seat takes a step, or another seat is cut off from one
+pub data Event : Type 0 where
+  takes : Step → ℕ → Event
+  cuts : ℕ → Event
+
+-- the events lead from the first world to the last
+abbrev pub Leads : World → List Event → World → Type 0
+Leads first [] last = last ≡ first
+Leads first (takes s seat ∷ events) last = (next : World) × (v : View) × (get_elem? first.views seat ≡ some v)
+    × Takes s first seat v next × Leads next events last
+Leads first (cuts seat ∷ events) last = (v : View) × (get_elem? first.views seat ≡ some v) × (0 < v.spare)
+    × Leads (with_cut first seat v) events last
+
+-- The same law from the world that a lock is made with, and also where seats are cut off between the steps
+abbrev pub ExcludesMade : Type 0
+ExcludesMade = (seats : ℕ) (events : List Event) (last : World) → 0 < seats → seats ≤ 1024
+    → Leads (made_with seats) events last → IsKept last × IsAlone last.views
 
 -- it reads
 abbrev pub IsReading : Stage → Type 0

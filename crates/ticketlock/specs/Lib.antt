@@ -2,6 +2,7 @@ pub mod Rule
 pub mod Law
 pub mod Places
 pub mod Standing
+pub mod Taking
 pub mod Guards
 pub mod Callers
 pub mod Errors

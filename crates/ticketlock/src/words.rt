@@ -5,6 +5,7 @@ ghost use Rattle.ticketlock.specs.declared.view.Kind.TheVariants.{Read, Write};
 ghost use Rattle.ticketlock.specs.Rule.{drawn_for, looked_at, gone_in, gone_out, newcomer};
 ghost use Rattle.ticketlock.specs.Places.{opener, one_cut};
 ghost use Rattle.ticketlock.specs.Standing.{IsAt, Becomes, stage_of, view_of};
+ghost use Rattle.ticketlock.specs.Taking.{IsDraw, IsReaderLook, IsWriterLook, IsEntry, IsReaderLeave, IsWriterClose, IsWriterLeave};
 
 use crate::slots::Back;
 use crate::table::{
@@ -54,7 +55,8 @@ impl Words {
         requires own { IsAt self.now place.old }
         requires idle { stage_of place.old ≡ Idle }
         requires room { place.old.draws < self.now.limit }
-        ensures { Becomes place.old place.new (drawn_for Read result (view_of place.old)) }
+        ensures becomes { Becomes place.old place.new (drawn_for Read result (view_of place.old)) }
+        ensures takes { IsDraw Read result place.old place.new }
     {
         let Place { token, draws } = place;
         let ticket = self.table.shared.fetch_add::<DrawRead>(token, DRAW_WORD, 1);
@@ -67,7 +69,8 @@ impl Words {
         requires own { IsAt self.now place.old }
         requires idle { stage_of place.old ≡ Idle }
         requires room { place.old.draws < self.now.limit }
-        ensures { Becomes place.old place.new (drawn_for Write result (view_of place.old)) }
+        ensures becomes { Becomes place.old place.new (drawn_for Write result (view_of place.old)) }
+        ensures takes { IsDraw Write result place.old place.new }
     {
         let Place { token, draws } = place;
         let ticket = self
@@ -82,7 +85,8 @@ impl Words {
     pub fn look_read(&self, place: &mut Place) -> u64
         requires own { IsAt self.now place.old }
         requires waits { (t : ℕ) × (stage_of place.old ≡ Waiting t Read) }
-        ensures { Becomes place.old place.new (looked_at result (view_of place.old)) }
+        ensures becomes { Becomes place.old place.new (looked_at result (view_of place.old)) }
+        ensures takes { IsReaderLook result place.old place.new }
     {
         let Place { token, draws: _ } = place;
         self.table.shared.load::<Look>(token, READER_WORD)
@@ -92,7 +96,8 @@ impl Words {
     pub fn look_write(&self, place: &mut Place) -> u64
         requires own { IsAt self.now place.old }
         requires waits { (t : ℕ) × (stage_of place.old ≡ Waiting t Write) }
-        ensures { Becomes place.old place.new (looked_at result (view_of place.old)) }
+        ensures becomes { Becomes place.old place.new (looked_at result (view_of place.old)) }
+        ensures takes { IsWriterLook result place.old place.new }
     {
         let Place { token, draws: _ } = place;
         self.table.shared.load::<Look>(token, WRITER_WORD)
@@ -102,7 +107,8 @@ impl Words {
     pub fn enter(&self, place: &mut Place)
         requires own { IsAt self.now place.old }
         requires next { (t : ℕ) × (stage_of place.old ≡ Next t) }
-        ensures { Becomes place.old place.new (gone_in (view_of place.old)) }
+        ensures becomes { Becomes place.old place.new (gone_in (view_of place.old)) }
+        ensures takes { IsEntry place.old place.new }
     {
         let Place { token, draws: _ } = place;
         self.table.shared.fetch_add::<Enter>(token, READER_WORD, 1);
@@ -112,7 +118,8 @@ impl Words {
     pub fn leave(&self, place: &mut Place, _back: Back)
         requires own { IsAt self.now place.old }
         requires reads { (t : ℕ) × (stage_of place.old ≡ Reading t) }
-        ensures { Becomes place.old place.new (gone_out (view_of place.old)) }
+        ensures becomes { Becomes place.old place.new (gone_out (view_of place.old)) }
+        ensures takes { IsReaderLeave place.old place.new }
     {
         let Place { token, draws: _ } = place;
         self.table.shared.fetch_add::<Leave>(token, WRITER_WORD, 1);
@@ -122,7 +129,8 @@ impl Words {
     pub fn close(&self, place: &mut Place, _back: Back)
         requires own { IsAt self.now place.old }
         requires writes { (t : ℕ) × (stage_of place.old ≡ Writing t) }
-        ensures { Becomes place.old place.new (gone_in (view_of place.old)) }
+        ensures becomes { Becomes place.old place.new (gone_in (view_of place.old)) }
+        ensures takes { IsWriterClose place.old place.new }
     {
         let Place { token, draws: _ } = place;
         self.table.shared.fetch_add::<Enter>(token, READER_WORD, 1);
@@ -132,7 +140,8 @@ impl Words {
     pub fn end(&self, place: &mut Place)
         requires own { IsAt self.now place.old }
         requires closes { (t : ℕ) × (stage_of place.old ≡ Closing t) }
-        ensures { Becomes place.old place.new (gone_out (view_of place.old)) }
+        ensures becomes { Becomes place.old place.new (gone_out (view_of place.old)) }
+        ensures takes { IsWriterLeave place.old place.new }
     {
         let Place { token, draws: _ } = place;
         self.table.shared.fetch_add::<Leave>(token, WRITER_WORD, 1);

@@ -1,13 +1,19 @@
-use Rattle.std.proofs.Common.{◌≡◌, ◌∙◌, sym, subst, map, rules}
+use Rattle.std.proofs.Common.{◌≡◌, ◌∙◌, sym, subst, map, length, rules, arith}
 use Rattle.osdmapd.specs.Serving.{text_left}
 use Rattle.osdmapd.specs.Serving.{AreTextsOf}
+use Rattle.osdmapd.proofs.Opened.{can_open_stated}
 use Rattle.osdmapd.proofs.Played.{texts_of, served_part, served_short, short_output}
 use Rattle.osdmapd.proofs.serving.serve.Goals as goal
 
+pub opened-requires : goal.opened-requires
+opened-requires g c =
+    can_open_stated c.args.map.now c.in-Ok.map.map c.args.journal (length c.args.parts.now) c.in-Ok.ensures.0 c.in-Ok.ensures.1 c.requires.least c.requires.most
+    (omega (arith, c.requires.some)) (omega (arith, c.requires.few))
+
 pub returns-clause-served : goal.returns-clause-served
 returns-clause-served g c =
-    let opened = c.in-Ok-open.ensures.1 in
-    let texts = texts_of c.in-Ok-open.monitor c.in-Ok.map.map c.args.journal c.args.map.now c.args.parts.now c.in_ok-lefts.lefts.items
+    let opened = c.in-Ok-opened.ensures in
+    let texts = texts_of c.in-Ok-opened.monitor c.in-Ok.map.map c.args.journal c.args.map.now c.args.parts.now c.in_ok-lefts.lefts.items
     c.in-Ok.ensures.1 opened.first opened.capacity c.in_ok-lefts.ensures in
     let same : c.deref.result.now ≡ c.in_ok-lefts.lefts.items = search rules in
     let put = subst (λ list. AreTextsOf c.args.journal c.args.map.now c.args.parts.now (map text_left list)) (sym same) texts in
@@ -15,8 +21,8 @@ returns-clause-served g c =
 
 pub returns-then-have_told-clause-served : goal.returns-then-have_told-clause-served
 returns-then-have_told-clause-served g c =
-    let opened = c.in-Ok-open.ensures.1 in
-    let texts = texts_of c.in-Ok-open.monitor c.in-Ok.map.map c.args.journal c.args.map.now c.args.parts.now c.in_ok-lefts.lefts.items
+    let opened = c.in-Ok-opened.ensures in
+    let texts = texts_of c.in-Ok-opened.monitor c.in-Ok.map.map c.args.journal c.args.map.now c.args.parts.now c.in_ok-lefts.lefts.items
     c.in-Ok.ensures.1 opened.first opened.capacity c.in_ok-lefts.ensures in
     let same : c.deref.result.now ≡ c.in_ok-lefts.lefts.items = search rules in
     let put = subst (λ list. AreTextsOf c.args.journal c.args.map.now c.args.parts.now (map text_left list)) (sym same) texts in
@@ -24,8 +30,8 @@ returns-then-have_told-clause-served g c =
 
 pub returns-in_err-put-clause-served : goal.returns-in_err-put-clause-served
 returns-in_err-put-clause-served g c =
-    let opened = c.in-Ok-open.ensures.1 in
-    let texts = texts_of c.in-Ok-open.monitor c.in-Ok.map.map c.args.journal c.args.map.now c.args.parts.now c.in_ok-lefts.lefts.items
+    let opened = c.in-Ok-opened.ensures in
+    let texts = texts_of c.in-Ok-opened.monitor c.in-Ok.map.map c.args.journal c.args.map.now c.args.parts.now c.in_ok-lefts.lefts.items
     c.in-Ok.ensures.1 opened.first opened.capacity c.in_ok-lefts.ensures in
     let same : c.deref.result.now ≡ c.in_ok-lefts.lefts.items = search rules in
     let put = subst (λ list. AreTextsOf c.args.journal c.args.map.now c.args.parts.now (map text_left list)) (sym same) texts in

@@ -1,10 +1,10 @@
-use Rattle.std.proofs.Common.{◌≡◌, ◌<◌, refl, ap, length, arith}
-use Rattle.std.proofs.lemmas.List.Sums.{sum_by_more}
+use Rattle.std.proofs.Common.{◌≡◌, ◌∙◌, ◌<◌, refl, ap, length, arith}
+use Rattle.std.proofs.lemmas.List.Sums.{sum_by_more, sum_by_more_le}
 use Rattle.std.proofs.lemmas.Option.{slice_get_read}
 use Rattle.stated.specs.Pools.{PoolFacts}
 use Rattle.pgtable.specs.Patches.{evals_in}
 use Rattle.pgtable.proofs.Found.{found_at}
-use Rattle.pgtable.proofs.Making.{make_more, make_ends, evals_all}
+use Rattle.pgtable.proofs.Making.{make_more, make_ends, evals_all, evals_whole}
 use Rattle.pgtable.proofs.table.PgTable.all_made.Goals as goal
 
 pub made-requires-clause-there : goal.made-requires-clause-there
@@ -23,6 +23,7 @@ loop-pool-preserved c =
     let last = ap (evals_in c.args.update.now.after.now.map c.args.update.now.change.now) is in
     record {
       made = rw (c.in_ok-push.ensures.items, c.in_ok-push-2.ensures.items) more;
+      evals = omega (arith, sum, last, c.in_ok-table.ensures.evals, c.loop-pool.invariant.evals);
       runs = omega (arith, sum, last, c.in_ok-table.ensures.runs, c.loop-pool.invariant.runs);
     }
 
@@ -32,6 +33,20 @@ returns-clause-made c =
     let end = rw c.pools-pool-items.ensures at c.loop-pool.auto.pool-index-end in
     let e : c.loop-pool.pool-index ≡ length c.args.update.now.after.now.map.pools = omega (arith, past, end) in
     make_ends c.args.self.now.pools c.args.update.now.after.now.map c.loop-pool.pools.items c.loop-pool.kept.items c.leads.ensures.holds_after (rw e at c.loop-pool.invariant.made)
+
+pub overflow_add-evals : goal.overflow_add-evals
+overflow_add-evals c =
+    let m = c.args.update.now.after.now.map in
+    let change = c.args.update.now.change.now in
+    let inside : c.loop-pool.pool-index < length m.pools = rw c.pools-pool-items.ensures at c.loop-pool-test.true in
+    let is = rw c.pools-pool-items.ensures at c.pool-item.is in
+    let last = ap (evals_in m change) is in
+    omega (arith, sum_by_more_le (evals_in m change) m.pools c.loop-pool.pool-index c.pool-item.result inside, last, evals_whole m change c.leads.ensures.holds_after, c.in_ok-table.ensures.evals, c.loop-pool.invariant.evals)
+
+pub returns-clause-evals : goal.returns-clause-evals
+returns-clause-evals c =
+    let past = rw c.pools-pool-items.ensures at c.loop-pool-test.false in
+    c.loop-pool.invariant.evals ∙ evals_all c.args.update.now.after.now.map c.args.update.now.change.now c.loop-pool.pool-index past
 
 pub returns-clause-runs : goal.returns-clause-runs
 returns-clause-runs c =

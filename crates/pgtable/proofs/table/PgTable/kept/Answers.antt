@@ -2,7 +2,7 @@ use Rattle.std.proofs.Common.{◌≡◌, refl, ap, ◌∙◌, arith}
 use Rattle.std.specs.Prelude.{slice_get}
 use Rattle.std.proofs.lemmas.Option.{slice_get_within}
 use Rattle.pgtable.specs.Tables.{pool_table, pool_in}
-use Rattle.pgtable.proofs.Keeping.{evals_concerned, table_was_there, at_place, within_table, ascend_there, keeps_pool}
+use Rattle.pgtable.proofs.Keeping.{evals_concerned, evals_changes, table_was_there, at_place, within_table, ascend_there, keeps_pool}
 use Rattle.pgtable.proofs.table.PgTable.kept.Goals as goal
 
 pub place-at-requires : goal.place-at-requires
@@ -34,6 +34,9 @@ returns-clause-kept c =
     let fits = rw (← c.index-pools-at.is) at c.in_ok-patch.ensures.fits in
     let made = ap (λ v. v.items) c.in_ok-patch.ensures.made ∙ c.in_ok-changes.ensures.changes in
     keeps_pool c.args.update.now.before.now.map c.args.update.now.after.now.map c.args.update.now.change.now c.args.pool.now c.leads.ensures c.requires.there c.requires.untouched c.args.self.now c.requires.table c.place-at.result found c.index-pools-at.result _ refl here made fits
+
+pub returns-clause-evals : goal.returns-clause-evals
+returns-clause-evals c = evals_changes c.args.update.now.after.now.map c.args.update.now.change.now c.args.pool.now c.in_ok-changes.changes.items _ c.requires.untouched c.in_ok-changes.ensures.changes (omega (arith, c.in_ok-changes.changes.ok))
 
 pub returns-clause-runs : goal.returns-clause-runs
 returns-clause-runs c = rw (evals_concerned c.args.update.now.after.now.map c.args.update.now.change.now c.args.pool.now c.requires.untouched) c.in_ok-changes.ensures.runs

@@ -1,6 +1,11 @@
 use Rattle.std.proofs.Common.{◌≡◌, map, take}
-use Rattle.pgtable.specs.Tables.{pool_table}
+use Rattle.std.specs.List.{sum_by}
+use Rattle.stated.specs.Pools.{PoolFacts}
+use Rattle.pgtable.specs.Tables.{pool_table, RunsMore}
 use Rattle.pgtable.proofs.table.PgTable.pools_of.Given as goal
 
 abbrev pub invariant-loop-pool : goal.invariant-loop-pool
-invariant-loop-pool l = l.pools.items ≡ map (pool_table l.map.map) (take l.pool-index l.map.map.pools)
+invariant-loop-pool l = record {
+  made : l.pools.items ≡ map (pool_table l.map.map) (take l.pool-index l.map.map.pools);
+  runs : RunsMore (sum_by (λ (p : PoolFacts). p.pg_num) (take l.pool-index l.map.map.pools)) l.initial.work l.work;
+}

@@ -5,7 +5,6 @@ use Rattle.osdmap.proofs.Accepted.{accepted}
 use Rattle.osdmap.proofs.Named.{all_below}
 use Rattle.pgtable.specs.Patches.{next, ups_after}
 use Rattle.pgtable.proofs.Found.{few_ups}
-use Rattle.pgtable.proofs.Making.{evals_few}
 use Rattle.pgtable.proofs.Regrouping.{leads_next}
 use Rattle.pgtable.proofs.States.{ups_follow}
 use Rattle.pgtable.proofs.table.PgTable.prepare_groups.Goals as goal
@@ -42,8 +41,5 @@ returns-clause-leads c =
       table = record { holds = leads.holds_after; pools = made.tables; up = up };
     }
 
-pub returns-clause-counted : goal.returns-clause-counted
-returns-clause-counted c =
-    let leads = leads_next c.args.map.now.map c.args.change.now c.requires.lawful
-    (record { in_order = c.parts.ensures.in_order; pools_within = c.parts.ensures.pools_within; growths_within = c.parts.ensures.growths_within; crush_map = c.parts.ensures.crush_map }) c.holds_together.ensures in
-    omega (arith, c.in_ok-patches.ensures.runs, c.in_ok-work.ensures.runs, evals_few (next c.args.map.now.map c.args.change.now) c.args.change.now leads.holds_after)
+pub returns-clause-runs : goal.returns-clause-runs
+returns-clause-runs c = rw c.in_ok-patches.ensures.evals c.in_ok-patches.ensures.runs

@@ -1,4 +1,4 @@
-use Rattle.std.proofs.Common.{◌≡◌, ◌∙◌, ◌+◌, [], ◌∷◌, ◌++◌, ap, sym, subst, refl, None, rules, arith}
+use Rattle.std.proofs.Common.{◌≡◌, ◌∙◌, ◌+◌, [], ◌∷◌, ◌++◌, ap, sym, refl, None, rules, arith}
 use Rattle.osdmap.specs.Maps.{ClusterMap}
 use Rattle.osdmap.specs.Evals.{evals_of}
 use Rattle.osdmap.specs.Changes.{apply}
@@ -6,24 +6,16 @@ use Rattle.stated.specs.Incrementals.{Step}
 use Rattle.epochlog.specs.Epochs.{Seen, epoch_of}
 use Rattle.state.specs.States.{Kept, fault_in, IsKept, committed, next_step, longer_by}
 use Rattle.state.proofs.Journals.{IsAccepted, accepted, IsKept-committed, pass-epoch, with_parts}
-use Rattle.state.proofs.Committing.{sealed}
+use Rattle.state.proofs.Committing.{early_fits, sealed}
 use Rattle.state.proofs.state.State.commit.Goals as goal
-
-pub overflow_add-base : goal.overflow_add-base
-overflow_add-base c =
-    let fine : fault_in c.args.self.now c.args.base c.args.change ≡ None = search rules in
-    let ok = accepted c.args.self.now _ _ fine in
-    omega (arith, ok.current, c.in_ok-accepts.ensures.early)
 
 pub prepared-requires-clause-lawful : goal.prepared-requires-clause-lawful
 prepared-requires-clause-lawful c =
     let fine : fault_in c.args.self.now c.args.base c.args.change ≡ None = search rules in
     rw (← c.self.view_is) at (accepted c.args.self.now c.args.base c.args.change fine).fine
 
-pub prepared-requires-clause-next : goal.prepared-requires-clause-next
-prepared-requires-clause-next c =
-    let fine : fault_in c.args.self.now c.args.base c.args.change ≡ None = search rules in
-    ap (λ n. n + 1) (rw (← c.self.view_is) at (accepted c.args.self.now c.args.base c.args.change fine).current)
+pub prepared-requires-clause-early : goal.prepared-requires-clause-early
+prepared-requires-clause-early c = rw (← c.self.view_is) at (early_fits c.args.self.now.map.epoch c.in_ok-accepts.ensures.early)
 
 pub seal-requires-clause-room : goal.seal-requires-clause-room
 seal-requires-clause-room c =
@@ -32,10 +24,10 @@ seal-requires-clause-room c =
 
 pub seal-requires-clause-next : goal.seal-requires-clause-next
 seal-requires-clause-next c =
-    let fine : fault_in c.args.self.now c.args.base c.args.change ≡ None = search rules in
-    let ok = accepted c.args.self.now _ _ fine in
-    let kept = subst (λ (k : Kept). IsKept k c.self.inside.table) c.self.view_is c.self.invariant in
-    ap (λ (s : Step). s.epoch) c.in_ok-patch.ensures.ready.step ∙ ap (λ n. n + 1) (ok.current ∙ sym (pass-epoch _ _ kept) ∙ ap (λ (s : Seen). epoch_of s) (sym c.requires.pass))
+    let k : Kept = record { first = c.self.inside.first.map; pass = c.self.inside.pass; map = c.self.inside.map.map } in
+    let mine : c.args.pass.now ≡ k.pass = c.requires.pass ∙ ap (λ (s : Kept). s.pass) (sym c.self.view_is) in
+    let step : c.in_ok-patch.step.value ≡ next_step k.map c.args.change = rw c.prepared.ensures.same at c.in_ok-patch.ensures.ready.step in
+    ap (λ (s : Step). s.epoch) step ∙ ap (λ n. n + 1) (sym (pass-epoch k c.self.inside.table c.self.invariant) ∙ ap (λ (s : Seen). epoch_of s) (sym mine))
 
 pub at-requires-clause-after : goal.at-requires-clause-after
 at-requires-clause-after c =
@@ -43,9 +35,11 @@ at-requires-clause-after c =
     let fine : fault_in c.args.self.now c.args.base c.args.change ≡ None = search rules in
     let ok : IsAccepted k c.args.base c.args.change = rw (← c.self.view_is) at (accepted c.args.self.now c.args.base c.args.change fine) in
     let mine : c.args.pass.now ≡ k.pass = c.requires.pass ∙ ap (λ (s : Kept). s.pass) (sym c.self.view_is) in
-    let done = sealed k c.self.inside.table c.args.base c.args.change c.in_ok-patch.step.value c.seal.new.pass c.join.new.self c.self.invariant ok c.in_ok-patch.ensures.ready.step
+    let step : c.in_ok-patch.step.value ≡ record { epoch = c.args.base + 1; change = c.args.change } =
+    (rw c.prepared.ensures.same at c.in_ok-patch.ensures.ready.step) ∙ ap (λ n. record { epoch = n + 1; change = c.args.change }) (sym ok.current) in
+    let done = sealed k c.self.inside.table c.args.base c.args.change c.in_ok-patch.step.value c.seal.new.pass c.join.new.self c.self.invariant ok step
     (c.in-Ok.ensures.sealed ∙ ap (λ (s : Seen). s.history ++ c.in_ok-patch.step.value ∷ []) mine) c.join.ensures.row c.join.ensures.history in
-    let number : c.in-Ok.epoch ≡ c.args.base + 1 = c.in-Ok.ensures.epoch ∙ ap (λ (s : Step). s.epoch) c.in_ok-patch.ensures.ready.step in
+    let number : c.in-Ok.epoch ≡ c.args.base + 1 = c.in-Ok.ensures.epoch ∙ ap (λ (s : Step). s.epoch) step in
     let row : k.pass.row ≡ c.args.row.now = ap (λ (s : Kept). s.pass.row) c.self.view_is ∙ c.requires.row in
     rw (number, ← row) done.later
 
@@ -55,9 +49,11 @@ at-requires-clause-seen c =
     let fine : fault_in c.args.self.now c.args.base c.args.change ≡ None = search rules in
     let ok : IsAccepted k c.args.base c.args.change = rw (← c.self.view_is) at (accepted c.args.self.now c.args.base c.args.change fine) in
     let mine : c.args.pass.now ≡ k.pass = c.requires.pass ∙ ap (λ (s : Kept). s.pass) (sym c.self.view_is) in
-    let done = sealed k c.self.inside.table c.args.base c.args.change c.in_ok-patch.step.value c.seal.new.pass c.join.new.self c.self.invariant ok c.in_ok-patch.ensures.ready.step
+    let step : c.in_ok-patch.step.value ≡ record { epoch = c.args.base + 1; change = c.args.change } =
+    (rw c.prepared.ensures.same at c.in_ok-patch.ensures.ready.step) ∙ ap (λ n. record { epoch = n + 1; change = c.args.change }) (sym ok.current) in
+    let done = sealed k c.self.inside.table c.args.base c.args.change c.in_ok-patch.step.value c.seal.new.pass c.join.new.self c.self.invariant ok step
     (c.in-Ok.ensures.sealed ∙ ap (λ (s : Seen). s.history ++ c.in_ok-patch.step.value ∷ []) mine) c.join.ensures.row c.join.ensures.history in
-    let number : c.in-Ok.epoch ≡ c.args.base + 1 = c.in-Ok.ensures.epoch ∙ ap (λ (s : Step). s.epoch) c.in_ok-patch.ensures.ready.step in
+    let number : c.in-Ok.epoch ≡ c.args.base + 1 = c.in-Ok.ensures.epoch ∙ ap (λ (s : Step). s.epoch) step in
     let row : k.pass.row ≡ c.args.row.now = ap (λ (s : Kept). s.pass.row) c.self.view_is ∙ c.requires.row in
     omega (arith, number, done.seen)
 
@@ -67,9 +63,11 @@ make-requires-clause-next c =
     let fine : fault_in c.args.self.now c.args.base c.args.change ≡ None = search rules in
     let ok : IsAccepted k c.args.base c.args.change = rw (← c.self.view_is) at (accepted c.args.self.now c.args.base c.args.change fine) in
     let mine : c.args.pass.now ≡ k.pass = c.requires.pass ∙ ap (λ (s : Kept). s.pass) (sym c.self.view_is) in
-    let done = sealed k c.self.inside.table c.args.base c.args.change c.in_ok-patch.step.value c.seal.new.pass c.join.new.self c.self.invariant ok c.in_ok-patch.ensures.ready.step
+    let step : c.in_ok-patch.step.value ≡ record { epoch = c.args.base + 1; change = c.args.change } =
+    (rw c.prepared.ensures.same at c.in_ok-patch.ensures.ready.step) ∙ ap (λ n. record { epoch = n + 1; change = c.args.change }) (sym ok.current) in
+    let done = sealed k c.self.inside.table c.args.base c.args.change c.in_ok-patch.step.value c.seal.new.pass c.join.new.self c.self.invariant ok step
     (c.in-Ok.ensures.sealed ∙ ap (λ (s : Seen). s.history ++ c.in_ok-patch.step.value ∷ []) mine) c.join.ensures.row c.join.ensures.history in
-    let number : c.in-Ok.epoch ≡ c.args.base + 1 = c.in-Ok.ensures.epoch ∙ ap (λ (s : Step). s.epoch) c.in_ok-patch.ensures.ready.step in
+    let number : c.in-Ok.epoch ≡ c.args.base + 1 = c.in-Ok.ensures.epoch ∙ ap (λ (s : Step). s.epoch) step in
     let row : k.pass.row ≡ c.args.row.now = ap (λ (s : Kept). s.pass.row) c.self.view_is ∙ c.requires.row in
     let shown : c.at.result.now ≡ next_step k.map c.args.change = done.shown _ (rw (number, ← row) at c.at.ensures.place) in
     rw (shown, c.prepared.ensures.same) refl
@@ -80,9 +78,11 @@ make-requires-clause-lawful c =
     let fine : fault_in c.args.self.now c.args.base c.args.change ≡ None = search rules in
     let ok : IsAccepted k c.args.base c.args.change = rw (← c.self.view_is) at (accepted c.args.self.now c.args.base c.args.change fine) in
     let mine : c.args.pass.now ≡ k.pass = c.requires.pass ∙ ap (λ (s : Kept). s.pass) (sym c.self.view_is) in
-    let done = sealed k c.self.inside.table c.args.base c.args.change c.in_ok-patch.step.value c.seal.new.pass c.join.new.self c.self.invariant ok c.in_ok-patch.ensures.ready.step
+    let step : c.in_ok-patch.step.value ≡ record { epoch = c.args.base + 1; change = c.args.change } =
+    (rw c.prepared.ensures.same at c.in_ok-patch.ensures.ready.step) ∙ ap (λ n. record { epoch = n + 1; change = c.args.change }) (sym ok.current) in
+    let done = sealed k c.self.inside.table c.args.base c.args.change c.in_ok-patch.step.value c.seal.new.pass c.join.new.self c.self.invariant ok step
     (c.in-Ok.ensures.sealed ∙ ap (λ (s : Seen). s.history ++ c.in_ok-patch.step.value ∷ []) mine) c.join.ensures.row c.join.ensures.history in
-    let number : c.in-Ok.epoch ≡ c.args.base + 1 = c.in-Ok.ensures.epoch ∙ ap (λ (s : Step). s.epoch) c.in_ok-patch.ensures.ready.step in
+    let number : c.in-Ok.epoch ≡ c.args.base + 1 = c.in-Ok.ensures.epoch ∙ ap (λ (s : Step). s.epoch) step in
     let row : k.pass.row ≡ c.args.row.now = ap (λ (s : Kept). s.pass.row) c.self.view_is ∙ c.requires.row in
     let shown : c.at.result.now ≡ next_step k.map c.args.change = done.shown _ (rw (number, ← row) at c.at.ensures.place) in
     rw (shown, c.prepared.ensures.same) ok.fine
@@ -93,9 +93,11 @@ make-requires-clause-room c =
     let fine : fault_in c.args.self.now c.args.base c.args.change ≡ None = search rules in
     let ok : IsAccepted k c.args.base c.args.change = rw (← c.self.view_is) at (accepted c.args.self.now c.args.base c.args.change fine) in
     let mine : c.args.pass.now ≡ k.pass = c.requires.pass ∙ ap (λ (s : Kept). s.pass) (sym c.self.view_is) in
-    let done = sealed k c.self.inside.table c.args.base c.args.change c.in_ok-patch.step.value c.seal.new.pass c.join.new.self c.self.invariant ok c.in_ok-patch.ensures.ready.step
+    let step : c.in_ok-patch.step.value ≡ record { epoch = c.args.base + 1; change = c.args.change } =
+    (rw c.prepared.ensures.same at c.in_ok-patch.ensures.ready.step) ∙ ap (λ n. record { epoch = n + 1; change = c.args.change }) (sym ok.current) in
+    let done = sealed k c.self.inside.table c.args.base c.args.change c.in_ok-patch.step.value c.seal.new.pass c.join.new.self c.self.invariant ok step
     (c.in-Ok.ensures.sealed ∙ ap (λ (s : Seen). s.history ++ c.in_ok-patch.step.value ∷ []) mine) c.join.ensures.row c.join.ensures.history in
-    let number : c.in-Ok.epoch ≡ c.args.base + 1 = c.in-Ok.ensures.epoch ∙ ap (λ (s : Step). s.epoch) c.in_ok-patch.ensures.ready.step in
+    let number : c.in-Ok.epoch ≡ c.args.base + 1 = c.in-Ok.ensures.epoch ∙ ap (λ (s : Step). s.epoch) step in
     let row : k.pass.row ≡ c.args.row.now = ap (λ (s : Kept). s.pass.row) c.self.view_is ∙ c.requires.row in
     let shown : c.at.result.now ≡ next_step k.map c.args.change = done.shown _ (rw (number, ← row) at c.at.ensures.place) in
     rw shown c.in_ok-patch.ensures.ready.room
@@ -106,9 +108,11 @@ make-requires-clause-leads c =
     let fine : fault_in c.args.self.now c.args.base c.args.change ≡ None = search rules in
     let ok : IsAccepted k c.args.base c.args.change = rw (← c.self.view_is) at (accepted c.args.self.now c.args.base c.args.change fine) in
     let mine : c.args.pass.now ≡ k.pass = c.requires.pass ∙ ap (λ (s : Kept). s.pass) (sym c.self.view_is) in
-    let done = sealed k c.self.inside.table c.args.base c.args.change c.in_ok-patch.step.value c.seal.new.pass c.join.new.self c.self.invariant ok c.in_ok-patch.ensures.ready.step
+    let step : c.in_ok-patch.step.value ≡ record { epoch = c.args.base + 1; change = c.args.change } =
+    (rw c.prepared.ensures.same at c.in_ok-patch.ensures.ready.step) ∙ ap (λ n. record { epoch = n + 1; change = c.args.change }) (sym ok.current) in
+    let done = sealed k c.self.inside.table c.args.base c.args.change c.in_ok-patch.step.value c.seal.new.pass c.join.new.self c.self.invariant ok step
     (c.in-Ok.ensures.sealed ∙ ap (λ (s : Seen). s.history ++ c.in_ok-patch.step.value ∷ []) mine) c.join.ensures.row c.join.ensures.history in
-    let number : c.in-Ok.epoch ≡ c.args.base + 1 = c.in-Ok.ensures.epoch ∙ ap (λ (s : Step). s.epoch) c.in_ok-patch.ensures.ready.step in
+    let number : c.in-Ok.epoch ≡ c.args.base + 1 = c.in-Ok.ensures.epoch ∙ ap (λ (s : Step). s.epoch) step in
     let row : k.pass.row ≡ c.args.row.now = ap (λ (s : Kept). s.pass.row) c.self.view_is ∙ c.requires.row in
     let shown : c.at.result.now ≡ next_step k.map c.args.change = done.shown _ (rw (number, ← row) at c.at.ensures.place) in
     rw (shown, c.prepared.ensures.same) (rw c.prepared.ensures.same at c.in_ok-patch.ensures.ready.leads)
@@ -119,9 +123,11 @@ invariant_of-self-2 c =
     let fine : fault_in c.args.self.now c.args.base c.args.change ≡ None = search rules in
     let ok : IsAccepted k c.args.base c.args.change = rw (← c.self.view_is) at (accepted c.args.self.now c.args.base c.args.change fine) in
     let mine : c.args.pass.now ≡ k.pass = c.requires.pass ∙ ap (λ (s : Kept). s.pass) (sym c.self.view_is) in
-    let done = sealed k c.self.inside.table c.args.base c.args.change c.in_ok-patch.step.value c.seal.new.pass c.join.new.self c.self.invariant ok c.in_ok-patch.ensures.ready.step
+    let step : c.in_ok-patch.step.value ≡ record { epoch = c.args.base + 1; change = c.args.change } =
+    (rw c.prepared.ensures.same at c.in_ok-patch.ensures.ready.step) ∙ ap (λ n. record { epoch = n + 1; change = c.args.change }) (sym ok.current) in
+    let done = sealed k c.self.inside.table c.args.base c.args.change c.in_ok-patch.step.value c.seal.new.pass c.join.new.self c.self.invariant ok step
     (c.in-Ok.ensures.sealed ∙ ap (λ (s : Seen). s.history ++ c.in_ok-patch.step.value ∷ []) mine) c.join.ensures.row c.join.ensures.history in
-    let number : c.in-Ok.epoch ≡ c.args.base + 1 = c.in-Ok.ensures.epoch ∙ ap (λ (s : Step). s.epoch) c.in_ok-patch.ensures.ready.step in
+    let number : c.in-Ok.epoch ≡ c.args.base + 1 = c.in-Ok.ensures.epoch ∙ ap (λ (s : Step). s.epoch) step in
     let row : k.pass.row ≡ c.args.row.now = ap (λ (s : Kept). s.pass.row) c.self.view_is ∙ c.requires.row in
     let shown : c.at.result.now ≡ next_step k.map c.args.change = done.shown _ (rw (number, ← row) at c.at.ensures.place) in
     let made : c.make.new.map.map ≡ apply k.map (next_step k.map c.args.change) = rw (shown, c.prepared.ensures.same) at c.make.ensures.map in
@@ -133,11 +139,13 @@ returns-clause-commits c =
     let fine : fault_in c.args.self.now c.args.base c.args.change ≡ None = search rules in
     let ok : IsAccepted k c.args.base c.args.change = rw (← c.self.view_is) at (accepted c.args.self.now c.args.base c.args.change fine) in
     let mine : c.args.pass.now ≡ k.pass = c.requires.pass ∙ ap (λ (s : Kept). s.pass) (sym c.self.view_is) in
-    let done = sealed k c.self.inside.table c.args.base c.args.change c.in_ok-patch.step.value c.seal.new.pass c.join.new.self c.self.invariant ok c.in_ok-patch.ensures.ready.step
+    let step : c.in_ok-patch.step.value ≡ record { epoch = c.args.base + 1; change = c.args.change } =
+    (rw c.prepared.ensures.same at c.in_ok-patch.ensures.ready.step) ∙ ap (λ n. record { epoch = n + 1; change = c.args.change }) (sym ok.current) in
+    let done = sealed k c.self.inside.table c.args.base c.args.change c.in_ok-patch.step.value c.seal.new.pass c.join.new.self c.self.invariant ok step
     (c.in-Ok.ensures.sealed ∙ ap (λ (s : Seen). s.history ++ c.in_ok-patch.step.value ∷ []) mine) c.join.ensures.row c.join.ensures.history in
-    let number : c.in-Ok.epoch ≡ c.args.base + 1 = c.in-Ok.ensures.epoch ∙ ap (λ (s : Step). s.epoch) c.in_ok-patch.ensures.ready.step in
+    let number : c.in-Ok.epoch ≡ c.args.base + 1 = c.in-Ok.ensures.epoch ∙ ap (λ (s : Step). s.epoch) step in
     let row : k.pass.row ≡ c.args.row.now = ap (λ (s : Kept). s.pass.row) c.self.view_is ∙ c.requires.row in
     let shown : c.at.result.now ≡ next_step k.map c.args.change = done.shown _ (rw (number, ← row) at c.at.ensures.place) in
     let made : c.make.new.map.map ≡ apply k.map (next_step k.map c.args.change) = rw (shown, c.prepared.ensures.same) at c.make.ensures.map in
-    let counted : c.in_ok-patch.patch.work.runs ≡ evals_of (apply k.map (next_step k.map c.args.change)) c.args.change = rw c.prepared.ensures.same at c.in_ok-patch.ensures.ready.counted in
-    ((fine, (ap (λ (p : Seen). with_parts k p c.make.new.map.map) done.joined ∙ ap (λ (m : ClusterMap). with_parts k (longer_by k.pass (next_step k.map c.args.change)) m) made ∙ ap (λ (s : Kept). committed s c.args.change) c.self.view_is, number, c.runs-evals.ensures ∙ counted ∙ ap (λ (m : ClusterMap). evals_of m c.args.change) (sym made))), tt)
+    let counted : c.in_ok-patch.patch.evals ≡ evals_of (apply k.map (next_step k.map c.args.change)) c.args.change = rw c.prepared.ensures.same at c.in_ok-patch.ensures.ready.counted in
+    ((fine, (ap (λ (p : Seen). with_parts k p c.make.new.map.map) done.joined ∙ ap (λ (m : ClusterMap). with_parts k (longer_by k.pass (next_step k.map c.args.change)) m) made ∙ ap (λ (s : Kept). committed s c.args.change) c.self.view_is, number, c.evals-evals.ensures ∙ counted ∙ ap (λ (m : ClusterMap). evals_of m c.args.change) (sym made))), tt)

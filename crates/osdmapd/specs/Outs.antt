@@ -1,0 +1,6 @@
+-- What is out at a writer.
+use Rattle.std.specs.Prelude.{◌≡◌, ℕ, List, ◌++◌, Option, Some}
+
+-- the writer has these bytes behind those that it had at first, where its contents are known
+abbrev pub IsOut : List ℕ → Option (List ℕ) → Option (List ℕ) → Type 0
+IsOut bytes first now = (xs : List ℕ) → first ≡ Some xs → now ≡ Some (xs ++ bytes)
