@@ -9,7 +9,7 @@ SCRIPT = $(EXAMPLE)/script.txt
 CPU =
 # Another build of the program, which `bench` puts beside this one.
 OTHER =
-BENCHES = placements tables steps sessions live balancer reading cliffs
+BENCHES = placements tables steps sessions live balancer reading cliffs tools
 
 .PHONY: help try prove run test gate runs bench
 
@@ -21,7 +21,7 @@ help:
 	@echo 'make test   the gate: every proof from nothing, the edits that must not prove, the tests, then runs of the built program'
 	@echo 'make gate   the gate without the runs'
 	@echo 'make runs   the runs of the built program alone (a minute or two)'
-	@echo 'make bench  what the built program costs, as tables: placements beside plain C (cc, and valgrind for instructions), table, sessions, balancer, reading'
+	@echo 'make bench  what the built program costs, as tables: placements beside plain C (cc, and valgrind for instructions), table, sessions, balancer, reading, tools for operators'
 	@echo '            OTHER=/another/osdmapd measures another build of it beside'
 
 # Runs with checks in place of proofs. The map and the script are read here, so that they may be anywhere and be read once.

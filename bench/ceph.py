@@ -3,11 +3,16 @@
 
 The traps: the reader of the text wants each bucket after those in it; `osdmaptool` gives a pool a number of groups that is the number of OSDs
 shifted to the left; it prints placements whole only into a file; and no name may begin with a word of the text's own, such as `type`.
+
+`osdmaptool` takes no exceptions but its own balancer's, so `with_exceptions` lets it write some and puts others in their place, in the bytes of
+the map (Ceph, OSDMap.cc `OSDMap::encode`): two lengths in front of them and the checksum behind are then made anew.
 """
 
+import json
 import os
 import re
 import shutil
+import struct
 import subprocess
 
 TOOLS = ("crushtool", "osdmaptool")
@@ -81,3 +86,70 @@ def sets(path):
                        stderr=subprocess.DEVNULL)
         found.seek(0)
         return re.findall(r"^1\.\S+ raw .* up \((\[[-\d,]*\]), p-?\d+\) acting", found.read(), re.M)
+
+
+# Exceptions
+
+POLYNOMIAL = 0x82F63B78
+TABLE = []
+for byte in range(256):
+    for _ in range(8):
+        byte = byte >> 1 ^ (POLYNOMIAL if byte & 1 else 0)
+    TABLE.append(byte)
+
+
+def checksum(data):
+    """The CRC-32C that Ceph has of some bytes, which begins with all bits set and is not turned over at the end."""
+    found = 0xFFFFFFFF
+    for byte in data:
+        found = found >> 8 ^ TABLE[(found ^ byte) & 255]
+    return found
+
+
+def group_bytes(group):
+    """A group as Ceph writes it: a version, its pool, its number, and no OSD that is preferred."""
+    pool, number = group.split(".")
+    return struct.pack("<BQIi", 1, int(pool), int(number, 16), -1)
+
+
+def listed_bytes(entries):
+    """A list of groups with a list of numbers, or of pairs of numbers, each."""
+    found = [struct.pack("<I", len(entries))]
+    for group, own in entries:
+        numbers = [number for one in own for number in (one if isinstance(one, list) else [one])]
+        found += [group_bytes(group), struct.pack(f"<I{len(numbers)}i", len(own), *numbers)]
+    return b"".join(found)
+
+
+def written_pairs(path):
+    """Lets Ceph's balancer write pairs into a map, all of whose OSDs are up and in from then on; the pairs."""
+    quietly("osdmaptool", path, "--mark-up-in", "--save", "--upmap", os.devnull, "--upmap-deviation", "1")
+    done = subprocess.run(["osdmaptool", path, "--dump", "json"], check=True, stdout=subprocess.PIPE, stderr=subprocess.DEVNULL, timeout=60)
+    found = json.loads(done.stdout[done.stdout.index(b"{"):])["pg_upmap_items"]
+    return [[entry["pgid"], [[pair["from"], pair["to"]] for pair in entry["mappings"]]] for entry in found]
+
+
+def with_exceptions(path, explicit, items):
+    """Puts explicit sets and pairs in the place of all exceptions of a map, in the order of their groups."""
+    was, now = listed_bytes([]) + listed_bytes(written_pairs(path)), listed_bytes(explicit) + listed_bytes(items)
+    with open(path, "rb") as found:
+        data = found.read()
+    if data.count(was) != 1:
+        raise ValueError("the exceptions are not found in the map")
+    more = len(now) - len(was)
+    data = bytearray(data.replace(was, now))
+    # The whole and the part for clients begin with two bytes and a length each; then come the part for OSDs and the checksum.
+    for at in (2, 8):
+        struct.pack_into("<I", data, at, struct.unpack_from("<I", data, at)[0] + more)
+    at = 12 + struct.unpack_from("<I", data, 8)[0]
+    at += 6 + struct.unpack_from("<I", data, at + 2)[0]
+    struct.pack_into("<I", data, at, checksum(data[:at] + data[at + 4:]))
+    with open(path, "wb") as out:
+        out.write(data)
+
+
+def taken_back(path):
+    """The commands by which Ceph's monitor would clean exceptions away."""
+    done = subprocess.run(["osdmaptool", path, "--upmap-cleanup", "-"], check=True, stdout=subprocess.PIPE, stderr=subprocess.DEVNULL,
+                          text=True, timeout=60)
+    return [line for line in done.stdout.splitlines() if line.startswith("ceph osd ")]

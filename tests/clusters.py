@@ -1,7 +1,7 @@
 #!/usr/bin/env python3
 """Runs the commands of tools/rekhuso over clusters that Ceph's own tools made and dumped (clusters.json.gz), and over maps.
 
-    tests/clusters.py PROGRAM
+    tests/clusters.py PROGRAM [PART OF A NAME]
 
 The up sets of each cluster are Ceph's; what keeps a cluster out of the profile is written beside it by hand.
 """
@@ -16,6 +16,9 @@ import tempfile
 import xml.etree.ElementTree
 
 import given
+
+sys.path.append(str(pathlib.Path(__file__).resolve().parent.parent / "tools"))
+from rekhuso import Monitor  # noqa: E402
 
 HERE = pathlib.Path(__file__).resolve().parent
 CLUSTERS = json.loads(gzip.decompress((HERE / "clusters.json.gz").read_bytes()))
@@ -46,8 +49,8 @@ class Tools:
         return self.put(f"{cluster}-osd", own["osd_dump"]), self.put(f"{cluster}-crush", own["crush_dump"])
 
     def map(self, cluster):
-        """The map of a cluster inside the profile."""
-        status, output, error = self.run("import", *self.dumps(cluster))
+        """The map of a cluster inside the profile; what the OSD dump does not list is taken as out, as these clusters have it."""
+        status, output, error = self.run("import", *self.dumps(cluster), "--unmatched")
         assert status == 0, error
         return json.loads(output)
 
@@ -172,6 +175,17 @@ def test_net(tools):
         assert sum(len(pairs) for _, pairs in after["pg_upmap_items"]) < sum(len(pairs) for _, pairs in value["pg_upmap_items"])
 
 
+def test_many_sets(tools):
+    """Many sets that are read at once are those that are read one by one, also where places are empty, where all are, and where there are none."""
+    holes, down, found = tools.map("006-random"), tools.map("009-classes"), []
+    for value in (dict(holes, osds=[dict(osd, weight=65536 * (osd["id"] > 0)) for osd in holes["osds"]]), dict(down, osds=[dict(osd, up=False) for osd in down["osds"]])):
+        with Monitor(value, tools.program) as monitor:
+            groups = [f"{pool['id']}.{number:x}" for pool in value["pools"] for number in range(pool["pg_num"])]
+            assert monitor.ups(groups) == {group: monitor.up(group) for group in groups} and monitor.ups([]) == {}
+            found += [(bool(up.places), None in up.places, up.primary is None) for up in monitor.ups(groups).values()]
+    assert set(found) == {(True, True, False), (True, True, True), (False, False, True)}, set(found)
+
+
 def test_df(tools):
     """The groups of each OSD are those that the program counts."""
     value = tools.map("001-built")
@@ -181,7 +195,7 @@ def test_df(tools):
     counts = [int(answer.split(" ")[3]) for answer in tools.answers(value, [f"count {osd}" for osd in range(48)])]
     assert [told[osd] for osd in range(48)] == counts
     status, output, _ = tools.run("df", tools.put("m", value))
-    assert status == 0 and len(output.splitlines()) == 1 + 11 + 48 + 2
+    assert status == 0 and len(output.splitlines()) == 1 + 11 + 48 + 1 + 2
 
 
 def test_diff(tools):
@@ -295,9 +309,10 @@ def test_hostile(tools):
         assert (status, output, error) == (1, "", "refused: BadField\n"), (word, error)
 
 
-def tests():
-    """Each test with its name."""
-    return [(test.__doc__.rstrip("."), test) for name, test in globals().items() if name.startswith("test_")]
+def tests(names=None):
+    """Each test of a module's names, here of these, with its name."""
+    own = globals() if names is None else names
+    return [(test.__doc__.split("\n")[0].rstrip("."), test) for name, test in own.items() if name.startswith("test_")]
 
 
 def faults(program, test):
@@ -310,9 +325,12 @@ def faults(program, test):
     return []
 
 
-def main():
-    program, failed = given.program(__doc__), 0
-    for name, test in tests():
+def main(names=None, usage=__doc__):
+    """Runs each test of a module's names; the status is 1 where one has failed. A word behind the program chooses tests by their names."""
+    program, failed = given.program(usage, most=2), 0
+    for name, test in tests(names):
+        if len(sys.argv) > 2 and sys.argv[2] not in f"{name} {test.__name__}":
+            continue
         found = faults(program, test)
         failed += bool(found)
         print(f"{'FAILED' if found else 'passed'}: {name}", *found, sep="\n    ", flush=True)

@@ -9,9 +9,9 @@ import functools
 import pathlib
 import sys
 
-sys.path.append(str(pathlib.Path(__file__).resolve().parent.parent / "tools" / "rekhuso"))
-from check import NUMBERS, parsed  # noqa: E402
-from places import change_places, map_places  # noqa: E402
+sys.path.append(str(pathlib.Path(__file__).resolve().parent.parent / "tools"))
+from rekhuso.check import NUMBERS, parsed  # noqa: E402
+from rekhuso.places import change_places, map_places  # noqa: E402
 
 # Texts of more bytes are passed over, since they take long and their places are those of shorter ones.
 MOST = 100_000

@@ -15,9 +15,10 @@ a text, or a change as an object. Where a row stands for many runs, or for many 
 have their answers beside them. `plans` and `balanced` are plans of a balancer reckoned apart (plans.py, balanced.py), `soak`
 many sessions whose answers must be those of one history (soak.py), `patched` tables that random changes led to beside tables
 built anew (anew.py), and `apart` holds what reckons apart against Ceph's placements and the kept answers, and the kept picture.
-`clusters` are the tools over clusters of Ceph's (clusters.py), `live` sessions that are answered as they are typed (live.py). At
-the end each growth of the examples' runs is refused in turn (memory.py). What is being run is told on standard error meanwhile. Each
-run, and whatever waits in a check, has a limit of time; past it the row has failed, and the others go on.
+`clusters` are the tools over clusters of Ceph's (clusters.py), what `import` has against others (brought.py), plans (moves.py), what
+the tools tell (told.py), their edges (edges.py) and their package (packaged.py), `live` sessions that are answered as they are
+typed (live.py). At the end each growth of the examples' runs is refused in turn (memory.py). What is being run is told on standard
+error meanwhile. Each run, and whatever waits in a check, has a limit of time; past it the row has failed, and the others go on.
 """
 
 import argparse
@@ -35,13 +36,18 @@ from concurrent.futures import ThreadPoolExecutor, wait
 
 import anew
 import balanced
+import brought
 import clusters
 import crowds
+import edges
 import faulty
 import live
 import memory
 import model
+import moves
+import packaged
 import soak
+import told
 from plans import cases as plan_cases
 
 HERE = pathlib.Path(__file__).resolve().parent
@@ -542,8 +548,10 @@ def of_clusters():
     """The tools over clusters as Ceph's tools dump them."""
     yield Check("the places at fault that tools tell, beside the refusals of all tables", lambda _: faulty.faults(
         run for name in ("worked", "changes", "growth", "limits", "texts") for run in table_of(name)))
-    for name, test in clusters.tests():
+    for name, test in [*clusters.tests(), *brought.tests(), *moves.tests(), *told.tests(), *edges.tests()]:
         yield Check(name, lambda command, test=test: clusters.faults(command, test))
+    for name, test in packaged.tests():
+        yield Check(name, lambda command, test=test: test(command) or [])
 
 
 def races():

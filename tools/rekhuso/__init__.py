@@ -1,11 +1,7 @@
-"""The proved monitor from Python: `from rekhuso import Monitor`, with tools/ on the path."""
+"""The proved monitor from Python: `from rekhuso import Monitor`, with tools/ on the path or the package installed."""
 
-import pathlib
-import sys
+from .faults import Fault, Refused
+from .monitor import Made, Monitor, Moved, Session, Up
 
-sys.path.insert(0, str(pathlib.Path(__file__).resolve().parent))
-
-from faults import Fault, Refused  # noqa: E402
-from monitor import Made, Monitor, Moved, Session, Up  # noqa: E402
-
-__all__ = ["Fault", "Made", "Monitor", "Moved", "Refused", "Session", "Up"]
+__all__ = ["Fault", "Made", "Monitor", "Moved", "Refused", "Session", "Up", "__version__"]
+__version__ = "0.1.0"

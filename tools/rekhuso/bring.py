@@ -8,25 +8,18 @@ import json
 import sys
 from typing import Any
 
-from cluster import Cluster
-from faults import Fault, Refused
-from monitor import answers_of
-from shapes import CRUSH_DUMP, OSD_DUMP, misfits
-from texts import json_of, written
+from .cluster import KINDS, Cluster
+from .faults import Fault, Refused
+from .forms import TRIES
+from .monitor import Monitor
+from .outside import reasons, unmatched
+from .places import map_places
+from .shapes import CRUSH_DUMP, OSD_DUMP, fitting, misfits
+from .texts import json_of, put, written
 
-OPS = {"choose_firstn", "choose_indep", "chooseleaf_firstn", "chooseleaf_indep"}
-TRIES = {"set_choose_tries", "set_chooseleaf_tries"}
-KINDS = {1: "replicated", 3: "erasure"}
-
-
-def step_of(cluster: Cluster, step: dict[str, Any]) -> list[Any]:
-    """A step of a rule in the map's form."""
-    op = step["op"]
-    if op == "take":
-        return ["take", step["item"]]
-    if op in OPS:
-        return [op, step["num"], cluster.types[step["type"]]]
-    return [op, step["num"]] if op in TRIES else [op]
+# How many places at fault of one file are told one by one.
+MOST = 20
+UNMATCHED = "take OSDs that only one of the dumps has as out, and tell which"
 
 
 def bucket_of(cluster: Cluster, number: int) -> dict[str, Any]:
@@ -38,9 +31,7 @@ def bucket_of(cluster: Cluster, number: int) -> dict[str, Any]:
 
 def osd_of(osd: dict[str, Any]) -> dict[str, Any]:
     """An OSD in the map's form."""
-    states = osd.get("state", [])
-    exists = "exists" in states or not states
-    return {"exists": exists, "id": osd["osd"], "up": exists and bool(osd["up"]), "weight": round(osd["weight"] * 65536)}
+    return {"exists": True, "id": osd["osd"], "up": bool(osd["up"]), "weight": round(osd["weight"] * 65536)}
 
 
 def pool_of(pool: dict[str, Any]) -> dict[str, Any]:
@@ -51,62 +42,65 @@ def pool_of(pool: dict[str, Any]) -> dict[str, Any]:
 
 def map_of(cluster: Cluster) -> dict[str, Any]:
     """The map of a cluster that is in the profile."""
-    rules = [{"id": rule["rule_id"], "kind": KINDS[rule["type"]], "steps": [step_of(cluster, step) for step in rule["steps"]]}
+    rules = [{"id": rule["rule_id"], "kind": KINDS[rule["type"]], "steps": list(map(cluster.step_of, rule["steps"]))}
              for rule in cluster.rules]
     tries = any(step[0] in TRIES for rule in rules for step in rule["steps"])
-    explicit, items = cluster.exceptions()
+    explicit, items = cluster.exceptions
     return {"buckets": [bucket_of(cluster, number) for number in cluster.kept], "epoch": cluster.epoch,
             "max_osd": cluster.max_osd, "osds": [osd_of(osd) for osd in cluster.osds.values()], "pg_upmap": explicit,
             "pg_upmap_items": items, "pools": [pool_of(pool) for pool in cluster.pools], "rules": rules,
             "version": 2 if tries else 1}
 
 
-def refusals(cluster: Cluster, value: dict[str, Any], program: Any) -> list[str]:
-    """What the program has against the map: of a rule, which one; else its own name for it."""
+def monitor_of(value: dict[str, Any], program: Any) -> Monitor:
+    """A session over a map that nothing was found against. A fault where the program refuses it: its own name for it, and the places."""
     try:
-        answers_of(program, value, ["epoch"])
-        return []
+        return Monitor(value, program)
     except Refused as refused:
-        whole = f"the program refuses the map: {refused.name}"
-    found = []
-    for rule in value["rules"]:
-        alone = dict(value, rules=[rule], pools=[], pg_upmap=[], pg_upmap_items=[])
-        try:
-            answers_of(program, alone, ["epoch"])
-        except Refused as refused:
-            if refused.name in ("BadRule", "BadLimit"):
-                name = cluster.rule_name(rule["id"])
-                found.append(f"rule {name}: its steps are not in the grammar: {json.dumps(rule['steps'])}")
-    return found or [whole]
+        raise Fault(f"the program refuses the map: {refused.name}", *map(str, map_places(value))) from None
 
 
-def dumped(path: str, shape: dict[str, Any]) -> dict[str, Any]:
-    """A dump in a file; a fault that says each place at which it has another form."""
+def dumped(path: str, shape: dict[str, Any]) -> tuple[dict[str, Any], frozenset[str], list[str]]:
+    """What of the dump in a file is of its form, the keys of which something is not, and each place that is not."""
     value = json_of(path)
     found = misfits(value, shape, "")
+    faults = [f"{path}: {place}" for place in found[:MOST]] + ([f"{path}: and {len(found) - MOST} more"] if len(found) > MOST else [])
+    return *fitting(value, shape), faults
+
+
+def both_dumps(osd_dump: str, crush_dump: str) -> tuple[Cluster, list[str]]:
+    """The cluster of two dumps, as far as these are of their forms, and each place that is not; a fault that tells of each file that is
+    no JSON object."""
+    found, unread = [], []
+    for path, shape in ((osd_dump, OSD_DUMP), (crush_dump, CRUSH_DUMP)):
+        try:
+            found.append(dumped(path, shape))
+        except Fault as fault:
+            unread += fault.lines
+    if unread:
+        raise Fault(*unread)
+    (osds, torn_osds, faults), (crush, torn_crush, more) = found
+    return Cluster(osds, crush, torn_osds | torn_crush), faults + more
+
+
+def stated(osd_dump: str, crush_dump: str, is_unmatched: bool) -> tuple[Cluster, dict[str, Any]]:
+    """The cluster of two dumps, and its map, which the program has not seen yet; a fault that says all that keeps it out of the
+    profile. What only one of the dumps has is no fault where `is_unmatched` says so, and is told on standard error."""
+    cluster, faults = both_dumps(osd_dump, crush_dump)
+    found = faults + reasons(cluster, is_unmatched)
     if found:
-        raise Fault(*(f"{path}: {place}" for place in found[:20]), *([f"{path}: and {len(found) - 20} more"] if len(found) > 20 else []))
-    return value
-
-
-def brought(osd_dump: str, crush_dump: str, program: Any) -> tuple[Cluster, dict[str, Any]]:
-    """The cluster of two dumps, and its map; a fault that says all that keeps it out of the profile."""
-    cluster = Cluster(dumped(osd_dump, OSD_DUMP), dumped(crush_dump, CRUSH_DUMP))
-    reasons = cluster.reasons()
-    value = {} if reasons else map_of(cluster)
-    reasons = reasons or refusals(cluster, value, program)
-    if reasons:
-        raise Fault(*reasons)
-    return cluster, value
+        raise Fault(*found)
+    for own in unmatched(cluster):
+        print(own.told(), file=sys.stderr)
+    return cluster, map_of(cluster)
 
 
 def work(options: Any) -> None:
     """Writes the map on standard output, the names into their file, and what is left out on standard error."""
-    cluster, value = brought(options.osd_dump, options.crush_dump, options.program)
+    cluster, value = stated(options.osd_dump, options.crush_dump, options.unmatched)
+    monitor_of(value, options.program).close()
     if options.names:
-        with open(options.names, "w", encoding="utf-8") as file:
-            json.dump(cluster.names(), file, indent=1)
-            file.write("\n")
+        put(options.names, json.dumps(cluster.names(), indent=1) + "\n")
     for line in cluster.left_out(bool(options.names)):
         print(f"left out: {line}", file=sys.stderr)
     print(written(value))
@@ -118,4 +112,5 @@ def add_to(commands: Any) -> None:
     own.add_argument("osd_dump", metavar="OSD_DUMP", help="what `ceph osd dump -f json` prints")
     own.add_argument("crush_dump", metavar="CRUSH_DUMP", help="what `ceph osd crush dump` prints")
     own.add_argument("--names", metavar="FILE", help="write the names of OSDs, buckets, pools and rules into this file")
+    own.add_argument("--unmatched", action="store_true", help=UNMATCHED)
     own.set_defaults(work=work)

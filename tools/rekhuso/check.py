@@ -4,15 +4,20 @@ A place is a path into the text. Form and limits are told first, and what only a
 once these hold.
 """
 
+from __future__ import annotations
+
 import json
+import re
 from typing import Any
 
-from faults import Fault, Refused
-from forms import NAMES
-from monitor import answers_of, raw_answers
-from places import change_places, map_places
-from texts import text_of
+from .faults import Fault, Refused
+from .forms import NAMES, Place
+from .monitor import answers_of, raw_answers
+from .places import change_places, map_places
+from .shares import with_names
+from .texts import names_in, text_of
 
+OWNERS = re.compile(r"(buckets|osds|pools|rules)\[([0-9]+)\]")
 NUMBERS = {name: number for number, name in reversed(NAMES.items())}
 
 
@@ -29,26 +34,42 @@ def parsed(text: str) -> Any:
         return None
 
 
-def refusal(name: str, number: int, found: list[Any], path: str) -> Fault:
+def owner(value: Any, place: Place, names: dict[str, Any]) -> str | None:
+    """The name of the bucket, OSD, pool or rule of a map in which a place stands; None where it has none."""
+    found = OWNERS.match(place.path)
+    entries = value.get(found[1]) if found and isinstance(value, dict) else None
+    entry = entries[int(found[2])] if found and isinstance(entries, list) else None
+    name: str | None = names.get(found[1], {}).get(str(entry.get("id"))) if found and isinstance(entry, dict) else None
+    return name
+
+
+def told(value: Any, place: Place, names: dict[str, Any]) -> str:
+    """A place at fault in words, with the names of what it speaks of."""
+    name = owner(value, place, names)
+    return f"{place._replace(why=with_names(place.why, names))}" + (f": {name}" if name is not None else "")
+
+
+def refusal(name: str, number: int, found: list[str], path: str) -> Fault:
     """What is told of a refusal: the program's name for it, and the places."""
-    return Fault(f"{path}: refused: {number} {name}", *map(str, found))
+    return Fault(f"{path}: refused: {number} {name}", *found)
 
 
-def check_map(path: str, program: Any) -> str:
-    """The text of a map that is lawful."""
+def check_map(path: str, program: Any, names: dict[str, Any]) -> str:
+    """The text of a map that is lawful. A fault with the places where it is not."""
     text = text_of(path)
     try:
         answers_of(program, text, ["epoch"])
     except Refused as refused:
         value = parsed(text)
-        found = [] if refused.name == "BadJson" else map_places(value)
-        raise refusal(refused.name, NUMBERS[refused.name], found, path) from None
+        places = [] if refused.name == "BadJson" else map_places(value)
+        raise refusal(refused.name, NUMBERS[refused.name], [told(value, place, names) for place in places], path) from None
     return text
 
 
 def work(options: Any) -> None:
     """Tells that a map or a change is lawful."""
-    text = check_map(options.map, options.program)
+    names = names_in(options.names)
+    text = check_map(options.map, options.program, names)
     if options.change is None:
         print(f"{options.map}: lawful")
         return
@@ -57,7 +78,7 @@ def work(options: Any) -> None:
     if answer.startswith("err "):
         number, name = answer.split(" ")[1:3]
         found = [] if number == "10" else change_places(json.loads(text), parsed(change))
-        raise refusal(name, int(number), found, options.change)
+        raise refusal(name, int(number), [told(None, place, names) for place in found], options.change)
     print(f"{options.change}: lawful: {answer}")
 
 
@@ -66,4 +87,5 @@ def add_to(commands: Any) -> None:
     own = commands.add_parser("check", help="whether a map or a change is lawful, and where not", description=__doc__)
     own.add_argument("map", metavar="MAP")
     own.add_argument("change", metavar="CHANGE", nargs="?", help="a file with a change")
+    own.add_argument("--names", metavar="FILE", help="names, as `import --names` wrote them")
     own.set_defaults(work=work)

@@ -1,14 +1,12 @@
-"""A cluster as Ceph's tools dump it: which of it a map can hold, and what keeps it out."""
+"""A cluster as Ceph's tools dump it: which of it a map can hold, and what is left out."""
 
-import re
-from itertools import combinations
+from functools import cached_property
 from typing import Any
 
-TUNABLES = {"choose_local_tries": 0, "choose_local_fallback_tries": 0, "choose_total_tries": 50, "chooseleaf_descend_once": 1,
-            "chooseleaf_vary_r": 1, "chooseleaf_stable": 1}
-OPS = {"take", "emit", "choose_firstn", "choose_indep", "chooseleaf_firstn", "chooseleaf_indep", "set_choose_tries",
-       "set_chooseleaf_tries"}
+from .forms import GROUP, TRIES
+
 HASHPSPOOL = 1
+KINDS = {1: "replicated", 3: "erasure"}
 GREATEST = {"pools": 32, "rules": 32, "buckets": 512, "items": 64, "osds": 1024, "size": 10, "groups": 4096, "pool": 65535}
 
 
@@ -25,15 +23,17 @@ def some(words: list[str], most: int = 8) -> str:
 class Cluster:
     """What two dumps say, with the rules that pools use and the buckets below what these take."""
 
-    def __init__(self, osd_dump: dict[str, Any], crush_dump: dict[str, Any]) -> None:
-        self.osd_dump, self.crush = osd_dump, crush_dump
+    def __init__(self, osd_dump: dict[str, Any], crush_dump: dict[str, Any], torn: frozenset[str] = frozenset()) -> None:
+        """Of dumps whose entries are all of the right form; `torn` names the keys of which some entries were not, and are gone."""
+        self.osd_dump, self.crush, self.torn = osd_dump, crush_dump, torn
         self.epoch = osd_dump["epoch"]
         self.pools = osd_dump["pools"]
         self.osds = {osd["osd"]: osd for osd in osd_dump["osds"]}
         self.buckets = {bucket["id"]: bucket for bucket in crush_dump["buckets"]}
         self.types = {kind["name"]: kind["type_id"] for kind in crush_dump["types"]}
+        self.sizes = {pool["pool"]: pool["pg_num"] for pool in self.pools}
         used = {pool["crush_rule"] for pool in self.pools}
-        self.rules = [rule for rule in crush_dump["rules"] if rule["rule_id"] in used or not self.pools]
+        self.rules = [rule for rule in crush_dump["rules"] if rule["rule_id"] in used or not self.pools and "pools" not in torn]
         below = {number for rule in self.rules for root in self.takes(rule) for number in self.below(root)}
         self.kept = sorted((number for number in below if number in self.buckets), reverse=True)
         self.devices = sorted(number for number in below if number >= 0)
@@ -45,6 +45,19 @@ class Cluster:
     def takes(rule: dict[str, Any]) -> list[int]:
         """What the steps of a rule take."""
         return [step["item"] for step in rule["steps"] if step["op"] == "take"]
+
+    def roots(self) -> list[int]:
+        """All that the rules take, each once, from -1 downwards."""
+        return sorted({root for rule in self.rules for root in self.takes(rule)}, reverse=True)
+
+    def step_of(self, step: dict[str, Any]) -> list[Any]:
+        """A step of a rule in the map's form; its type must be one of the CRUSH dump's."""
+        op = step["op"]
+        if op == "take":
+            return ["take", step["item"]]
+        if op in TRIES:
+            return [op, step["num"]]
+        return ["emit"] if op == "emit" else [op, step["num"], self.types[step["type"]]]
 
     def below(self, root: int) -> set[int]:
         """An item with all that stands below it."""
@@ -59,15 +72,16 @@ class Cluster:
     @staticmethod
     def weight(item: dict[str, Any]) -> int:
         """The weight of an item; from 2^31 on it is printed as a negative number."""
-        return item["weight"] + 2 ** 32 if item["weight"] < 0 else item["weight"]
+        weight: int = item["weight"]
+        return weight + 2 ** 32 if weight < 0 else weight
 
     def bucket_name(self, number: int) -> str:
         """The name of a bucket or a device."""
-        return f"osd.{number}" if number >= 0 else self.buckets.get(number, {}).get("name", str(number))
+        return f"osd.{number}" if number >= 0 else str(self.buckets.get(number, {}).get("name", number))
 
-    def rule_name(self, number: int) -> str:
-        """The name of a rule."""
-        return next((rule["rule_name"] for rule in self.crush["rules"] if rule["rule_id"] == number), str(number))
+    def type_name(self, number: int) -> str:
+        """The name of a type of buckets."""
+        return next((name for name, own in self.types.items() if own == number), str(number))
 
     def names(self) -> dict[str, Any]:
         """The names of all that a map has by number alone."""
@@ -79,135 +93,35 @@ class Cluster:
 
     # Exceptions: those that can do nothing are left out
 
+    def kept_exceptions(self) -> dict[str, list[list[Any]]]:
+        """All exceptions of groups that are there, as Ceph has them, in the map's form: also those that do nothing."""
+        explicit = [[entry["pgid"], entry["osds"]] for entry in self.osd_dump.get("pg_upmap", [])]
+        items = [[entry["pgid"], [[pair["from"], pair["to"]] for pair in entry["mappings"]]]
+                 for entry in self.osd_dump.get("pg_upmap_items", [])]
+        return {"pg_upmap": [entry for entry in explicit if self.is_group(entry[0])],
+                "pg_upmap_items": [entry for entry in items if self.is_group(entry[0])]}
+
     def acts(self, osds: list[int]) -> bool:
         """Whether all of some OSDs are there."""
         return all(osd in self.osds for osd in osds)
 
     def is_group(self, group: str) -> bool:
         """Whether a group is one of a pool's."""
-        found = re.fullmatch("([0-9]+)[.]([0-9a-f]+)", group)
-        return found is not None and any(str(own["pool"]) == found[1] and int(found[2], 16) < own["pg_num"] for own in self.pools)
+        found = GROUP.fullmatch(group)
+        return found is not None and int(found[2], 16) < self.sizes.get(int(found[1]), 0)
 
+    @cached_property
     def exceptions(self) -> tuple[list[list[Any]], list[list[Any]]]:
-        """The explicit sets and the pairs that may act: an explicit set with an OSD that is not there keeps the pairs of
-        its group from acting too."""
-        explicit = [[entry["pgid"], entry["osds"]] for entry in self.osd_dump.get("pg_upmap", [])]
-        idle = {group for group, osds in explicit if not self.acts(osds)}
+        """The explicit sets and the pairs that may act, where OSDs that are not there count as out: as in Ceph, an explicit set with an
+        OSD that is out does nothing, and keeps the pairs of its group from acting too."""
+        kept = self.kept_exceptions()
+        idle = {group for group, osds in kept["pg_upmap"] if not self.acts(osds)}
         items = []
-        for entry in self.osd_dump.get("pg_upmap_items", []):
-            pairs = [[pair["from"], pair["to"]] for pair in entry["mappings"]]
-            pairs = [pair for pair in pairs if self.acts(pair) and pair[0] != pair[1]]
-            if pairs and entry["pgid"] not in idle and self.is_group(entry["pgid"]):
-                items.append([entry["pgid"], pairs])
-        return [entry for entry in explicit if entry[0] not in idle and self.is_group(entry[0])], items
-
-    # What keeps it out
-
-    def reasons(self) -> list[str]:
-        """All that keeps the cluster from being a map, each in one line."""
-        return (self.bucket_reasons() + self.twice_reasons() + self.tunable_reasons() + self.rule_reasons()
-                + self.pool_reasons() + self.osd_reasons())
-
-    def bucket_reasons(self) -> list[str]:
-        """Buckets of other kinds, with nothing in them, or with weights of 0."""
-        found = []
-        for kind in ("straw", "straw2"):
-            count = sum(self.buckets[number]["alg"] == kind for number in self.kept)
-            if count:
-                found.append(f"{count} {kind} buckets, as a stock cluster has them" if count > 1
-                             else f"1 {kind} bucket, as a stock cluster has it")
-        for number in self.kept:
-            bucket, name = self.buckets[number], self.bucket_name(number)
-            if bucket["alg"] not in ("uniform", "list", "tree", "straw", "straw2"):
-                found.append(f"bucket {name} is of the unknown kind {bucket['alg']}")
-            if bucket.get("hash", "rjenkins1") != "rjenkins1":
-                found.append(f"bucket {name} hashes by {bucket['hash']}, not by rjenkins1")
-            if not bucket["items"]:
-                found.append(f"bucket {name} is empty")
-            if len(bucket["items"]) > GREATEST["items"]:
-                found.append(f"bucket {name} has {len(bucket['items'])} items, more than {GREATEST['items']}")
-            found += [f"bucket {name}: the weight of {self.bucket_name(item['id'])} is 0" for item in bucket["items"]
-                      if item["weight"] == 0]
-        if len(self.kept) > GREATEST["buckets"]:
-            found.append(f"{len(self.kept)} buckets that pools use, more than {GREATEST['buckets']}")
-        return found
-
-    def users(self, root: int) -> list[int]:
-        """The pools whose rule takes an item."""
-        rules = {rule["rule_id"] for rule in self.rules if root in self.takes(rule)}
-        return [pool["pool"] for pool in self.pools if pool["crush_rule"] in rules]
-
-    def twice_reasons(self) -> list[str]:
-        """Items below two buckets that pools use."""
-        roots = sorted({root for rule in self.rules for root in self.takes(rule)}, reverse=True)
-        found = []
-        for some_root, other in combinations(roots, 2):
-            first, second = self.below(some_root), self.below(other)
-            shared = sorted(number for number in first & second if number >= 0)
-            if shared and some_root not in second and other not in first:
-                pools = [str(pool) for pool in sorted(set(self.users(some_root) + self.users(other)))]
-                which = f"the pools {listed(pools)} take" if len(pools) > 1 else f"pool {''.join(pools)} takes"
-                names = sorted(map(self.bucket_name, (some_root, other)))
-                found.append(f"{which} {some([f'osd.{osd}' for osd in shared])} from two buckets: {listed(names)}")
-        return found
-
-    def tunable_reasons(self) -> list[str]:
-        """Tunables that are not those called jewel, and sets of weights for single pools."""
-        found = [f"tunable {name} is {self.crush['tunables'][name]}, not {wanted}" for name, wanted in TUNABLES.items()
-                 if self.crush["tunables"].get(name, wanted) != wanted]
-        if self.crush.get("choose_args"):
-            found.append(f"choose_args (weight sets of {len(self.crush['choose_args'])})")
-        return found
-
-    def rule_reasons(self) -> list[str]:
-        """Rules that are missing or of another kind, steps that no map has, and negative counts."""
-        found, there = [], {rule["rule_id"] for rule in self.rules}
-        for pool in self.pools:
-            if pool["crush_rule"] not in there:
-                found.append(f"pool {pool['pool']} uses rule {pool['crush_rule']}, which is not there")
-        for rule in self.rules:
-            name = rule["rule_name"]
-            for step in rule["steps"]:
-                if step["op"] not in OPS:
-                    found.append(f"rule {name} has a step {step['op']}, which is not in the grammar")
-                elif step["op"] == "take" and step["item"] not in self.buckets:
-                    found.append(f"rule {name} takes {step.get('item_name', step['item'])}, which is no bucket")
-                elif step.get("num", 0) < 0:
-                    found.append(f"rule {name} has the negative count {step['num']} in a step {step['op']}")
-                elif step.get("type", "osd") not in self.types and "type" in step:
-                    found.append(f"rule {name} chooses the unknown type {step['type']}")
-            if rule["type"] not in (1, 3):
-                found.append(f"rule {name} is of the unknown type {rule['type']}")
-        if len(self.rules) > GREATEST["rules"]:
-            found.append(f"{len(self.rules)} rules that pools use, more than {GREATEST['rules']}")
-        return found
-
-    def pool_reasons(self) -> list[str]:
-        """Pools that are too large, of another type, or without hashpspool."""
-        found = []
-        for pool in self.pools:
-            name = f"pool {pool['pool']}"
-            if pool["pg_num"] > GREATEST["groups"]:
-                found.append(f"{name} has {pool['pg_num']} groups, more than {GREATEST['groups']}")
-            if pool["size"] > GREATEST["size"]:
-                found.append(f"{name} has size {pool['size']}, more than {GREATEST['size']}")
-            if pool["type"] not in (1, 3):
-                found.append(f"{name} is of type {pool['type']}, neither replicated (1) nor erasure (3)")
-            if not pool.get("flags", HASHPSPOOL) & HASHPSPOOL:
-                found.append(f"{name} is without hashpspool")
-            if pool.get("object_hash", 2) != 2:
-                found.append(f"{name} hashes objects by {pool['object_hash']}, not by rjenkins (2)")
-            if pool["pool"] > GREATEST["pool"]:
-                found.append(f"pool {pool['pool']} has an id above {GREATEST['pool']}")
-        if len(self.pools) > GREATEST["pools"]:
-            found.append(f"{len(self.pools)} pools, more than {GREATEST['pools']}")
-        return found
-
-    def osd_reasons(self) -> list[str]:
-        """OSDs from 1,024 on, and reweights above 1."""
-        found = [f"osd.{osd} is at or above osd.{GREATEST['osds']}" for osd in sorted(set(self.osds) | set(self.devices))
-                 if osd >= GREATEST["osds"]]
-        return found + [f"osd.{osd} has reweight {own['weight']}, above 1" for osd, own in self.osds.items() if own["weight"] > 1]
+        for group, pairs in kept["pg_upmap_items"]:
+            acting = [pair for pair in pairs if self.acts(pair) and pair[0] != pair[1]]
+            if acting and group not in idle:
+                items.append([group, acting])
+        return [entry for entry in kept["pg_upmap"] if entry[0] not in idle], items
 
     # What is left out
 
@@ -223,9 +137,6 @@ class Cluster:
         other = [f"osd.{osd}" for osd, own in self.osds.items() if own.get("primary_affinity", 1) != 1]
         if other:
             found.append(f"primary affinity of {some(other)}: the primary may differ")
-        unlisted = [f"osd.{device}" for device in self.devices if device not in self.osds]
-        if unlisted:
-            found.append(f"{some(unlisted)}: not in the OSD dump, so the reweight is taken as 0")
-        explicit, items = self.exceptions()
+        explicit, items = self.exceptions
         idle = len(self.osd_dump.get("pg_upmap", [])) - len(explicit) + len(self.osd_dump.get("pg_upmap_items", [])) - len(items)
         return found + ([f"{idle} exceptions that cannot act"] if idle else [])

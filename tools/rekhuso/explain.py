@@ -1,12 +1,23 @@
 """`explain`: why a group is where it is, step by step; every set by the program."""
 
+from __future__ import annotations
+
+import argparse
+from collections.abc import Iterable
 from typing import Any
 
-from faults import Fault
-from monitor import map_in, up_sets
-from net import raised
-from shares import named
-from texts import json_of
+from .forms import GROUP
+from .monitor import map_in, up_sets
+from .net import raised
+from .shares import named
+from .texts import names_in
+
+
+def group_word(word: str) -> str:
+    """A word that is written as a group is; else an error of use."""
+    if not GROUP.fullmatch(word):
+        raise argparse.ArgumentTypeError(f"{word}: no group; one is written as 1.1f")
+    return word
 
 
 def told(places: list[int | None]) -> str:
@@ -28,20 +39,50 @@ def step_words(step: list[Any], names: dict[str, Any]) -> str:
 
 
 class Group:
-    """A group of a map, with its sets at each stage."""
+    """A group of a map, with its sets at each stage: what the rule gives, after the explicit set, after pairs, and without OSDs that
+    are down."""
 
     def __init__(self, value: dict[str, Any], group: str, program: Any) -> None:
-        self.value, self.group = value, group
+        """Asks the program for the sets; `Refused` where there is no such group."""
+        self.value, self.group, self.program = value, group, program
         self.osds = {osd["id"]: osd for osd in value["osds"]}
         self.explicit = dict(value.get("pg_upmap", [])).get(group)
         self.pairs = dict(value.get("pg_upmap_items", [])).get(group, [])
         up = raised(value)
         stages = {"raw": dict(up, pg_upmap=[], pg_upmap_items=[]), "explicit": dict(up, pg_upmap_items=[]), "mapped": up, "up": value}
         self.sets = {stage: up_sets(program, own, [group])[group] for stage, own in stages.items()}
+        self.pool = next(own for own in value["pools"] if own["id"] == int(group.split(".")[0]))
 
     def weight(self, osd: int) -> int:
-        """The reweight of an OSD, 0 where it is not there."""
-        return self.osds.get(osd, {"weight": 0})["weight"]
+        """The reweight of an OSD in units of 1/65,536, 0 where it is not there."""
+        weight: int = self.osds.get(osd, {"weight": 0})["weight"]
+        return weight
+
+    def placed(self, full: Iterable[int]) -> list[int | None]:
+        """What the rule gives where some OSDs have their full reweight, whatever else the OSDs are."""
+        devices = {item for bucket in self.value["buckets"] for item, _ in bucket["items"] if item >= 0} | self.osds.keys()
+        weights = {**{osd: self.weight(osd) for osd in devices}, **dict.fromkeys(full, 65536)}
+        osds = [{"exists": True, "id": osd, "up": True, "weight": weight} for osd, weight in sorted(weights.items())]
+        value = dict(self.value, osds=osds, pools=[self.pool], pg_upmap=[], pg_upmap_items=[])
+        return up_sets(self.program, value, [self.group])[self.group].places
+
+    def met(self, osds: list[int], usual: list[int | None]) -> list[int]:
+        """Which of some OSDs the rule meets and passes over. Where it meets one, it would take it if its reweight were full, and the
+        set would be another than the usual one; where it meets none of several, the set stays. So halves of them are asked for."""
+        if not osds or self.placed(osds) == usual:
+            return []
+        half = len(osds) // 2
+        return osds if half == 0 else self.met(osds[:half], usual) + self.met(osds[half:], usual)
+
+    def passed_over(self) -> list[int]:
+        """The OSDs that the rule meets for this group and passes over as out, for a reweight of 0 or of less than 1."""
+        devices = {item for bucket in self.value["buckets"] for item, _ in bucket["items"] if item >= 0}
+        return self.met([osd for osd in sorted(devices) if self.weight(osd) < 65536], self.placed([]))
+
+    def passed_words(self, osd: int) -> str:
+        """An OSD that was passed over, with its reweight where that is not 0."""
+        weight = self.weight(osd)
+        return f"osd.{osd} (reweight {weight / 65536:.5f})" if weight else f"osd.{osd}"
 
     def exception_lines(self) -> list[str]:
         """What each exception did, or why it did nothing."""
@@ -58,29 +99,28 @@ class Group:
             lines.append(f"its pair {was} to {now} " + (f"does nothing: {why}" if why else f"gives {told(places)}"))
         return lines
 
+    def change_lines(self) -> list[str]:
+        """What changed the set, a line each; or one line that nobody did."""
+        passed = self.passed_over()
+        lines = ["passed over as out: " + ", ".join(map(self.passed_words, passed))] if passed else []
+        lines += self.exception_lines()
+        lines += [f"osd.{osd} is down and leaves" for osd in self.sets["mapped"].places if osd is not None and not self.osds[osd]["up"]]
+        return lines or ["nobody has changed the set: no OSD was passed over as out, there is no exception, and no OSD of it is down"]
+
     def lines(self, names: dict[str, Any]) -> list[str]:
         """The whole story, a line a stage."""
-        pool = next(own for own in self.value["pools"] if own["id"] == int(self.group.split(".")[0]))
-        rule = next(own for own in self.value["rules"] if own["id"] == pool["rule"])
-        steps = "; ".join(step_words(step, names) for step in rule["steps"])
-        lines = [f"{self.group} is one of {pool['pg_num']} groups of {named(names, 'pools', pool['id'])}, which is {pool['kind']} of size {pool['size']}",
-                 f"its rule {named(names, 'rules', rule['id'])}: {steps}", f"the rule gives {told(self.sets['raw'].places)}"]
-        below = [osd for osd, own in self.osds.items() if own["exists"] and own["weight"] == 0]
-        if below:
-            lines.append("passed over as out, wherever the rule came to them: " + ", ".join(f"osd.{osd}" for osd in below[:20]))
-        lines += self.exception_lines()
-        down = [osd for osd in self.sets["mapped"].places if osd is not None and not self.osds[osd]["up"]]
-        lines += [f"osd.{osd} is down and leaves" for osd in down]
-        up = self.sets["up"]
-        return lines + [f"its up set is {told(up.places)}, its primary " + ("none" if up.primary is None else f"osd.{up.primary}")]
+        pool, rule = self.pool, next(own for own in self.value["rules"] if own["id"] == self.pool["rule"])
+        steps, up = "; ".join(step_words(step, names) for step in rule["steps"]), self.sets["up"]
+        about = f"{pool['pg_num']} groups of {named(names, 'pools', pool['id'])}, which is {pool['kind']} of size {pool['size']}"
+        return [f"{self.group} is one of {about}", f"its rule {named(names, 'rules', rule['id'])}: {steps}",
+                f"the rule gives {told(self.sets['raw'].places)}", *self.change_lines(),
+                f"its up set is {told(up.places)}, its primary " + ("none" if up.primary is None else f"osd.{up.primary}")]
 
 
 def work(options: Any) -> None:
     """Tells a group's story."""
     value = map_in(options.map, options.program)
-    names = json_of(options.names) if options.names else {}
-    if "." not in options.group:
-        raise Fault(f"{options.group}: no group; one is written as 1.1f")
+    names = names_in(options.names)
     print("\n".join(Group(value, options.group, options.program).lines(names)))
 
 
@@ -88,6 +128,6 @@ def add_to(commands: Any) -> None:
     """The subcommand."""
     own = commands.add_parser("explain", help="why a group is where it is", description=__doc__)
     own.add_argument("map", metavar="MAP")
-    own.add_argument("group", metavar="PG")
+    own.add_argument("group", metavar="PG", type=group_word)
     own.add_argument("--names", metavar="FILE", help="names, as `import --names` wrote them")
     own.set_defaults(work=work)

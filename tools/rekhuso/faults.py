@@ -1,17 +1,29 @@
 """Why a command ends without what was asked for."""
 
+from __future__ import annotations
+
 
 class Fault(Exception):
     """One line or several, each of which says one thing that is wrong."""
 
+    status = 1
+
     def __init__(self, *lines: str) -> None:
+        """Takes the lines as they are told, one at least."""
         super().__init__("; ".join(lines))
         self.lines = list(lines)
 
 
+class Misuse(Fault):
+    """A command used wrongly: words that mean nothing, whatever the files say."""
+
+    status = 2
+
+
 class Refused(Fault):
-    """An answer `err NUMBER NAME` of the program, or a map that it refuses by name."""
+    """An answer `err NUMBER NAME` of the program, or a map that it refuses by name, which then has no number."""
 
     def __init__(self, name: str, number: int | None = None) -> None:
+        """Takes the name of the refusal and its number, as docs/FORMATS.md has them."""
         super().__init__(f"refused: {name}" if number is None else f"refused: {number} {name}")
         self.name, self.number = name, number

@@ -3,7 +3,7 @@
 import html
 from typing import Any
 
-from shares import named
+from .shares import named
 
 WIDTH, TALL, TOP, SIDE, BAR, SPACE, LEAST = 760, 520, 34, 170, 14, 4, 9
 

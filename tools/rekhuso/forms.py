@@ -4,6 +4,8 @@ A number from 11 to 16 belongs to a place as docs/FORMATS.md has it. What only t
 is tested for against a map) is in `places`.
 """
 
+from __future__ import annotations
+
 import re
 from typing import Any, Callable, Iterator, NamedTuple
 
@@ -12,6 +14,8 @@ NAMES = {10: "BadJson", 11: "BadField", 12: "BadLimit", 13: "BadForest", 14: "Ba
          27: "DuplicatePart"}
 STEPS = {"take": 1, "emit": 0, "choose_firstn": 2, "choose_indep": 2, "chooseleaf_firstn": 2, "chooseleaf_indep": 2}
 TRIES = {"set_choose_tries": 1, "set_chooseleaf_tries": 1}
+# The ranges of the numbers of a step; of one that chooses, those of its count and its type.
+RANGES: dict[str, list[tuple[int, int]]] = {"take": [(-65536, -1)], "emit": [], **{op: [(1, 200)] for op in TRIES}}
 GROUP = re.compile(r"(0|[1-9][0-9]*)\.(0|[1-9a-f][0-9a-f]*)")
 KINDS = ("replicated", "erasure")
 
@@ -24,6 +28,7 @@ class Place(NamedTuple):
     why: str
 
     def __str__(self) -> str:
+        """The place in words, as `check` tells it."""
         return f"{self.path}: {self.why} ({self.number} {NAMES[self.number]})"
 
 
@@ -34,6 +39,7 @@ Form = Callable[[Any, str], Places]
 def number(low: int, high: int) -> Form:
     """A whole number from low to high."""
     def form(value: Any, path: str) -> Places:
+        """What is wrong with a value as such a number."""
         if isinstance(value, bool) or not isinstance(value, int) or not -2 ** 63 <= value < 2 ** 64:
             yield Place(11, path, "no whole number of 64 bits")
         elif not low <= value <= high:
@@ -50,6 +56,7 @@ def flag(value: Any, path: str) -> Places:
 def word(*words: str) -> Form:
     """One of some words."""
     def form(value: Any, path: str) -> Places:
+        """What is wrong with a value as such a word."""
         if value not in words:
             yield Place(11, path, f"none of {', '.join(words)}")
     return form
@@ -67,6 +74,7 @@ def group(value: Any, path: str) -> Places:
 def listed(form: Form, least: int, most: int) -> Form:
     """A list of so many entries of a form."""
     def whole(value: Any, path: str) -> Places:
+        """What is wrong with a value as such a list, and with its entries."""
         if not isinstance(value, list):
             yield Place(11, path, "no list")
             return
@@ -80,6 +88,7 @@ def listed(form: Form, least: int, most: int) -> Form:
 def tupled(*forms: Form) -> Form:
     """A list with an entry of each form."""
     def whole(value: Any, path: str) -> Places:
+        """What is wrong with a value as such a list, and with its entries."""
         if not isinstance(value, list) or len(value) != len(forms):
             yield Place(11, path, f"no list of {len(forms)}")
             return
@@ -93,6 +102,7 @@ def keyed(required: dict[str, Form], optional: dict[str, Form] | None = None) ->
     forms = {**required, **(optional or {})}
 
     def whole(value: Any, path: str) -> Places:
+        """What is wrong with a value as such an object, and with what stands at its keys."""
         dot = f"{path}." if path else ""
         if not isinstance(value, dict):
             yield Place(11, path or "the text", "no object")
@@ -111,12 +121,12 @@ def step(has_tries: bool) -> Form:
     words = {**STEPS, **(TRIES if has_tries else {})}
 
     def form(value: Any, path: str) -> Places:
+        """What is wrong with a value as such a step."""
         if not isinstance(value, list) or not value or not isinstance(value[0], str) or value[0] not in words or len(value) != 1 + words[value[0]]:
             tries = "; steps of tries stand in maps of version 2" if isinstance(value, list) and value[:1] in [[op] for op in TRIES] else ""
             yield Place(11, path, f"no step{tries}")
             return
-        ranges = {"take": [(-65536, -1)], "emit": [], **{op: [(1, 200)] for op in TRIES}}.get(value[0], [(0, 10), (0, 15)])
-        for at, ((low, high), entry) in enumerate(zip(ranges, value[1:]), 1):
+        for at, ((low, high), entry) in enumerate(zip(RANGES.get(value[0], [(0, 10), (0, 15)]), value[1:]), 1):
             yield from number(low, high)(entry, f"{path}[{at}]")
     return form
 

@@ -9,28 +9,37 @@
     with Monitor(value, timeout=60) as monitor:
         monitor.balance(1)
 
-The program runs until the monitor is closed, or until it lets a question wait for longer than `timeout` seconds. Each question is put to it as a line, and its answer is there before the
-next is asked; many lines at once go by `raw`, `ask` and `ups`. Sessions may be used by several threads at once, each of them by
-one; they are all at one monitor, and what one changes the others see.
+The program runs until the monitor is closed, or until it lets a question wait for longer than `timeout` seconds. Each question is put
+to it as a line, and its answer is there before the next is asked; many lines at once go by `raw`, `ask` and `ups`. Sessions may
+be used by several threads at once, each of them by one; they are all at one monitor, and what one changes the others see.
 """
+
+from __future__ import annotations
 
 import errno
 import json
 import os
 import pathlib
 import select
+import shutil
 import subprocess
 import tempfile
 import threading
 import time
 from collections.abc import Callable
 from itertools import islice
-from typing import Any, BinaryIO, NamedTuple, NoReturn
+from typing import IO, Any, NamedTuple, NoReturn
 
-from faults import Fault, Refused
-from texts import text_of, written
+from .faults import Fault, Refused
+from .texts import text_of, written
 
 BUILT = pathlib.Path(__file__).resolve().parent.parent.parent / "crates" / "osdmapd" / "out" / "osdmapd"
+
+
+def built() -> pathlib.Path:
+    """The program where none is named: that of this repository, else `osdmapd` on the path."""
+    found = None if BUILT.exists() else shutil.which("osdmapd")
+    return pathlib.Path(found) if found else BUILT
 
 
 class Up(NamedTuple):
@@ -63,6 +72,14 @@ def up_of(answer: str) -> Up:
     return Up(int(epoch), osds, None if primary == "-1" else int(primary))
 
 
+def ups_of(answers: list[str]) -> list[Up]:
+    """The up sets that many answers tell: as `up_of` of each, in less time."""
+    words = " ".join(answers).split(" ")
+    sets = json.loads(f"[{','.join(words[3::5])}]".replace("none", "null"))
+    primaries = (None if word == "-1" else int(word) for word in words[4::5])
+    return list(map(Up, map(int, words[1::5]), sets, primaries))
+
+
 def checked(answer: str) -> str:
     """An answer that is no refusal; one that is ends this as `Refused`."""
     if answer.startswith("err "):
@@ -75,6 +92,7 @@ class Patience:
     """Ends a program that lets somebody wait for longer than some seconds, if any are given: whoever waits stands in a `with` of it."""
 
     def __init__(self, process: subprocess.Popen[bytes], seconds: float | None) -> None:
+        """Watches a process; without seconds nobody waits for too long."""
         self.process, self.seconds, self.is_spent = process, seconds, False
         self.since: dict[int, float] = {}
         self.done = threading.Event()
@@ -90,9 +108,11 @@ class Patience:
                 return
 
     def __enter__(self) -> None:
+        """This thread begins to wait."""
         self.since[threading.get_ident()] = time.monotonic()
 
     def __exit__(self, *_: object) -> None:
+        """This thread waits no longer."""
         self.since.pop(threading.get_ident(), None)
 
 
@@ -100,7 +120,8 @@ class Session:
     """A session of a program that runs: where its lines go, where its answers come from, what tells why it has ended, and how long an
     answer may take."""
 
-    def __init__(self, lines: BinaryIO, answers: BinaryIO, gone: Callable[[], NoReturn], patience: Patience) -> None:
+    def __init__(self, lines: IO[bytes], answers: IO[bytes], gone: Callable[[], NoReturn], patience: Patience) -> None:
+        """Takes two open pipes, what raises the fault of a program that has ended, and who watches waits."""
         self.lines, self.answers, self.gone, self.patience = lines, answers, gone, patience
 
     # Lines and their answers
@@ -161,7 +182,7 @@ class Session:
 
     def ups(self, groups: list[str]) -> dict[str, Up]:
         """The up set of each group."""
-        return dict(zip(groups, map(up_of, self.ask([f"up {group}" for group in groups]))))
+        return dict(zip(groups, ups_of(self.ask([f"up {group}" for group in groups]))))
 
     def count(self, osd: int) -> int:
         """In how many groups' up sets an OSD stands."""
@@ -174,7 +195,8 @@ class Session:
 
     def dump(self) -> dict[str, Any]:
         """The map as it is."""
-        return json.loads(self.text())
+        value: dict[str, Any] = json.loads(self.text())
+        return value
 
     def text(self) -> str:
         """The written form of the map as it is."""
@@ -198,39 +220,68 @@ class Monitor(Session):
     """A run of the program over a map: a value as JSON has it, or its text; itself the first of its sessions. It is closed by
     `with`, or by `close`. Where a timeout is given, a start, a question or an end that takes more seconds ends the program."""
 
-    def __init__(self, value: Any, program: str | os.PathLike[str] = BUILT, journal: int = 65536, sessions: int = 1,
+    def __init__(self, value: Any, program: str | os.PathLike[str] | None = None, journal: int = 65536, sessions: int = 1,
                  timeout: float | None = None) -> None:
+        """Starts the program (that of the repository, or of the path, where none is given) with 1 to 64 sessions and a journal
+        of so many changes, 1 to 65,536. ValueError for another number of sessions; a fault where there is no program or it does
+        not start, and `Refused` where it refuses the map."""
         if not 1 <= sessions <= 64:
             raise ValueError("1 to 64 sessions")
-        if not os.access(program, os.X_OK):
-            raise Fault(f"{program}: no program; `make run` proves and builds it, or --program names another")
+        self.program = pathlib.Path(program or built()).resolve()
+        if not self.program.is_file() or not os.access(self.program, os.X_OK):
+            raise Fault(f"{program or self.program}: no program; `make run` proves and builds it, or --program names another")
         self.errors = tempfile.TemporaryFile()
         self.folder = tempfile.TemporaryDirectory()
         self.sessions: list[Session] = []
-        folder = pathlib.Path(self.folder.name)
-        (folder / "map.json").write_text(value if isinstance(value, str) else written(value), encoding="utf-8")
-        words = [str(pathlib.Path(program).resolve()), "--journal", str(journal), "map.json"]
-        if sessions == 1:
-            self.process = subprocess.Popen([*words, "-"], stdin=subprocess.PIPE, stdout=subprocess.PIPE, stderr=self.errors, cwd=folder)
-            super().__init__(self.process.stdin, self.process.stdout, self.ended, Patience(self.process, timeout))
-        else:
-            pipes = [(f"lines-{k}", f"answers-{k}") for k in range(1, sessions + 1)]
-            for name in (name for pair in pipes for name in pair):
-                os.mkfifo(folder / name)
-            words += [lines for lines, _ in pipes] + [word for _, answers in pipes for word in ("--to", answers)]
-            self.process = subprocess.Popen(words, stdin=subprocess.DEVNULL, stdout=subprocess.DEVNULL, stderr=self.errors, cwd=folder)
-            self.patience = Patience(self.process, timeout)
+        text = value if isinstance(value, str) else written(value)
+        pathlib.Path(self.folder.name, "map.json").write_text(text, encoding="utf-8")
+        names = [(f"lines-{k}", f"answers-{k}") for k in range(1, sessions + 1)] if sessions > 1 else []
+        self.process = self.started(journal, names)
+        self.patience = Patience(self.process, timeout)
+        try:
             with self.patience:
-                ends = [(self.writer(folder / lines), self.reader(folder / answers)) for lines, answers in pipes]
-            self.sessions = [Session(*pair, self.ended, self.patience) for pair in ends]
-            super().__init__(*ends[0], self.ended, self.patience)
-        self.sessions = self.sessions or [self]
-        with self.patience:
-            for number, session in enumerate(self.sessions, 1):
-                if session.answers.readline() != f"session {number}\n".encode():
-                    self.ended()
+                self.open(names)
+        except BaseException:
+            self.process.kill()
+            self.close()
+            raise
 
-    def writer(self, path: pathlib.Path) -> BinaryIO:
+    def started(self, journal: int, names: list[tuple[str, str]]) -> subprocess.Popen[bytes]:
+        """The program in its folder, over named pipes for lines and answers, or where there are none over its standard input and
+        output. It stands in a session of its own, so that Ctrl-C at a terminal ends who asks and not the program. A fault where it
+        does not start."""
+        for name in (name for pair in names for name in pair):
+            os.mkfifo(os.path.join(self.folder.name, name))
+        words = [lines for lines, _ in names] + [word for _, answers in names for word in ("--to", answers)]
+        end = subprocess.DEVNULL if names else subprocess.PIPE
+        try:
+            return subprocess.Popen([str(self.program), "--journal", str(journal), "map.json", *(words or ["-"])], stdin=end, stdout=end,
+                                    stderr=self.errors, cwd=self.folder.name, start_new_session=True)
+        except OSError as fault:
+            self.errors.close()
+            self.folder.cleanup()
+            raise Fault(f"{self.program}: no program: {fault.strerror}") from None
+
+    def open(self, names: list[tuple[str, str]]) -> None:
+        """Opens the sessions over their pipes and reads their headings. A fault where the program has ended, or is another."""
+        folder, lines, answers = pathlib.Path(self.folder.name), self.process.stdin, self.process.stdout
+        pipes: list[tuple[IO[bytes], IO[bytes]]] = [(lines, answers)] if lines and answers else []
+        pipes += [(self.writer(folder / one), self.reader(folder / other)) for one, other in names]
+        super().__init__(*pipes[0], self.ended, self.patience)
+        self.sessions = [self, *(Session(*pair, self.ended, self.patience) for pair in pipes[1:])]
+        for number, session in enumerate(self.sessions, 1):
+            self.greeted(session, f"session {number}\n")
+
+    def greeted(self, session: Session, heading: str) -> None:
+        """Reads the heading of a session. A fault where the program has ended or puts out another."""
+        line = session.answers.readline(80)
+        if line == heading.encode():
+            return
+        if line:
+            raise Fault(f"{self.program}: another program: its output begins with {line[:20]!r}")
+        self.ended()
+
+    def writer(self, path: pathlib.Path) -> IO[bytes]:
         """A named pipe for lines, once the program has opened its end."""
         while True:
             try:
@@ -241,7 +292,7 @@ class Monitor(Session):
             self.is_running()
             time.sleep(0.001)
 
-    def reader(self, path: pathlib.Path) -> BinaryIO:
+    def reader(self, path: pathlib.Path) -> IO[bytes]:
         """A named pipe for answers, once there is one."""
         pipe = os.open(path, os.O_RDONLY | os.O_NONBLOCK)
         while not select.select([pipe], [], [], 0.1)[0]:
@@ -264,12 +315,12 @@ class Monitor(Session):
         self.close()
         if status == 2:
             raise Refused(error.removeprefix("map: "))
-        raise Fault(f"the program ended with status {status}: {error}")
+        raise Fault(": ".join([f"the program ended with status {status}", *error.splitlines()]))
 
     def close(self) -> None:
-        """Ends the sessions and the program."""
-        streams = [self.process.stdin, self.process.stdout] + [stream for session in self.sessions for stream in (session.lines, session.answers)]
-        for stream in streams:
+        """Ends the sessions and the program: it ends once it has answered what it was asked. A second call does nothing."""
+        of_sessions = [stream for session in self.sessions for stream in (session.lines, session.answers)]
+        for stream in [self.process.stdin, self.process.stdout, *of_sessions]:
             try:
                 if stream:
                     stream.close()
@@ -281,10 +332,14 @@ class Monitor(Session):
         self.errors.close()
         self.folder.cleanup()
 
-    def __enter__(self) -> "Monitor":
+    def __enter__(self) -> Monitor:
+        """The monitor itself."""
         return self
 
-    def __exit__(self, *_: object) -> None:
+    def __exit__(self, kind: object, *_: object) -> None:
+        """Closes the monitor; behind an exception its program is ended at once."""
+        if kind is not None:  # Whoever was interrupted, or found a fault, waits for no answer.
+            self.process.kill()
         self.close()
 
 
@@ -318,7 +373,16 @@ def map_in(path: str, program: pathlib.Path) -> dict[str, Any]:
     """The map in a file, once the program has found it lawful."""
     text = text_of(path)
     with Monitor(text, program):
-        return json.loads(text)
+        value: dict[str, Any] = json.loads(text)
+        return value
+
+
+def map_with_sets(path: str, program: pathlib.Path) -> tuple[dict[str, Any], dict[str, Up]]:
+    """The map in a file and the up set of each of its groups, by one session; `Refused` where it is not lawful."""
+    text = text_of(path)
+    with Monitor(text, program) as monitor:
+        value: dict[str, Any] = json.loads(text)
+        return value, monitor.ups(groups_of(value))
 
 
 def groups_of(value: dict[str, Any]) -> list[str]:

@@ -1,17 +1,20 @@
 """`net`: the fewest pairs that lead each group to the set that it has now.
 
 A balancer only appends pairs, so after many rounds a group's pairs may be chained over one another, or do nothing; Ceph's
-monitor cleans such pairs away, which gives other sets. Here each group with pairs gets, place by place, one pair from
-what stands without pairs to what stands with them; where an OSD only changes its place (a ring, or a chain), an explicit
-set. Groups with a place that is empty are left as they are. The program checks that every set stays.
+monitor cleans such pairs away, which gives other sets. Here each group with pairs gets, place by place, one pair from what
+its rule gives to what it has, and no explicit set beside them; where an OSD only changes its place (a ring, or a chain), an
+explicit set alone. Groups with a place that is empty are left as they are. The program checks that every set stays.
 """
 
+from __future__ import annotations
+
+import json
 from typing import Any
 
-from faults import Fault
-from monitor import Up, map_in, up_sets
-from texts import written
-from unlike import change_of, commands, place_of
+from .faults import Fault
+from .monitor import Monitor, Session, Up
+from .texts import text_of, written
+from .unlike import change_of, commands, place_of
 
 
 def raised(value: dict[str, Any]) -> dict[str, Any]:
@@ -28,12 +31,13 @@ def own_pairs(base: list[int | None], wanted: list[int | None]) -> list[list[int
 
 
 def netted(value: dict[str, Any], wanted: dict[str, Up], base: dict[str, Up]) -> dict[str, Any]:
-    """The map with the fewest pairs, where some groups want these sets and have those without pairs."""
+    """The map with the fewest pairs, where some groups want these sets and have those by their rule alone."""
     explicit, items = dict(value.get("pg_upmap", [])), {}
     for group, pairs in value.get("pg_upmap_items", []):
         places = wanted[group].places
         found = own_pairs(base[group].places, places)
         if found is not None:
+            explicit.pop(group, None)
             items.update({group: found} if found else {})
         elif None not in places and len(set(places)) == len(places):
             explicit[group] = places
@@ -43,14 +47,20 @@ def netted(value: dict[str, Any], wanted: dict[str, Up], base: dict[str, Up]) ->
                 pg_upmap_items=[[group, items[group]] for group in sorted(items, key=place_of)])
 
 
-def checked(value: dict[str, Any], program: Any) -> dict[str, Any]:
-    """The map with the fewest pairs, once the program has answered that the set of each group with pairs is as it was."""
+def settled(session: Session, value: dict[str, Any]) -> dict[str, Any]:
+    """A session's map with the fewest pairs, once the program has answered that the set of each group with pairs is as it was. All
+    OSDs of the session's map are up afterwards. A fault where a group would move."""
     groups = [group for group, _ in value.get("pg_upmap_items", [])]
     if not groups:
         return value
-    wanted, base = (up_sets(program, raised(own), groups) for own in (value, dict(value, pg_upmap_items=[])))
-    new = netted(value, wanted, base)
-    after = up_sets(program, raised(new), groups)
+    session.change(up=[osd["id"] for osd in value["osds"] if osd["exists"] and not osd["up"]])
+    wanted = session.ups(groups)
+    session.change(old_upmap=groups, old_items=groups)
+    new = netted(value, wanted, session.ups(groups))
+    own = set(groups)
+    explicit, items = ([entry for entry in new[key] if entry[0] in own] for key in ("pg_upmap", "pg_upmap_items"))
+    session.change(new_upmap=explicit, new_items=items)
+    after = session.ups(groups)
     unlike = [group for group in groups if wanted[group].places != after[group].places]
     if unlike:
         raise Fault(f"{len(unlike)} groups would move, the first {unlike[0]}: nothing is put out")
@@ -59,8 +69,10 @@ def checked(value: dict[str, Any], program: Any) -> dict[str, Any]:
 
 def work(options: Any) -> None:
     """Tells the change, or the commands."""
-    value = map_in(options.map, options.program)
-    new = checked(value, options.program)
+    text = text_of(options.map)
+    with Monitor(text, options.program) as monitor:
+        value: dict[str, Any] = json.loads(text)
+        new = settled(monitor, value)
     if options.ceph:
         for line in commands(value, new):
             print(line)

@@ -4,13 +4,18 @@ Grey is an OSD's share, red more, blue less; in each square stands the number of
 one that is down.
 """
 
+from __future__ import annotations
+
 import html
 from typing import Any
 
-from monitor import groups_of, map_in, up_sets
-from shares import Shares, named
-from texts import json_of
+from .monitor import groups_of, map_in, up_sets
+from .shares import Shares, named
+from .texts import names_in
 
+# Squares keep their colours in the dark, and so what stands in them.
+STYLE = ("text{font:11px sans-serif;fill:#333}.r{font-weight:bold}.n{font-size:8px;text-anchor:middle;fill:#222}.g{fill:#fff}.c{stroke:#999;stroke-width:.5}"
+         ".m{stroke:#111;stroke-width:1.5;fill:none}@media (prefers-color-scheme:dark){text{fill:#ddd}.n{fill:#222}.g{fill:#181818}}")
 CELL, GAP, ROW, LABEL, ACROSS, TALL = 18, 2, 22, 90, 32, 640
 
 
@@ -42,6 +47,7 @@ def hosts_of(shares: Shares) -> list[tuple[str | int, int]]:
     found: list[tuple[str | int, int]] = []
 
     def walk(number: int, above: str | int) -> None:
+        """Finds the hosts at or below a bucket that stands in another, or in none."""
         items = [item for item, _ in shares.buckets[number]["items"]]
         if any(item >= 0 for item in items):
             found.append((above, number))
@@ -86,9 +92,8 @@ def picture(maps: list[Shares], names: dict[str, Any], titles: list[str]) -> str
     width = max(left, 660)
     legend = "".join(f'<rect x="{8 + at * 24}" y="{height + 8}" width="24" height="10" fill="{colour(round(ratio * 100), 100)}"/>'
                      for at, ratio in enumerate((0, 0.5, 1, 1.5, 2)))
-    style = "text{font:11px sans-serif;fill:#333}.r{font-weight:bold}.n{font-size:8px;text-anchor:middle}.c{stroke:#999;stroke-width:.5}.m{stroke:#111;stroke-width:1.5;fill:none}"
     return (f'<svg xmlns="http://www.w3.org/2000/svg" width="{width}" height="{height + 40}" viewBox="0 0 {width} {height + 40}">'
-            f'<style>{style}</style><rect width="100%" height="100%" fill="#fff"/>{"".join(parts)}{legend}'
+            f'<style>{STYLE}</style><rect width="100%" height="100%" class="g"/>{"".join(parts)}{legend}'
             f'<text x="136" y="{height + 17}">no groups .. the share .. twice as many; in a square its groups; cross: out; bar: down</text></svg>\n')
 
 
@@ -100,7 +105,7 @@ def shares_of(path: str, program: Any) -> Shares:
 
 def work(options: Any) -> None:
     """Writes the picture on standard output."""
-    names = json_of(options.names) if options.names else {}
+    names = names_in(options.names)
     print(picture([shares_of(path, options.program) for path in options.maps], names, options.maps), end="")
 
 

@@ -1,10 +1,12 @@
 """Which places of a map, or of a change to a map, are at fault beyond their form."""
 
+from __future__ import annotations
+
 from collections import Counter
 from typing import Any, Iterable
 
-from forms import CHANGE, TRIES, Place, Places, map_form
-from unlike import place_of
+from .forms import CHANGE, TRIES, Place, Places, map_form
+from .unlike import place_of
 
 
 def twice(numbers: Iterable[Any], path: str, number: int, what: str) -> Places:
@@ -146,6 +148,7 @@ class After:
     """What a change is tested against: a map, and its pools after the change."""
 
     def __init__(self, value: dict[str, Any], change: dict[str, Any]) -> None:
+        """Takes a lawful map, and a change of the right form."""
         self.value, self.change = value, change
         self.there = {osd["id"] for osd in value["osds"] if osd["exists"]}
         self.before = {pool["id"]: pool for pool in value["pools"]}
@@ -204,6 +207,7 @@ class After:
     def double_places(self) -> Places:
         """Keys that come twice in a part, or in both parts of a couple."""
         def keys(part: str) -> list[Any]:
+            """The keys of a part's entries."""
             return [entry["id"] if isinstance(entry, dict) else entry[0] if isinstance(entry, list) else entry for entry in self.change.get(part, [])]
 
         for part in ("old_pools", "new_pools", "grow_pool", "down", "up", "weight", "old_upmap", "old_items", "new_upmap", "new_items"):

@@ -1,87 +1,226 @@
-"""`plan`: the plan of the proved balancer as the commands that Ceph takes, one line a group, on standard output.
+"""`plan`: the plan of the proved balancer as the commands that Ceph takes, group by group, on standard output.
 
 On standard error: what moves, and how even each pool is before and after. The commands are the difference of the two
-maps' exceptions, where each group has the fewest pairs that lead to its set (as `net` has them).
+maps' exceptions, where each group has the fewest pairs that lead to its set (as `net` has them). With --deviation the plan
+ends as soon as every OSD that may have groups of the pool is within D groups of its share.
 """
 
+from __future__ import annotations
+
+import argparse
 import json
 import sys
-from typing import Any
+from collections import Counter
+from fractions import Fraction
+from typing import Any, NamedTuple
 
-from bring import brought
-from faults import Fault
-from monitor import groups_of, map_in, raw_answers, up_of
-from net import checked
-from shares import Shares
-from unlike import commands
+from .bring import UNMATCHED, monitor_of, stated
+from .faults import Fault
+from .greedy import Deviations, Pairs, moves_within
+from .monitor import Monitor, Session, Up, groups_of
+from .net import settled
+from .shares import Shares, named
+from .texts import names_in, text_of
+from .unlike import commands, place_of
 
 MOST = 1024
 
 
-def stated(options: Any) -> tuple[dict[str, Any], dict[str, Any]]:
-    """The map of one file, or of two dumps, and the names of its pools."""
+class Cluster(NamedTuple):
+    """What is planned for: the map, its exceptions as Ceph has them, and the names of pools."""
+
+    value: dict[str, Any]
+    kept: dict[str, Any]
+    names: dict[str, Any]
+
+
+class Plan(NamedTuple):
+    """What a pool's plan is: its moves or why there are none, those that --deviation asks for (None where no number of them
+    suffices), and those of the whole plan."""
+
+    moves: int
+    refusal: str = ""
+    wanted: int | None = None
+    whole: int | None = None
+
+
+def opened(options: Any) -> tuple[Monitor, Cluster]:
+    """A session over the map of one file, or of two dumps. A fault where there is none."""
+    names = names_in(options.names) if options.names else {}
     if len(options.files) == 1:
-        return map_in(options.files[0], options.program), {}
-    cluster, value = brought(options.files[0], options.files[1], options.program)
-    return value, {pool["pool_name"]: pool["pool"] for pool in cluster.pools}
+        text = text_of(options.files[0])
+        monitor = Monitor(text, options.program)
+        value = json.loads(text)
+        return monitor, Cluster(value, value, names)
+    cluster, value = stated(options.files[0], options.files[1], options.unmatched)
+    return monitor_of(value, options.program), Cluster(value, cluster.kept_exceptions(), names or cluster.names())
 
 
-def chosen(options: Any, value: dict[str, Any], names: dict[str, Any]) -> list[int]:
-    """The ids of the pools that are named, or of all."""
-    there = [pool["id"] for pool in value["pools"]]
-    found = []
-    for word in options.pool or []:
-        number = names.get(word, int(word) if word.isdigit() else None)
-        if number not in there:
-            raise Fault(f"no pool {word}")
-        found.append(number)
-    return found or there
+def chosen(words: list[str], cluster: Cluster) -> list[dict[str, Any]]:
+    """The pools that are named, by a name or an id, in the map's order; or all. A fault for a word that is neither."""
+    pools = cluster.value["pools"]
+    ids = {str(pool["id"]): pool["id"] for pool in pools}
+    ids.update({name: int(number) for number, name in cluster.names.get("pools", {}).items() if number in ids})
+    unknown = [word for word in words if word not in ids]
+    if unknown:
+        raise Fault(*(f"no pool {word}" for word in unknown))
+    wanted = {ids[word] for word in words} if words else set(ids.values())
+    return [pool for pool in pools if pool["id"] in wanted]
 
 
-def spread(shares: Shares, pool: dict[str, Any]) -> str:
-    """The least and greatest number of groups of a pool that an OSD has, and the standard deviation from the shares."""
-    wanted, counts = shares.shares_in(pool), shares.counts_in[pool["id"]]
-    away = [counts[osd] - share for osd, share in wanted.items()]
+# Plans
+
+def moved(session: Session, pool: int, most: int) -> Plan:
+    """Commits the plan of a pool with at most so many moves, which may be 0."""
+    answer = session.raw([f"balance {pool} {most}"])[0] if most else "moved 0"
+    if answer.startswith("err "):
+        return Plan(0, answer.removeprefix("err "))
+    return Plan(int(answer.split(" ")[1]))
+
+
+def appended(old: dict[str, Any], new: dict[str, Any], pool: int) -> Pairs:
+    """The pairs that each group of a pool has in the one map beyond those in the other."""
+    before = dict(old.get("pg_upmap_items", []))
+    found = {group: pairs[len(before.get(group, [])):] for group, pairs in new["pg_upmap_items"] if group.startswith(f"{pool}.")}
+    return {group: pairs for group, pairs in found.items() if pairs}
+
+
+def taken_back(session: Session, old: dict[str, Any], groups: list[str]) -> None:
+    """Gives some groups the pairs of an older map again."""
+    before = dict(old.get("pg_upmap_items", []))
+    gone, come = [group for group in groups if group not in before], [[group, before[group]] for group in groups if group in before]
+    session.change(old_items=gone, new_items=come)
+
+
+def shortened(session: Session, value: dict[str, Any], shares: Shares, pools: list[dict[str, Any]], options: Any) -> dict[int, Plan]:
+    """Commits of each pool's plan as many moves as bring every candidate within the deviation that is asked for, at most --max. A
+    fault where the program's plan is another than its whole plan's beginning."""
+    wholes = {pool["id"]: moved(session, pool["id"], MOST) for pool in pools}
+    new, found = session.dump(), {}
+    plans = {pool["id"]: appended(value, new, pool["id"]) for pool in pools}
+    taken_back(session, value, [group for plan in plans.values() for group in plan])
+    for pool in pools:
+        number, whole = pool["id"], wholes[pool["id"]]
+        deviations = Deviations(shares.weights_for(pool), shares.counts_in[number])
+        wanted = moves_within(deviations, plans[number], options.deviation)
+        limit = min(whole.moves if wanted is None else wanted, options.max)
+        own = moved(session, number, limit)
+        if own.moves != limit:
+            raise Fault(f"pool {number}: a plan of {own.moves} moves, not {limit}: nothing is put out")
+        found[number] = Plan(limit, whole.refusal, wanted, whole.moves)
+    return found
+
+
+# What is told
+
+def spread(weights: dict[int, int], counts: dict[int, int]) -> str:
+    """The least and greatest number of groups of a pool that a candidate has, and how far they are from their shares, in groups."""
+    own = [counts.get(osd, 0) for osd in weights]
+    groups, total = sum(own), sum(weights.values())
+    away = [count - groups * weight / total for count, weight in zip(own, weights.values())]
     deviation = (sum(gap * gap for gap in away) / len(away)) ** 0.5 if away else 0.0
-    own = [counts[osd] for osd in wanted]
-    return f"{min(own, default=0)} to {max(own, default=0)} groups an OSD, deviation {deviation:.2f}"
+    most = max((abs(gap) for gap in away), default=0.0)
+    return (f"{min(own, default=0)} to {max(own, default=0)} groups an OSD, at most {most:.2f} from a share, "
+            f"standard deviation {deviation:.2f}")
 
 
-def told(pool: dict[str, Any], answer: str, before: Shares, after: Shares) -> str:
-    """What is said of a pool's plan."""
-    moved = sum(was.places != now.places for was, now in zip(before.ups_in(pool), after.ups_in(pool)))
-    return f"pool {pool['id']}: {answer.split(' ')[1]} moves of {moved} groups; before {spread(before, pool)}; after {spread(after, pool)}"
+def length(plan: Plan, options: Any) -> str:
+    """How long a plan is, beside the one that --deviation asks for and the whole one."""
+    if plan.whole is None:
+        return ""
+    most = f"{float(options.deviation):g}"
+    whole = f"{plan.whole} in the whole plan" if plan.whole < MOST else f"{MOST} in a plan of at most {MOST}"
+    if plan.wanted is None:
+        return f"; {whole}, which does not come within {most} of each share"
+    return f"; {plan.wanted} moves come within {most} of each share, {whole}"
+
+
+def changed(old: dict[str, Any], new: dict[str, Any]) -> list[str]:
+    """The groups that have other pairs in a new map than in the old one, in which they may have none."""
+    kept = dict(old.get("pg_upmap_items", []))
+    return [group for group, pairs in new["pg_upmap_items"] if kept.get(group) != pairs]
+
+
+def told(pool: dict[str, Any], plan: Plan, before: Shares, after: dict[str, Up], options: Any) -> str:
+    """What is said of a pool's plan; the sets after it are those of its groups that may have others than before."""
+    counts, weights = Counter(before.counts_in[pool["id"]]), before.weights_for(pool)
+    was = spread(weights, counts)
+    for sign, sets in ((-1, before.ups), (1, after)):
+        for osd in (osd for group in after for osd in sets[group].places if osd is not None):
+            counts[osd] += sign
+    groups = sum(before.ups[group].places != up.places for group, up in after.items())
+    return f"{plan.moves} moves of {groups} groups{length(plan, options)}; before {was}; after {spread(weights, counts)}"
+
+
+def planned(session: Session, cluster: Cluster, options: Any) -> list[str]:
+    """The commands of the plans; tells on standard error what they are."""
+    pools = chosen(options.pool or [], cluster)
+    part = dict(cluster.value, pools=pools)
+    before = Shares(part, session.ups(groups_of(part)))
+    if options.deviation is None:
+        plans = {pool["id"]: moved(session, pool["id"], options.max) for pool in pools}
+    else:
+        plans = shortened(session, cluster.value, before, pools, options)
+    new = session.dump()
+    after: dict[int, dict[str, Up]] = {pool["id"]: {} for pool in pools}
+    for group, up in session.ups(changed(cluster.value, new)).items():
+        after[place_of(group)[0]][group] = up
+    for pool in pools:
+        plan, name = plans[pool["id"]], named(cluster.names if options.names else {}, "pools", pool["id"])
+        if plan.refusal and options.pool:
+            raise Fault(f"{name}: {plan.refusal}")
+        line = f"{plan.refusal}: passed over" if plan.refusal else told(pool, plan, before, after[pool["id"]], options)
+        print(f"{name}: {line}", file=sys.stderr)
+    return commands(cluster.value, settled(session, new), cluster.kept)
 
 
 def work(options: Any) -> None:
-    """Asks the program for its plans and tells them."""
-    if len(options.files) > 2:
-        raise Fault("plan takes one map, or two dumps")
-    value, names = stated(options)
-    pools, groups = chosen(options, value, names), groups_of(value)
-    asked = [f"up {group}" for group in groups]
-    balances = [f"balance {pool} {options.max}" for pool in pools]
-    answers = raw_answers(options.program, value, asked + balances + asked + ["dump"])
-    plans = answers[len(groups):len(groups) + len(pools)]
-    before, after = (Shares(value, dict(zip(groups, map(up_of, own)))) for own in (answers[:len(groups)], answers[len(groups) + len(pools):-1]))
-    new = checked(json.loads(answers[-1].removeprefix("dump ")), options.program)
-    for pool in (own for own in value["pools"] if own["id"] in pools):
-        answer = plans[pools.index(pool["id"])]
-        if answer.startswith("moved "):
-            print(told(pool, answer, before, after), file=sys.stderr)
-            continue
-        why = f"pool {pool['id']}: {answer.removeprefix('err ')}"
-        if options.pool:
-            raise Fault(why)
-        print(f"{why}: passed over", file=sys.stderr)
-    for line in commands(value, new):
+    """Asks the program for its plans, in one session, and tells them."""
+    monitor, cluster = opened(options)
+    with monitor:
+        lines = planned(monitor, cluster, options)
+    for line in lines:
         print(line)
+
+
+# The command line
+
+class Files(argparse.Action):
+    """One file or two; an error of use where there are more."""
+
+    def __call__(self, parser: argparse.ArgumentParser, namespace: argparse.Namespace, values: Any, option: str | None = None) -> None:
+        """Keeps the words, or ends the command with status 2."""
+        if len(values) > 2:
+            parser.error("plan takes one map, or two dumps")
+        setattr(namespace, self.dest, values)
+
+
+def limit(word: str) -> int:
+    """A number of moves; an error of use where it is none."""
+    number = int(word) if word.isdecimal() else 0
+    if not 1 <= number <= MOST:
+        raise argparse.ArgumentTypeError(f"{word}: no number of moves from 1 to {MOST}")
+    return number
+
+
+def distance(word: str) -> Fraction:
+    """A number of groups from a share; an error of use where it is none."""
+    try:
+        number = Fraction(word)
+    except (ValueError, ZeroDivisionError):
+        number = Fraction(-1)
+    if number < 0:
+        raise argparse.ArgumentTypeError(f"{word}: no number of groups")
+    return number
 
 
 def add_to(commands_of: Any) -> None:
     """The subcommand."""
     own = commands_of.add_parser("plan", help="a balancer's plan as Ceph's commands", description=__doc__)
-    own.add_argument("files", metavar="OSD_DUMP CRUSH_DUMP | MAP", nargs="+")
+    own.add_argument("files", metavar="OSD_DUMP CRUSH_DUMP | MAP", nargs="+", action=Files)
     own.add_argument("--pool", metavar="ID|NAME", action="append", help="only this pool; as often as there are pools")
-    own.add_argument("--max", metavar="N", type=int, default=MOST, help="at most N moves a pool, 1 to 1024")
+    own.add_argument("--max", metavar="N", type=limit, default=MOST, help="at most N moves a pool, 1 to 1024")
+    own.add_argument("--deviation", metavar="D", type=distance, help="only as many moves as bring each OSD within D groups of its share")
+    own.add_argument("--names", metavar="FILE", help="names, as `import --names` wrote them")
+    own.add_argument("--unmatched", action="store_true", help=UNMATCHED)
     own.set_defaults(work=work)

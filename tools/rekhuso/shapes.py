@@ -1,5 +1,6 @@
 """The form of what Ceph's tools dump, as far as it is read here, and where a value is not of it."""
 
+import math
 from typing import Any
 
 # A key that may be missing begins with a question mark; a list of one shape stands for any number of such entries.
@@ -10,14 +11,16 @@ OSD_DUMP = {
                "?flags": int, "?object_hash": int}],
     "osds": [{"osd": int, "up": int, "weight": float, "?state": [str], "?primary_affinity": float}],
     "?pg_upmap": [dict(GROUP, osds=[int])], "?pg_upmap_items": [dict(GROUP, mappings=[{"from": int, "to": int}])],
-    "?pg_temp": [object], "?primary_temp": [object],
+    "?pg_temp": [object], "?primary_temp": [object], "?pg_upmap_primaries": [object],
 }
 CRUSH_DUMP = {
     "devices": [{"id": int, "name": str}], "types": [{"type_id": int, "name": str}],
     "buckets": [{"id": int, "name": str, "type_id": int, "alg": str, "?hash": str, "items": [{"id": int, "weight": int}]}],
     "rules": [{"rule_id": int, "rule_name": str, "type": int,
                "steps": [{"op": str, "?item": int, "?item_name": str, "?num": int, "?type": str}]}],
-    "tunables": {}, "?choose_args": object,
+    "tunables": {"?choose_local_tries": int, "?choose_local_fallback_tries": int, "?choose_total_tries": int,
+                 "?chooseleaf_descend_once": int, "?chooseleaf_vary_r": int, "?chooseleaf_stable": int},
+    "?choose_args": {},
 }
 # What a step must have beside its word.
 STEPS = {"take": ("item",), "choose_firstn": ("num", "type"), "choose_indep": ("num", "type"), "chooseleaf_firstn": ("num", "type"),
@@ -26,8 +29,12 @@ KINDS = {int: "whole number", float: "number", str: "text"}
 
 
 def is_kind(value: Any, kind: type) -> bool:
-    """Whether a value is of a kind; a truth value is no number."""
-    return kind is object or (isinstance(value, (int, float) if kind is float else kind) and not isinstance(value, bool))
+    """Whether a value is of a kind; a truth value is no number, nor is what JSON has no number for."""
+    if kind is object:
+        return True
+    if kind is float:
+        return isinstance(value, (int, float)) and not isinstance(value, bool) and math.isfinite(value)
+    return isinstance(value, kind) and not isinstance(value, bool)
 
 
 def misfits(value: Any, shape: Any, place: str) -> list[str]:
@@ -51,3 +58,25 @@ def misfits(value: Any, shape: Any, place: str) -> list[str]:
             found += [f"{place}.{name}: missing" for name in STEPS.get(value["op"], ()) if name not in value]
         return found
     return [] if is_kind(value, shape) else [f"{place}: no {KINDS[shape]}"]
+
+
+def fitting(value: Any, shape: dict[str, Any]) -> tuple[dict[str, Any], frozenset[str]]:
+    """What of a dump is of its form: the entries of its lists that are, blanks for what is not; and the keys of which something is gone."""
+    value, kept, torn = value if isinstance(value, dict) else {}, {}, set()
+    for key, own in shape.items():
+        name = key.removeprefix("?")
+        if name in value and not misfits(value[name], own, ""):
+            kept[name] = value[name]
+        elif name in value or name == key:
+            torn.add(name)
+            kept[name] = parts_of(value.get(name), own)
+    return kept, frozenset(torn)
+
+
+def parts_of(value: Any, shape: Any) -> Any:
+    """The entries of a list or an object that are of their form; 1 in place of a number."""
+    if isinstance(shape, list):
+        return [entry for entry in value if not misfits(entry, shape[0], "")] if isinstance(value, list) else []
+    if isinstance(shape, dict):
+        return fitting(value, shape)[0]
+    return 1

@@ -1,26 +1,40 @@
-"""`df`: the tree of buckets with each OSD's weight, reweight, state, groups, share and deviation; and the pools."""
+"""`df`: the tree of buckets with each OSD's weight, reweight, state, groups, share and deviation, its totals, and the pools."""
+
+from __future__ import annotations
 
 import json
-import sys
+import re
 from collections import Counter
 from itertools import chain
 from typing import Any
 
-from monitor import Up, groups_of, map_in, up_sets
-from texts import json_of
+from .monitor import Up, groups_of, map_with_sets
+from .texts import names_in
 
 COLUMNS = ["ID", "WEIGHT", "REWEIGHT", "STATE", "PGS", "SHARE", "VAR", "NAME"]
 
 
 def named(names: dict[str, Any], kind: str, number: int) -> str:
     """The name of a thing, or what stands for it."""
-    return names.get(kind, {}).get(str(number), f"osd.{number}" if kind == "osds" else f"{kind[:-1]} {number}")
+    name: str = names.get(kind, {}).get(str(number), f"osd.{number}" if kind == "osds" else f"{kind[:-1]} {number}")
+    return name
+
+
+def with_names(text: str, names: dict[str, Any]) -> str:
+    """A text in which buckets, pools, rules and OSDs are told by their names, as far as they have some."""
+    def name_of(found: re.Match[str]) -> str:
+        """What stands in place of a kind and its number."""
+        name: str | None = names.get(f"{found[1]}s", {}).get(found[2])
+        return str(found[0]) if name is None else name if found[1] == "osd" else f"{found[1]} {name}"
+
+    return re.sub(r"\b(bucket|pool|rule|osd)[ .](-?[0-9]+)", name_of, text)
 
 
 class Shares:
     """How many places of up sets each OSD has, beside the share that its weight calls for."""
 
     def __init__(self, value: dict[str, Any], ups: dict[str, Up]) -> None:
+        """Takes a lawful map and the up set of each of its groups."""
         self.value, self.ups = value, ups
         self.osds = {osd["id"]: osd for osd in value["osds"]}
         self.sets = {pool["id"]: [ups[group] for group in groups_of({"pools": [pool]})] for pool in value["pools"]}
@@ -39,7 +53,7 @@ class Shares:
 
     def counted(self, pool: dict[str, Any]) -> Counter[int]:
         """In how many groups of a pool each OSD stands."""
-        found = Counter(chain.from_iterable(set(up.places) for up in self.ups_in(pool)))
+        found: Counter[Any] = Counter(chain.from_iterable(set(up.places) for up in self.ups_in(pool)))
         del found[None]
         return found
 
@@ -59,6 +73,15 @@ class Shares:
     def roots(self) -> list[int]:
         """The buckets that stand in no other."""
         return [number for number in sorted(self.buckets, reverse=True) if number not in self.items]
+
+    def stray(self) -> list[dict[str, Any]]:
+        """What is told of the OSDs that exist and stand in no bucket, as Ceph calls them stray."""
+        return [self.osd_row(osd) for osd, own in sorted(self.osds.items()) if own["exists"] and osd not in self.items]
+
+    def total(self) -> dict[str, Any]:
+        """What the tree and the OSDs outside come to: weights, groups and shares."""
+        return {"weight": sum(weight for item, weight in self.items.items() if item >= 0) / 65536, "groups": sum(self.counts.values()),
+                "share": round(sum(self.wanted.values()), 2)}
 
     def state(self, osd: int) -> str:
         """Whether an OSD is there, up and in."""
@@ -86,7 +109,7 @@ class Shares:
             return [(depth, self.osd_row(number))]
         own = [self.osd_row(osd) for osd in self.below(number)]
         total = {"id": number, "type": self.buckets[number]["type"], "weight": sum(row["weight"] for row in own),
-                 "groups": sum(row["groups"] for row in own), "share": round(sum(row["share"] for row in own), 2)}
+                 "groups": sum(row["groups"] for row in own), "share": round(sum(self.wanted.get(row["id"], 0.0) for row in own), 2)}
         return [(depth, total)] + [row for item, _ in self.buckets[number]["items"] for row in self.rows(item, depth + 1)]
 
     def pools(self) -> list[dict[str, Any]]:
@@ -107,31 +130,39 @@ def spread(shares: Shares) -> dict[str, Any]:
     return {"least": min(counts, default=0), "greatest": max(counts, default=0), "deviation": round(deviation, 2)}
 
 
+def table_row(row: dict[str, Any], name: str) -> list[str]:
+    """A row of the table of text, for an OSD or a bucket."""
+    weight, groups, share = f"{row['weight']:.5f}", str(row["groups"]), f"{row['share']:.2f}"
+    if row["id"] < 0:
+        return [str(row["id"]), weight, "-", "-", groups, share, "-", name]
+    return [str(row["id"]), weight, f"{row['reweight']:.5f}", row["state"], groups, share, f"{row['deviation']:+.2f}", name]
+
+
 def tree_lines(shares: Shares, names: dict[str, Any]) -> list[str]:
-    """The tree as a table of text."""
+    """The tree as a table of text, then the OSDs outside every bucket, then the totals."""
     rows = [COLUMNS]
     for root in shares.roots():
-        for depth, row in shares.rows(root):
-            name = "  " * depth + named(names, "osds" if row["id"] >= 0 else "buckets", row["id"])
-            if row["id"] < 0:
-                rows.append([str(row["id"]), f"{row['weight']:.5f}", "-", "-", str(row["groups"]), f"{row['share']:.2f}", "-", name])
-            else:
-                rows.append([str(row["id"]), f"{row['weight']:.5f}", f"{row['reweight']:.5f}", row["state"], str(row["groups"]),
-                             f"{row['share']:.2f}", f"{row['deviation']:+.2f}", name])
+        rows += [table_row(row, "  " * depth + named(names, "osds" if row["id"] >= 0 else "buckets", row["id"]))
+                 for depth, row in shares.rows(root)]
+    stray, total = shares.stray(), shares.total()
+    if stray:
+        rows.append([""] * 7 + ["outside every bucket"])
+    rows += [table_row(row, "  " + named(names, "osds", row["id"])) for row in stray]
+    rows.append(["", f"{total['weight']:.5f}", "", "", str(total["groups"]), f"{total['share']:.2f}", "", "TOTAL"])
     widths = [max(len(row[at]) for row in rows) for at in range(len(COLUMNS) - 1)]
     return ["  ".join([cell.rjust(width) for cell, width in zip(row, widths)] + [row[-1]]) for row in rows]
 
 
 def work(options: Any) -> None:
     """Tells the tree, the pools and the totals of a map."""
-    value = map_in(options.map, options.program)
-    names = json_of(options.names) if options.names else {}
-    shares = Shares(value, up_sets(options.program, value, groups_of(value)))
+    value, sets = map_with_sets(options.map, options.program)
+    names = names_in(options.names)
+    shares = Shares(value, sets)
     even = spread(shares)
     if options.json:
         tree = [dict(row, depth=depth) for root in shares.roots() for depth, row in shares.rows(root)]
-        json.dump({"tree": tree, "pools": shares.pools(), "spread": even}, sys.stdout, indent=1)
-        print()
+        parts = {"tree": tree, "stray": shares.stray(), "total": shares.total(), "pools": shares.pools(), "spread": even}
+        print(json.dumps(parts, indent=1))
         return
     print("\n".join(tree_lines(shares, names)))
     for pool in shares.pools():

@@ -3,12 +3,18 @@
 The lines are those of a script; beside them `help`, `help COMMAND`, `save FILE` and `quit`.
 """
 
+from __future__ import annotations
+
+import contextlib
+import io
+import signal
 import sys
+from collections.abc import Iterator
 from typing import Any
 
-from faults import Fault
-from monitor import Monitor
-from texts import text_of
+from .faults import Misuse
+from .monitor import Monitor
+from .texts import text_of
 
 HELP = {
     "up": "up PG: the up set of a group and its primary, as up 1.0",
@@ -42,6 +48,8 @@ def saved(monitor: Monitor, path: str) -> str:
             file.write(text + "\n")
     except OSError as fault:
         return f"{path}: {fault.strerror}"
+    except ValueError:
+        return f"{path!r}: no path"
     return f"saved {path}"
 
 
@@ -57,8 +65,26 @@ def answered(monitor: Monitor, line: str) -> str | None:
     return monitor.raw([line])[0]
 
 
+@contextlib.contextmanager
+def held() -> Iterator[None]:
+    """Holds Ctrl-C back, so that what is begun is answered and shown; KeyboardInterrupt is raised at the end where it came."""
+    signal.pthread_sigmask(signal.SIG_BLOCK, {signal.SIGINT})
+    try:
+        yield
+    finally:
+        signal.pthread_sigmask(signal.SIG_UNBLOCK, {signal.SIGINT})
+
+
+def is_last(monitor: Monitor, line: str) -> bool:
+    """Shows what there is to show for a line, and tells whether it ends the shell. An empty line is passed over."""
+    shown = answered(monitor, line) if line else ""
+    if shown:
+        print(shown, flush=True)
+    return shown is None
+
+
 def prompted(monitor: Monitor) -> None:
-    """Reads lines from a terminal."""
+    """Reads lines from a terminal until they end. Ctrl-C drops the line that is being typed, and nothing else."""
     try:
         import readline
         readline.set_completer(completer)
@@ -69,31 +95,29 @@ def prompted(monitor: Monitor) -> None:
     while True:
         try:
             line = input("osdmap> ").strip()
-        except (EOFError, KeyboardInterrupt):
+            with held():
+                if is_last(monitor, line):
+                    return
+        except EOFError:
             print()
             return
-        shown = answered(monitor, line) if line else ""
-        if shown is None:
-            return
-        if shown:
-            print(shown)
+        except KeyboardInterrupt:
+            print()
 
 
 def piped(monitor: Monitor) -> None:
-    """Reads lines from a pipe or a file, as they are."""
+    """Reads lines from a pipe or a file, as they are, until they end."""
     for line in sys.stdin:
-        line = line.removesuffix("\n")
-        shown = answered(monitor, line) if line else ""
-        if shown is None:
+        if is_last(monitor, line.removesuffix("\n")):
             return
-        if shown:
-            print(shown, flush=True)
 
 
 def work(options: Any) -> None:
     """Answers lines until they end."""
     if options.map == "-":
-        raise Fault("shell reads lines from standard input, so the map must be a file")
+        raise Misuse("shell reads lines from standard input, so the map must be a file")
+    if isinstance(sys.stdin, io.TextIOWrapper):
+        sys.stdin.reconfigure(errors="surrogateescape")
     with Monitor(text_of(options.map), options.program) as monitor:
         (prompted if sys.stdin.isatty() else piped)(monitor)
 

@@ -1,14 +1,19 @@
 """Files and texts: JSON in and out, `-` for standard input."""
 
+from __future__ import annotations
+
 import json
+import re
 import sys
 from typing import Any
 
-from faults import Fault
+from .faults import Fault
+
+KINDS = ("buckets", "osds", "pools", "rules", "types")
 
 
 def text_of(path: str) -> str:
-    """The text of a file, or of standard input."""
+    """The text of a file, or of standard input where the path is `-`. A fault where it cannot be read or is no UTF-8."""
     try:
         if path == "-":
             return sys.stdin.read()
@@ -20,8 +25,17 @@ def text_of(path: str) -> str:
         raise Fault(f"{path}: no UTF-8") from None
 
 
+def put(path: str, text: str) -> None:
+    """Writes a text into a file. A fault with its path where it cannot be written."""
+    try:
+        with open(path, "w", encoding="utf-8") as file:
+            file.write(text)
+    except OSError as fault:
+        raise Fault(f"{path}: {fault.strerror}") from None
+
+
 def json_of(path: str, *keys: str) -> dict[str, Any]:
-    """The object of a JSON file that has these keys."""
+    """The object of a JSON file that has these keys. A fault where there is none."""
     try:
         value = json.loads(text_of(path))
     except (ValueError, RecursionError) as fault:
@@ -34,6 +48,30 @@ def json_of(path: str, *keys: str) -> dict[str, Any]:
     return value
 
 
+def is_text(value: Any) -> bool:
+    """Whether a value is a text that can be written as UTF-8, which half of a pair of surrogates cannot."""
+    try:
+        return isinstance(value, str) and bool(value.encode() or True)
+    except UnicodeEncodeError:
+        return False
+
+
+def names_in(path: str | None) -> dict[str, dict[str, str]]:
+    """The names in a file as `import --names` writes it: of each kind, names by numbers as texts; none where there is no path.
+    A fault that says the first place where it has another form."""
+    names = {} if path is None else json_of(path)
+    for kind in KINDS:
+        own = names.get(kind, {})
+        if not isinstance(own, dict):
+            raise Fault(f"{path}: {kind}: no object")
+        for number, name in own.items():
+            if not re.fullmatch("-?[0-9]+", number):
+                raise Fault(f"{path}: {kind}.{number}: no number")
+            if not is_text(name):
+                raise Fault(f"{path}: {kind}.{number}: no text")
+    return {kind: names.get(kind, {}) for kind in KINDS}
+
+
 def written(value: Any) -> str:
-    """The written form: compact, keys in byte order."""
+    """The written form of a value: compact JSON, keys in byte order."""
     return json.dumps(value, separators=(",", ":"), sort_keys=True)

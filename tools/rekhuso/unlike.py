@@ -1,10 +1,17 @@
 """`diff`: what differs between two maps, as a change where a change can say it, and what moves."""
 
+from __future__ import annotations
+
 from typing import Any
 
-from faults import Refused
-from monitor import Up, groups_of, map_in, raw_answers, up_sets
-from texts import written
+from .faults import Refused
+from .monitor import Up, groups_of, map_in, raw_answers, up_sets
+from .shares import with_names
+from .texts import names_in, written
+
+
+# The exceptions of a map, and the word that Ceph's commands have for each.
+WORDS = {"pg_upmap": "pg-upmap", "pg_upmap_items": "pg-upmap-items"}
 
 
 def by_key(entries: list[Any], key: Any) -> dict[Any, Any]:
@@ -46,8 +53,7 @@ def change_of(old: dict[str, Any], new: dict[str, Any]) -> tuple[dict[str, Any],
     pools = pool_parts(old, new)
     unsaid = [f"pool {number} differs in more than its numbers of groups" for number in pools.pop("other")]
     change.update({key: value for key, value in pools.items() if value})
-    crush = [{key: sorted(value[key], key=lambda entry: -abs(entry["id"])) for key in ("buckets", "rules")} for value in (old, new)]
-    if crush[0] != crush[1]:
+    if any(by_key(old[key], "id") != by_key(new[key], "id") for key in ("buckets", "rules")):
         change["new_crush"] = {"buckets": new["buckets"], "rules": new["rules"]}
     before, after = by_key(old["osds"], "id"), by_key(new["osds"], "id")
     none = {"exists": False, "up": False, "weight": 0}
@@ -69,17 +75,22 @@ def change_of(old: dict[str, Any], new: dict[str, Any]) -> tuple[dict[str, Any],
     return change, unsaid
 
 
-def commands(old: dict[str, Any], new: dict[str, Any]) -> list[str]:
-    """What Ceph is told so that the exceptions of one map become those of the other."""
+def commands(old: dict[str, Any], new: dict[str, Any], kept: dict[str, Any] | None = None) -> list[str]:
+    """What Ceph is told so that the exceptions of one map become those of the other, group by group; what goes, goes first. `kept` is
+    what Ceph has, where the old map has not all of it: an explicit set that did nothing would keep pairs that come from acting."""
+    tables = {key: [dict(value.get(key, [])) for value in (old, new, kept or old)] for key in WORDS}
+    groups = {group for before, after, _ in tables.values() for group in before.keys() | after.keys()
+              if before.get(group) != after.get(group)}
     found = []
-    for key, word in (("pg_upmap", "pg-upmap"), ("pg_upmap_items", "pg-upmap-items")):
-        before, after = (dict(value.get(key, [])) for value in (old, new))
-        for group in sorted(before.keys() | after.keys(), key=place_of):
-            if group not in after:
-                found.append(f"ceph osd rm-{word} {group}")
-            elif before.get(group) != after[group]:
-                entries = after[group] if word == "pg-upmap" else [osd for pair in after[group] for osd in pair]
-                found.append(f"ceph osd {word} {group} {' '.join(map(str, entries))}")
+    for group in sorted(groups, key=place_of):
+        gone, come = [], []
+        for key, (_, after, own) in tables.items():
+            if group in own and group not in after:
+                gone.append(f"ceph osd rm-{WORDS[key]} {group}")
+            elif group in after and own.get(group) != after[group]:
+                osds = after[group] if key == "pg_upmap" else [osd for pair in after[group] for osd in pair]
+                come.append(f"ceph osd {WORDS[key]} {group} {' '.join(map(str, osds))}")
+        found += gone + come
     return found
 
 
@@ -97,11 +108,12 @@ def moved(before: dict[str, Up], after: dict[str, Up]) -> dict[str, Any]:
 def work(options: Any) -> None:
     """Tells the change between two maps and what it moves."""
     old, new = (map_in(path, options.program) for path in (options.old, options.new))
+    names = names_in(options.names)
     change, unsaid = change_of(old, new)
     before, after = (up_sets(options.program, value, groups_of(value)) for value in (old, new))
     print(f"change {written(change)}")
     for line in unsaid:
-        print(f"no change says: {line}")
+        print(f"no change says: {with_names(line, names)}")
     if not unsaid:
         answer = raw_answers(options.program, old, [f"change {written(change)}"])[0]
         if not answer.startswith("ok "):
@@ -115,4 +127,5 @@ def add_to(commands: Any) -> None:
     own = commands.add_parser("diff", help="what differs between two maps", description=__doc__)
     own.add_argument("old", metavar="MAP")
     own.add_argument("new", metavar="MAP")
+    own.add_argument("--names", metavar="FILE", help="names, as `import --names` wrote them")
     own.set_defaults(work=work)

@@ -4,55 +4,99 @@ The change is a line of a script (`change {..}`, or its JSON alone), or is put t
 its number, several by the bucket that they stand below (its id, or its name where --names knows it).
 """
 
+from __future__ import annotations
+
+import argparse
 import json
-import sys
+import math
+import re
 from typing import Any
 
-from faults import Fault
-from flows import picture
-from monitor import Up, answers_of, groups_of, map_in, raw_answers, up_of
-from shares import named
-from texts import json_of, written
-from unlike import place_of
+from .faults import Fault, Misuse
+from .flows import picture
+from .monitor import Up, answers_of, groups_of, map_in, raw_answers, up_of
+from .shares import named
+from .texts import names_in, put, written
+from .unlike import place_of
+
+
+def change_in(text: str) -> dict[str, Any]:
+    """The change that a word on the command line is, `change ` before it or not; else an error of use."""
+    try:
+        value = json.loads(text.removeprefix("change "))
+    except (ValueError, RecursionError) as fault:
+        raise argparse.ArgumentTypeError(f"no change: no JSON: {fault}") from None
+    if not isinstance(value, dict):
+        raise argparse.ArgumentTypeError("no change: no JSON object")
+    return value
+
+
+def reweight_in(word: str) -> int:
+    """The reweight that a word from 0 to 1 is, in units of 1/65,536; else an error of use."""
+    weight = number_in(word)
+    if not 0 <= weight <= 1:
+        raise Misuse(f"argument --reweight: {word}: a reweight is a number from 0 to 1")
+    return round(weight * 65536)
+
+
+def weights_in(word: str) -> list[int]:
+    """The weights that a word as 1,1,2.5 lists, in units of 1/65,536; else an error of use."""
+    weights = [number_in(part) for part in word.split(",")]
+    if not all(1 / 65536 <= weight < 65536 for weight in weights):
+        raise Misuse(f"argument --add-host: {word}: weights are written as 1,1,2.5, each above 0 and below 65,536")
+    return [min(round(weight * 65536), 2 ** 32 - 1) for weight in weights]
+
+
+def number_in(word: str) -> float:
+    """The number that a word is; where it is none, one that is below and above no other."""
+    try:
+        return float(word)
+    except ValueError:
+        return math.nan
 
 
 def osds_below(value: dict[str, Any], number: int) -> list[int]:
     """The OSDs at or below an item."""
     if number >= 0:
         return [number]
-    items = next((bucket["items"] for bucket in value["buckets"] if bucket["id"] == number), [])
+    items: list[list[int]] = next((bucket["items"] for bucket in value["buckets"] if bucket["id"] == number), [])
     return [osd for item, _ in items for osd in osds_below(value, item)]
 
 
+def number_of(word: str, known: dict[str, str]) -> int | None:
+    """The number that a word is, or that has it as its name; None where there is none."""
+    if re.fullmatch("-?[0-9]+", word):
+        return int(word)
+    return next((int(number) for number, name in known.items() if name == word), None)
+
+
 def osds_named(value: dict[str, Any], names: dict[str, Any], word: str) -> list[int]:
-    """The OSDs that a word names: a number, `osd.N`, or a bucket by id or name."""
-    number = word.removeprefix("osd.")
-    known = {name: int(own) for own, name in names.get("buckets", {}).items()}
-    if number.lstrip("-").isdigit():
-        found = osds_below(value, int(number))
-    else:
-        found = osds_below(value, known[word]) if word in known else []
+    """The OSDs that a word names: a number, `osd.N`, or a bucket by id or name. A fault where there are none."""
+    number = number_of(word.removeprefix("osd."), names.get("buckets", {}))
     there = {osd["id"] for osd in value["osds"] if osd["exists"]}
-    found = [osd for osd in found if osd in there]
+    found = [osd for osd in ([] if number is None else osds_below(value, number)) if osd in there]
     if not found:
         raise Fault(f"{word}: no OSD of the map, nor a bucket with any")
     return found
 
 
+def weights_of(options: Any, value: dict[str, Any], names: dict[str, Any]) -> list[list[int]]:
+    """The OSDs that get a reweight, each with it in units of 1/65,536. An error of use where one gets two."""
+    asked = [(word, 0) for word in options.out] + [(word, 65536) for word in getattr(options, "in")]
+    asked += [(word, reweight_in(weight)) for word, weight in options.reweight]
+    found: dict[int, int] = {}
+    for word, weight in asked:
+        for osd in osds_named(value, names, word):
+            if found.setdefault(osd, weight) != weight:
+                raise Misuse(f"osd.{osd} is given two reweights")
+    return [list(pair) for pair in sorted(found.items())]
+
+
 def change_of(options: Any, value: dict[str, Any], names: dict[str, Any]) -> dict[str, Any]:
     """The change that the options ask for."""
-    change: dict[str, Any] = {"base": value["epoch"]}
-    if options.change:
-        try:
-            change.update(json.loads(options.change.removeprefix("change ")))
-        except ValueError as fault:
-            raise Fault(f"the change is no JSON: {fault}") from None
-    weights = {osd: 0 for word in options.out for osd in osds_named(value, names, word)}
-    weights.update({osd: 65536 for word in getattr(options, "in") for osd in osds_named(value, names, word)})
-    for word, weight in options.reweight:
-        weights.update({osd: round(float(weight) * 65536) for osd in osds_named(value, names, word)})
-    down = [osd for word in options.down for osd in osds_named(value, names, word)]
-    for key, more in (("weight", [list(pair) for pair in sorted(weights.items())]), ("down", sorted(down))):
+    change = {"base": value["epoch"], **(options.change or {})}
+    down = {osd for word in options.down for osd in osds_named(value, names, word)}
+    for key, more in (("weight", weights_of(options, value, names)), ("down", sorted(down))):
         if more:
             change[key] = change.get(key, []) + more
     return change
@@ -86,99 +130,139 @@ def compared(before: dict[str, Up], after: dict[str, Up], sizes: dict[int, int])
 
 
 def result(value: dict[str, Any], change: dict[str, Any] | None, options: Any, grown: dict[str, Any] | None = None) -> dict[str, Any]:
-    """What a change moves, or what another map does that has a host more, by the program."""
+    """What a change moves, or what another map does that has a host more, by the program; and which pools it could not balance, each
+    with why, where plans are asked for. A fault where the change is refused."""
     groups = groups_of(value)
     asked = [f"up {group}" for group in groups]
     plans = [f"balance {pool['id']} 1024" for pool in value["pools"]] if options.balance else []
     if grown is None:
         answers = raw_answers(options.program, value, asked + [f"change {written(change)}"] + plans + asked)
-        if not answers[len(groups)].startswith("ok "):
-            raise Fault(f"the change is refused: {answers[len(groups)].removeprefix('err ')}")
+        made = answers.pop(len(groups))
+        if not made.startswith("ok "):
+            raise Fault(f"the change is refused: {made.removeprefix('err ')}")
     else:
         answers = answers_of(options.program, value, asked) + raw_answers(options.program, grown, plans + asked)
+    planned, last = answers[len(groups):len(groups) + len(plans)], answers[len(groups) + len(plans):]
     before = dict(zip(groups, map(up_of, answers[:len(groups)])))
-    after = {group: up_of(answer) for group, answer in zip(groups, answers[-len(groups):]) if answer.startswith("up ")}
-    return compared(before, after, {pool["id"]: pool["size"] for pool in value["pools"]})
+    after = {group: up_of(answer) for group, answer in zip(groups, last) if answer.startswith("up ")}
+    refused = [[pool["id"], answer.removeprefix("err ")] for pool, answer in zip(value["pools"], planned) if answer.startswith("err ")]
+    return dict(compared(before, after, {pool["id"]: pool["size"] for pool in value["pools"]}), unbalanced=refused)
 
 
-def with_host(value: dict[str, Any], names: dict[str, Any], name: str, weights: str, under: str | None) -> dict[str, Any]:
-    """The map with a host of new OSDs, which are up and in, of these weights in the CRUSH map (1 is 65,536)."""
-    hosts = [bucket for bucket in value["buckets"] if any(item >= 0 for item, _ in bucket["items"])]
-    parents = [bucket for bucket in value["buckets"] if any(item in [host["id"] for host in hosts] for item, _ in bucket["items"])]
-    known = {own: int(number) for number, own in names.get("buckets", {}).items()}
-    chosen = [bucket for bucket in parents if under is None or bucket["id"] == known.get(under) or str(bucket["id"]) == under]
+def below_which(value: dict[str, Any], names: dict[str, Any], name: str, under: str | None) -> tuple[int, dict[str, Any]]:
+    """The bucket below which a new host comes, and a host that stands there. A fault where none, or none alone, is meant."""
+    hosts = {bucket["id"]: bucket for bucket in value["buckets"] if any(item >= 0 for item, _ in bucket["items"])}
+    parents = {bucket["id"]: [hosts[item] for item, _ in bucket["items"] if item in hosts] for bucket in value["buckets"]}
+    there = [number for number, own in parents.items() if own]
+    if not there:
+        raise Fault(f"{name}: no bucket of the map holds hosts")
+    meant = None if under is None else number_of(under, names.get("buckets", {}))
+    chosen = [number for number in there if under is None or number == meant]
     if len(chosen) != 1:
-        raise Fault(f"{name}: below which bucket? --under one of " + ", ".join(named(names, "buckets", bucket["id"]) for bucket in parents))
-    host = next(own for own in hosts if own["id"] in [item for item, _ in chosen[0]["items"]])
-    first, own_weights = max((osd["id"] for osd in value["osds"]), default=-1) + 1, [round(float(own) * 65536) for own in weights.split(",")]
-    new = {"id": min(bucket["id"] for bucket in value["buckets"]) - 1, "items": [[first + at, own] for at, own in enumerate(own_weights)],
-           "kind": host["kind"], "type": host["type"]}
-    buckets, way, total = {bucket["id"]: dict(bucket, items=[list(item) for item in bucket["items"]]) for bucket in value["buckets"]}, chosen[0]["id"], sum(own_weights)
+        raise Fault(f"{name}: below which bucket? --under one of " + ", ".join(named(names, "buckets", number) for number in there))
+    return chosen[0], parents[chosen[0]][0]
+
+
+def with_host(value: dict[str, Any], names: dict[str, Any], name: str, weights: list[int], under: str | None) -> dict[str, Any]:
+    """The map with a host of new OSDs, which are up and in, of these weights in the CRUSH map, in units of 1/65,536. A fault where it
+    is not said below which bucket the host comes."""
+    way, host = below_which(value, names, name, under)
+    buckets = {bucket["id"]: dict(bucket, items=[list(item) for item in bucket["items"]]) for bucket in value["buckets"]}
+    known = [osd["id"] for osd in value["osds"]] + [item for bucket in buckets.values() for item, _ in bucket["items"]]
+    first, total = max(known) + 1, sum(weights)
+    items = [[first + at, own] for at, own in enumerate(weights)]
+    new = {"id": min(buckets) - 1, "items": items, "kind": host["kind"], "type": host["type"]}
     buckets[way]["items"].append([new["id"], total])
     while (above := next((bucket for bucket in buckets.values() if way in [item for item, _ in bucket["items"]]), None)) is not None:
         for item in above["items"]:
             item[1] += total if item[0] == way else 0
         way = above["id"]
     osds = value["osds"] + [{"exists": True, "id": osd, "up": True, "weight": 65536} for osd, _ in new["items"]]
-    return dict(value, buckets=[*buckets.values(), new], osds=osds, max_osd=max(value["max_osd"], first + len(own_weights)))
+    return dict(value, buckets=[*buckets.values(), new], osds=osds, max_osd=max(value["max_osd"], first + len(weights)))
+
+
+def fullest_words(found: dict[str, Any]) -> str:
+    """The OSD with the most groups, in words."""
+    if found["fullest"] is None:
+        return "no OSD has a group"
+    return f"the fullest OSD is then osd.{found['fullest']} with {found['fullest_groups']} groups"
 
 
 def lines(found: dict[str, Any], most: int = 20) -> list[str]:
-    """What moves, as text."""
-    told = [f"{found['groups']} groups and {found['places']} places move; the fullest OSD is then osd.{found['fullest']} with {found['fullest_groups']} groups"]
+    """What moves, as text, with at most so many pairs of OSDs."""
+    told = [f"{found['groups']} groups and {found['places']} places move; {fullest_words(found)}"]
     told += [f"{count} from osd.{was} to osd.{now}" for was, now, count in found["flows"][:most]]
     if len(found["flows"]) > most:
         told.append(f"and {sum(flow[2] for flow in found['flows'][most:])} more, between {len(found['flows']) - most} pairs of OSDs")
+    told += [f"pool {pool} is not balanced: {why}" for pool, why in found["unbalanced"]]
     short = found["short"]
     return told + ([f"{len(short)} groups have fewer places than their pool's size: " + ", ".join(short[:10])] if short
                    else ["no group has fewer places than its pool's size"])
 
 
-def drill(value: dict[str, Any], names: dict[str, Any], options: Any) -> None:
-    """What each bucket of a type would move if it went out, one after the other."""
+def level_of(value: dict[str, Any], names: dict[str, Any], word: str) -> int:
+    """The type of buckets that a word names, by its name or its number. A fault that lists the types there are where it is none of
+    the map's."""
     types = names.get("types", {})
-    level = next((int(number) for number, name in types.items() if name == options.each), None)
-    level = int(options.each) if level is None and options.each.isdigit() else level
-    for bucket in value["buckets"]:
-        if bucket["type"] == level:
-            weights = [[osd, 0] for osd in sorted(osds_below(value, bucket["id"]))]
-            found = result(value, {"base": value["epoch"], "weight": weights}, options)
-            print(f"{named(names, 'buckets', bucket['id'])}: {found['groups']} groups, {found['places']} places move; fullest osd.{found['fullest']} "
-                  f"with {found['fullest_groups']}; {len(found['short'])} groups short")
+    named_so = next((int(number) for number, name in types.items() if name == word), None)
+    level, there = number_of(word, {}) if named_so is None else named_so, sorted({bucket["type"] for bucket in value["buckets"]})
+    if level is None or level not in there:
+        known = [f"{number} ({types[str(number)]})" if str(number) in types else str(number) for number in there]
+        raise Fault(f"{word}: no type of the map's buckets; there are " + ", ".join(known))
+    return level
+
+
+def drill(value: dict[str, Any], names: dict[str, Any], options: Any) -> None:
+    """Tells what each bucket of a type would move if it went out, one after the other: a line each, or a list as JSON."""
+    level, there = level_of(value, names, options.each), {osd["id"] for osd in value["osds"] if osd["exists"]}
+    rows = []
+    for bucket in (own for own in value["buckets"] if own["type"] == level):
+        weights = [[osd, 0] for osd in sorted(osds_below(value, bucket["id"])) if osd in there]
+        found = result(value, {"base": value["epoch"], "weight": weights}, options)
+        name = named(names, "buckets", bucket["id"])
+        rows.append({"id": bucket["id"], "name": name, **found})
+        if not options.json:
+            unbalanced = "".join(f"; pool {pool} is not balanced: {why}" for pool, why in found["unbalanced"])
+            print(f"{name}: {found['groups']} groups and {found['places']} places move; {fullest_words(found)}; "
+                  f"{len(found['short'])} groups short{unbalanced}")
+    if options.json:
+        print(json.dumps(rows, indent=1))
+
+
+def check_together(options: Any) -> None:
+    """An error of use where options stand together of which one would be passed over."""
+    parts = {"CHANGE": options.change, "--out": options.out, "--in": getattr(options, "in"), "--down": options.down,
+             "--reweight": options.reweight}
+    if options.each is not None:
+        parts.update({"--add-host": options.add_host, "--picture": options.picture})
+    given = [name for name, value in parts.items() if value not in (None, [])]
+    if given and (options.each is not None or options.add_host):
+        raise Misuse(f"{given[0]} does not go with {'--add-host' if options.each is None else '--each'}")
+    if options.under is not None and not options.add_host:
+        raise Misuse("--under goes with --add-host alone")
 
 
 def work(options: Any) -> None:
     """Tells what moves."""
-    value = map_in(options.map, options.program)
-    names = json_of(options.names) if options.names else {}
-    if options.each:
+    check_together(options)
+    value, names, grown = map_in(options.map, options.program), names_in(options.names), None
+    if options.each is not None:
         drill(value, names, options)
         return
-    grown = None
     if options.add_host:
-        try:
-            grown = with_host(value, names, *options.add_host, options.under)
-        except ValueError:
-            raise Fault(f"{options.add_host[1]}: no weights; they are written as 1,1,2.5") from None
+        name, weights = options.add_host
+        grown = with_host(value, names, name, weights_in(weights), options.under)
     found = result(value, change_of(options, value, names), options, grown)
-    if options.picture:
-        try:
-            with open(options.picture, "w", encoding="utf-8") as file:
-                file.write(picture(grown or value, found, names))
-        except OSError as fault:
-            raise Fault(f"{options.picture}: {fault.strerror}") from None
-    if options.json:
-        json.dump(found, sys.stdout, indent=1)
-        print()
-    else:
-        print("\n".join(lines(found)))
+    if options.picture is not None:
+        put(options.picture, picture(grown or value, found, names))
+    print(json.dumps(found, indent=1) if options.json else "\n".join(lines(found)))
 
 
 def add_to(commands: Any) -> None:
     """The subcommand."""
     own = commands.add_parser("whatif", help="what moves if a change is made", description=__doc__)
     own.add_argument("map", metavar="MAP")
-    own.add_argument("change", metavar="CHANGE", nargs="?", help="a change as JSON, without its base or with it")
+    own.add_argument("change", metavar="CHANGE", nargs="?", type=change_in, help="a change as JSON, without its base or with it")
     for word, about in (("out", "takes no groups"), ("in", "takes its whole share again"), ("down", "is down")):
         own.add_argument(f"--{word}", metavar="OSD|BUCKET", action="append", default=[], help=f"it {about}; as often as wanted")
     own.add_argument("--reweight", metavar=("OSD|BUCKET", "W"), nargs=2, action="append", default=[], help="its reweight, 0 to 1")

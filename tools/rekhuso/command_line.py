@@ -1,0 +1,101 @@
+"""The command line: one parser with a subcommand for each module that has `add_to` and `work`, and what a command ends with.
+
+Status 0: the work is done. Status 1: something was refused or has failed. Status 2: the command was used wrongly.
+"""
+
+from __future__ import annotations
+
+import argparse
+import contextlib
+import gc
+import io
+import os
+import pathlib
+import sys
+from typing import IO, NoReturn
+
+from . import __version__, bring, check, explain, net, picture, plan, report, shares, shell, unlike, whatif
+from .faults import Fault, Misuse
+from .monitor import built
+
+COMMANDS = [bring, check, plan, net, shares, unlike, whatif, explain, picture, report, shell]
+
+
+class Parser(argparse.ArgumentParser):
+    """A parser that tells an error of use in one line, and fails where help cannot be written."""
+
+    def error(self, message: str) -> NoReturn:
+        """Ends the command with status 2 and a line on standard error."""
+        self.exit(2, f"{self.prog}: error: {message} (--help tells the use)\n")
+
+    def _print_message(self, message: str, file: IO[str] | None = None) -> None:
+        """Writes a message. OSError where it cannot be written, which argparse would pass over."""
+        (file or sys.stderr).write(message)
+
+
+def parser() -> argparse.ArgumentParser:
+    """The command line: one parser with a subcommand for each module of COMMANDS."""
+    top = Parser(prog="rekhuso", description="Tools beside osdmapd, for people with a cluster.")
+    top.add_argument("--version", action="version", version=f"rekhuso {__version__}")
+    top.add_argument("--program", type=pathlib.Path, default=built(), help="the built program (else that of this repository, or of PATH)")
+    commands = top.add_subparsers(dest="command", required=True, metavar="COMMAND")
+    for module in COMMANDS:
+        module.add_to(commands)
+    for own in commands.choices.values():
+        own.add_argument("--program", type=pathlib.Path, default=argparse.SUPPRESS, help="the built program")
+    return top
+
+
+def set_streams() -> None:
+    """Sets standard streams to UTF-8, the two for output so that no character stops them; an input or errors that are closed are
+    empty. A fault where the output is closed."""
+    sys.stdin = sys.stdin or open(os.devnull, encoding="utf-8")
+    sys.stderr = sys.stderr or open(os.devnull, "w", encoding="utf-8")
+    if sys.stdout is None:
+        raise Fault("output: closed")
+    for stream, errors in ((sys.stdin, "strict"), (sys.stdout, "backslashreplace"), (sys.stderr, "backslashreplace")):
+        if isinstance(stream, io.TextIOWrapper):
+            stream.reconfigure(encoding="utf-8", errors=errors)
+
+
+def put_out() -> None:
+    """Puts out what standard output still holds. OSError where it cannot be written; what is left is then dropped, so that it is
+    not tried again when Python ends."""
+    try:
+        sys.stdout.flush()
+    except OSError:
+        os.dup2(os.open(os.devnull, os.O_WRONLY), sys.stdout.fileno())
+        raise
+
+
+def run() -> int:
+    """Does what the words of the command line ask for, and tells the status. Faults and OSError go on to who asked."""
+    try:
+        options = parser().parse_args()
+        options.work(options)
+        status = 0
+    except SystemExit as end:  # Of the parser: help, the version, or an error of use that it has told.
+        status = int(end.code or 0)
+    except Misuse as fault:
+        raise Misuse(f"rekhuso {options.command}: error: {fault} (--help tells the use)") from None
+    put_out()
+    return status
+
+
+def main() -> int:
+    """Runs one command: its status, and where that is not 0 what is wrong on standard error."""
+    # A command soon ends, and needs what it has made until then.
+    gc.disable()
+    try:
+        set_streams()
+        return run()
+    except Fault as fault:
+        lines, status = fault.lines, fault.status
+    except KeyboardInterrupt:
+        lines, status = ["interrupted"], 1
+    except OSError as fault:
+        lines, status = [f"{fault.filename or 'output'}: {fault.strerror}"], 1
+    print("\n".join(lines), file=sys.stderr)
+    with contextlib.suppress(OSError, AttributeError):
+        put_out()
+    return status
