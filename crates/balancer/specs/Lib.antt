@@ -1,3 +1,4 @@
+pub mod Limits
 pub mod Shares
 pub mod Moves
 pub mod Greedy

@@ -1,6 +1,8 @@
 //! The state of a plan: the groups of a pool and the deviations of OSDs after the moves so far.
 
 ghost use Rattle.std.specs.Prelude.{◌≡◌, ◌*◌, ◌+◌, ◌<◌, ◌≤◌, ◌^◌, pos, ◌-ℤ◌, length, Some, IfOk};
+ghost use Rattle.crush.specs.Limits.{max_devices};
+ghost use Rattle.stated.specs.Limits.{max_groups};
 ghost use Rattle.osdmap.specs.Maps.{pool_at};
 ghost use Rattle.pgtable.specs.Tables.{IsTableOf};
 ghost use Rattle.balancer.specs.Shares.{deviation, places};
@@ -20,9 +22,9 @@ use std::alloc::Global;
 
 /// How far an OSD with so many groups is above its share of the places, times the weight of all candidates.
 fn deviation(count: u64, total: u64, places: u64, weight: u64) -> i128
-    requires count { count ≤ 4096 }
+    requires count { count ≤ max_groups }
     requires total { total ≤ 2 ^ 58 }
-    requires places { places ≤ 1024 * 4096 }
+    requires places { places ≤ max_devices * max_groups }
     requires weight { weight < 2 ^ 48 }
     ensures { result ≡ pos (count * total) -ℤ pos (places * weight) }
 {
@@ -34,7 +36,7 @@ fn deviation(count: u64, total: u64, places: u64, weight: u64) -> i128
 fn places_of(frame: &Frame, table: &PgTable) -> u64
     requires { IsTableOf table.now frame.now.map.now.map }
     ensures value { result ≡ places frame.now.map.now.map frame.now.pool }
-    ensures small { result ≤ 1024 * 4096 }
+    ensures small { result ≤ max_devices * max_groups }
 {
     places(frame.map, table, &frame.pool, &frame.osds)
 }
@@ -44,7 +46,7 @@ fn places_of(frame: &Frame, table: &PgTable) -> u64
 fn deviation_of(frame: &Frame, table: &PgTable, places: u64, osd: u32) -> i128
     requires table { IsTableOf table.now frame.now.map.now.map }
     requires value { places ≡ places_in frame.now.map.now.map frame.now.pool }
-    requires few { places ≤ 1024 * 4096 }
+    requires few { places ≤ max_devices * max_groups }
     ensures { result ≡ deviation frame.now.map.now.map frame.now.pool osd }
 {
     let count = count(frame.map, table, &frame.pool, osd);

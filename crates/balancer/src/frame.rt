@@ -1,6 +1,7 @@
 //! What a plan goes by and no move changes.
 
 ghost use Rattle.std.specs.Prelude.{◌≡◌, ◌≤◌, ◌^◌, length, Some, IfOk};
+ghost use Rattle.crush.specs.Limits.{max_devices};
 ghost use Rattle.osdmap.specs.Maps.{pool_at};
 ghost use Rattle.std.specs.List.{list_all};
 ghost use Rattle.osdmap.specs.Placement.{steps_of};
@@ -70,7 +71,7 @@ pub(crate) struct Frame<'a> {
     ghost pool_is: { pool_at map.now.map.pools pool.id ≡ Some pool },
     ghost levels_are: { levels.items ≡ levels_of (steps_of map.now.map pool) },
     ghost osds_are: { osds.items ≡ candidates map.now.map pool },
-    ghost osds_few: { length osds.items ≤ 1024 },
+    ghost osds_few: { length osds.items ≤ max_devices },
     ghost weight_is: { weight ≡ total map.now.map pool },
     ghost weight_small: { weight ≤ 2 ^ 58 },
 }
@@ -128,7 +129,8 @@ impl Frame<'_> {
 
     /// The failure domain of an OSD, by the last type that the pool's rule chooses.
     pub fn domain(&self, osd: u32) -> Option<i64>
-        ensures { result ≡ domain_of self.now.map.now.map (last_level (levels_of (steps_of self.now.map.now.map self.now.pool))) osd }
+        ensures { result ≡ domain_of self.now.map.now.map
+            (last_level (levels_of (steps_of self.now.map.now.map self.now.pool))) osd }
     {
         domain_of(self.map, self.last_level(), osd)
     }

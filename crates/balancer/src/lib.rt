@@ -6,6 +6,7 @@ mod board;
 mod domains;
 mod frame;
 pub mod group;
+pub mod limits;
 mod marks;
 pub mod moves;
 mod plans;

@@ -10,6 +10,7 @@ ghost use Rattle.osdmap.specs.Maps.{pool_at};
 ghost use Rattle.osdmap.specs.Changes.{change_fault};
 ghost use Rattle.osdmap.specs.Placement.{steps_of};
 ghost use Rattle.pgtable.specs.Tables.{IsTableOf};
+ghost use Rattle.balancer.specs.Limits.{max_moves};
 ghost use Rattle.balancer.specs.Shares.{has_one_block};
 ghost use Rattle.balancer.specs.Greedy.{good_moves, greedy, after_moves};
 ghost use Rattle.balancer.specs.Plans.{change_of, plan_fault, IsPlan, Evens, LeavesNone};
@@ -122,7 +123,7 @@ pub fn plan(
 ) -> Result<(Change, usize), Refusal>
     requires table { IsTableOf table.now map.now.map }
     requires some { 1 ≤ limit }
-    requires few { limit ≤ 1024 }
+    requires few { limit ≤ max_moves }
     ensures plan { Gives result (plan_fault map.now.map pool) (λ plan. IsPlan map.now.map pool limit plan.0 plan.1) }
     ensures lawful { IfOk result (λ plan. change_fault map.now.map plan.0 ≡ None) }
     ensures evens { IfOk result (λ plan. Evens map.now.map pool plan.0 plan.1) }

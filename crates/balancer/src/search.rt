@@ -84,7 +84,8 @@ impl Board<'_> {
 
     /// The first group that may go from one candidate to another beside it.
     fn first_group(&self, from: u32, to: u32) -> Option<u32>
-        ensures { result ≡ position (may_go self.now.frame.map.now.map self.now.frame.pool from to) self.now.groups.items }
+        ensures { result ≡ position (may_go self.now.frame.map.now.map self.now.frame.pool from to)
+            self.now.groups.items }
     {
         self.frame.pool.is_within_limits();
         let group = self.frame.first_group(&self.groups, from, to)?;
@@ -201,7 +202,8 @@ impl Board<'_> {
         ensures order { OnOk result (AreAll self.now order.new.items) }
         ensures best { IfOk result (λ best. MatchOption best (good_moves (reached self.now) self.now.frame.pool ≡ [])
             (λ v. IsBest (reached self.now) self.now.frame.pool v)) }
-        ensures marks { OnOk result (IsMarked self.now.frame.map.now.map self.now.frame.pool self.now.groups.items marks.new) }
+        ensures marks { OnOk result (IsMarked self.now.frame.map.now.map self.now.frame.pool self.now.groups.items
+            marks.new) }
     {
         self.order(order)?;
         let mut best = None;

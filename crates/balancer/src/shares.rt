@@ -4,7 +4,9 @@ ghost use Rattle.std.specs.Prelude.{◌≡◌, ◌*◌, ◌≤◌, ◌<◌, ◌^
 ghost use Rattle.std.specs.List.{find, sum_by};
 ghost use Rattle.std.specs.Option.{option_copied};
 ghost use Rattle.std.specs.Ordering.{int_eq};
+ghost use Rattle.crush.specs.Limits.{max_devices, full_weight};
 ghost use Rattle.crush.specs.Paths as paths;
+ghost use Rattle.stated.specs.Limits.{max_groups};
 ghost use Rattle.osdmap.specs.Maps.{pool_at, osd_exists, osd_is_up};
 ghost use Rattle.osdmap.specs.Mapped.{is_weightless};
 ghost use Rattle.osdmap.specs.Placement.{steps_of};
@@ -50,7 +52,7 @@ pub(crate) fn is_candidate(map: &OsdMap, pool: &Pool, osd: u32) -> bool
 /// The OSDs between which groups of a pool may be moved, by number upwards; or `Memory` (30).
 pub(crate) fn candidates(alloc: Global, map: &OsdMap, pool: &Pool) -> Result<Vec<u32>, Memory>
     ensures osds { IfOk result (λ osds. osds.items ≡ candidates map.now.map pool.now) }
-    ensures few { IfOk result (λ osds. length osds.items ≤ 1024) }
+    ensures few { IfOk result (λ osds. length osds.items ≤ max_devices) }
 {
     let mut osds = Vec::with_capacity(alloc, map.max_osd() as usize)?;
     for osd in 0..map.max_osd() {
@@ -85,7 +87,7 @@ fn item_weight(buckets: &[Bucket], osd: u32) -> u32
 /// The reweight of an OSD: 0 to 65,536.
 pub(crate) fn reweight(map: &OsdMap, osd: u32) -> u32
     ensures value { result ≡ slice_index map.now.map.weights osd }
-    ensures few { result ≤ 65536 }
+    ensures few { result ≤ full_weight }
 {
     map.holds_together();
     match map.osd(osd) {
@@ -105,7 +107,7 @@ pub(crate) fn weight_of(map: &OsdMap, osd: u32) -> u64
 
 /// What some OSDs weigh together.
 pub(crate) fn total(map: &OsdMap, osds: &[u32]) -> u64
-    requires { length osds.now ≤ 1024 }
+    requires { length osds.now ≤ max_devices }
     ensures value { result ≡ sum_by (weight_of map.now.map) osds.now }
     ensures small { result ≤ 2 ^ 58 }
 {
@@ -121,7 +123,7 @@ pub(crate) fn count(map: &OsdMap, table: &PgTable, pool: &Pool, osd: u32) -> u64
     requires table { IsTableOf table.now map.now.map }
     requires there { pool_at map.now.map.pools pool.now.id ≡ Some pool.now }
     ensures value { result ≡ count_in map.now.map pool.now.id osd }
-    ensures few { result ≤ 4096 }
+    ensures few { result ≤ max_groups }
 {
     map.holds_together();
     pool.is_within_limits();
@@ -132,9 +134,9 @@ pub(crate) fn count(map: &OsdMap, table: &PgTable, pool: &Pool, osd: u32) -> u64
 pub(crate) fn places(map: &OsdMap, table: &PgTable, pool: &Pool, osds: &[u32]) -> u64
     requires table { IsTableOf table.now map.now.map }
     requires there { pool_at map.now.map.pools pool.now.id ≡ Some pool.now }
-    requires few { length osds.now ≤ 1024 }
+    requires few { length osds.now ≤ max_devices }
     ensures value { result ≡ sum_by (count_in map.now.map pool.now.id) osds.now }
-    ensures small { result ≤ 1024 * 4096 }
+    ensures small { result ≤ max_devices * max_groups }
 {
     let mut places = 0;
     for osd in osds {

@@ -3,15 +3,17 @@
 ghost use Rattle.std.specs.Prelude.{◌≡◌, ◌<◌, ◌≤◌, ◌++◌, [], ◌∷◌, Option, None, Some, length, slice_index_or, IfSome};
 ghost use Rattle.std.specs.Prelude.{◌==◌, map};
 ghost use Rattle.std.specs.List.{list_any};
+ghost use Rattle.crush.specs.Limits.{max_devices, max_size};
 ghost use Rattle.grouptable.specs.Sets.{place_of, stands};
 
+use crush::limits;
 use std::marker::Model;
 
 /// The greatest size of a set.
-const MAX_PLACES: usize = 10;
+const MAX_PLACES: usize = limits::MAX_SIZE;
 
 /// OSDs have the numbers below this one.
-const MAX_OSDS: u16 = 1024;
+const MAX_OSDS: u16 = limits::MAX_DEVICES as u16;
 
 /// What is stored for a hole.
 const HOLE: u16 = 0xffff;
@@ -25,13 +27,14 @@ pub struct OsdSet {
 
 impl Model for OsdSet {
     ghost use Rattle.std.specs.Prelude.{◌≤◌, map, take};
+    ghost use Rattle.crush.specs.Limits.{max_size};
     ghost use Rattle.grouptable.specs.Sets.{Places, place_of};
 
     ghost Value = { Places };
 
     ghost view = { λ s. map place_of (take s.len s.places) };
 
-    ghost invariant = { λ s. s.len ≤ 10 };
+    ghost invariant = { λ s. s.len ≤ max_size };
 }
 
 impl OsdSet {
@@ -48,7 +51,7 @@ impl OsdSet {
     /// How many places there are.
     pub fn len(&self) -> usize
         ensures size { result ≡ length self.now }
-        ensures few { result ≤ 10 }
+        ensures few { result ≤ max_size }
     {
         usize::from(self.len)
     }
@@ -57,7 +60,7 @@ impl OsdSet {
     pub fn at(&self, place: usize) -> Option<u16>
         requires { place < length self.now }
         ensures value { result ≡ slice_index_or self.now place None }
-        ensures small { IfSome result (λ osd. osd < 1024) }
+        ensures small { IfSome result (λ osd. osd < max_devices) }
     {
         let osd = self.filled()[place];
         if osd < MAX_OSDS { Some(osd) } else { None }
@@ -65,7 +68,7 @@ impl OsdSet {
 
     /// Whether an OSD stands in the set.
     pub fn has(&self, osd: u16) -> bool
-        requires { osd < 1024 }
+        requires { osd < max_devices }
         ensures { result ≡ stands osd self.now }
     {
         holds(self.filled(), osd)
@@ -80,8 +83,8 @@ impl OsdSet {
 
     /// One more place.
     pub fn push(&mut self, place: Option<u16>)
-        requires room { length self.old < 10 }
-        requires small { IfSome place (λ osd. osd < 1024) }
+        requires room { length self.old < max_size }
+        requires small { IfSome place (λ osd. osd < max_devices) }
         ensures { self.new ≡ self.old ++ place ∷ [] }
     {
         self.places[usize::from(self.len)] = place.unwrap_or(HOLE);

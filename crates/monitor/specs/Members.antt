@@ -1,5 +1,6 @@
 -- What callers see of a monitor, who its members are, and what a member that holds its lock knows.
-use Rattle.std.specs.Prelude.{◌≡◌, ℕ, [], IsSomeAnd, option_and_then, option_map, unwrap_or}
+use Rattle.std.specs.Prelude.{◌≡◌, ◌⊎◌, ℕ, ◌+◌, [], IsSomeAnd, option_and_then, option_map, unwrap_or}
+use Rattle.std.specs.Option.{option_map_or}
 use Rattle.ticketlock.specs.declared.table.Words.{Words}
 use Rattle.ticketlock.specs.declared.read_guard.ReadGuard.{ReadGuard}
 use Rattle.ticketlock.specs.declared.write_guard.WriteGuard.{WriteGuard}
@@ -57,9 +58,18 @@ IsNewMemberOf monitor member =
 abbrev pub draws_of : Monitored → ℕ
 draws_of monitor = monitor.words.limit
 
+-- how often the member's seat has drawn
+abbrev pub draws_made : Member → ℕ
+draws_made member = option_map_or (λ seat. seat.place.draws) member.seat 0
+
 -- the member's seat has made its draws
 abbrev pub IsSpent : Monitored → Member → Type 0
 IsSpent monitor member = IsSomeAnd member.seat (λ seat. seat.place.draws ≡ draws_of monitor)
+
+-- a call draws once for a member that has seen nothing, unless its draws were made: no lent state is behind it
+abbrev pub DrawsOnce : Monitored → Member → Member → Type 0
+DrawsOnce monitor before after =
+    before.pass.history ≡ [] → IsSpent monitor before ⊎ (draws_made after ≡ draws_made before + 1)
 
 -- ---- who holds the lock
 

@@ -14,10 +14,11 @@ impl Monitor {
     ghost use Rattle.std.specs.Prelude.{◌≡◌, ◌≤◌, length, Err, IfOk, IfErr};
     ghost use Rattle.std.specs.Str.{IsUtf8};
     ghost use Rattle.refusal.specs.declared.refused.Refusal.TheVariants.{SeatSpent};
+    ghost use Rattle.balancer.specs.Limits.{max_moves};
     ghost use Rattle.state.specs.Answers.{FindsUp, FindsCount, FindsGroups};
     ghost use Rattle.monitor.specs.Histories.{Looks, FindsEpoch, FindsText, Commits};
     ghost use Rattle.monitor.specs.Balances.{Balances};
-    ghost use Rattle.monitor.specs.Members.{IsMemberOf, IsSpent};
+    ghost use Rattle.monitor.specs.Members.{IsMemberOf, IsSpent, DrawsOnce};
 
     /// The epoch and the up set of a group: `UnknownPool` (23), else `UnknownGroup` (25). `SeatSpent` (31) once the
     /// member's seat has made its draws, and only then. It takes no memory. Members share the lock.
@@ -28,6 +29,7 @@ impl Monitor {
             (λ m. FindsUp m pg) result }
         ensures spent { IfErr result (λ e. e ≡ SeatSpent → IsSpent self.now member.new) }
         ensures refused { IsSpent self.now member.old → result ≡ Err SeatSpent }
+        ensures once { DrawsOnce self.now member.old member.new }
     {
         let shared = self.share(rt, member)?;
         let answer = self.shown(&shared, member).answer_up(pg);
@@ -49,6 +51,7 @@ impl Monitor {
             (λ m. FindsCount m osd) result }
         ensures spent { IfErr result (λ e. e ≡ SeatSpent → IsSpent self.now member.new) }
         ensures refused { IsSpent self.now member.old → result ≡ Err SeatSpent }
+        ensures once { DrawsOnce self.now member.old member.new }
     {
         let shared = self.share(rt, member)?;
         let answer = self.shown(&shared, member).answer_count(osd);
@@ -72,6 +75,7 @@ impl Monitor {
             (λ m. FindsGroups (λ groups. groups.items) m osd) result }
         ensures spent { IfErr result (λ e. e ≡ SeatSpent → IsSpent self.now member.new) }
         ensures refused { IsSpent self.now member.old → result ≡ Err SeatSpent }
+        ensures once { DrawsOnce self.now member.old member.new }
     {
         let shared = self.share(rt, member)?;
         let answer = self.shown(&shared, member).answer_groups(alloc, osd);
@@ -87,6 +91,7 @@ impl Monitor {
         ensures looks { Looks self.now.first member.old.pass.history member.new.pass.history FindsEpoch result }
         ensures spent { IfErr result (λ e. e ≡ SeatSpent → IsSpent self.now member.new) }
         ensures refused { IsSpent self.now member.old → result ≡ Err SeatSpent }
+        ensures once { DrawsOnce self.now member.old member.new }
     {
         let shared = self.share(rt, member)?;
         let epoch = self.shown(&shared, member).map().epoch();
@@ -109,6 +114,7 @@ impl Monitor {
         ensures utf8 { IfOk result (λ text. IsUtf8 text.items) }
         ensures spent { IfErr result (λ e. e ≡ SeatSpent → IsSpent self.now member.new) }
         ensures refused { IsSpent self.now member.old → result ≡ Err SeatSpent }
+        ensures once { DrawsOnce self.now member.old member.new }
     {
         let shared = self.share(rt, member)?;
         let text = write_map(alloc, self.shown(&shared, member).map());
@@ -135,6 +141,7 @@ impl Monitor {
             member.old.pass.history member.new.pass.history base change result }
         ensures spent { IfErr result (λ e. e ≡ SeatSpent → IsSpent self.now member.new) }
         ensures refused { IsSpent self.now member.old → result ≡ Err SeatSpent }
+        ensures once { DrawsOnce self.now member.old member.new }
     {
         let mut guard = self.hold(rt, member)?;
         let state: &mut State = &mut guard.value_mut().state;
@@ -159,12 +166,13 @@ impl Monitor {
     ) -> Result<(u64, usize), Refusal>
         requires member { IsMemberOf self.now member.old }
         requires some { 1 ≤ limit }
-        requires few { limit ≤ 1024 }
+        requires few { limit ≤ max_moves }
         ensures member { IsMemberOf self.now member.new }
         ensures balances { Balances self.now.first
             (length self.now.row.cells) member.old.pass.history member.new.pass.history pool limit result }
         ensures spent { IfErr result (λ e. e ≡ SeatSpent → IsSpent self.now member.new) }
         ensures refused { IsSpent self.now member.old → result ≡ Err SeatSpent }
+        ensures once { DrawsOnce self.now member.old member.new }
     {
         let mut held = self.hold(rt, member)?;
         let state: &mut State = &mut held.value_mut().state;

@@ -4,6 +4,7 @@ ghost use Rattle.std.specs.Prelude.{◌≡◌, ◌≢◌, ◌≤◌, IfErr, leng
 ghost use Rattle.refusal.specs.declared.refused.Refusal.TheVariants.{SeatSpent};
 ghost use Rattle.osdmap.specs.Changes.{IsLawful, after};
 ghost use Rattle.epochlog.specs.Epochs.{Begins};
+ghost use Rattle.balancer.specs.Limits.{max_moves};
 ghost use Rattle.monitor.specs.Histories.{Commits};
 ghost use Rattle.monitor.specs.Balances.{Balances};
 
@@ -82,7 +83,7 @@ pub(crate) fn balance(
     requires row { state.old.pass.row ≡ row.now }
     requires pass { pass.old ≡ state.old.pass }
     requires some { 1 ≤ limit }
-    requires few { limit ≤ 1024 }
+    requires few { limit ≤ max_moves }
     ensures balances { Balances state.old.first
         (length row.now.cells) pass.old.history pass.new.history pool limit result }
     ensures unspent { IfErr result (λ e. e ≢ SeatSpent) }

@@ -27,11 +27,11 @@ pub(crate) fn state_of<'g>(guard: &'g ReadGuard<'_, Locked>) -> &'g State
 }
 
 impl Monitor {
-    ghost use Rattle.std.specs.Prelude.{◌≡◌, ◌-◌, IfOk, IfErr, IsSomeAnd, OnOk, OnErr};
+    ghost use Rattle.std.specs.Prelude.{◌≡◌, ◌+◌, ◌-◌, [], IfOk, IfErr, IsSomeAnd, OnOk, OnErr};
     ghost use Rattle.osdmap.specs.Changes.{after, IsLawful};
     ghost use Rattle.refusal.specs.declared.refused.Refusal.TheVariants.{SeatSpent};
     ghost use Rattle.monitor.specs.Histories.{GoesOn};
-    ghost use Rattle.monitor.specs.Members.{IsMemberOf, IsStateOf, IsSpent, Holds, draws_of};
+    ghost use Rattle.monitor.specs.Members.{IsMemberOf, IsStateOf, IsSpent, Holds, draws_made, draws_of};
     ghost use Rattle.monitor.specs.Sharing.{IsSharing};
 
     /// Shares the lock, for several questions to one state: [`Monitor::shown`] lends it, and [`Monitor::give_back`]
@@ -46,6 +46,9 @@ impl Monitor {
             (e ≡ SeatSpent) × IsMemberOf self.now member.new × IsSpent self.now member.new) }
         ensures same { OnErr result (member.new.pass ≡ member.old.pass) }
         ensures unspent { OnOk result (¬ IsSpent self.now member.old) }
+        ensures once { IfOk result (λ shared.
+            member.old.pass.history ≡ [] → shared.guard.turn.place.draws ≡ draws_made member.old + 1) }
+        ensures spent_before { OnErr result (member.old.pass.history ≡ [] → IsSpent self.now member.old) }
     {
         let Some(mut seat) = member.seat.take() else {
             unreachable!()
@@ -83,6 +86,9 @@ impl Monitor {
             (e ≡ SeatSpent) × IsMemberOf self.now member.new × IsSpent self.now member.new) }
         ensures same { OnErr result (member.new.pass ≡ member.old.pass) }
         ensures unspent { OnOk result (¬ IsSpent self.now member.old) }
+        ensures once { IfOk result (λ guard.
+            member.old.pass.history ≡ [] → guard.turn.place.draws ≡ draws_made member.old + 1) }
+        ensures spent_before { OnErr result (member.old.pass.history ≡ [] → IsSpent self.now member.old) }
     {
         let Some(mut seat) = member.seat.take() else {
             unreachable!()
@@ -119,6 +125,7 @@ impl Monitor {
         requires { IsSharing self.now shared member.old }
         ensures member { IsMemberOf self.now member.new }
         ensures pass { member.new.pass ≡ member.old.pass }
+        ensures draws { draws_made member.new ≡ shared.entry.guard.turn.place.draws }
     {
         let Shared { guard } = shared;
         member.seat = Some(guard.leave());
@@ -143,6 +150,7 @@ impl Monitor {
         requires lawful { IsLawful self.now.first member.old.pass.history }
         ensures member { IsMemberOf self.now member.new }
         ensures pass { member.new.pass ≡ member.old.pass }
+        ensures draws { draws_made member.new ≡ guard.entry.turn.place.draws }
     {
         member.seat = Some(guard.leave());
     }

@@ -11,6 +11,7 @@ mod Growing
 pub mod Kept
 pub mod PlacementLemmas
 mod Replaced
+mod SetTexts
 pub mod BuildLemmas
 mod Listing
 pub mod Built

@@ -7,6 +7,7 @@ pub mod Sets
 pub mod Stated
 pub mod Stored
 pub mod Primary
+pub mod SetText
 pub mod Evals
 pub mod Built
 pub mod PartsOf

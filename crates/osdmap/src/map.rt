@@ -7,7 +7,7 @@ use std::marker::Model;
 
 /// The map of a cluster at an epoch: a forest of buckets, rules, pools, and for each OSD whether it exists, whether it
 /// is up, and its reweight (Ceph, OSDMap.h).
-#[derive(Drop)]
+#[derive(Debug, Drop)]
 pub struct OsdMap {
     pub(crate) epoch: u64,
     pub(crate) crush: CrushMap,
@@ -28,8 +28,22 @@ impl Model for OsdMap {
     ghost Value = { StoredMap };
 
     ghost view = { λ m. record {
-      map = record { epoch = m.epoch; buckets = m.crush.buckets; rules = m.crush.rules; pools = m.pools.items; presences = m.presences; weights = m.weights; explicit = m.explicit.items; items = m.items.items };
-      room = record { pools = vec_capacity m.pools; explicit = vec_capacity m.explicit; items = vec_capacity m.items; crush = m.ready };
+      map = record {
+        epoch = m.epoch;
+        buckets = m.crush.buckets;
+        rules = m.crush.rules;
+        pools = m.pools.items;
+        presences = m.presences;
+        weights = m.weights;
+        explicit = m.explicit.items;
+        items = m.items.items;
+      };
+      room = record {
+        pools = vec_capacity m.pools;
+        explicit = vec_capacity m.explicit;
+        items = vec_capacity m.items;
+        crush = m.ready;
+      };
     } };
 
     ghost invariant = { λ m. HoldsTogether (record {

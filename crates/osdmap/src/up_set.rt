@@ -1,17 +1,20 @@
 //! The set of a group.
 
-ghost use Rattle.std.specs.Prelude.{◌≡◌, position};
+ghost use Rattle.std.specs.Prelude.{◌≡◌, Some, position};
+ghost use Rattle.std.specs.Fmt.{DisplaysOnOk};
 ghost use Rattle.std.specs.List.{list_any};
 ghost use Rattle.osdmap.specs.Mapped.{is_of};
 ghost use Rattle.osdmap.specs.Primary.{primary_of};
+ghost use Rattle.osdmap.specs.SetText.{place_text, list_text};
 
 use crush::RuleKind;
 use stated::{Pair, Short};
 use std::alloc::AllocError;
+use std::fmt;
 use std::marker::Model;
 
 /// The set of a group: at most 10 places, in order, each with an OSD or with none.
-#[derive(Copy, Debug)]
+#[derive(Copy, Debug, PartialEq, Eq)]
 pub struct UpSet {
     places: Short<Option<u32>>,
 }
@@ -140,5 +143,44 @@ impl UpSet {
             RuleKind::Replicated if place.is_none() => {}
             RuleKind::Replicated | RuleKind::Erasure => self.push(place),
         }
+    }
+}
+
+/// Writes a place: its OSD, or `none`.
+fn write_place<W: fmt::Write>(f: &mut fmt::Formatter<W>, place: Option<u32>) -> fmt::Result
+    ensures { DisplaysOnOk W.write_str_gives f.old result (Some (place_text place)) f.new }
+{
+    match place {
+        Some(osd) => write!(f, "{osd}"),
+        None => f.write_str("none"),
+    }
+}
+
+/// Writes places, with commas between them.
+fn write_places<W: fmt::Write>(f: &mut fmt::Formatter<W>, places: &[Option<u32>]) -> fmt::Result
+    ensures { DisplaysOnOk W.write_str_gives f.old result (Some (list_text place_text places.now)) f.new }
+{
+    let [first, others @ ..] = places else {
+        return Ok(());
+    };
+    write_place(f, *first)?;
+    for place in others {
+        f.write_str(",")?;
+        write_place(f, *place)?;
+    }
+    Ok(())
+}
+
+/// `[3,none,0]`: the places in order.
+impl fmt::Display for UpSet {
+    ghost use Rattle.std.specs.Prelude.{Some};
+    ghost use Rattle.osdmap.specs.SetText.{set_text};
+
+    ghost output = { λ set. Some (set_text set) };
+
+    fn fmt<W: fmt::Write>(&self, f: &mut fmt::Formatter<W>) -> fmt::Result {
+        f.write_str("[")?;
+        write_places(f, self.places())?;
+        f.write_str("]")
     }
 }

@@ -23,9 +23,9 @@ const VERSION: &str = "0.1.0";
 
 /// What the program says of itself where help is asked for.
 const ABOUT: &str =
-    "Keeps the OSDMap of a Ceph-like cluster: reads a map, answers the lines of scripts over it, one line each, all scripts at \
-once, and ends. Statuses: 0 done, 1 command line, 2 map refused, 3 file or output, 4 memory. The formats of maps, \
-changes, scripts and answers are in docs/FORMATS.md.";
+    "Keeps the OSDMap of a Ceph-like cluster: reads a map, answers the lines of scripts over it, one line each, all \
+scripts at once, and ends. Statuses: 0 done, 1 command line, 2 map refused, 3 file or output, 4 memory. The formats of \
+maps, changes, scripts and answers are in docs/FORMATS.md.";
 
 /// `--journal N`.
 fn journal_option<'a>(alloc: Global) -> Arg<'a>
@@ -48,7 +48,8 @@ fn to_option<'a>(alloc: Global) -> Arg<'a>
         .long("to")
         .value_name("ANSWERS")
         .help(
-            "The file of a script's answers, each put out as its line is read; once for each SCRIPT, or not at all; - is standard output",
+            "The file of a script's answers, each put out as its line is read; once for each SCRIPT, or not at all; \
+- is standard output",
         )
         .action(ArgAction::Append)
 }
@@ -69,7 +70,8 @@ fn script_words<'a>(alloc: Global) -> Arg<'a>
 {
     Arg::new(alloc, "SCRIPT")
         .help(
-            "The file of a script: lines such as up 1.0, groups 2, epoch, await 3, dump, change {..}; 1 to 64 scripts; - is standard input, answered line by line",
+            "The file of a script: lines such as up 1.0, groups 2, epoch, await 3, dump, change {..}; 1 to 64 scripts; \
+- is standard input, answered line by line",
         )
         .required(true)
         .num_args(1..)

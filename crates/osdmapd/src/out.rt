@@ -47,8 +47,8 @@ impl Gone {
     }
 }
 
-/// A writer, with the answers that are not out yet. A write keeps bytes, and waits for nobody; `flush` writes them. Until
-/// it has failed, the writer has what is out behind what it had at first, where its contents are known.
+/// A writer, with the answers that are not out yet. A write keeps bytes, and waits for nobody; `flush` writes them.
+/// Until it has failed, the writer has what is out behind what it had at first, where its contents are known.
 #[derive(Drop)]
 pub struct Out<W: io::Write> {
     to: W,

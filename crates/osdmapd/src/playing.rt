@@ -330,8 +330,9 @@ fn join_seen(all: &mut Pass, monitor: &Monitor, lefts: &[Left])
 }
 
 /// What is left of the sessions of these parts, in their order, each played by a thread of its own, for which it takes
-/// one of the members, who have seen nothing. What the members have seen at the end is of one history. All threads are started before one is joined, and all have ended when it
-/// returns. The one error is that memory is short, or that a thread cannot be made.
+/// one of the members, who have seen nothing. What the members have seen at the end is of one history. All threads are
+/// started before one is joined, and all have ended when it returns. The one error is that memory is short, or that a
+/// thread cannot be made.
 pub fn lefts<R: Threads + Wait + Eprint + Sync>(
     system: (&R, &HostRuntime),
     monitor: Monitor,

@@ -1,8 +1,8 @@
 -- Changes that leave all raw sets: only a group whose exceptions they name is placed otherwise.
-use Rattle.std.proofs.Common.{◌≡◌, ◌∙◌, refl, sym, ap, cond, ℕ, ◌⊎◌, ◌+◌, ◌<◌, ◌≤◌, Bool, true, false, not, eqb, List, [], ◌∷◌, ◌++◌, length, map, set, get_or, take, Option, Some, None, is_some, inl, inr, arith}
+use Rattle.std.proofs.Common.{◌≡◌, ◌∙◌, refl, sym, ap, cond, ℕ, ◌⊎◌, ◌+◌, ◌<◌, ◌≤◌, Bool, true, false, not, eqb, List, [], ◌∷◌, ◌++◌, length, map, set, take, Option, Some, None, is_some, inl, inr, arith}
 use mathlib.Core.Bool.{false≢true}
 use Rattle.std.specs.Prelude.{slice_get, IfSome}
-use Rattle.std.specs.List.{All, AllPairs, filter, fold, zip, sum_by}
+use Rattle.std.specs.List.{All, AllPairs, filter, zip, sum_by}
 use Rattle.std.specs.Option.{option_map, option_or}
 use Rattle.std.proofs.lemmas.Bool.{cases_order, cases_lt, eqb-true}
 use Rattle.std.proofs.lemmas.List.{length-map, length-set, length-append, take_all}
@@ -19,7 +19,7 @@ use Rattle.stated.specs.declared.change.ChangeParts.{ChangeParts}
 use Rattle.stated.specs.declared.exception.Exception.{Exception}
 use Rattle.stated.specs.declared.exception.Pair.{Pair}
 use Rattle.stated.specs.declared.pg.Pg.{Pg}
-use Rattle.stated.specs.Exceptions.{place_of, key_of, said_of, is_among, stays, exceptions_after}
+use Rattle.stated.specs.Exceptions.{place_of, key_of, said_of, stays, exceptions_after}
 use Rattle.stated.specs.Growth.{grown}
 use Rattle.stated.specs.Ordered.{IsChange}
 use Rattle.stated.specs.Pools.{PoolFacts}

@@ -1,7 +1,7 @@
 -- Which OSDs are up after a change.
 use Rattle.std.proofs.Common.{◌≡◌, ◌∙◌, refl, sym, ap, ℕ, ◌<◌, Bool, true, false, List, [], ◌∷◌, length, map, set, Option, Some, None, arith}
 use Rattle.std.specs.Prelude.{slice_get}
-use Rattle.std.specs.List.{fold, range_with_len}
+use Rattle.std.specs.List.{fold}
 use Rattle.std.specs.Option.{option_map, option_map_or}
 use Rattle.std.proofs.lemmas.List.{length-map, map-set}
 use Rattle.std.proofs.Math.ListN.{length-set}

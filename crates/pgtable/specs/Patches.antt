@@ -4,6 +4,8 @@ use Rattle.std.specs.List.{zip, filter, fold, count_by, range_with_len}
 use Rattle.osdmap.specs.Evals.{concerns, is_evaluated}
 use Rattle.osdmap.specs.Placement.{group_of, mapped_set}
 use Rattle.std.specs.Option.{option_map, option_map_or, option_or}
+use Rattle.crush.specs.Limits.{max_devices}
+use Rattle.stated.specs.Limits.{max_pools}
 use Rattle.grouptable.specs.Sets.{Places, changed}
 use Rattle.grouptable.specs.Tables.{IsPatchFor}
 use Rattle.grouptable.specs.declared.table.GroupPatch.{GroupPatch}
@@ -138,7 +140,7 @@ pub record MakesAll (old : List PoolTable) (m : ClusterMap) (pools : List PoolTa
 -- the tables that a patch brings fit those of a table
 pub record FitPools (t : TableFacts) (b : NewTables) : Type 0 where
   pub pools : FitAll t.pools b.pools.items b.kept.items
-  pub few_pools : length b.pools.items ≤ 32
+  pub few_pools : length b.pools.items ≤ max_pools
 
 -- what a patch brings fits a table
 abbrev pub FitsBrought : TableFacts → Brought → Type 0
@@ -148,7 +150,7 @@ FitsBrought t (Pools b) = FitPools t b
 -- a patch fits a table
 pub record Fits (t : TableFacts) (p : Patch) : Type 0 where
   pub pools : FitsBrought t p.brought
-  pub few_osds : length p.up.items ≤ 1024
+  pub few_osds : length p.up.items ≤ max_devices
 
 -- the tables of pools after a patch: the old ones with other sets for some groups; or those that it brings, with what
 -- they keep of the old ones

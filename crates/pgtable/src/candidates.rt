@@ -1,15 +1,15 @@
 //! The groups that a change can concern.
 
-ghost use Rattle.std.specs.Prelude.{◌≡◌, true, None, IfOk, OnOk};
+ghost use Rattle.std.specs.Prelude.{◌≡◌, ◌*◌, ◌^◌, true, None, IfOk, OnOk};
 ghost use Rattle.keylist.specs.Order.{IsRising};
 ghost use Rattle.stated.specs.Exceptions.{place_of, key_of};
 ghost use Rattle.osdmap.specs.Changes.{change_fault};
 ghost use Rattle.osdmap.specs.Evals.{is_named};
-ghost use Rattle.pgtable.specs.Candidates.{groups_of, joined, NamedRise, IsCandidates, named_in, candidates};
+ghost use Rattle.pgtable.specs.Candidates.{groups_of, joined, NamedRise, IsCandidates, named_in, candidates, number_at};
 ghost use Rattle.pgtable.specs.Patches.{next, leaves_raw_sets};
 
 use keylist::{has, put_all};
-use osdmap::{Change, Exception, OsdMap, Pg};
+use osdmap::{Change, Exception, OsdMap, Pg, Pool};
 use refusal::Memory;
 use stated::Blank;
 use std::alloc::Global;
@@ -121,4 +121,20 @@ pub(crate) fn candidates_named(
     rise(map, change);
     let groups = named(alloc, change)?;
     Ok(groups)
+}
+
+/// The number in a pool of a group, where it stands in it.
+pub(crate) fn number_of(pool: &Pool, group: Pg) -> Option<u32>
+    ensures { result ≡ number_at (λ _. true) (pool.now.id * 2 ^ 32) pool.now.pg_num (place_of group) }
+{
+    let first = Pg {
+        pool: pool.id(),
+        number: 0,
+    };
+    let number = group.place().checked_sub(first.place())?;
+    if number < u64::from(pool.pg_num()) {
+        Some(number as u32)
+    } else {
+        None
+    }
 }

@@ -2,10 +2,14 @@
 #![tactic(auto)]
 
 mod candidates;
+mod install;
 mod mapped;
 pub mod patch;
 pub mod pool_table;
+mod prepare;
 mod regroup;
+mod regrouped;
+mod remade;
 mod shown;
 pub mod table;
 mod update;

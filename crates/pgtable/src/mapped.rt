@@ -2,6 +2,7 @@
 
 ghost use Rattle.std.specs.Prelude.{◌≡◌, ◌<◌, map, Some, IfOk, IfSome, OnOk, All};
 ghost use Rattle.std.specs.List.{range_with_len};
+ghost use Rattle.crush.specs.Limits.{max_devices};
 ghost use Rattle.osdmap.specs.Maps.{pool_at};
 ghost use Rattle.osdmap.specs.Placement.{mapped_set, RunsOnce};
 ghost use Rattle.pgtable.specs.Tables.{sets_of, RunsMore};
@@ -14,9 +15,9 @@ use std::alloc::Global;
 
 /// A place of a set, in two bytes.
 fn stored_place(place: Option<u32>) -> Option<u16>
-    requires { IfSome place (λ osd. osd < 1024) }
+    requires { IfSome place (λ osd. osd < max_devices) }
     ensures value { result ≡ place }
-    ensures small { IfSome result (λ osd. osd < 1024) }
+    ensures small { IfSome result (λ osd. osd < max_devices) }
 {
     match place {
         Some(osd) => Some(osd as u16),
@@ -24,9 +25,9 @@ fn stored_place(place: Option<u32>) -> Option<u16>
     }
 }
 
-/// A set of OSDs below 1,024, in two bytes a place.
+/// A set, in two bytes a place.
 pub(crate) fn stored(set: &UpSet) -> OsdSet
-    requires { All (λ place. IfSome place (λ osd. osd < 1024)) set.now }
+    requires { All (λ place. IfSome place (λ osd. osd < max_devices)) set.now }
     ensures { result ≡ set.now }
 {
     let mut stored = OsdSet::new();

@@ -20,6 +20,8 @@ pub struct PoolTable {
 
 impl PoolTable {
     ghost use Rattle.std.specs.Prelude.{◌≡◌, ◌++◌, ◌<◌, ◌≤◌, [], length, Some, IfOk, OnOk};
+    ghost use Rattle.crush.specs.Limits.{max_devices};
+    ghost use Rattle.stated.specs.Limits.{max_groups};
     ghost use Rattle.osdmap.specs.Maps.{pool_at};
     ghost use Rattle.pgtable.specs.Tables.{pool_table, held_in, RunsMore};
 
@@ -52,16 +54,16 @@ impl PoolTable {
 
     /// In how many groups' sets an OSD stands.
     pub(crate) fn count(&self, osd: u32) -> usize
-        requires { osd < 1024 }
+        requires { osd < max_devices }
         ensures value { result ≡ length (held_in osd self.now) }
-        ensures few { result ≤ 4096 }
+        ensures few { result ≤ max_groups }
     {
         self.groups.groups(osd).len()
     }
 
     /// Adds the groups in whose set an OSD stands, by number upwards; or `Memory` (30).
     pub(crate) fn add_groups(&self, osd: u32, groups: &mut Vec<Pg>) -> Result<(), Memory>
-        requires { osd < 1024 }
+        requires { osd < max_devices }
         ensures { OnOk result (groups.new.items ≡ groups.old.items ++ held_in osd self.now) }
     {
         for number in self.groups.groups(osd) {

@@ -5,11 +5,12 @@ ghost use Rattle.std.specs.Prelude.{◌≡◌, ◌≤◌, true, length, IfSome};
 ghost use Rattle.std.specs.Option.{option_copied};
 ghost use Rattle.std.specs.List.Sorted.{IsNonDecreasingBy};
 ghost use Rattle.keylist.specs.Order.{IsRising};
+ghost use Rattle.crush.specs.Limits.{max_size};
 ghost use Rattle.stated.specs.Exceptions.{place_of, key_of};
 ghost use Rattle.pgtable.specs.Candidates.{IsCandidates};
 ghost use Rattle.pgtable.specs.Patches.{LeadsFrom, next, leaves_raw_sets, said_after};
 
-use crate::candidates::{is_named, rise};
+use crate::candidates::{is_named, number_of, rise};
 use crate::mapped::stored;
 use crush::Work;
 use grouptable::OsdSet;
@@ -40,9 +41,9 @@ fn said_after<'a, E: Blank>(
 ) -> Option<&'a [E]>
     requires gone { IsNonDecreasingBy place_of gone.now }
     requires new { IsRising key_of new.now }
-    requires few { IfSome said (λ entries. length entries.now ≤ 10) }
+    requires few { IfSome said (λ entries. length entries.now ≤ max_size) }
     ensures value { option_copied result ≡ said_after gone.now new.now (option_copied said.entry) pg }
-    ensures few { IfSome result (λ entries. length entries.now ≤ 10) }
+    ensures few { IfSome result (λ entries. length entries.now ≤ max_size) }
 {
     match entry_of(new, pg.place()) {
         Some(exception) => Some(exception.entries.as_slice()),
@@ -64,7 +65,8 @@ impl Regroup<'_> {
         ensures leads { LeadsFrom self.now.map.now.map self.now.change.now
             (next self.now.map.now.map self.now.change.now) }
         ensures leaves { leaves_raw_sets self.now.change.now ≡ true }
-        ensures candidates { IsCandidates (next self.now.map.now.map self.now.change.now) self.now.change.now self.now.groups.now }
+        ensures candidates { IsCandidates (next self.now.map.now.map self.now.change.now)
+            self.now.change.now self.now.groups.now }
     {
         let _ = &self.groups;
     }
@@ -102,20 +104,13 @@ impl Regroup<'_> {
     fn number_in(&self, pool: &Pool, group: Pg) -> Option<u32>
         ensures { result ≡ named_number self.now.change.now pool.now group }
     {
-        let first = Pg {
-            pool: pool.id(),
-            number: 0,
-        };
-        let number = group.place().checked_sub(first.place())?;
-        if number >= u64::from(pool.pg_num()) {
-            return None;
-        }
+        let number = number_of(pool, group)?;
         let pg = Pg {
             pool: pool.id(),
-            number: number as u32,
+            number,
         };
         if is_named(self.change, pg) {
-            Some(pg.number)
+            Some(number)
         } else {
             None
         }

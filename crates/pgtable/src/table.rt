@@ -21,13 +21,18 @@ pub struct PgTable {
 
 impl Model for PgTable {
     ghost use Rattle.std.specs.Prelude.{◌≤◌, length};
+    ghost use Rattle.crush.specs.Limits.{max_devices};
+    ghost use Rattle.stated.specs.Limits.{max_pools};
     ghost use Rattle.pgtable.specs.Tables.{TableFacts};
 
     ghost Value = { TableFacts };
 
     ghost view = { λ t. record { pools = t.pools.items; up = t.up.items } };
 
-    ghost invariant = { λ t. record { few_pools : length t.pools.items ≤ 32; few_osds : length t.up.items ≤ 1024 } };
+    ghost invariant = { λ t. record {
+      few_pools : length t.pools.items ≤ max_pools;
+      few_osds : length t.up.items ≤ max_devices;
+    } };
 }
 
 /// Whether an OSD is up.
@@ -52,6 +57,8 @@ impl PgTable {
     ghost use Rattle.std.specs.Prelude.{◌≡◌, ◌≤◌, ◌<◌, true, false, length, Option, slice_index_or, IfOk, OnOk, MatchOption};
     ghost use Rattle.std.specs.List.{find, sum_by};
     ghost use Rattle.std.specs.Option.{option_copied, option_map_or};
+    ghost use Rattle.crush.specs.Limits.{max_devices};
+    ghost use Rattle.stated.specs.Limits.{max_pools};
     ghost use Rattle.grouptable.specs.Sets.{groups_of};
     ghost use Rattle.osdmap.specs.Maps.{ClusterMap};
     ghost use Rattle.pgtable.specs.Index.{up_at, index_of, count_of, count_in};
@@ -85,7 +92,7 @@ impl PgTable {
     /// The tables of the pools.
     pub(crate) fn pools(&self) -> &[PoolTable]
         ensures pools { result.now ≡ self.now.pools }
-        ensures few { length self.now.pools ≤ 32 }
+        ensures few { length self.now.pools ≤ max_pools }
     {
         &self.pools
     }
@@ -100,7 +107,7 @@ impl PgTable {
     /// Whether an OSD is up.
     fn is_up(&self, osd: u32) -> bool
         ensures value { result ≡ slice_index_or self.now.up osd false }
-        ensures small { result ≡ true → osd < 1024 }
+        ensures small { result ≡ true → osd < max_devices }
     {
         self.up.get(osd as usize).copied().unwrap_or(false)
     }

@@ -9,7 +9,7 @@ ghost use Rattle.osdmap.specs.Evals.{names_reweighted, reaches};
 ghost use Rattle.pgtable.specs.Candidates.{IsCandidates};
 ghost use Rattle.pgtable.specs.Patches.{LeadsFrom};
 
-use crate::candidates::is_named;
+use crate::candidates::{is_named, number_of};
 use crate::mapped::mapped;
 use crush::Work;
 use grouptable::OsdSet;
@@ -134,13 +134,9 @@ impl Update<'_> {
     fn number_in(&self, pool: &Pool, group: Pg) -> Option<u32>
         ensures { result ≡ number_in self.now.after.now.map self.now.change.now pool.now group }
     {
-        let first = Pg {
-            pool: pool.id(),
-            number: 0,
-        };
-        let number = group.place().checked_sub(first.place())?;
-        if number < u64::from(pool.pg_num()) && self.concerns(pool, number as u32) {
-            Some(number as u32)
+        let number = number_of(pool, group)?;
+        if self.concerns(pool, number) {
+            Some(number)
         } else {
             None
         }

@@ -1,7 +1,6 @@
 mod LinesIn
 mod Transcribed
 mod Replies
-mod Numbers
 mod Histories
 mod Told
 mod Passing

@@ -23,7 +23,7 @@ use Rattle.session.specs.declared.command.Task.{Task}
 use Rattle.session.specs.declared.command.Task.TheVariants as task
 use Rattle.session.specs.Commands.{Command, ask, change, wait, balance, follower, command_in}
 use Rattle.session.specs.Transcripts.{Manner}
-use Rattle.session.specs.Texts.{set_text, count_text, groups_text, epoch_text, dump_text, ok_text, moved_text, refusal_text, line_of}
+use Rattle.session.specs.Texts.{up_text, count_text, groups_text, epoch_text, dump_text, ok_text, moved_text, refusal_text, line_of}
 
 -- what a session has seen: the history of its member; and that of its follower, which is empty where there is none yet
 pub record Sight : Type 0 where
@@ -39,7 +39,7 @@ IsLineOf {X} answers text line = (r : Result X Refusal) × answers r × (line �
 -- what a question answers
 abbrev pub Asks : ClusterMap → List Step → List Step → Question → List ℕ → Type 0
 Asks first before now (Up pg) answer =
-    IsLineOf (Looks first before now (λ m. FindsUp m pg)) (λ found. set_text (codes "up") found.0 pg found.1) answer
+    IsLineOf (Looks first before now (λ m. FindsUp m pg)) (λ found. up_text (codes "up") found.0 pg found.1) answer
 Asks first before now (Count osd) answer =
     IsLineOf (Looks first before now (λ m. FindsCount m osd)) (λ found. count_text found.0 osd found.1) answer
 Asks first before now (Groups osd) answer =
@@ -77,7 +77,7 @@ Tells first before now task.CatchUp answer =
 Tells first before now (task.Up pg) answer =
     IsLineOf (λ r. (now ≡ before) × Makes r (group_fault (after first now) pg) (λ (found : ℕ × List (Option ℕ)).
     (found.0 ≡ (after first now).epoch) × (Some found.1 ≡ up_at (after first now) pg)))
-    (λ found. set_text (codes "fup") found.0 pg found.1) answer
+    (λ found. up_text (codes "fup") found.0 pg found.1) answer
 Tells first before now task.Dump answer =
     IsLineOf (λ r. (now ≡ before) × Makes r None (λ (text : Vec ℕ Global). text.items ≡ written (after first now)))
     (λ text. dump_text (codes "fdump") text.items) answer

@@ -3,8 +3,9 @@ use Rattle.std.specs.Prelude.{ℕ, ◌==◌, ◌^◌, ◌+◌, ◌&&◌, Bool, L
 use Rattle.std.specs.List.{onto_first}
 use Rattle.std.specs.Option.{option_map, option_and_then}
 use Rattle.std.specs.Str.{bytes_eq}
-use Rattle.stated.specs.PgText.{group_in, number_in}
-use Rattle.session.specs.Plans.{max_moves}
+use Rattle.balancer.specs.Limits.{max_moves}
+use Rattle.stated.specs.Digits.{below, number_in}
+use Rattle.stated.specs.PgText.{group_in}
 use Rattle.session.specs.declared.command.Command.{Command as Read}
 use Rattle.session.specs.declared.command.Command.TheVariants.{Ask, Change, Await, Balance, Follower}
 use Rattle.session.specs.declared.command.Question.{Question}
@@ -22,10 +23,6 @@ lines_in [] = []
 lines_in (c ∷ cs) = if is_newline c then [] ∷ lines_in cs else onto_first c (lines_in cs)
 
 -- ---- numbers
-
--- a number below a limit
-abbrev pub below : ℕ → ℕ → Option ℕ
-below limit n = if nat_lt n limit then Some n else None
 
 -- the number that a text is in decimal, without a sign or leading zeros, and below a limit
 abbrev pub number_below : ℕ → List ℕ → Option ℕ

@@ -1,4 +1,3 @@
-pub mod Plans
 pub mod Sinks
 pub mod Buffers
 pub mod Commands
@@ -9,3 +8,4 @@ pub mod Answers
 pub mod Sessions
 pub mod Ends
 pub mod Readings
+pub mod Watches

@@ -40,8 +40,8 @@ StopsAt m error number between line part last =
 
 -- how a session stops that takes more of a reader, which had these bytes left before and has those left now, as far as
 -- they are known: where a read fails, nothing has happened; else at a line of what had begun and what came
-abbrev pub StopsTaking : {S : Type 0} → Manner S → Option (List ℕ) → Option (List ℕ) → SessionError → ℕ → S → List ℕ → List ℕ
-    → S → Type 0
+abbrev pub StopsTaking : {S : Type 0} → Manner S → Option (List ℕ) → Option (List ℕ) → SessionError → ℕ
+    → S → List ℕ → List ℕ → S → Type 0
 StopsTaking m known left Read number first begun out last = Keeps known left × (out ≡ []) × (last ≡ first)
 StopsTaking m known left error number first begun out last =
     (text : List ℕ) × Consumes known left text × Halted m error number first (begun ++ text) out last
@@ -49,7 +49,8 @@ StopsTaking m known left error number first begun out last =
 -- how a session stops whose reader had these bytes left before and has those left now, as far as they are known: where
 -- a read fails, each line that has ended in what was read is answered, and nothing else is out; else at one of the
 -- lines of all that the reader has
-abbrev pub StopsReading : {S : Type 0} → Manner S → Option (List ℕ) → Option (List ℕ) → SessionError → S → List ℕ → S → Type 0
+abbrev pub StopsReading : {S : Type 0} → Manner S → Option (List ℕ) → Option (List ℕ) → SessionError → S → List ℕ
+    → S → Type 0
 StopsReading m known left Read first out last =
     (read : List ℕ) × (number : ℕ) × (begun : List ℕ) × Consumes known left read
     × Passes m 1 first read out number last begun × IsPart begun

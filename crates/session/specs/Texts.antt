@@ -7,37 +7,19 @@ use Rattle.refusal.specs.declared.refused.Refusal.TheVariants.{BadJson, BadField
 use Rattle.refusal.specs.Refusals.{number_of, name_of}
 use Rattle.stated.specs.PgText.{group_text}
 use Rattle.osdmap.specs.Primary.{primary_of}
+use Rattle.osdmap.specs.SetText.{osd_text, place_text, list_text}
 
 -- what ends each answer
 abbrev pub newline : List ℕ
 newline = 10 ∷ []
-
--- an OSD, or a word where there is none
-abbrev pub osd_text : List ℕ → Option ℕ → List ℕ
-osd_text word (Some osd) = decimal osd
-osd_text word None = word
-
--- a place: its OSD, or `none`
-abbrev pub place_text : Option ℕ → List ℕ
-place_text place = osd_text (codes "none") place
-
--- texts behind others, each with a comma before it
-abbrev pub more_texts : {X : Type 0} → (X → List ℕ) → List X → List ℕ
-more_texts text [] = []
-more_texts text (x ∷ xs) = 44 ∷ text x ++ more_texts text xs
-
--- texts with commas between them
-abbrev pub list_text : {X : Type 0} → (X → List ℕ) → List X → List ℕ
-list_text text [] = []
-list_text text (x ∷ xs) = text x ++ more_texts text xs
 
 -- the primary: its OSD, or -1
 abbrev pub primary_text : Option ℕ → List ℕ
 primary_text primary = osd_text (codes "-1") primary
 
 -- `WORD EPOCH PG [SET] PRIMARY`
-unfoldable pub set_text : List ℕ → ℕ → Pg → List (Option ℕ) → List ℕ
-set_text word epoch pg places =
+unfoldable pub up_text : List ℕ → ℕ → Pg → List (Option ℕ) → List ℕ
+up_text word epoch pg places =
     word ++ codes " " ++ decimal epoch ++ codes " " ++ group_text pg
     ++ codes " [" ++ list_text place_text places ++ codes "] "
     ++ primary_text (primary_of places) ++ newline

@@ -1,14 +1,18 @@
 //! The commands of a script.
 ghost use Rattle.std.specs.Prelude.{◌≡◌, ◌<◌, ◌≤◌, ◌==◌, ◌∷◌, ◌++◌, ◌+◌, ◌*◌, ◌^◌, length, position, IfSome, MatchOption};
 ghost use Rattle.std.specs.Option.{option_map, option_and_then};
-ghost use Rattle.stated.specs.PgText.{digit_of, value_after};
-ghost use Rattle.session.specs.Plans.{max_moves};
+ghost use Rattle.balancer.specs.Limits.{max_moves};
 ghost use Rattle.session.specs.Readings.{IsPart, BeginsWith};
-ghost use Rattle.session.specs.Commands.{is_newline, below, osd_in, epoch_in, two_words, limit_in, plan_in, balance, question_in, task_in, shown, command_in};
+ghost use Rattle.session.specs.Commands.{is_newline, osd_in, epoch_in, two_words, limit_in, plan_in, balance, question_in, task_in, shown, command_in};
 
-use crate::plan::{MAX_MOVES, Plan};
+use crate::plan::Plan;
+use balancer::limits::MAX_MOVES;
 use memchr::memchr;
 use osdmap::Pg;
+use stated::number;
+
+/// The base of numbers in a script.
+const DECIMAL: u32 = 10;
 
 const EPOCH: &[u8] = b"epoch";
 
@@ -92,44 +96,11 @@ pub(crate) fn cut(text: &[u8]) -> Option<(&[u8], &[u8])>
     }
 }
 
-/// The decimal digit that a byte is.
-#[tactic(auto, unfolding(stated::specs::PgText::digit_of))]
-fn digit(byte: u8) -> Option<u64>
-    ensures { result ≡ digit_of 10 byte }
-{
-    match byte {
-        b'0'..=b'9' => Some(u64::from(byte - b'0')),
-        _ => None,
-    }
-}
-
-/// A number with a digit more behind it, where it has at most 64 bits.
-fn with_digit(value: u64, digit: u64) -> Option<u64>
-    ensures { result ≡ below (2 ^ 64) (value * 10 + digit) }
-{
-    value.checked_mul(10)?.checked_add(digit)
-}
-
-/// The number that digits write, where it has at most 64 bits.
-fn value(digits: &[u8]) -> Option<u64>
-    ensures { result ≡ option_and_then (below (2 ^ 64)) (value_after 10 0 digits.now) }
-{
-    let mut value: u64 = 0;
-    for byte in digits {
-        value = with_digit(value, digit(*byte)?)?;
-    }
-    Some(value)
-}
-
 /// The epoch that a text is: a number of at most 64 bits, without a sign or leading zeros.
-#[tactic(auto, unfolding(stated::specs::PgText::number_in))]
 fn read_epoch(text: &[u8]) -> Option<u64>
     ensures { result ≡ epoch_in text.now }
 {
-    match text {
-        [] | [b'0', _, ..] => None,
-        _ => value(text),
-    }
+    number(DECIMAL, text)?
 }
 
 /// The OSD that a text is: a number of at most 32 bits, without a sign or leading zeros.

@@ -4,24 +4,13 @@ ghost use Rattle.std.specs.Prelude.{◌≡◌, string_bytes, IsUtf8};
 use crate::command::{Command, Question, Task};
 use crate::plan::Plan;
 use crate::reply::{Reply, Speaker};
-use crossbeam_utils::Backoff;
+use crate::watch::watch;
 use mapjson::{read_change, write_map};
 use monitor::{Follower, Member, Monitor, Shared};
 use osdmap::{Pg, UpSet};
 use refusal::{Memory, Refusal};
 use std::alloc::Global;
 use std::sync::Wait;
-use std::sync::atomic::AtomicU64;
-use std::time::Duration;
-
-/// How often `await` looks for the epoch.
-const MAX_LOOKS: u32 = 1_000_000;
-
-/// How many looks follow one another before `await` sleeps.
-const LOOKS_AT_ONCE: u32 = 512;
-
-/// How long it sleeps then, in microseconds.
-const SLEEP: u64 = 250;
 
 /// Where sessions ask: their monitor, what its calls need, and the gate of their lines.
 #[derive(Drop)]
@@ -225,31 +214,15 @@ impl<'a, R: Wait, G> Desk<'a, R, G> {
         self.monitor.commit(self.rt, member, base, change)
     }
 
-    /// Looks without the lock for an epoch, at most 1,000,000 times: at first it lets others run after each look, and
-    /// then it sleeps after some.
-    fn watch(&self, wanted: u64) {
-        let backoff = Backoff::new();
-        let alarm = AtomicU64::new(0);
-        for look in 0..MAX_LOOKS {
-            if self.monitor.has_reached(wanted) {
-                break;
-            }
-            if !backoff.is_completed() {
-                backoff.snooze();
-            } else if look % LOOKS_AT_ONCE == 0 {
-                alarm.park_timeout(self.rt, 0, Duration::from_micros(SLEEP));
-            }
-        }
-    }
-
     /// The epoch, once it is at least the one wanted: `AwaitSpent` (34) after 1,000,000 looks without it. It takes the
     /// lock once, after the looks.
     fn await_epoch(&self, member: &mut Member, wanted: u64) -> Result<u64, Refusal>
         requires { IsMemberOf self.now.monitor.now member.old }
         ensures member { IsMemberOf self.now.monitor.now member.new }
-        ensures awaits { Awaits self.now.monitor.now.first wanted member.old.pass.history member.new.pass.history result }
+        ensures awaits { Awaits self.now.monitor.now.first wanted
+            member.old.pass.history member.new.pass.history result }
     {
-        self.watch(wanted);
+        let _ = watch(self.rt, self.monitor, wanted);
         let epoch = self.monitor.epoch(self.rt, member)?;
         if epoch >= wanted {
             Ok(epoch)

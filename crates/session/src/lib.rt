@@ -12,6 +12,7 @@ mod reading;
 mod reply;
 mod session;
 mod sink;
+mod watch;
 
 pub use desk::Desk;
 pub use error::SessionError;

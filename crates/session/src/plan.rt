@@ -1,10 +1,7 @@
 //! A plan that a script asks for.
 
 ghost use Rattle.std.specs.Prelude.{◌≤◌};
-ghost use Rattle.session.specs.Plans.{max_moves};
-
-/// How many moves a plan may have at most.
-pub(crate) const MAX_MOVES: u32 = 1_024;
+ghost use Rattle.balancer.specs.Limits.{max_moves};
 
 /// A plan that is asked for.
 #[derive(Clone, Copy, Debug)]

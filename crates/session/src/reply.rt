@@ -1,7 +1,8 @@
 //! What the commands of a script answer, and its line.
 ghost use Rattle.std.specs.Prelude.{◌≡◌, ◌++◌, codes, decimal, OnOk};
 ghost use Rattle.std.specs.String.{string_bytes};
-ghost use Rattle.session.specs.Texts.{place_text, osd_text, list_text, epoch_text, dump_text, set_text, groups_text, refusal_text, line_of};
+ghost use Rattle.osdmap.specs.SetText.{place_text, osd_text, list_text};
+ghost use Rattle.session.specs.Texts.{epoch_text, dump_text, up_text, groups_text, refusal_text, line_of};
 ghost use Rattle.session.specs.Replies.{up_word, epoch_word, dump_word, reply_text};
 ghost use Rattle.stated.specs.PgText.{group_text};
 
@@ -176,7 +177,7 @@ fn push_head(text: &mut String, word: &str, epoch: u64, pg: Pg) -> Result<(), Al
 }
 
 /// Adds the line of a group's set.
-#[tactic(auto, unfolding(crate::specs::Texts::set_text))]
+#[tactic(auto, unfolding(crate::specs::Texts::up_text))]
 fn push_set(
     text: &mut String,
     word: &str,
@@ -184,7 +185,7 @@ fn push_set(
     pg: Pg,
     set: &UpSet,
 ) -> Result<(), AllocError>
-    ensures { OnOk result (string_bytes text.new ≡ string_bytes text.old ++ set_text word.now epoch pg set.now) }
+    ensures { OnOk result (string_bytes text.new ≡ string_bytes text.old ++ up_text word.now epoch pg set.now) }
 {
     push_head(text, word, epoch, pg)?;
     push_places(text, set.places())?;

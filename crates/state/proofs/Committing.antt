@@ -4,11 +4,11 @@ use Rattle.stated.specs.declared.change.ChangeParts.{ChangeParts}
 use Rattle.stated.specs.Incrementals.{Step}
 use Rattle.epochlog.specs.Epochs.{Seen, longer, epoch_of}
 use Rattle.pgtable.specs.Tables.{TableFacts}
-use Rattle.state.specs.States.{Kept, IsKept, next_step, longer_by}
+use Rattle.state.specs.States.{Kept, IsKept, max_epoch, next_step, longer_by}
 use Rattle.state.proofs.Journals.{IsAccepted, step_is, joined_is, shown_is, last_epoch-snoc, epoch-kept}
 
 -- an epoch that a journal has room after is far from the end of 64 bits
-pub early_fits : (epoch : ℕ) → epoch ≤ 2147549184 → epoch + 1 < 2 ^ 64
+pub early_fits : (epoch : ℕ) → epoch ≤ max_epoch → epoch + 1 < 2 ^ 64
 early_fits epoch early = omega arith
 
 -- what holds once the epoch is sealed and the state's pass has joined the one that sealed it

@@ -4,14 +4,19 @@ use Rattle.refusal.specs.declared.refused.Refusal.{Refusal}
 use Rattle.refusal.specs.declared.refused.Refusal.TheVariants.{StaleEpoch, JournalFull, Memory as OutOfMemory, NotSealed}
 use Rattle.stated.specs.declared.change.ChangeParts.{ChangeParts}
 use Rattle.stated.specs.Incrementals.{Step}
+use Rattle.stated.specs.Limits.{max_first_epoch}
 use Rattle.osdmap.specs.Maps.{ClusterMap}
 use Rattle.osdmap.specs.Evals.{evals_of}
 use Rattle.osdmap.specs.Changes.{change_fault, apply, after, IsLawful}
-use Rattle.epochlog.specs.Epochs.{Line, Seen}
+use Rattle.epochlog.specs.Epochs.{Line, Seen, max_capacity}
 use Rattle.osdmap.specs.Stored.{StoredMap, HasRoomFor}
 use Rattle.pgtable.specs.declared.patch.Patch.{Patch}
 use Rattle.pgtable.specs.Patches.{next, LeadsTo}
 use Rattle.pgtable.specs.Tables.{TableFacts, IsTableOf}
+
+-- the greatest epoch of a state: that of the last cell of the longest row, from the greatest first epoch on
+abbrev pub max_epoch : ℕ
+max_epoch = max_first_epoch + max_capacity
 
 -- what callers see of a state: the first map, what its pass has seen, whose history is the journal, and the present map
 pub record Kept : Type 0 where

@@ -7,6 +7,7 @@ use refusal::Refusal;
 
 impl State {
     ghost use Rattle.std.specs.Prelude.{◌≡◌, ◌≤◌};
+    ghost use Rattle.balancer.specs.Limits.{max_moves};
     ghost use Rattle.state.specs.Balances.{Balances};
 
     /// Plans the moves that balance the groups of a pool, at most `limit`, 1 to 1,024, and commits their change at the
@@ -25,7 +26,7 @@ impl State {
         requires row { self.old.pass.row ≡ row.now }
         requires pass { pass.old ≡ self.old.pass }
         requires some { 1 ≤ limit }
-        requires few { limit ≤ 1024 }
+        requires few { limit ≤ max_moves }
         ensures balances { Balances self.old self.new pool limit result }
         ensures pass { pass.new ≡ self.new.pass }
     {

@@ -76,7 +76,7 @@ impl State {
     ghost use Rattle.std.specs.Result.{result_err};
     ghost use Rattle.osdmap.specs.Changes.{epoch_after, after, IsLawful};
     ghost use Rattle.pgtable.specs.Tables.{IsTableOf};
-    ghost use Rattle.state.specs.States.{opened, Commits, fault_in};
+    ghost use Rattle.state.specs.States.{opened, max_epoch, Commits, fault_in};
 
     /// The state at its beginning: no change yet. It is for a row whose first epoch is the map's. The one error is
     /// `Memory` (30).
@@ -170,7 +170,7 @@ impl State {
     fn accepts(&self, row: &Row, base: u64, change: &Change) -> Result<(), Refusal>
         requires { self.now.pass.row ≡ row.now }
         ensures fault { result_err result ≡ fault_in self.now base change.now }
-        ensures early { OnOk result (self.now.map.epoch ≤ 2147549184) }
+        ensures early { OnOk result (self.now.map.epoch ≤ max_epoch) }
     {
         let current = self.map.epoch();
         if base != current {
@@ -187,7 +187,7 @@ impl State {
     fn is_full(&self, row: &Row) -> bool
         requires { self.now.pass.row ≡ row.now }
         ensures full { result ≡ not (nat_lt (length self.now.pass.history) (length self.now.pass.row.cells)) }
-        ensures early { self.now.map.epoch ≤ 2147549184 }
+        ensures early { self.now.map.epoch ≤ max_epoch }
     {
         self.pass.epoch() - self.first.epoch() >= u64::from(row.capacity())
     }

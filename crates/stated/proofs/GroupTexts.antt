@@ -6,7 +6,8 @@ use Rattle.std.proofs.lemmas.Nat.{div-add-mod', div_below, mod_below}
 use Rattle.std.proofs.Math.Nat.{pow-zero, pow-suc}
 use Rattle.std.specs.Fmt.{digits, digits_onto, digit_glyph, decimal}
 use Rattle.stated.specs.declared.pg.Pg.{Pg}
-use Rattle.stated.specs.PgText.{digit_of, value_after, number_in, is_point, within, parts_in, group_in, group_text}
+use Rattle.stated.specs.Digits.{digit_of, value_after, number_in}
+use Rattle.stated.specs.PgText.{is_point, within, parts_in, group_in, group_text}
 
 -- ---- one digit
 

@@ -1,4 +1,5 @@
 pub mod CrushMaps
+pub mod Digits
 pub mod Exceptions
 pub mod Growth
 pub mod Incrementals

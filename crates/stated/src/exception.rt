@@ -10,7 +10,7 @@ use crate::short::{Blank, Short};
 use keylist::Keyed;
 
 /// What is said of a group beside its pool's rule.
-#[derive(Clone, Copy, Debug)]
+#[derive(Clone, Copy, Debug, PartialEq, Eq)]
 pub struct Exception<E: Blank> {
     /// The group.
     pub pg: Pg,

@@ -14,7 +14,7 @@ use std::marker::Model;
 
 /// What a pool grows to: 1 to 65,535 is its id, 1 to 4,096 its number of groups `pg_num`, 1 to `pg_num` the number
 /// `pgp_num` of groups for placement.
-#[derive(Clone, Copy, Debug)]
+#[derive(Clone, Copy, Debug, PartialEq, Eq)]
 pub struct Grow {
     pool: u32,
     pg_num: u32,

@@ -11,6 +11,7 @@ pub mod fits;
 pub mod grow;
 pub mod limits;
 pub mod numbers;
+mod numeral;
 pub mod osd;
 pub mod parts;
 pub mod pg;
@@ -25,6 +26,7 @@ pub use crush_map::CrushMap;
 pub use entry_part::{EntryPart, exceptions_fit, exceptions_of, pg_fits};
 pub use exception::{Entry, Exception, Explicit, Items, NamesGroup, Pair};
 pub use grow::Grow;
+pub use numeral::number;
 pub use osd::{OsdState, Presence};
 pub use parts::{
     BucketPart, ChoosePart, CrushParts, ExceptionPart, GrowPart, ItemPart, MapParts, OsdPart,

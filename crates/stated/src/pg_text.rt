@@ -1,9 +1,9 @@
 //! The text of a group: the pool's id in decimal, a point, and the number in lower hexadecimal, both without leading
 //! zeros (Ceph, `pg_t::print`).
-ghost use Rattle.std.specs.Prelude.{◌≡◌, ◌<◌, ◌≤◌, IfSome, length, position};
-ghost use Rattle.std.specs.Option.{option_map};
-ghost use Rattle.stated.specs.PgText.{digit_of, value_after, part_in, within, is_point, IsReadBack};
+ghost use Rattle.std.specs.Prelude.{◌≡◌, ◌<◌, ◌≤◌, IfSome, length, position, option_and_then};
+ghost use Rattle.stated.specs.PgText.{part_in, within, is_point, IsReadBack};
 
+use crate::numeral::number;
 use crate::pg::Pg;
 use std::fmt;
 
@@ -11,8 +11,6 @@ use std::fmt;
 const POOL_BASE: u32 = 10;
 /// The base of a group's number in a text.
 const NUMBER_BASE: u32 = 16;
-/// The least number that has more than 32 bits.
-const TOO_GREAT: u64 = 0x1_0000_0000;
 
 /// The parts of a group as a text states them. Each is `None` where it has more than 32 bits.
 #[derive(Clone, Copy, Debug, PartialEq, Eq)]
@@ -23,44 +21,21 @@ pub struct PgParts {
     pub number: Option<u32>,
 }
 
-/// The digit that a byte is in a base of at most 16, in lower case.
-#[tactic(auto, unfolding(crate::specs::PgText::digit_of))]
-fn digit(base: u32, byte: u8) -> Option<u32>
-    ensures { result ≡ digit_of base byte }
+/// A number of at most 32 bits.
+fn narrowed(number: Option<u64>) -> Option<u32>
+    ensures { result ≡ option_and_then within number }
 {
-    let digit = match byte {
-        b'0'..=b'9' => u32::from(byte - b'0'),
-        b'a'..=b'f' => u32::from(byte - b'a') + 10,
-        _ => return None,
-    };
-    if digit < base { Some(digit) } else { None }
-}
-
-/// The number that digits write, `Some(None)` where it has more than 32 bits.
-fn value(base: u32, digits: &[u8]) -> Option<Option<u32>>
-    requires some { 0 < base }
-    requires most { base ≤ 16 }
-    ensures { result ≡ option_map within (value_after base 0 digits.now) }
-{
-    let mut value: u64 = 0;
-    for byte in digits {
-        let digit = digit(base, *byte)?;
-        value = (value * u64::from(base) + u64::from(digit)).min(TOO_GREAT);
-    }
-    Some(u32::try_from(value).ok())
+    u32::try_from(number?).ok()
 }
 
 /// The number that a text is, without leading zeros: `Some(None)` where it has more than 32 bits.
-#[tactic(auto, unfolding(crate::specs::PgText::number_in))]
-fn number(base: u32, text: &[u8]) -> Option<Option<u32>>
+#[tactic(auto, using(crate::proofs::PgTexts::part_of_number))]
+fn part(base: u32, text: &[u8]) -> Option<Option<u32>>
     requires some { 0 < base }
     requires most { base ≤ 16 }
     ensures { result ≡ part_in base text.now }
 {
-    match text {
-        [] | [b'0', _, ..] => None,
-        _ => value(base, text),
-    }
+    Some(narrowed(number(base, text)?))
 }
 
 /// The place of the first point.
@@ -81,8 +56,8 @@ impl PgParts {
         ensures { result ≡ parts_in text.now }
     {
         let point = point(text)?;
-        let pool = number(POOL_BASE, &text[..point])?;
-        let number = number(NUMBER_BASE, &text[point + 1..])?;
+        let pool = part(POOL_BASE, &text[..point])?;
+        let number = part(NUMBER_BASE, &text[point + 1..])?;
         Some(PgParts { pool, number })
     }
 

@@ -14,7 +14,7 @@ use std::marker::Model;
 
 /// A pool: 1 to 65,535 is its id, 1 to 4,096 its number of groups `pg_num`, 1 to `pg_num` the number `pgp_num` of
 /// groups for placement, 0 to 255 the id of its rule, 1 to 10 the size of a group (Ceph, `pg_pool_t`).
-#[derive(Clone, Copy, Debug)]
+#[derive(Clone, Copy, Debug, PartialEq, Eq)]
 pub struct Pool {
     id: u32,
     kind: RuleKind,
@@ -156,7 +156,7 @@ impl Pool {
     /// The number of groups: at most 4,096.
     pub fn pg_num(&self) -> u32
         ensures value { result ≡ self.now.pg_num }
-        ensures few { result ≤ 4096 }
+        ensures few { result ≤ max_groups }
     {
         self.pg_num
     }

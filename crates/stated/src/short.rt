@@ -40,7 +40,10 @@ impl<T: Blank> Model for Short<T> {
 
     ghost inverse_ok = { λ s h i. record {
       len = length-take-le s.len s.places (omega (arith, h.few, h.ten)) i;
-      places = (ap (λ n. take s.len s.places ++ replicate (10 - n) T.blank) (length-take-le s.len s.places (omega (arith, h.few, h.ten))) ∙ ap (λ xs. take s.len s.places ++ xs) (sym h.none_behind) ∙ take-append-drop s.len s.places) i;
+      places = (ap (λ n. take s.len s.places ++ replicate (10 - n) T.blank)
+          (length-take-le s.len s.places (omega (arith, h.few, h.ten)))
+          ∙ ap (λ xs. take s.len s.places ++ xs) (sym h.none_behind)
+          ∙ take-append-drop s.len s.places) i;
     } };
 }
 
@@ -54,6 +57,24 @@ impl<T: Blank> Clone for Short<T> {
     fn clone(&self) -> Result<Short<T>, AllocError> {
         Ok(*self)
     }
+}
+
+impl<T: Blank + PartialEq> PartialEq for Short<T> {
+    ghost use Rattle.std.specs.Cmp.Lexicographic.{pointwise, lists_per};
+
+    ghost eq = { pointwise T.eq };
+
+    ghost laws = { lists_per T.laws };
+
+    fn eq(&self, other: &Short<T>) -> bool {
+        self.as_slice() == other.as_slice()
+    }
+}
+
+impl<T: Blank + Eq> Eq for Short<T> {
+    ghost use Rattle.std.specs.Cmp.Lexicographic.{lists_equiv};
+
+    ghost laws = { lists_equiv T.Eq.laws };
 }
 
 impl<T: Blank> DerefSlice for Short<T> {

@@ -4,7 +4,7 @@ use Rattle.osdmap.specs.Evals.{evals_of}
 use Rattle.osdmap.specs.Changes.{apply}
 use Rattle.stated.specs.Incrementals.{Step}
 use Rattle.epochlog.specs.Epochs.{Seen, epoch_of}
-use Rattle.state.specs.States.{Kept, fault_in, IsKept, committed, next_step, longer_by}
+use Rattle.state.specs.States.{Kept, fault_in, committed, next_step, longer_by}
 use Rattle.state.proofs.Journals.{IsAccepted, accepted, IsKept-committed, pass-epoch, with_parts}
 use Rattle.state.proofs.Committing.{early_fits, sealed}
 use Rattle.state.proofs.state.State.commit.Goals as goal

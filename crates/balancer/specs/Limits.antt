@@ -1,0 +1,6 @@
+-- The limit of a plan; those of maps are crush's and stated's.
+use Rattle.std.specs.Prelude.{ℕ}
+
+-- how many moves a plan may have at most
+abbrev pub max_moves : ℕ
+max_moves = 1024

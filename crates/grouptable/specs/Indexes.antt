@@ -1,0 +1,31 @@
+-- What an index has for an OSD, and what it has once lists are put into it.
+use Rattle.std.specs.Prelude.{◌≡◌, ℕ, ◌<◌, cond, List, Option, Some, None, nat_eq, ◌==◌}
+use Rattle.std.specs.Option.{IsSome}
+use Rattle.std.specs.Map.{lookup}
+use Rattle.crush.specs.Limits.{max_devices}
+use Rattle.grouptable.specs.Sets.{listed, over}
+use Rattle.grouptable.specs.Lists.{list_of}
+
+-- the list that an index has for an OSD
+abbrev pub list_in : List (ℕ × List ℕ) → ℕ → Option (List ℕ)
+list_in index osd = lookup (nat_eq osd) index
+
+-- an index has a list for each OSD of fresh lists
+abbrev pub HasAllOf : List (ℕ × List ℕ) → List (ℕ × List ℕ) → Type 0
+HasAllOf fresh index = (osd : ℕ) → IsSome (list_in fresh osd) → IsSome (list_in index osd)
+
+-- the one index has for each OSD what the other has
+abbrev pub HasTheSame : List (ℕ × List ℕ) → List (ℕ × List ℕ) → Type 0
+HasTheSame old new = (osd : ℕ) → list_in new osd ≡ list_in old osd
+
+-- the index of lists that stand by their OSD: it has those with a group
+abbrev pub IsIndexOf : List (List ℕ) → List (ℕ × List ℕ) → Type 0
+IsIndexOf lists index = (osd : ℕ) → osd < max_devices → list_in index osd ≡ listed (list_of lists osd)
+
+-- fresh lists are put into an index: their OSDs have them, if they have a group, and the others what they had
+abbrev pub IsPutInto : List (ℕ × List ℕ) → List (ℕ × List ℕ) → List (ℕ × List ℕ) → Type 0
+IsPutInto fresh old new = (osd : ℕ) → list_in new osd ≡ over (list_in fresh osd) (list_in old osd)
+
+-- the same of the list of one OSD
+abbrev pub IsOnePutInto : ℕ → List ℕ → List (ℕ × List ℕ) → List (ℕ × List ℕ) → Type 0
+IsOnePutInto osd list old new = (k : ℕ) → list_in new k ≡ over (cond (osd == k) (Some list) None) (list_in old k)

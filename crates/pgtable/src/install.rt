@@ -1,0 +1,102 @@
+//! The patches of a table, put in: what stays of the old tables is carried over. It takes no memory.
+
+ghost use Rattle.std.specs.Prelude.{◌≡◌, ◌≢◌, ℕ, length, map, slice_get, Some, IfSome};
+ghost use Rattle.std.specs.List.{zip};
+ghost use Rattle.pgtable.specs.declared.patch.Kept.{Kept};
+ghost use Rattle.grouptable.specs.Tables.{IsPatchFor};
+ghost use Rattle.pgtable.specs.Patches.{carried, regrouped, FitsAt, FitAll, FitGroups};
+
+use crate::patch::{Brought, Kept, NewTables, Patch};
+use crate::pool_table::PoolTable;
+use crate::table::PgTable;
+use grouptable::GroupPatch;
+use std::mem;
+
+/// Takes what stays of a pool's table out of the old ones, and gives some groups other sets.
+fn carry_one(old: &mut [PoolTable], table: &mut PoolTable, kept: Kept)
+    requires { FitsAt old.old kept }
+    ensures table { table.new ≡ carried old.old table.old (Some kept) }
+    ensures others { (j : ℕ) → j ≢ kept.at → slice_get old.new j ≡ slice_get old.old j }
+    ensures long { length old.new ≡ length old.old }
+{
+    mem::swap(&mut table.groups, &mut old[kept.at].groups);
+    table.groups.install(kept.patch);
+}
+
+/// The same where something stays.
+fn carry(old: &mut [PoolTable], table: &mut PoolTable, kept: Option<Kept>)
+    requires { (k : Kept) → kept ≡ Some k → FitsAt old.old k }
+    ensures table { table.new ≡ carried old.old table.old kept }
+    ensures others { (j : ℕ) → ((k : Kept) → kept ≡ Some k → j ≢ k.at) → slice_get old.new j ≡ slice_get old.old j }
+    ensures long { length old.new ≡ length old.old }
+{
+    if let Some(kept) = kept {
+        carry_one(old, table, kept);
+    }
+}
+
+/// Takes what stays out of the old tables, into the places of the new ones.
+fn carry_all(old: &mut [PoolTable], pools: &mut [PoolTable], mut kept: Vec<Option<Kept>>)
+    requires { FitAll old.old pools.old kept.items }
+    ensures { pools.new ≡ map (λ e. carried old.old e.0 e.1) (zip pools.old kept.items) }
+{
+    let most = pools.len();
+    for at in 0..most {
+        let one = kept[at].take();
+        carry(old, &mut pools[at], one);
+    }
+}
+
+/// Gives some groups of a pool other sets, where there are any.
+fn regroup(table: &mut PoolTable, patch: Option<GroupPatch>)
+    requires { IfSome patch (IsPatchFor table.old.groups) }
+    ensures { table.new ≡ regrouped table.old patch }
+{
+    if let Some(patch) = patch {
+        table.groups.install(patch);
+    }
+}
+
+/// Gives some groups of each pool other sets. It takes no memory.
+fn regroup_all(pools: &mut [PoolTable], mut patches: Vec<Option<GroupPatch>>)
+    requires { FitGroups pools.old patches.items }
+    ensures { pools.new ≡ map (λ e. regrouped e.0 e.1) (zip pools.old patches.items) }
+{
+    let most = pools.len();
+    for at in 0..most {
+        let one = patches[at].take();
+        regroup(&mut pools[at], one);
+    }
+}
+
+impl PgTable {
+    ghost use Rattle.std.specs.Prelude.{◌≡◌};
+    ghost use Rattle.pgtable.specs.Patches.{FitsBrought, Fits, LeadsTo, patched, pools_patched};
+    ghost use Rattle.osdmap.specs.Maps.{ClusterMap};
+    ghost use Rattle.pgtable.specs.Tables.{IsTableOf};
+
+    /// Makes of the table what a patch of it leads to. It takes no memory.
+    pub fn install(&mut self, patch: Patch)
+        requires { Fits self.old patch }
+        ensures value { self.new ≡ patched self.old patch }
+        ensures table { (m : ClusterMap) → LeadsTo m self.old patch → IsTableOf self.new m }
+    {
+        self.bring(patch.brought);
+        self.up = patch.up;
+    }
+
+    /// Gives some groups of the pools other sets, or makes other tables those of the pools.
+    fn bring(&mut self, brought: Brought)
+        requires { FitsBrought self.old brought }
+        ensures pools { self.new.pools ≡ pools_patched self.old.pools brought }
+        ensures up { self.new.up ≡ self.old.up }
+    {
+        match brought {
+            Brought::Groups(patches) => regroup_all(&mut self.pools, patches),
+            Brought::Pools(NewTables { mut pools, kept }) => {
+                carry_all(&mut self.pools, &mut pools, kept);
+                self.pools = pools;
+            }
+        }
+    }
+}

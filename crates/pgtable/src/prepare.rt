@@ -1,0 +1,163 @@
+//! What a change makes of a table.
+
+ghost use Rattle.std.specs.Prelude.{◌≡◌, true, length};
+ghost use Rattle.osdmap.specs.Marks.{are_below};
+ghost use Rattle.pgtable.specs.Patches.{is_empty, leaves_pools, leaves_raw_sets, turned};
+
+use crate::candidates::{candidates, candidates_named};
+use crate::patch::{Brought, Patch};
+use crate::regroup::Regroup;
+use crate::table::{PgTable, ups_of};
+use crate::update::Update;
+use crush::Work;
+use osdmap::{Change, OsdMap};
+use refusal::Memory;
+use std::alloc::Global;
+
+/// Whether a list has no entries.
+fn is_empty<T>(entries: &[T]) -> bool
+    ensures { result ≡ is_empty entries.now }
+{
+    matches!(entries, [])
+}
+
+/// Whether a change leaves all pools as they are, and the forest and the rules.
+#[tactic(auto, unfolding(crate::specs::Patches::leaves_pools))]
+fn leaves_pools(change: &Change) -> bool
+    ensures { result ≡ leaves_pools change.now }
+{
+    let parts = change.parts();
+    is_empty(&parts.old_pools)
+        && parts.new_crush.is_none()
+        && is_empty(&parts.new_pools)
+        && is_empty(&parts.grow_pool)
+}
+
+/// Whether it leaves all raw sets, so that only a group whose exceptions it names is placed otherwise.
+#[tactic(auto, unfolding(crate::specs::Patches::leaves_raw_sets))]
+pub(crate) fn leaves_raw_sets(change: &Change) -> bool
+    ensures { result ≡ leaves_raw_sets change.now }
+{
+    leaves_pools(change) && is_empty(&change.parts().weight)
+}
+
+/// Some OSDs go up or down.
+fn turn(ups: &mut [bool], osds: &[u32], up: bool)
+    requires { are_below (λ osd. osd) (length ups.old) osds.now ≡ true }
+    ensures { ups.new ≡ turned up ups.old osds.now }
+{
+    for osd in osds {
+        ups[*osd as usize] = up;
+    }
+}
+
+impl PgTable {
+    ghost use Rattle.std.specs.Prelude.{◌≡◌, ◌<◌, true, length, map, None, ◌+◌, ◌^◌, IfOk};
+    ghost use Rattle.osdmap.specs.Marks.{are_below};
+    ghost use Rattle.pgtable.specs.Patches.{leaves_raw_sets, next, LeadsTo, ups_after};
+    ghost use Rattle.osdmap.specs.Changes.{change_fault};
+    ghost use Rattle.osdmap.specs.Evals.{evals_of};
+    ghost use Rattle.pgtable.specs.Tables.{IsTableOf, RunsMore};
+
+    /// All that a change makes of the table of a map that does not refuse it, by the map after it; or `Memory` (30).
+    fn prepare_after(
+        &self,
+        alloc: Global,
+        map: &OsdMap,
+        change: &Change,
+        work: &mut Work,
+    ) -> Result<Patch, Memory>
+        requires table { IsTableOf self.now map.now.map }
+        requires lawful { change_fault map.now.map change.now ≡ None }
+        requires epoch { map.now.map.epoch + 1 < 2 ^ 64 }
+        ensures leads { IfOk result (LeadsTo (next map.now.map change.now) self.now) }
+        ensures counted { IfOk result (λ p. p.evals ≡ evals_of (next map.now.map change.now) change.now) }
+        ensures runs { IfOk result (λ p. RunsMore p.evals work.old work.new) }
+    {
+        let after = map.after(alloc, change)?;
+        map.holds_together();
+        after.holds_together();
+        let groups = candidates(alloc, map, change, &after)?;
+        let update = Update {
+            before: map,
+            change,
+            after: &after,
+            groups: &groups,
+        };
+        let (tables, evals) = self.all_made(alloc, &update, work)?;
+        let up = ups_of(alloc, &after)?;
+        Ok(Patch {
+            brought: Brought::Pools(tables),
+            up,
+            evals,
+        })
+    }
+
+    /// All that a change makes of the table of a map that does not refuse it, where it leaves all raw sets: the map
+    /// after it need not be there. Or `Memory` (30).
+    fn prepare_groups(
+        &self,
+        alloc: Global,
+        map: &OsdMap,
+        change: &Change,
+        work: &mut Work,
+    ) -> Result<Patch, Memory>
+        requires table { IsTableOf self.now map.now.map }
+        requires lawful { change_fault map.now.map change.now ≡ None }
+        requires leaves { leaves_raw_sets change.now ≡ true }
+        ensures leads { IfOk result (LeadsTo (next map.now.map change.now) self.now) }
+        ensures counted { IfOk result (λ p. p.evals ≡ evals_of (next map.now.map change.now) change.now) }
+        ensures runs { IfOk result (λ p. RunsMore p.evals work.old work.new) }
+    {
+        map.holds_together();
+        let _ = change.parts();
+        let groups = candidates_named(alloc, map, change)?;
+        let regroup = Regroup {
+            map,
+            change,
+            groups: &groups,
+        };
+        let (patches, evals) = self.all_regrouped(alloc, &regroup, work)?;
+        let up = self.ups_after(alloc, change)?;
+        Ok(Patch {
+            brought: Brought::Groups(patches),
+            up,
+            evals,
+        })
+    }
+
+    /// Which OSDs are up after a change; or `Memory` (30).
+    fn ups_after(&self, alloc: Global, change: &Change) -> Result<Vec<bool>, Memory>
+        requires down { are_below (λ osd. osd) (length self.now.up) change.now.down ≡ true }
+        requires up { are_below (λ osd. osd) (length self.now.up) change.now.up ≡ true }
+        ensures { IfOk result (λ up. up.items ≡ ups_after self.now.up change.now) }
+    {
+        let mut up = Vec::from_slice(alloc, &self.up)?;
+        turn(&mut up, &change.parts().down, false);
+        turn(&mut up, &change.parts().up, true);
+        Ok(up)
+    }
+
+    /// All that a change makes of the table of a map that does not refuse it; or `Memory` (30). It tells the
+    /// evaluations of the change, and `work` counts a rule run for each of them, and no other.
+    pub fn prepare(
+        &self,
+        alloc: Global,
+        map: &OsdMap,
+        change: &Change,
+        work: &mut Work,
+    ) -> Result<Patch, Memory>
+        requires table { IsTableOf self.now map.now.map }
+        requires lawful { change_fault map.now.map change.now ≡ None }
+        requires epoch { map.now.map.epoch + 1 < 2 ^ 64 }
+        ensures leads { IfOk result (LeadsTo (next map.now.map change.now) self.now) }
+        ensures counted { IfOk result (λ p. p.evals ≡ evals_of (next map.now.map change.now) change.now) }
+        ensures runs { IfOk result (λ p. RunsMore p.evals work.old work.new) }
+    {
+        if leaves_raw_sets(change) {
+            self.prepare_groups(alloc, map, change, work)
+        } else {
+            self.prepare_after(alloc, map, change, work)
+        }
+    }
+}

@@ -1,6 +1,0 @@
--- The limit of a plan.
-use Rattle.std.specs.Prelude.{ℕ}
-
--- how many moves a plan may have at most
-abbrev pub max_moves : ℕ
-max_moves = 1024

@@ -1,0 +1,61 @@
+//! The looks of an `await`, for an epoch that another is to make. They need no lock.
+ghost use Rattle.std.specs.Prelude.{◌≡◌, ◌+◌, ◌<◌};
+ghost use Rattle.session.specs.Watches.{max_looks, HasWatched};
+
+use crossbeam_utils::Backoff;
+use monitor::Monitor;
+use std::sync::Wait;
+use std::sync::atomic::AtomicU64;
+use std::time::Duration;
+
+/// How often `await` looks for the epoch.
+const MAX_LOOKS: u32 = 1_000_000;
+
+/// How many looks follow one another before `await` sleeps.
+const LOOKS_AT_ONCE: u32 = 512;
+
+/// How long it sleeps then, in microseconds.
+const SLEEP: u64 = 250;
+
+/// How often an `await` has looked, and whether it has seen the epoch.
+#[derive(Clone, Copy, Debug)]
+pub(crate) struct Looks {
+    pub count: u32,
+    pub seen: bool,
+}
+
+/// Looks once more whether a monitor has reached an epoch by now.
+fn look(monitor: &Monitor, wanted: u64, looks: Looks) -> Looks
+    requires { looks.count < max_looks }
+    ensures { result.count ≡ looks.count + 1 }
+{
+    Looks {
+        count: looks.count + 1,
+        seen: monitor.has_reached(wanted),
+    }
+}
+
+/// Looks until a monitor has reached an epoch, at most 1,000,000 times: at first it lets others run after each look,
+/// and then it sleeps after some.
+pub(crate) fn watch<R: Wait>(rt: &R, monitor: &Monitor, wanted: u64) -> Looks
+    ensures { HasWatched result }
+{
+    let backoff = Backoff::new();
+    let alarm = AtomicU64::new(0);
+    let mut looks = Looks {
+        count: 0,
+        seen: false,
+    };
+    for _ in 0..MAX_LOOKS {
+        looks = look(monitor, wanted, looks);
+        if looks.seen {
+            break;
+        }
+        if !backoff.is_completed() {
+            backoff.snooze();
+        } else if looks.count % LOOKS_AT_ONCE == 0 {
+            alarm.park_timeout(rt, 0, Duration::from_micros(SLEEP));
+        }
+    }
+    looks
+}
