@@ -7,9 +7,11 @@ A run with a growth refused ends with status 4, `memory` and nothing put out; or
 does, of a script in which the line that answers `err 30 Memory` is left out. The last run is the first without a refusal.
 In a second round each line that may find no memory stands twice, so that after a refusal the same line has its exact answer. In a
 third the script is a live session, whose answers before the refusal are out; in a fourth its session's answers go to a file, which
-is standard output. At the end 63 sessions await what one changes that says each change twice, so that it comes whatever is refused.
+is standard output. Then 63 sessions await what one changes that says each change twice, so that it comes whatever is refused. At the
+end `groups` answers an OSD that stands in 131,072 groups, with each growth refused that this line asks for.
 """
 
+import json
 import os
 import pathlib
 import shlex
@@ -86,6 +88,39 @@ class Example:
         return f"status {got[0]}, output {got[1][:200]}, error {got[2][:200]}", came
 
 
+class Everywhere(Example):
+    """`groups` of the one OSD of 32 pools of 4,096 groups. The growths before the line are those of a script without it."""
+
+    POOLS, GROUPS = range(1, 33), range(4096)
+
+    def __init__(self, command, library, folder):
+        self.written(folder)
+        super().__init__(command, library, folder, folder, "a script")
+        self.first = self.growths(self.folder / "without-0")
+
+    def written(self, folder):
+        """Writes the map, the script, and its answers by their definition."""
+        pool = {"kind": "replicated", "pg_num": len(self.GROUPS), "pgp_num": len(self.GROUPS), "rule": 0, "size": 1}
+        stated = {"version": 1, "epoch": 1, "max_osd": 1, "buckets": [{"id": -1, "type": 10, "kind": "uniform", "items": [[0, 65536]]}],
+                  "rules": [{"id": 0, "kind": "replicated", "steps": [["take", -1], ["choose_firstn", 0, 0], ["emit"]]}],
+                  "pools": [{"id": number, **pool} for number in self.POOLS],
+                  "osds": [{"id": 0, "exists": True, "up": True, "weight": 65536}]}
+        groups = ",".join(f"{number}.{group:x}" for number in self.POOLS for group in self.GROUPS)
+        (folder / "map.json").write_text(json.dumps(stated))
+        (folder / "script.txt").write_text("groups 0\n")
+        (folder / "answers.txt").write_text(f"session 1\ngroups 1 0 [{groups}]\n")
+
+    def growths(self, script):
+        """How many growths a run over a script asks for, by halves."""
+        least, most = 0, 1
+        while self.run(script, most)[1]:
+            least, most = most, 2 * most
+        while most - least > 1:
+            middle = (least + most) // 2
+            least, most = (middle, most) if self.run(script, middle)[1] else (least, middle)
+        return least
+
+
 class Awaited:
     """63 sessions that await the epoch that another makes, at its first attempt or its second."""
 
@@ -123,7 +158,13 @@ def sweeps(command, library, folder):
 
     makers = {f"{script.parent.name}, {way}": lambda script=script, way=way: made(script, way)
               for script in sorted(EXAMPLES.rglob("script.txt")) for way in WAYS}
-    return makers | {"63 sessions that await": lambda: Awaited(command, library, folder)}
+    return makers | {"63 sessions that await": lambda: Awaited(command, library, folder), "groups of all": lambda: everywhere(command, library, folder)}
+
+
+def everywhere(command, library, folder):
+    own = pathlib.Path(folder) / "groups of all"
+    own.mkdir()
+    return Everywhere(command, library, own)
 
 
 def sweep(make, pool):
@@ -131,12 +172,13 @@ def sweep(make, pool):
     wrong, number, step = [], 0, 64
     try:
         example = make()
+        number = first = getattr(example, "first", 0)
         while True:
             numbers = range(number + 1, number + 1 + step)
             for number, (found, came) in zip(numbers, pool.map(example.difference, numbers)):
                 if not came:
-                    wrong += [(number, found)] if found else [(1, "no growth was refused")] if number == 1 else []
-                    return number - 1, wrong
+                    wrong += [(number, found)] if found else [(number, "no growth was refused")] if number == first + 1 else []
+                    return number - 1 - first, wrong
                 wrong += [(number, found)] if found else []
     except subprocess.TimeoutExpired:
         return number + 1, wrong + [(number + 1, f"no end after {SECONDS} seconds")]
