@@ -128,11 +128,21 @@ def output(words):
     return subprocess.run(words, stdout=subprocess.PIPE, text=True, check=True, timeout=LIMIT).stdout.splitlines()[1:]
 
 
-def once(words):
-    """The time of one run."""
+def once(words, source=subprocess.DEVNULL):
+    """The time of one run, with its input from somewhere. A timer ends a run that is past its limit: where Python itself waits with a
+    limit, it looks for the end at ever longer intervals, up to 50 ms, and these would be measured."""
     begin = time.perf_counter()
-    subprocess.run(words, stdin=subprocess.DEVNULL, stdout=subprocess.DEVNULL, check=True, timeout=LIMIT)
-    return time.perf_counter() - begin
+    with subprocess.Popen(words, stdin=source, stdout=subprocess.DEVNULL) as run:
+        late = threading.Timer(LIMIT, run.kill)
+        late.start()
+        run.wait()
+        spent = time.perf_counter() - begin
+        late.cancel()
+    if run.returncode == -signal.SIGKILL:
+        raise subprocess.TimeoutExpired(words, LIMIT)
+    if run.returncode != 0:
+        raise subprocess.CalledProcessError(run.returncode, words)
+    return spent
 
 
 def seconds(words, runs=5):
