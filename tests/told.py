@@ -193,17 +193,8 @@ def test_plans_that_are_refused(tools):
 
 def tests():
     """Each test with its name."""
-    return [(test.__doc__.rstrip("."), test) for name, test in globals().items() if name.startswith("test_")]
-
-
-def main():
-    program, failed = given.program(__doc__), 0
-    for name, test in tests():
-        found = clusters.faults(program, test)
-        failed += bool(found)
-        print(f"{'FAILED' if found else 'passed'}: {name}", *found, sep="\n    ", flush=True)
-    return 1 if failed else 0
+    return clusters.tests(globals())
 
 
 if __name__ == "__main__":
-    sys.exit(main())
+    sys.exit(clusters.main(globals(), __doc__))
