@@ -8,12 +8,11 @@ use Rattle.std.proofs.lemmas.Int.{ints}
 use Rattle.std.proofs.lemmas.List.Sums.{sum_by-cons}
 use Rattle.stated.specs.Pools.{PoolFacts}
 use Rattle.osdmap.specs.Maps.{ClusterMap}
-use Rattle.osdmap.specs.Mapped.{is_of}
+use Rattle.stated.specs.Sets.{is_of, stands}
 use Rattle.osdmap.specs.Placement.{group_of, steps_of, mapped_set, up_set}
-use Rattle.placement_laws.specs.Standing.{stands}
 use Rattle.placement_laws.proofs.Standing.{up_are_mapped_and_up}
 use Rattle.balancer.specs.declared.moves.Move.{Move}
-use Rattle.balancer.specs.Shares.{is_candidate, total, deviation}
+use Rattle.balancer.specs.Shares.{is_candidate, total_weight, deviation}
 use Rattle.balancer.specs.Moves.{pairs_in, last_level, levels_of, are_beside, has_way, has_own_domain, does_replace, stands_on, has_room, is_allowed}
 use Rattle.balancer.specs.Greedy.{gap, is_good}
 use Rattle.balancer.specs.Boards.{is_fixed, group_at, may_go}
@@ -70,24 +69,24 @@ module _ (m : ClusterMap) (p : PoolFacts) (v : Move) where
   -- ---- good moves
 
   -- a wide pair is of two OSDs
-  pub apart_if : int_lt (pos (total m p)) (gap m p v.from v.to) ≡ true → v.from ≢ v.to
-  apart_if wide same = let level : deviation m p v.from ≡ deviation m p v.to = ap (deviation m p) same in narrow (total m p) (deviation m p v.from) (deviation m p v.to) level wide
+  pub apart_if : int_lt (pos (total_weight m p)) (gap m p v.from v.to) ≡ true → v.from ≢ v.to
+  apart_if wide same = let level : deviation m p v.from ≡ deviation m p v.to = ap (deviation m p) same in narrow (total_weight m p) (deviation m p v.from) (deviation m p v.to) level wide
     where
       narrow : (t : ℕ) (x y : ℤ) → x ≡ y → int_lt (pos t) (x -ℤ y) ≡ true → ⊥
       narrow t x y e wide = grind (arith, ints)
 
   pub good_from : is_candidate m p v.from ≡ true → is_candidate m p v.to ≡ true → are_beside m p v.from v.to ≡ true → may_go m p v.from v.to (group_at m p v.group) ≡ true
-      → int_lt (pos (total m p)) (gap m p v.from v.to) ≡ true → is_good m p v ≡ true
+      → int_lt (pos (total_weight m p)) (gap m p v.from v.to) ≡ true → is_good m p v ≡ true
   unfolding is_good
   good_from from to beside goes wide = rw (allowed_is from to (apart_if wide), beside, goes, wide) refl
 
-  pub good_wide : is_good m p v ≡ true → int_lt (pos (total m p)) (gap m p v.from v.to) ≡ true
+  pub good_wide : is_good m p v ≡ true → int_lt (pos (total_weight m p)) (gap m p v.from v.to) ≡ true
   unfolding is_good
-  good_wide good = (and_parts (is_allowed m p v) (int_lt (pos (total m p)) (gap m p v.from v.to)) good).1
+  good_wide good = (and_parts (is_allowed m p v) (int_lt (pos (total_weight m p)) (gap m p v.from v.to)) good).1
 
   good_allowed : is_good m p v ≡ true → is_allowed m p v ≡ true
   unfolding is_good
-  good_allowed good = (and_parts (is_allowed m p v) (int_lt (pos (total m p)) (gap m p v.from v.to)) good).0
+  good_allowed good = (and_parts (is_allowed m p v) (int_lt (pos (total_weight m p)) (gap m p v.from v.to)) good).0
 
   abbrev ends : Bool
   ends = is_candidate m p v.from && is_candidate m p v.to

@@ -27,15 +27,15 @@ use Rattle.stated.specs.Growth.{grown}
 use Rattle.stated.specs.Limits.{max_pools}
 use Rattle.stated.specs.Pools.{PoolFacts}
 use Rattle.osdmap.specs.Maps.{ClusterMap, osd_exists, has_rule, HoldsTogether}
-use Rattle.osdmap.specs.Changes.{names_osds, weighs_rightly, pools_kept, pools_there, pools_after, all_groups, names_pools, brings_new, brings_forest, brings_rightly, names_groups, excepts_soundly, names_once, change_fault, apply}
+use Rattle.osdmap.specs.Changes.{names_osds, weighs_rightly, pools_kept, pools_there, pools_after, all_named_groups, names_pools, brings_new, brings_forest, brings_rightly, names_groups, excepts_soundly, names_once, change_fault, apply}
 use Rattle.osdmap.specs.Placement.{group_of}
 use Rattle.osdmap.proofs.PlacementLemmas.{found_passes}
-use Rattle.pgtable.specs.Patches.{next}
+use Rattle.pgtable.specs.Patches.{changed_map}
 use Rattle.pgtable.proofs.Shows.{find_map}
 use Rattle.balancer.specs.declared.moves.Move.{Move}
 use Rattle.balancer.specs.Moves.{moved, lengthened}
 use Rattle.balancer.specs.Greedy.{after_moves}
-use Rattle.balancer.specs.Plans.{is_moved, items_at, items_of, change_of}
+use Rattle.balancer.specs.Plans.{is_moved, items_at, moved_items, change_of}
 use Rattle.balancer.specs.Boards.{IsReached}
 use Rattle.balancer.proofs.Stays.{with_pairs, moves_stay}
 use Rattle.balancer.proofs.Ancestors.{none_passes}
@@ -93,7 +93,7 @@ module _ (m : ClusterMap) (items : List (Exception Pair)) where
       there_if (Some p) e = refl
 
   pools_named : IsSoundAll → names_pools m change ≡ true
-  unfolding names_pools all_groups
+  unfolding names_pools all_named_groups
   pools_named sound =
       ap (λ ps. list_all (λ (e : Exception Pair). has_pool_of ps e.pg) items) there_same
       ∙ all_more (λ (e : Exception Pair). has_group m.pools e.pg) (λ (e : Exception Pair). has_pool_of m.pools e.pg) items (λ e is. pool_of_group e.pg is) (groups_there sound)
@@ -109,7 +109,7 @@ module _ (m : ClusterMap) (items : List (Exception Pair)) where
       few_pools n h = grind (arith, nat_tests)
 
   groups_named : IsSoundAll → names_groups m change ≡ true
-  unfolding names_groups all_groups
+  unfolding names_groups all_named_groups
   groups_named sound = ap (λ ps. list_all (λ (e : Exception Pair). has_group ps e.pg) items) after_same ∙ groups_there sound
 
   excepted_soundly : IsSoundAll → excepts_soundly m change ≡ true
@@ -145,7 +145,7 @@ module _ (m : ClusterMap) (items : List (Exception Pair)) where
   items_put = ap (λ es. fold (put key_of) es items) (filter_all (stays [] []) (λ e. refl) m.items)
 
   -- the map after it
-  pub next_with : next m change ≡ record (with_pairs m (fold (put key_of) m.items items)) { epoch = m.epoch + 1 }
+  pub next_with : changed_map m change ≡ record (with_pairs m (fold (put key_of) m.items items)) { epoch = m.epoch + 1 }
   unfolding apply
   next_with = λ i. record {
     epoch = m.epoch + 1;
@@ -181,14 +181,14 @@ module _ (m : ClusterMap) (p : PoolFacts) (moves : List Move) (reached : IsReach
       let passes = found_passes _ (is_exception sides are_pairs now.pools (osd_exists now)) now.items e (reached.named n is) reached.holds.items_sound in
       subst (λ (k : ClusterMap). is_exception sides are_pairs k.pools (osd_exists k) (items_at now p n) ≡ true) (moves_stay m p moves) passes
 
-  pub items_sound : list_all (is_exception sides are_pairs m.pools (osd_exists m)) (items_of m p moves) ≡ true
-  unfolding items_of
+  pub items_sound : list_all (is_exception sides are_pairs m.pools (osd_exists m)) (moved_items m p moves) ≡ true
+  unfolding moved_items
   items_sound =
       list_all-map (is_exception sides are_pairs m.pools (osd_exists m)) (items_at now p) numbers
       ∙ list_all-filter (λ (n : ℕ). true) (λ n. is_exception sides are_pairs m.pools (osd_exists m) (items_at now p n)) (is_moved moves) (λ n yes is. sound_one n is) (range_with_len 0 p.pg_num) (all_so (λ (n : ℕ). true) (λ n. refl) (range_with_len 0 p.pg_num))
 
-  pub items_rise : IsRising key_of (items_of m p moves)
-  unfolding items_of
+  pub items_rise : IsRising key_of (moved_items m p moves)
+  unfolding moved_items
   items_rise = λ i j d below inside.
       let rises = rising-filter (λ n. place_of (group_of p n)) (is_moved moves) (range_with_len 0 p.pg_num) (range_rises p p.pg_num) in
       let long = length-map numbers (items_at now p) in
@@ -225,18 +225,18 @@ module _ (m : ClusterMap) (p : PoolFacts) (moves : List Move) (reached : IsReach
           let fails = none_passes (λ n. eqb (place_of (group_of p n)) k) numbers there.0 g found there.1 there.2 in
           absurd (false≢true (sym fails ∙ eq-eqb (place_of (group_of p g)) k e))
 
-  items_after : HoldsTogether m → fold (put key_of) m.items (items_of m p moves) ≡ now.items
-  unfolding items_of
-  items_after holds = rising_same key_of (fold (put key_of) m.items (items_of m p moves)) now.items (rising-puts key_of m.items (items_of m p moves) holds.items_rise) reached.holds.items_rise each
+  items_after : HoldsTogether m → fold (put key_of) m.items (moved_items m p moves) ≡ now.items
+  unfolding moved_items
+  items_after holds = rising_same key_of (fold (put key_of) m.items (moved_items m p moves)) now.items (rising-puts key_of m.items (moved_items m p moves) holds.items_rise) reached.holds.items_rise each
     where
-      each : (k : ℕ) → entry_at key_of (fold (put key_of) m.items (items_of m p moves)) k ≡ entry_at key_of (after_moves m p moves).items k
+      each : (k : ℕ) → entry_at key_of (fold (put key_of) m.items (moved_items m p moves)) k ≡ entry_at key_of (after_moves m p moves).items k
       each k =
-          entry-puts key_of m.items (items_of m p moves) k
-          ∙ ap (λ o. option_or o (entry_at key_of m.items k)) (entry-reverse key_of (items_of m p moves) k items_rise ∙ find_map (λ (e : Exception Pair). eqb (key_of e) k) (items_at (after_moves m p moves) p) numbers)
+          entry-puts key_of m.items (moved_items m p moves) k
+          ∙ ap (λ o. option_or o (entry_at key_of m.items k)) (entry-reverse key_of (moved_items m p moves) k items_rise ∙ find_map (λ (e : Exception Pair). eqb (key_of e) k) (items_at (after_moves m p moves) p) numbers)
           ∙ entry_found k (find (λ n. eqb (place_of (group_of p n)) k) numbers) refl
 
-  pub next_is : HoldsTogether m → next m (change_of (items_of m p moves)) ≡ record now { epoch = m.epoch + 1 }
+  pub next_is : HoldsTogether m → changed_map m (change_of (moved_items m p moves)) ≡ record now { epoch = m.epoch + 1 }
   next_is holds =
-      next_with m (items_of m p moves)
+      next_with m (moved_items m p moves)
       ∙ ap (λ its. record (with_pairs m its) { epoch = m.epoch + 1 }) (items_after holds)
       ∙ ap (λ (n : ClusterMap). record n { epoch = m.epoch + 1 }) (sym (moves_stay m p moves))

@@ -13,7 +13,7 @@ use Rattle.keylist.proofs.Tests.{not_true}
 use Rattle.stated.specs.Pools.{PoolFacts}
 use Rattle.osdmap.specs.Maps.{ClusterMap}
 use Rattle.balancer.specs.declared.moves.Move.{Move}
-use Rattle.balancer.specs.Shares.{osds_of, is_candidate, candidates}
+use Rattle.balancer.specs.Shares.{osds_of, is_candidate, candidate_osds}
 use Rattle.balancer.specs.Moves.{move_of}
 use Rattle.balancer.specs.Greedy.{is_good, all_moves, good_moves, beats, best_move, after_moves}
 use Rattle.balancer.specs.Boards.{IsGood, IsBest, IsCovered, CoversPair, CoversFrom, CoversAll}
@@ -122,12 +122,12 @@ module _ (m : ClusterMap) (p : PoolFacts) where
       by_list (v ∷ vs) good = absurd (none v (good 0 v (omega arith)))
 
 -- a candidate is among the candidates
-pub candidate_in : (m : ClusterMap) (p : PoolFacts) (osd : ℕ) → is_candidate m p osd ≡ true → Contains (candidates m p) osd
+pub candidate_in : (m : ClusterMap) (p : PoolFacts) (osd : ℕ) → is_candidate m p osd ≡ true → Contains (candidate_osds m p) osd
 candidate_in m p osd is = contains_filter (is_candidate m p) (osds_of m) osd (contains_range (length m.presences) osd (candidate_below m p osd is)) is
 
 -- ---- what is covered
 
-module _ (m : ClusterMap) (p : PoolFacts) (moves : List Move) (osds : List ℕ) (are : osds ≡ candidates m p) where
+module _ (m : ClusterMap) (p : PoolFacts) (moves : List Move) (osds : List ℕ) (are : osds ≡ candidate_osds m p) where
   abbrev later : ClusterMap
   later = after_moves m p moves
 

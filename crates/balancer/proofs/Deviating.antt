@@ -19,7 +19,7 @@ use Rattle.osdmap.proofs.Named.{below_max}
 use Rattle.pgtable.specs.Index.{count_in}
 use Rattle.balancer.specs.declared.group.Group.{Group}
 use Rattle.balancer.specs.declared.moves.Move.{Move}
-use Rattle.balancer.specs.Shares.{osds_of, is_candidate, candidates, weight_of, total, places, deviation}
+use Rattle.balancer.specs.Shares.{osds_of, is_candidate, candidate_osds, weight_in_map, total_weight, places, deviation}
 use Rattle.balancer.specs.Moves.{are_beside}
 use Rattle.balancer.specs.Greedy.{after_moves}
 use Rattle.balancer.specs.Boards.{IsBoardOf, IsReached, may_go}
@@ -71,23 +71,23 @@ term_within f c (x ∷ xs) (suc k) d inside passes =
     ]
 
 -- the weight of a candidate is at most that of all
-pub weight_within : (m : ClusterMap) (p : PoolFacts) (osd : ℕ) → is_candidate m p osd ≡ true → weight_of m osd ≤ total m p
-unfolding total
+pub weight_within : (m : ClusterMap) (p : PoolFacts) (osd : ℕ) → is_candidate m p osd ≡ true → weight_in_map m osd ≤ total_weight m p
+unfolding total_weight
 weight_within m p osd is =
     let below = candidate_below m p osd is in
     let at : get_or (osds_of m) osd 0 ≡ osd = get_or-range_with_len 0 (length m.presences) osd 0 below ∙ (omega arith) in
     let inside : osd < length (osds_of m) = omega (arith, length-range_with_len 0 (length m.presences)) in
     let passes : is_candidate m p (get_or (osds_of m) osd 0) ≡ true = rw at is in
-    rw at at (term_within (weight_of m) (is_candidate m p) (osds_of m) osd 0 inside passes)
+    rw at at (term_within (weight_in_map m) (is_candidate m p) (osds_of m) osd 0 inside passes)
 
 -- the candidates have at most 1,024 times 4,096 places
 pub places_few : (m : ClusterMap) (p : PoolFacts) → HoldsTogether m → pool_at m.pools p.id ≡ Some p → places m p ≤ 1024 * 4096
 unfolding places
 places_few m p holds there =
     let within = pool_within m p p.id holds there in
-    let each : All (λ osd. count_in m p.id osd ≤ 4096) (candidates m p) = λ k d inside. omega (arith, count_small m p (get_or (candidates m p) k d) holds there, within.groups_most) in
+    let each : All (λ osd. count_in m p.id osd ≤ 4096) (candidate_osds m p) = λ k d inside. omega (arith, count_small m p (get_or (candidate_osds m p) k d) holds there, within.groups_most) in
     let few = few_filtered (is_candidate m p) (length m.presences) 1024 holds.few in
-    omega (arith, sum_by-le (count_in m p.id) 4096 (candidates m p) each, mul-le (length (candidates m p)) 4096 1024 4096 few (omega arith))
+    omega (arith, sum_by-le (count_in m p.id) 4096 (candidate_osds m p) each, mul-le (length (candidate_osds m p)) 4096 1024 4096 few (omega arith))
 
 -- ---- deviations
 
@@ -99,12 +99,12 @@ between a b c d t n few small most within is that =
     (omega (arith, ints), omega (arith, ints))
 
 -- so has the deviation of a candidate
-pub deviation_small : (m : ClusterMap) (p : PoolFacts) (osd : ℕ) → HoldsTogether m → pool_at m.pools p.id ≡ Some p → total m p ≤ 2 ^ 58 → is_candidate m p osd ≡ true
+pub deviation_small : (m : ClusterMap) (p : PoolFacts) (osd : ℕ) → HoldsTogether m → pool_at m.pools p.id ≡ Some p → total_weight m p ≤ 2 ^ 58 → is_candidate m p osd ≡ true
     → (deviation m p osd <ℤ pos (2 ^ 100)) × (neg_ℤ (pos (2 ^ 100)) <ℤ deviation m p osd)
 unfolding deviation
 deviation_small m p osd holds there small is =
     let within = pool_within m p p.id holds there in
-    between (count_in m p.id osd) (weight_of m osd) (count_in m p.id osd * total m p) (places m p * weight_of m osd) (total m p) (places m p)
+    between (count_in m p.id osd) (weight_in_map m osd) (count_in m p.id osd * total_weight m p) (places m p * weight_in_map m osd) (total_weight m p) (places m p)
     (omega (arith, count_small m p osd holds there, within.groups_most)) small (places_few m p holds there) (weight_within m p osd is) refl refl
 
 -- ---- after some moves
@@ -119,8 +119,8 @@ module _ (m : ClusterMap) (p : PoolFacts) (moves : List Move) where
   pub candidate_now : (osd : ℕ) → is_candidate now p osd ≡ is_candidate m p osd
   candidate_now osd = ap (λ n. is_candidate n p osd) (moves_stay m p moves) ∙ candidate_stays m now.items p osd
 
-  pub total_now : total now p ≡ total m p
-  total_now = ap (λ n. total n p) (moves_stay m p moves) ∙ total_stays m now.items p
+  pub total_now : total_weight now p ≡ total_weight m p
+  total_now = ap (λ n. total_weight n p) (moves_stay m p moves) ∙ total_stays m now.items p
 
   pub beside_now : (some other : ℕ) → are_beside now p some other ≡ are_beside m p some other
   beside_now some other = ap (λ n. are_beside n p some other) (moves_stay m p moves) ∙ beside_stays m now.items p some other
@@ -131,7 +131,7 @@ module _ (m : ClusterMap) (p : PoolFacts) (moves : List Move) where
   pub long_now : length now.presences ≡ length m.presences
   long_now = ap (λ (n : ClusterMap). length n.presences) (moves_stay m p moves)
 
-  pub small_now : (osd : ℕ) → IsReached m p moves → pool_at m.pools p.id ≡ Some p → total m p ≤ 2 ^ 58 → is_candidate m p osd ≡ true
+  pub small_now : (osd : ℕ) → IsReached m p moves → pool_at m.pools p.id ≡ Some p → total_weight m p ≤ 2 ^ 58 → is_candidate m p osd ≡ true
       → (deviation now p osd <ℤ pos (2 ^ 100)) × (neg_ℤ (pos (2 ^ 100)) <ℤ deviation now p osd)
   small_now osd reached there small is = deviation_small now p osd reached.holds (pool_now there) (rw total_now small) (candidate_now osd ∙ is)
 

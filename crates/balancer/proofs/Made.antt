@@ -10,7 +10,7 @@ use Rattle.stated.specs.Pools.{PoolFacts}
 use Rattle.osdmap.specs.Maps.{ClusterMap, pool_at}
 use Rattle.balancer.specs.declared.group.Group.{Group}
 use Rattle.balancer.specs.declared.moves.Move.{Move}
-use Rattle.balancer.specs.Shares.{is_candidate, total, deviation}
+use Rattle.balancer.specs.Shares.{is_candidate, total_weight, deviation}
 use Rattle.balancer.specs.Greedy.{after_moves}
 use Rattle.balancer.specs.Boards.{IsGood, IsBoardOf, IsReached, group_at, gone}
 use Rattle.balancer.proofs.Deviating.{pool_within, pool_now, candidate_below, small_now, shown_now, long_deviations}
@@ -45,7 +45,7 @@ more_fits x t high low small = fits_small (x +ℤ pos t) (omega (arith, ints)) (
 -- ---- a good move of the state of a plan
 
 module _ (m : ClusterMap) (p : PoolFacts) (moves : List Move) (v : Move) (gs : List Group) (ds : List ℤ) (good : IsGood (after_moves m p moves) p v) (reached : IsReached m p moves)
-    (board : IsBoardOf (after_moves m p moves) p gs ds) (there : pool_at m.pools p.id ≡ Some p) (t : ℕ) (is_total : t ≡ total m p) (small : t ≤ 2 ^ 58) where
+    (board : IsBoardOf (after_moves m p moves) p gs ds) (there : pool_at m.pools p.id ≡ Some p) (t : ℕ) (is_total : t ≡ total_weight m p) (small : t ≤ 2 ^ 58) where
   abbrev now : ClusterMap
   now = after_moves m p moves
 

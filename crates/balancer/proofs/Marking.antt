@@ -14,14 +14,13 @@ use Rattle.keylist.proofs.Tests.{not_true}
 use Rattle.crush.proofs.IdSearches.{int_eq-yes}
 use Rattle.stated.specs.Pools.{PoolFacts}
 use Rattle.osdmap.specs.Maps.{ClusterMap}
-use Rattle.osdmap.specs.Mapped.{is_of}
+use Rattle.stated.specs.Sets.{is_of, stands}
 use Rattle.osdmap.specs.Placement.{steps_of}
-use Rattle.placement_laws.specs.Standing.{stands}
 use Rattle.balancer.specs.declared.group.Group.{Group}
 use Rattle.balancer.specs.declared.moves.Move.{Move}
 use Rattle.balancer.specs.Moves.{last_level, levels_of, domain_of, is_in_way, has_way}
 use Rattle.balancer.specs.Boards.{may_go, gone}
-use Rattle.balancer.specs.Marks.{is_shut, shut_in, opened, NoneGoes, IsMarked}
+use Rattle.balancer.specs.Marks.{is_shut, shut_in, forgotten, NoneGoes, IsMarked}
 use Rattle.balancer.proofs.Allowing.{once_stands}
 
 -- where no element is found, none passes
@@ -130,7 +129,7 @@ none_marked m p gs n rows is = λ f t known. absurd (false≢true (sym (blank f 
     ]
 
 -- what is known of an OSD is forgotten
-opened_row : (rows : List (List Bool)) (osd f t : ℕ) → is_shut (opened (Some osd) rows) f t ≡ true → (is_shut rows f t ≡ true) × (eqb osd f ≡ false)
+opened_row : (rows : List (List Bool)) (osd f t : ℕ) → is_shut (forgotten (Some osd) rows) f t ≡ true → (is_shut rows f t ≡ true) × (eqb osd f ≡ false)
 opened_row rows osd f t known = elim (cases_Bool (eqb osd f)) [
   | inr other ↦ (rw (get_or-set_other rows osd f (replicate (length (get_or rows osd [])) false) [] (λ e. absurd (false≢true (sym other ∙ eq-eqb osd f (sym e))))) at known, other)
   | inl here ↦ elim (cases_lt osd (length rows)) [
@@ -151,7 +150,7 @@ opened_row rows osd f t known = elim (cases_Bool (eqb osd f)) [
     ]
 
 -- what is still known once that of a place is forgotten was known, and is of another OSD
-pub opened_marks : (place : Option ℕ) (rows : List (List Bool)) (f t : ℕ) → is_shut (opened place rows) f t ≡ true → (is_shut rows f t ≡ true) × (is_of f place ≡ false)
+pub opened_marks : (place : Option ℕ) (rows : List (List Bool)) (f t : ℕ) → is_shut (forgotten place rows) f t ≡ true → (is_shut rows f t ≡ true) × (is_of f place ≡ false)
 opened_marks None rows f t known = (known, refl)
 opened_marks (Some osd) rows f t known = opened_row rows osd f t known
 

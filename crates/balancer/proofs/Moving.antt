@@ -14,11 +14,11 @@ use Rattle.stated.specs.declared.pg.Pg.{Pg}
 use Rattle.stated.specs.Exceptions.{place_of, key_of, said_of}
 use Rattle.stated.specs.Pools.{PoolFacts}
 use Rattle.osdmap.specs.Maps.{ClusterMap}
-use Rattle.osdmap.specs.Mapped.{is_of, is_weightless, replaced, with_pair, with_items, mapped}
+use Rattle.osdmap.specs.Mapped.{is_weightless, replaced, with_pair, with_items, mapped}
+use Rattle.stated.specs.Sets.{is_of, stands}
 use Rattle.osdmap.specs.Placement.{group_of, placed, raw_set, mapped_set}
-use Rattle.placement_laws.specs.Standing.{stands}
 use Rattle.balancer.specs.declared.moves.Move.{Move}
-use Rattle.balancer.specs.Moves.{pair_of, pairs_in, lengthened, moved, is_same_set, does_replace}
+use Rattle.balancer.specs.Moves.{pair_of_move, pairs_in, lengthened, moved, is_same_set, does_replace}
 use Rattle.balancer.specs.Boards.{is_fixed}
 
 -- ---- what is said of a group after a move
@@ -28,7 +28,7 @@ said_put : (items : List (Exception Pair)) (e : Exception Pair) (g : Pg) → sai
 said_put items e g = ap (option_map (λ x. x.entries)) (entry-put key_of items e (place_of g))
 
 -- after a move its group has its pairs with this one behind
-pub said_moved : (m : ClusterMap) (p : PoolFacts) (v : Move) → said_of (moved m p v).items (group_of p v.group) ≡ Some (pairs_in m (group_of p v.group) ++ pair_of v ∷ [])
+pub said_moved : (m : ClusterMap) (p : PoolFacts) (v : Move) → said_of (moved m p v).items (group_of p v.group) ≡ Some (pairs_in m (group_of p v.group) ++ pair_of_move v ∷ [])
 unfolding moved
 said_moved m p v =
     let same : eqb (place_of (group_of p v.group)) (place_of (group_of p v.group)) ≡ true = eq-eqb _ _ refl in
@@ -65,11 +65,11 @@ mapped_longer weights (Some osds) items raw pair = elim (cases_Bool (list_any (i
 
 -- the mapped set of a group after a move of it
 pub mapped_moved : (m : ClusterMap) (p : PoolFacts) (v : Move)
-    → mapped_set (moved m p v) p v.group ≡ (if is_fixed m (group_of p v.group) then mapped_set m p v.group else with_pair m.weights (mapped_set m p v.group) (pair_of v))
+    → mapped_set (moved m p v) p v.group ≡ (if is_fixed m (group_of p v.group) then mapped_set m p v.group else with_pair m.weights (mapped_set m p v.group) (pair_of_move v))
 unfolding mapped_set moved raw_set placed is_fixed
 mapped_moved m p v =
     ap (λ said. mapped m.weights (said_of m.explicit (group_of p v.group)) said (raw_set m p v.group)) (said_moved m p v)
-    ∙ mapped_longer m.weights (said_of m.explicit (group_of p v.group)) (said_of m.items (group_of p v.group)) (raw_set m p v.group) (pair_of v)
+    ∙ mapped_longer m.weights (said_of m.explicit (group_of p v.group)) (said_of m.items (group_of p v.group)) (raw_set m p v.group) (pair_of_move v)
 
 -- that of another group is as before
 pub mapped_others : (m : ClusterMap) (p : PoolFacts) (v : Move) (n : ℕ) → n ≢ v.group → mapped_set (moved m p v) p n ≡ mapped_set m p n
@@ -138,9 +138,9 @@ pub replaces : (m : ClusterMap) (p : PoolFacts) (v : Move) → v.from ≢ v.to �
     → does_replace m p v ≡ (not (is_fixed m (group_of p v.group)) && not (stands v.to (mapped_set m p v.group)))
 unfolding does_replace with_pair
 replaces m p v apart weighs on =
-    ap (λ set. is_same_set set (replaced (pair_of v) (mapped_set m p v.group))) (mapped_moved m p v)
+    ap (λ set. is_same_set set (replaced (pair_of_move v) (mapped_set m p v.group))) (mapped_moved m p v)
     ∙ rw (weighs, or_false (list_any (is_of v.to) (mapped_set m p v.group)))
-    (tested (is_fixed m (group_of p v.group)) (stands v.to (mapped_set m p v.group)) (pair_of v) (mapped_set m p v.group) apart on)
+    (tested (is_fixed m (group_of p v.group)) (stands v.to (mapped_set m p v.group)) (pair_of_move v) (mapped_set m p v.group) apart on)
   where
     or_false : (b : Bool) → (b || false) ≡ b
     or_false true = refl

@@ -17,7 +17,7 @@ use Rattle.stated.specs.Pools.{PoolFacts}
 use Rattle.osdmap.specs.Maps.{ClusterMap}
 use Rattle.balancer.specs.declared.group.Group.{Group}
 use Rattle.balancer.specs.declared.moves.Move.{Move}
-use Rattle.balancer.specs.Shares.{osds_of, is_candidate, candidates, total, deviation}
+use Rattle.balancer.specs.Shares.{osds_of, is_candidate, candidate_osds, total_weight, deviation}
 use Rattle.balancer.specs.Moves.{move_of, are_beside}
 use Rattle.balancer.specs.Greedy.{gap, is_good, precedes, beats, after_moves}
 use Rattle.balancer.specs.Boards.{IsGood, IsBoardOf, IsCovered, IsBetter, IsOrder, CoversPair, CoversFrom, CoversAll, is_wanted, may_go, group_at}
@@ -62,9 +62,9 @@ module _ (m : ClusterMap) (p : PoolFacts) where
         lowest_not_better m p from to g b not_lowest;
   }
 
-  wanted_wide : (from to : ℕ) (best : Option Move) → is_wanted m p from to best ≡ true → int_lt (pos (total m p)) (gap m p from to) ≡ true
+  wanted_wide : (from to : ℕ) (best : Option Move) → is_wanted m p from to best ≡ true → int_lt (pos (total_weight m p)) (gap m p from to) ≡ true
   wanted_wide from to None wanted = wanted
-  wanted_wide from to (Some b) wanted = (and_parts (int_lt (pos (total m p)) (gap m p from to)) (beats m p (move_of from to 0) b) wanted).0
+  wanted_wide from to (Some b) wanted = (and_parts (int_lt (pos (total_weight m p)) (gap m p from to)) (beats m p (move_of from to 0) b) wanted).0
 
   -- what is wanted is between two OSDs
   pub wanted_apart : (from to : ℕ) (best : Option Move) → is_wanted m p from to best ≡ true → eqb to from ≡ false
@@ -84,7 +84,7 @@ module _ (m : ClusterMap) (p : PoolFacts) where
       new = move_of from to k
 
       lowest : beats m p (move_of from to 0) b ≡ true
-      lowest = (and_parts (int_lt (pos (total m p)) (gap m p from to)) (beats m p (move_of from to 0) b) wanted).1
+      lowest = (and_parts (int_lt (pos (total_weight m p)) (gap m p from to)) (beats m p (move_of from to 0) b) wanted).1
 
       not_better : (v : Move) → beats m p v b ≡ false → (x : Bool) → beats m p (move_of from to k) b ≡ x → (y : Bool) → beats m p b (move_of from to k) ≡ y → beats m p v (move_of from to k) ≡ false
       not_better v not_b true above y below = beats_less m p v b (move_of from to k) not_b above
@@ -173,7 +173,7 @@ module _ (m : ClusterMap) (p : PoolFacts) (moves : List Move) (gs : List Group) 
 -- ---- all pairs
 
 -- each of the candidates is one
-pub candidate_at : (m : ClusterMap) (p : PoolFacts) (osds : List ℕ) (i : ℕ) → osds ≡ candidates m p → i < length osds → is_candidate m p (get_or osds i 0) ≡ true
+pub candidate_at : (m : ClusterMap) (p : PoolFacts) (osds : List ℕ) (i : ℕ) → osds ≡ candidate_osds m p → i < length osds → is_candidate m p (get_or osds i 0) ≡ true
 candidate_at m p osds i is inside = rw is (filter_passes (is_candidate m p) (osds_of m) i 0 (rw is at inside))
 
 module _ (m : ClusterMap) (p : PoolFacts) where
@@ -207,11 +207,11 @@ module _ (m : ClusterMap) (p : PoolFacts) where
 -- ---- the emptiest first
 
 -- a move to an OSD that is not emptier is no wider, and taken rather than another only where one to the other OSD is
-wider : (m : ClusterMap) (p : PoolFacts) (from to osd : ℕ) → beats m p (move_of from to 0) (move_of from osd 0) ≡ false → int_lt (pos (total m p)) (gap m p from to) ≡ true → int_lt (pos (total m p)) (gap m p from osd) ≡ true
+wider : (m : ClusterMap) (p : PoolFacts) (from to osd : ℕ) → beats m p (move_of from to 0) (move_of from osd 0) ≡ false → int_lt (pos (total_weight m p)) (gap m p from to) ≡ true → int_lt (pos (total_weight m p)) (gap m p from osd) ≡ true
 unfolding beats
 wider m p from to osd less wide =
     let not_less = or_first (int_lt (gap m p from osd) (gap m p from to)) _ less in
-    through (pos (total m p)) (gap m p from to) (gap m p from osd) not_less wide
+    through (pos (total_weight m p)) (gap m p from to) (gap m p from osd) not_less wide
   where
     or_first : (a b : Bool) → (a || b) ≡ false → a ≡ false
     or_first true b e = e
@@ -230,12 +230,12 @@ rather_than m p from to osd b less taken_is = elim (cases_Bool (beats m p (move_
 ]
 
 -- each of the candidates in any order is one
-pub each_candidate : (m : ClusterMap) (p : PoolFacts) (order : List (ℤ × ℕ)) → IsPermutation (map (λ e. e.1) order) (candidates m p) → (k : ℕ) (d : ℤ × ℕ) → k < length order
+pub each_candidate : (m : ClusterMap) (p : PoolFacts) (order : List (ℤ × ℕ)) → IsPermutation (map (λ e. e.1) order) (candidate_osds m p) → (k : ℕ) (d : ℤ × ℕ) → k < length order
     → is_candidate m p (get_or order k d).1 ≡ true
 each_candidate m p order all k d inside =
-    let one : All (λ osd. is_candidate m p osd ≡ true) (candidates m p) =
-    λ i e below. subst (λ x. is_candidate m p x ≡ true) (get_or_default (candidates m p) i 0 e below) (candidate_at m p (candidates m p) i refl below) in
-    let each = All-permutation (λ osd. is_candidate m p osd ≡ true) (candidates m p) (map (λ (e : ℤ × ℕ). e.1) order) (IsPermutation-sym (map (λ (e : ℤ × ℕ). e.1) order) (candidates m p) all) one in
+    let one : All (λ osd. is_candidate m p osd ≡ true) (candidate_osds m p) =
+    λ i e below. subst (λ x. is_candidate m p x ≡ true) (get_or_default (candidate_osds m p) i 0 e below) (candidate_at m p (candidate_osds m p) i refl below) in
+    let each = All-permutation (λ osd. is_candidate m p osd ≡ true) (candidate_osds m p) (map (λ (e : ℤ × ℕ). e.1) order) (IsPermutation-sym (map (λ (e : ℤ × ℕ). e.1) order) (candidate_osds m p) all) one in
     subst (λ x. is_candidate m p x ≡ true) (get_or-map (λ (e : ℤ × ℕ). e.1) order k d 0 inside) (each k 0 (omega (arith, inside, length-map order (λ (e : ℤ × ℕ). e.1))))
 
 -- one OSD more
@@ -245,8 +245,8 @@ listed_more osds order next i d inside is put =
     ap (map (λ (e : ℤ × ℕ). e.1)) put ∙ map_push (λ (e : ℤ × ℕ). e.1) order (d, get_or osds i 0) ∙ ap (λ xs. xs ++ get_or osds i 0 ∷ []) is ∙ sym (take_more osds i 0 inside)
 
 -- all of them
-pub listed_all : (m : ClusterMap) (p : PoolFacts) (osds : List ℕ) (order : List (ℤ × ℕ)) (i : ℕ) → osds ≡ candidates m p → map (λ (e : ℤ × ℕ). e.1) order ≡ take i osds → length osds ≤ i
-    → IsPermutation (map (λ e. e.1) order) (candidates m p)
+pub listed_all : (m : ClusterMap) (p : PoolFacts) (osds : List ℕ) (order : List (ℤ × ℕ)) (i : ℕ) → osds ≡ candidate_osds m p → map (λ (e : ℤ × ℕ). e.1) order ≡ take i osds → length osds ≤ i
+    → IsPermutation (map (λ e. e.1) order) (candidate_osds m p)
 listed_all m p osds order i are is past =
     subst (λ xs. IsPermutation (map (λ (e : ℤ × ℕ). e.1) order) xs) (is ∙ take_all i osds past ∙ are) (IsPermutation-refl (map (λ (e : ℤ × ℕ). e.1) order))
 
@@ -324,10 +324,10 @@ module _ (n : ClusterMap) (p : PoolFacts) where
   less_wanted : (from to osd : ℕ) (best : Option Move) → beats n p (move_of from to 0) (move_of from osd 0) ≡ false → is_wanted n p from osd best ≡ false → is_wanted n p from to best ≡ false
   less_wanted from to osd None less stays = false_from_ne_true _ (λ yes. absurd (false≢true (sym stays ∙ wider n p from to osd less yes)))
   less_wanted from to osd (Some b) less stays = false_from_ne_true _ (λ yes.
-      let both = and_parts (int_lt (pos (total n p)) (gap n p from to)) (beats n p (move_of from to 0) b) yes in
+      let both = and_parts (int_lt (pos (total_weight n p)) (gap n p from to)) (beats n p (move_of from to 0) b) yes in
       let wide = wider n p from to osd less both.0 in
       let rather = rather_than n p from to osd b less both.1 in
-      absurd (false≢true (sym stays ∙ and_from (int_lt (pos (total n p)) (gap n p from osd)) (beats n p (move_of from osd 0) b) wide rather)))
+      absurd (false≢true (sym stays ∙ and_from (int_lt (pos (total_weight n p)) (gap n p from osd)) (beats n p (move_of from osd 0) b) wide rather)))
 
   -- one entry more with its deviation
   pub measured_more : (order after : List (ℤ × ℕ)) (i : ℕ) (e : ℤ × ℕ) → i < length order → after ≡ set order i e → e.0 ≡ deviation n p e.1
@@ -355,13 +355,13 @@ module _ (n : ClusterMap) (p : PoolFacts) where
       (later_still (move_of from (get_or order i d).1 0) (move_of from (get_or order (i + 1 + k) d).1 0) (move_of from (get_or order (i + 1 + k + 1) d).1 0) before here)
 
   -- the candidates in order, from what a sort gives
-  pub in_order : (m : ClusterMap) (osds : List ℕ) (before after : List (ℤ × ℕ)) → osds ≡ candidates m p → IsPermutation (map (λ e. e.1) before) (candidates m p) → All (λ e. e.0 ≡ deviation n p e.1) before → IsPermutation before after
+  pub in_order : (m : ClusterMap) (osds : List ℕ) (before after : List (ℤ × ℕ)) → osds ≡ candidate_osds m p → IsPermutation (map (λ e. e.1) before) (candidate_osds m p) → All (λ e. e.0 ≡ deviation n p e.1) before → IsPermutation before after
       → ((k : ℕ) (d : ℤ × ℕ) → 0 ≤ k → k + 1 < length after → is_lt (ordering_then (int_cmp (get_or after (k + 1) d).0 (get_or after k d).0) (nat_cmp (get_or after (k + 1) d).1 (get_or after k d).1)) ≡ false)
       → IsOrder m n p osds after
   in_order m osds before after are all told moved sorted =
       let dev : All (λ (e : ℤ × ℕ). e.0 ≡ deviation n p e.1) after = All-permutation (λ (e : ℤ × ℕ). e.0 ≡ deviation n p e.1) before after moved told in
-      let back : IsPermutation (map (λ (e : ℤ × ℕ). e.1) after) (candidates m p) =
-      IsPermutation-trans (map (λ (e : ℤ × ℕ). e.1) after) (map (λ (e : ℤ × ℕ). e.1) before) (candidates m p)
+      let back : IsPermutation (map (λ (e : ℤ × ℕ). e.1) after) (candidate_osds m p) =
+      IsPermutation-trans (map (λ (e : ℤ × ℕ). e.1) after) (map (λ (e : ℤ × ℕ). e.1) before) (candidate_osds m p)
       (IsPermutation-map (λ (e : ℤ × ℕ). e.1) after before (IsPermutation-sym before after moved)) all in
       record {
         same = subst (λ xs. IsPermutation (map (λ (e : ℤ × ℕ). e.1) after) xs) (sym are) back;

@@ -13,14 +13,14 @@ use Rattle.keylist.proofs.KeyedOrder.{rising_head, rising_tail, rising-filter}
 use Rattle.stated.specs.declared.exception.Pair.{Pair}
 use Rattle.stated.specs.Pools.{PoolFacts}
 use Rattle.osdmap.specs.Maps.{ClusterMap, pool_at, osd_is_up, HoldsTogether}
-use Rattle.osdmap.specs.Mapped.{is_of, replaced}
+use Rattle.osdmap.specs.Mapped.{replaced}
+use Rattle.stated.specs.Sets.{is_of, stands}
 use Rattle.osdmap.specs.Placement.{mapped_set}
-use Rattle.placement_laws.specs.Standing.{stands}
 use Rattle.pgtable.specs.Index.{count_in}
 use Rattle.pgtable.specs.Tables.{sets_of}
 use Rattle.balancer.specs.declared.moves.Move.{Move}
-use Rattle.balancer.specs.Shares.{osds_of, is_candidate, candidates, weight_of, total, places, deviation}
-use Rattle.balancer.specs.Moves.{pair_of, moved}
+use Rattle.balancer.specs.Shares.{osds_of, is_candidate, candidate_osds, weight_in_map, total_weight, places, deviation}
+use Rattle.balancer.specs.Moves.{pair_of_move, moved}
 use Rattle.balancer.specs.Boards.{IsGood}
 use Rattle.balancer.proofs.Counting.{count_is}
 use Rattle.balancer.proofs.Moving.{mapped_others}
@@ -88,12 +88,12 @@ module _ (m : ClusterMap) (p : PoolFacts) (v : Move) (good : IsGood m p v) (hold
   old = mapped_set m p v.group
 
   abbrev new : List (Option ℕ)
-  new = replaced (pair_of v) old
+  new = replaced (pair_of_move v) old
 
   sets_moved : sets_of (moved m p v) p ≡ set (sets_of m p) v.group new
   sets_moved = sym (fill_by_all (mapped_set (moved m p v) p) (set (sets_of m p) v.group new) p.pg_num [] (length-set (sets_of m p) v.group new ∙ length-map-range_with_len (mapped_set m p) 0 p.pg_num) each)
     where
-      each : (k : ℕ) → k < p.pg_num → get_or (set (sets_of m p) v.group (replaced (pair_of v) (mapped_set m p v.group))) k [] ≡ mapped_set (moved m p v) p k
+      each : (k : ℕ) → k < p.pg_num → get_or (set (sets_of m p) v.group (replaced (pair_of_move v) (mapped_set m p v.group))) k [] ≡ mapped_set (moved m p v) p k
       each k below = elim (cases_Bool (eqb k v.group)) [
         | inl here ↦
             let same : k ≡ v.group = eqb-true k v.group here in
@@ -135,7 +135,7 @@ module _ (m : ClusterMap) (p : PoolFacts) (v : Move) (good : IsGood m p v) (hold
   count_from =
       let counted = count_moved v.from (candidate_up m p v.from (good_candidates m p v good.good).0) in
       let was : stands v.from old ≡ true = once_stands (is_of v.from) old (eq-eqb (count_by (is_of v.from) old) 1 (stands_once m p v good)) in
-      let is : stands v.from new ≡ false = replaced_from (pair_of v) old (good_apart m p v good.good) (stands_once m p v good) in
+      let is : stands v.from new ≡ false = replaced_from (pair_of_move v) old (good_apart m p v good.good) (stands_once m p v good) in
       omega (arith, rw (was, is) at counted)
 
   pub count_to : count_in (moved m p v) p.id v.to ≡ count_in m p.id v.to + 1
@@ -143,14 +143,14 @@ module _ (m : ClusterMap) (p : PoolFacts) (v : Move) (good : IsGood m p v) (hold
       let counted = count_moved v.to (candidate_up m p v.to (good_candidates m p v good.good).1) in
       let was : stands v.to old ≡ false = not_there m p v good in
       let on : stands v.from old ≡ true = once_stands (is_of v.from) old (eq-eqb (count_by (is_of v.from) old) 1 (stands_once m p v good)) in
-      let is : stands v.to new ≡ true = replaced_to (pair_of v) old on in
+      let is : stands v.to new ≡ true = replaced_to (pair_of_move v) old on in
       omega (arith, rw (was, is) at counted)
 
   pub count_other : (osd : ℕ) → osd ≢ v.from → osd ≢ v.to → count_in (moved m p v) p.id osd ≡ count_in m p.id osd
   count_other osd from to = elim (cases_Bool (osd_is_up m osd)) [
     | inl up ↦
         let counted = count_moved osd up in
-        let same : stands osd new ≡ stands osd old = replaced_other (pair_of v) old osd from to in
+        let same : stands osd new ≡ stands osd old = replaced_other (pair_of_move v) old osd from to in
         omega (arith, rw same at counted)
     | inr down ↦ count_down osd down
   ]
@@ -216,7 +216,7 @@ range_rises k n = λ i j d below inside.
     omega (arith, first, second)
 
 -- the candidates rise by number
-pub candidates_rise : (m : ClusterMap) (p : PoolFacts) → IsRising (λ i. i) (candidates m p)
+pub candidates_rise : (m : ClusterMap) (p : PoolFacts) → IsRising (λ i. i) (candidate_osds m p)
 candidates_rise m p = rising-filter (λ (i : ℕ). i) (is_candidate m p) (osds_of m) (range_rises 0 (length m.presences))
 
 -- ---- the same pool after a good move
@@ -225,44 +225,44 @@ module _ (m : ClusterMap) (p : PoolFacts) (v : Move) (good : IsGood m p v) (hold
   abbrev next_map : ClusterMap
   next_map = moved m p v
 
-  pub candidates_moved : candidates next_map p ≡ candidates m p
+  pub candidates_moved : candidate_osds next_map p ≡ candidate_osds m p
   unfolding is_candidate moved
   candidates_moved = refl
 
-  pub total_moved : total next_map p ≡ total m p
-  unfolding total is_candidate weight_of moved
+  pub total_moved : total_weight next_map p ≡ total_weight m p
+  unfolding total_weight is_candidate weight_in_map moved
   total_moved = refl
 
-  pub weight_moved : (osd : ℕ) → weight_of next_map osd ≡ weight_of m osd
-  unfolding weight_of moved
+  pub weight_moved : (osd : ℕ) → weight_in_map next_map osd ≡ weight_in_map m osd
+  unfolding weight_in_map moved
   weight_moved osd = refl
 
-  pub from_in : Contains (candidates m p) v.from
+  pub from_in : Contains (candidate_osds m p) v.from
   from_in = candidate_in m p v.from (good_candidates m p v good.good).0
 
-  pub to_in : Contains (candidates m p) v.to
+  pub to_in : Contains (candidate_osds m p) v.to
   to_in = candidate_in m p v.to (good_candidates m p v good.good).1
 
   pub places_moved : places next_map p ≡ places m p
   unfolding places
   places_moved =
-      let sum = two_sum (count_in m p.id) (count_in next_map p.id) v.from v.to (candidates m p) (candidates_rise m p) from_in to_in (good_apart m p v good.good) (count_other m p v good holds there) in
+      let sum = two_sum (count_in m p.id) (count_in next_map p.id) v.from v.to (candidate_osds m p) (candidates_rise m p) from_in to_in (good_apart m p v good.good) (count_other m p v good holds there) in
       ap (sum_by (count_in next_map p.id)) candidates_moved ∙ omega (arith, sum, count_from m p v good holds there, count_to m p v good holds there)
 
-  pub deviation_from : deviation next_map p v.from ≡ deviation m p v.from -ℤ pos (total m p)
+  pub deviation_from : deviation next_map p v.from ≡ deviation m p v.from -ℤ pos (total_weight m p)
   unfolding deviation
   deviation_from =
       rw (total_moved, places_moved, weight_moved v.from, sym (count_from m p v good holds there))
-      (less (count_in next_map p.id v.from) (total m p) (places m p * weight_of m v.from))
+      (less (count_in next_map p.id v.from) (total_weight m p) (places m p * weight_in_map m v.from))
     where
       less : (c t w : ℕ) → (pos (c * t) -ℤ pos w) ≡ ((pos ((c + 1) * t) -ℤ pos w) -ℤ pos t)
       less c t w = omega (arith, ints)
 
-  pub deviation_to : deviation next_map p v.to ≡ deviation m p v.to +ℤ pos (total m p)
+  pub deviation_to : deviation next_map p v.to ≡ deviation m p v.to +ℤ pos (total_weight m p)
   unfolding deviation
   deviation_to =
       rw (total_moved, places_moved, weight_moved v.to, count_to m p v good holds there)
-      (more (count_in m p.id v.to) (total m p) (places m p * weight_of m v.to))
+      (more (count_in m p.id v.to) (total_weight m p) (places m p * weight_in_map m v.to))
     where
       more : (c t w : ℕ) → (pos ((c + 1) * t) -ℤ pos w) ≡ ((pos (c * t) -ℤ pos w) +ℤ pos t)
       more c t w = omega (arith, ints)

@@ -1,5 +1,5 @@
 -- What no move changes: moves only put pairs among the exceptions.
-use Rattle.std.proofs.Common.{◌≡◌, refl, ℕ, List, [], ◌∷◌, Option}
+use Rattle.std.proofs.Common.{◌≡◌, refl, ℕ, Bool, true, false, ◌&&◌, List, [], ◌∷◌, Option}
 use Rattle.stated.specs.declared.exception.Exception.{Exception}
 use Rattle.stated.specs.declared.exception.Pair.{Pair}
 use Rattle.stated.specs.Pools.{PoolFacts}
@@ -7,8 +7,8 @@ use Rattle.osdmap.specs.Maps.{ClusterMap}
 use Rattle.osdmap.specs.Placement.{placed, raw_set}
 use Rattle.balancer.specs.declared.group.Group.{Group}
 use Rattle.balancer.specs.declared.moves.Move.{Move}
-use Rattle.balancer.specs.Shares.{is_candidate, weight_of, total}
-use Rattle.balancer.specs.Moves.{moved, domain_of, are_beside, has_way}
+use Rattle.balancer.specs.Shares.{is_candidate, weight_in_map, total_weight}
+use Rattle.balancer.specs.Moves.{moved, domain_of, are_beside, has_way, is_allowed}
 use Rattle.balancer.specs.Boards.{may_go}
 use Rattle.balancer.specs.Greedy.{after_moves}
 
@@ -27,12 +27,12 @@ module _ (m : ClusterMap) (its : List (Exception Pair)) where
   unfolding is_candidate
   candidate_stays p osd = refl
 
-  pub total_stays : (p : PoolFacts) → total (with_pairs m its) p ≡ total m p
-  unfolding total is_candidate weight_of
+  pub total_stays : (p : PoolFacts) → total_weight (with_pairs m its) p ≡ total_weight m p
+  unfolding total_weight is_candidate weight_in_map
   total_stays p = refl
 
-  pub weight_stays : (osd : ℕ) → weight_of (with_pairs m its) osd ≡ weight_of m osd
-  unfolding weight_of
+  pub weight_stays : (osd : ℕ) → weight_in_map (with_pairs m its) osd ≡ weight_in_map m osd
+  unfolding weight_in_map
   weight_stays osd = refl
 
   pub beside_stays : (p : PoolFacts) (some other : ℕ) → are_beside (with_pairs m its) p some other ≡ are_beside m p some other
@@ -50,3 +50,13 @@ module _ (m : ClusterMap) (its : List (Exception Pair)) where
   pub goes_stays : (p : PoolFacts) (from to : ℕ) (g : Group) → may_go (with_pairs m its) p from to g ≡ may_go m p from to g
   unfolding may_go has_way domain_of
   goes_stays p from to g = refl
+
+-- what is beside something false holds no more with another
+none_both : (x y : Bool) → (x && false && y) ≡ false
+none_both true y = refl
+none_both false y = refl
+
+-- no move between OSDs that are not beside one another is allowed
+pub apart_refused : (m : ClusterMap) (p : PoolFacts) (v : Move) → are_beside m p v.from v.to ≡ false → is_allowed m p v ≡ false
+unfolding is_allowed
+apart_refused m p v apart = rw apart (none_both _ _)

@@ -18,13 +18,13 @@ use Rattle.stated.specs.declared.pg.Pg.{Pg}
 use Rattle.stated.specs.Exceptions.{place_of, key_of, sides, are_pairs, is_exception, has_group, all_named, is_sound}
 use Rattle.stated.specs.Pools.{PoolFacts}
 use Rattle.osdmap.specs.Maps.{ClusterMap, pool_at, osd_exists, HoldsTogether}
-use Rattle.osdmap.specs.Mapped.{is_of, replaced, with_pair}
+use Rattle.osdmap.specs.Mapped.{replaced, with_pair}
+use Rattle.stated.specs.Sets.{is_of, stands}
 use Rattle.osdmap.specs.Placement.{group_of, steps_of, mapped_set}
 use Rattle.osdmap.proofs.PlacementLemmas.{found_passes}
-use Rattle.placement_laws.specs.Standing.{stands}
 use Rattle.balancer.specs.declared.moves.Move.{Move}
-use Rattle.balancer.specs.Moves.{pair_of, pairs_in, lengthened, moved, last_level, levels_of, has_way}
-use Rattle.balancer.specs.Boards.{IsGood, is_fixed, group_at, groups_of, gone, may_go}
+use Rattle.balancer.specs.Moves.{pair_of_move, pairs_in, lengthened, moved, last_level, levels_of, has_way}
+use Rattle.balancer.specs.Boards.{IsGood, is_fixed, group_at, board_groups, gone, may_go}
 use Rattle.balancer.proofs.Moving.{said_moved, said_others, mapped_moved, mapped_others}
 use Rattle.balancer.proofs.Deviating.{candidate_exists, candidate_weighs}
 use Rattle.balancer.proofs.Allowing.{good_candidates, good_apart, good_goes}
@@ -78,14 +78,14 @@ module _ (m : ClusterMap) (p : PoolFacts) (v : Move) (good : IsGood m p v) where
 
   -- ---- its set
 
-  pub mapped_gone : mapped_set (moved m p v) p v.group ≡ replaced (pair_of v) places
+  pub mapped_gone : mapped_set (moved m p v) p v.group ≡ replaced (pair_of_move v) places
   unfolding with_pair
   mapped_gone = mapped_moved m p v ∙ rw (not_fixed, not_there, candidate_weighs m p v.to (good_candidates m p v good.good).1) refl
 
   group_moved : group_at (moved m p v) p v.group ≡ gone (group_at m p v.group) v
   unfolding group_at
   group_moved =
-      let pairs : pairs_in (moved m p v) group ≡ pairs_in m group ++ pair_of v ∷ [] = ap (λ (o : Option (List Pair)). unwrap_or o []) (said_moved m p v) in
+      let pairs : pairs_in (moved m p v) group ≡ pairs_in m group ++ pair_of_move v ∷ [] = ap (λ (o : Option (List Pair)). unwrap_or o []) (said_moved m p v) in
       λ i. record { places = mapped_gone i; pairs = pairs i; is_fixed = fixed_stays m p v group i }
 
   group_other : (n : ℕ) → n ≢ v.group → group_at (moved m p v) p n ≡ group_at m p n
@@ -94,22 +94,22 @@ module _ (m : ClusterMap) (p : PoolFacts) (v : Move) (good : IsGood m p v) where
       let pairs : pairs_in (moved m p v) (group_of p n) ≡ pairs_in m (group_of p n) = ap (λ (o : Option (List Pair)). unwrap_or o []) (said_others m p v n other) in
       λ i. record { places = mapped_others m p v n other i; pairs = pairs i; is_fixed = fixed_stays m p v (group_of p n) i }
 
-  pub groups_moved : groups_of (moved m p v) p ≡ set (groups_of m p) v.group (gone (group_at m p v.group) v)
+  pub groups_moved : board_groups (moved m p v) p ≡ set (board_groups m p) v.group (gone (group_at m p v.group) v)
   groups_moved =
       let d = group_at m p 0 in
-      let new = set (groups_of m p) v.group (gone (group_at m p v.group) v) in
-      let long : length new ≡ p.pg_num = length-set (groups_of m p) v.group (gone (group_at m p v.group) v) ∙ length-map-range_with_len (group_at m p) 0 p.pg_num in
+      let new = set (board_groups m p) v.group (gone (group_at m p v.group) v) in
+      let long : length new ≡ p.pg_num = length-set (board_groups m p) v.group (gone (group_at m p v.group) v) ∙ length-map-range_with_len (group_at m p) 0 p.pg_num in
       sym (fill_by_all (group_at (moved m p v) p) new p.pg_num d long each)
     where
-      each : (k : ℕ) → k < p.pg_num → get_or (set (groups_of m p) v.group (gone (group_at m p v.group) v)) k (group_at m p 0) ≡ group_at (moved m p v) p k
+      each : (k : ℕ) → k < p.pg_num → get_or (set (board_groups m p) v.group (gone (group_at m p v.group) v)) k (group_at m p 0) ≡ group_at (moved m p v) p k
       each k below = elim (cases_Bool (eqb k v.group)) [
         | inl here ↦
             let same : k ≡ v.group = eqb-true k v.group here in
-            let inside : v.group < length (groups_of m p) = omega (arith, good.there, length-map-range_with_len (group_at m p) 0 p.pg_num) in
-            rw same (get_or-set_same (groups_of m p) v.group (gone (group_at m p v.group) v) (group_at m p 0) inside ∙ sym group_moved)
+            let inside : v.group < length (board_groups m p) = omega (arith, good.there, length-map-range_with_len (group_at m p) 0 p.pg_num) in
+            rw same (get_or-set_same (board_groups m p) v.group (gone (group_at m p v.group) v) (group_at m p 0) inside ∙ sym group_moved)
         | inr apart ↦
             let other : k ≢ v.group = λ e. absurd (false≢true (sym apart ∙ eq-eqb k v.group e)) in
-            get_or-set_other (groups_of m p) v.group k (gone (group_at m p v.group) v) (group_at m p 0) other
+            get_or-set_other (board_groups m p) v.group k (gone (group_at m p v.group) v) (group_at m p 0) other
             ∙ get_or-map-range_with_len (group_at m p) 0 p.pg_num k k (group_at m p 0) below (omega arith) ∙ sym (group_other k other)
       ]
 
@@ -132,13 +132,13 @@ module _ (m : ClusterMap) (p : PoolFacts) (v : Move) (good : IsGood m p v) where
   lengthened_sound holds there =
       let both = good_candidates m p v good.good in
       let old = old_pairs holds (entry_at key_of m.items (place_of group)) refl in
-      let long = length_push (pairs_in m group) (pair_of v) in
-      let few : nat_le (length (pairs_in m group ++ pair_of v ∷ [])) p.size ≡ true = let h = room_left in grind (arith, nat_tests) in
-      let some : nat_lt 0 (length (pairs_in m group ++ pair_of v ∷ [])) ≡ true = grind (arith, nat_tests) in
-      let named : list_all (λ q. list_all (osd_exists m) (sides q)) (pairs_in m group ++ pair_of v ∷ []) ≡ true =
-      list_all-append (λ q. list_all (osd_exists m) (sides q)) (pairs_in m group) (pair_of v ∷ []) ∙ rw (old.0, candidate_exists m p v.from both.0, candidate_exists m p v.to both.1) refl in
-      let pairs : are_pairs (pairs_in m group ++ pair_of v ∷ []) ≡ true =
-      list_all-append (λ q. not (eqb q.from q.to)) (pairs_in m group) (pair_of v ∷ []) ∙ rw (old.1, ne_eqb v.from v.to (good_apart m p v good.good)) refl in
+      let long = length_push (pairs_in m group) (pair_of_move v) in
+      let few : nat_le (length (pairs_in m group ++ pair_of_move v ∷ [])) p.size ≡ true = let h = room_left in grind (arith, nat_tests) in
+      let some : nat_lt 0 (length (pairs_in m group ++ pair_of_move v ∷ [])) ≡ true = grind (arith, nat_tests) in
+      let named : list_all (λ q. list_all (osd_exists m) (sides q)) (pairs_in m group ++ pair_of_move v ∷ []) ≡ true =
+      list_all-append (λ q. list_all (osd_exists m) (sides q)) (pairs_in m group) (pair_of_move v ∷ []) ∙ rw (old.0, candidate_exists m p v.from both.0, candidate_exists m p v.to both.1) refl in
+      let pairs : are_pairs (pairs_in m group ++ pair_of_move v ∷ []) ≡ true =
+      list_all-append (λ q. not (eqb q.from q.to)) (pairs_in m group) (pair_of_move v ∷ []) ∙ rw (old.1, ne_eqb v.from v.to (good_apart m p v good.good)) refl in
       rw (there, lt-ltb v.group p.pg_num good.there, named, some, few, pairs) refl
 
   pub holds_moved : HoldsTogether m → pool_at m.pools p.id ≡ Some p → HoldsTogether (moved m p v)

@@ -9,13 +9,13 @@ use Rattle.keylist.specs.Keys.{entry_at}
 use Rattle.stated.specs.Exceptions.{place_of, key_of, said_of}
 use Rattle.stated.specs.Pools.{PoolFacts}
 use Rattle.osdmap.specs.Maps.{ClusterMap, HoldsTogether}
-use Rattle.osdmap.specs.Mapped.{is_of, is_weightless, replaced}
+use Rattle.osdmap.specs.Mapped.{is_weightless, replaced}
+use Rattle.stated.specs.Sets.{is_of, stands}
 use Rattle.osdmap.specs.Placement.{group_of, steps_of, mapped_set}
-use Rattle.placement_laws.specs.Standing.{stands}
 use Rattle.balancer.specs.declared.moves.Move.{Move}
 use Rattle.balancer.specs.declared.group.Group.{Group}
-use Rattle.balancer.specs.Shares.{osds_of, is_candidate, total, deviation, unevenness}
-use Rattle.balancer.specs.Moves.{move_of, pair_of, pairs_in, last_level, levels_of, has_way}
+use Rattle.balancer.specs.Shares.{osds_of, is_candidate, total_weight, deviation, unevenness}
+use Rattle.balancer.specs.Moves.{move_of, pair_of_move, pairs_in, last_level, levels_of, has_way}
 use Rattle.balancer.specs.Greedy.{gap, is_good, beats, best_move, after_moves}
 use Rattle.balancer.specs.Plans.{is_moved, items_at}
 
@@ -32,8 +32,8 @@ group_at m p n = record {
 }
 
 -- what is kept of the groups of a pool, by number
-abbrev pub groups_of : ClusterMap → PoolFacts → List Group
-groups_of m p = map (group_at m p) (range_with_len 0 p.pg_num)
+abbrev pub board_groups : ClusterMap → PoolFacts → List Group
+board_groups m p = map (group_at m p) (range_with_len 0 p.pg_num)
 
 -- the deviations of all OSDs, by number
 abbrev pub deviations_of : ClusterMap → PoolFacts → List ℤ
@@ -41,12 +41,12 @@ deviations_of m p = map (deviation m p) (osds_of m)
 
 -- what is kept of each group of a pool, and the deviation of each OSD
 pub record IsBoardOf (m : ClusterMap) (p : PoolFacts) (gs : List Group) (ds : List ℤ) : Type 0 where
-  pub groups : gs ≡ groups_of m p
+  pub groups : gs ≡ board_groups m p
   pub deviations : ds ≡ deviations_of m p
 
 -- what is kept of a group after a move of it
 abbrev pub gone : Group → Move → Group
-gone g v = record g { places = replaced (pair_of v) g.places; pairs = g.pairs ++ pair_of v ∷ [] }
+gone g v = record g { places = replaced (pair_of_move v) g.places; pairs = g.pairs ++ pair_of_move v ∷ [] }
 
 -- some groups after a move of one of them
 abbrev pub IsGone : List Group → Move → List Group → Type 0
@@ -63,8 +63,9 @@ may_go m p from to g =
 
 -- whether some move between two OSDs could be taken rather than the best one so far
 abbrev pub is_wanted : ClusterMap → PoolFacts → ℕ → ℕ → Option Move → Bool
-is_wanted m p from to None = int_lt (pos (total m p)) (gap m p from to)
-is_wanted m p from to (Some best) = int_lt (pos (total m p)) (gap m p from to) && beats m p (move_of from to 0) best
+is_wanted m p from to None = int_lt (pos (total_weight m p)) (gap m p from to)
+is_wanted m p from to (Some best) =
+    int_lt (pos (total_weight m p)) (gap m p from to) && beats m p (move_of from to 0) best
 
 -- a good move of a group that is there
 pub record IsGood (m : ClusterMap) (p : PoolFacts) (v : Move) : Type 0 where
@@ -89,7 +90,7 @@ pub record IsReached (m : ClusterMap) (p : PoolFacts) (moves : List Move) : Type
   pub named : (n : ℕ) → is_moved moves n ≡ true →
       entry_at key_of (after_moves m p moves).items (place_of (group_of p n))
       ≡ Some (items_at (after_moves m p moves) p n)
-  pub evens : unevenness (after_moves m p moves) p + 2 * total m p * length moves ≤ unevenness m p
+  pub evens : unevenness (after_moves m p moves) p + 2 * total_weight m p * length moves ≤ unevenness m p
 
 -- ---- the search for the best move
 

@@ -6,7 +6,7 @@ use Rattle.std.specs.Ordering.{int_eq}
 use Rattle.stated.specs.Pools.{PoolFacts}
 use Rattle.osdmap.specs.Maps.{ClusterMap}
 use Rattle.balancer.specs.declared.moves.Move.{Move}
-use Rattle.balancer.specs.Shares.{osds_of, total, deviation}
+use Rattle.balancer.specs.Shares.{osds_of, total_weight, deviation}
 use Rattle.balancer.specs.Moves.{move_of, moved, is_allowed}
 
 -- ---- good moves
@@ -18,7 +18,7 @@ gap m p from to = deviation m p from -ℤ deviation m p to
 -- whether a move is good: it is allowed, and the difference is above the weight of all candidates, by which it closes
 -- twice
 unfoldable pub is_good : ClusterMap → PoolFacts → Move → Bool
-is_good m p v = is_allowed m p v && int_lt (pos (total m p)) (gap m p v.from v.to)
+is_good m p v = is_allowed m p v && int_lt (pos (total_weight m p)) (gap m p v.from v.to)
 
 -- the moves of any group between any two OSDs
 abbrev pub all_moves : ClusterMap → PoolFacts → List Move

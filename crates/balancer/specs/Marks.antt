@@ -15,9 +15,9 @@ abbrev pub shut_in : List (List Bool) → ℕ → ℕ → List (List Bool)
 shut_in rows from to = slice_set rows from (slice_set (slice_index_or rows from []) to true)
 
 -- what is known once that of the OSD of a place is forgotten
-abbrev pub opened : Option ℕ → List (List Bool) → List (List Bool)
-opened None rows = rows
-opened (Some osd) rows = slice_set rows osd (replicate (length (slice_index_or rows osd [])) false)
+abbrev pub forgotten : Option ℕ → List (List Bool) → List (List Bool)
+forgotten None rows = rows
+forgotten (Some osd) rows = slice_set rows osd (replicate (length (slice_index_or rows osd [])) false)
 
 -- none of some groups may go from one OSD to another
 abbrev pub NoneGoes : ClusterMap → PoolFacts → List Group → ℕ → ℕ → Type 0

@@ -15,9 +15,9 @@ use Rattle.stated.specs.declared.pg.Pg.{Pg}
 use Rattle.stated.specs.Exceptions.{key_of, said_of}
 use Rattle.stated.specs.Pools.{PoolFacts}
 use Rattle.osdmap.specs.Maps.{ClusterMap}
-use Rattle.osdmap.specs.Mapped.{is_of, replaced}
+use Rattle.osdmap.specs.Mapped.{replaced}
+use Rattle.stated.specs.Sets.{is_of, stands}
 use Rattle.osdmap.specs.Placement.{group_of, steps_of, mapped_set, up_set}
-use Rattle.placement_laws.specs.Standing.{stands}
 use Rattle.balancer.specs.declared.moves.Move.{Move}
 use Rattle.balancer.specs.Shares.{is_candidate}
 
@@ -26,8 +26,8 @@ abbrev pub move_of : ℕ → ℕ → ℕ → Move
 move_of from to group = record { group = group; from = from; to = to }
 
 -- the pair that makes a move
-abbrev pub pair_of : Move → Pair
-pair_of v = record { from = v.from; to = v.to }
+abbrev pub pair_of_move : Move → Pair
+pair_of_move v = record { from = v.from; to = v.to }
 
 -- ---- the map after a move
 
@@ -37,7 +37,7 @@ pairs_in m g = unwrap_or (said_of m.items g) []
 
 -- the pairs of a group with that of a move behind them
 abbrev pub lengthened : ClusterMap → PoolFacts → Move → Exception Pair
-lengthened m p v = record { pg = group_of p v.group; entries = pairs_in m (group_of p v.group) ++ pair_of v ∷ [] }
+lengthened m p v = record { pg = group_of p v.group; entries = pairs_in m (group_of p v.group) ++ pair_of_move v ∷ [] }
 
 -- the map where the pair is appended to those of the group
 unfoldable pub moved : ClusterMap → PoolFacts → Move → ClusterMap
@@ -110,7 +110,8 @@ is_same_set (place ∷ places) (other ∷ others) = option_eq (λ a b. a == b) p
 
 -- whether the pair makes of the mapped set of the group the same set with the one OSD in place of the other
 unfoldable pub does_replace : ClusterMap → PoolFacts → Move → Bool
-does_replace m p v = is_same_set (mapped_set (moved m p v) p v.group) (replaced (pair_of v) (mapped_set m p v.group))
+does_replace m p v =
+    is_same_set (mapped_set (moved m p v) p v.group) (replaced (pair_of_move v) (mapped_set m p v.group))
 
 -- whether the group stands on the OSD from which it goes: in its up set, and once in its mapped set
 unfoldable pub stands_on : ClusterMap → PoolFacts → Move → Bool

@@ -11,9 +11,9 @@ use Rattle.stated.specs.declared.exception.Pair.{Pair}
 use Rattle.stated.specs.Pools.{PoolFacts}
 use Rattle.osdmap.specs.Maps.{ClusterMap, pool_at}
 use Rattle.osdmap.specs.Placement.{group_of, steps_of}
-use Rattle.pgtable.specs.Patches.{next}
+use Rattle.pgtable.specs.Patches.{changed_map}
 use Rattle.balancer.specs.declared.moves.Move.{Move}
-use Rattle.balancer.specs.Shares.{has_one_block, total, unevenness}
+use Rattle.balancer.specs.Shares.{has_one_block, total_weight, unevenness}
 use Rattle.balancer.specs.Moves.{pairs_in}
 use Rattle.balancer.specs.Greedy.{good_moves, greedy, after_moves}
 
@@ -38,8 +38,8 @@ abbrev pub items_at : ClusterMap → PoolFacts → ℕ → Exception Pair
 items_at m p n = record { pg = group_of p n; entries = pairs_in m (group_of p n) }
 
 -- for each group moved, by number upwards, the whole list of its pairs after the moves
-unfoldable pub items_of : ClusterMap → PoolFacts → List Move → List (Exception Pair)
-items_of m p moves = map (items_at (after_moves m p moves) p) (filter (is_moved moves) (range_with_len 0 p.pg_num))
+unfoldable pub moved_items : ClusterMap → PoolFacts → List Move → List (Exception Pair)
+moved_items m p moves = map (items_at (after_moves m p moves) p) (filter (is_moved moves) (range_with_len 0 p.pg_num))
 
 -- the change that gives these groups their pairs, and does nothing else
 abbrev pub change_of : List (Exception Pair) → ChangeParts
@@ -63,7 +63,7 @@ plan_moves m pool limit = option_map_or (λ p. greedy m p limit) (pool_at m.pool
 
 -- their change
 unfoldable pub plan_change : ClusterMap → ℕ → ℕ → ChangeParts
-plan_change m pool limit = change_of (option_map_or (λ p. items_of m p (greedy m p limit)) (pool_at m.pools pool) [])
+plan_change m pool limit = change_of (option_map_or (λ p. moved_items m p (greedy m p limit)) (pool_at m.pools pool) [])
 
 -- a change and a number of moves are those of the greedy plan
 pub record IsPlan (m : ClusterMap) (pool limit : ℕ) (change : ChangeParts) (count : ℕ) : Type 0 where
@@ -75,8 +75,9 @@ pub record IsPlan (m : ClusterMap) (pool limit : ℕ) (change : ChangeParts) (co
 -- the change of so many moves lowers the sum of the squares of the deviations by twice the weight of all candidates or
 -- more for each of them
 pub record Evens (m : ClusterMap) (pool : ℕ) (change : ChangeParts) (count : ℕ) : Type 0 where
-  pub evens : IfSome (pool_at m.pools pool) (λ p. unevenness (next m change) p + 2 * total m p * count ≤ unevenness m p)
+  pub evens : IfSome (pool_at m.pools pool)
+      (λ p. unevenness (changed_map m change) p + 2 * total_weight m p * count ≤ unevenness m p)
 
 -- after the change no move is good
 pub record LeavesNone (m : ClusterMap) (pool : ℕ) (change : ChangeParts) : Type 0 where
-  pub none : IfSome (pool_at m.pools pool) (λ p. good_moves (next m change) p ≡ [])
+  pub none : IfSome (pool_at m.pools pool) (λ p. good_moves (changed_map m change) p ≡ [])

@@ -3,7 +3,7 @@ use Rattle.std.specs.Prelude.{◌≡◌, ℕ, ℤ, List, All, map}
 use Rattle.std.specs.List.Sorted.{IsPermutation}
 use Rattle.osdmap.specs.Maps.{ClusterMap}
 use Rattle.balancer.specs.declared.board.Board.{Board}
-use Rattle.balancer.specs.Shares.{candidates, deviation}
+use Rattle.balancer.specs.Shares.{candidate_osds, deviation}
 use Rattle.balancer.specs.Greedy.{after_moves}
 use Rattle.balancer.specs.Boards.{IsOrder}
 
@@ -13,7 +13,7 @@ reached b = after_moves b.frame.map.now.map b.frame.pool b.moves.items
 
 -- each candidate once, in any order
 abbrev pub AreAll : Board → List (ℤ × ℕ) → Type 0
-AreAll b order = IsPermutation (map (λ e. e.1) order) (candidates b.frame.map.now.map b.frame.pool)
+AreAll b order = IsPermutation (map (λ e. e.1) order) (candidate_osds b.frame.map.now.map b.frame.pool)
 
 -- with its deviation
 abbrev pub AreMeasured : Board → List (ℤ × ℕ) → Type 0

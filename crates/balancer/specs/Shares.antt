@@ -31,8 +31,8 @@ abbrev pub osds_of : ClusterMap → List ℕ
 osds_of m = range_with_len 0 (length m.presences)
 
 -- those between which groups of a pool may be moved
-abbrev pub candidates : ClusterMap → PoolFacts → List ℕ
-candidates m p = filter (is_candidate m p) (osds_of m)
+abbrev pub candidate_osds : ClusterMap → PoolFacts → List ℕ
+candidate_osds m p = filter (is_candidate m p) (osds_of m)
 
 -- ---- shares
 
@@ -42,20 +42,20 @@ item_weight buckets osd =
     option_map_or (λ i. i.weight) (find (λ i. int_eq i.id (pos osd)) (flat_map (λ b. b.items) buckets)) 0
 
 -- the weight of an OSD: that in its bucket times its reweight
-unfoldable pub weight_of : ClusterMap → ℕ → ℕ
-weight_of m osd = item_weight m.buckets osd * slice_index m.weights osd
+unfoldable pub weight_in_map : ClusterMap → ℕ → ℕ
+weight_in_map m osd = item_weight m.buckets osd * slice_index m.weights osd
 
 -- what all candidates weigh together
-unfoldable pub total : ClusterMap → PoolFacts → ℕ
-total m p = sum_by (weight_of m) (candidates m p)
+unfoldable pub total_weight : ClusterMap → PoolFacts → ℕ
+total_weight m p = sum_by (weight_in_map m) (candidate_osds m p)
 
 -- how many places of groups of the pool the candidates have together
 unfoldable pub places : ClusterMap → PoolFacts → ℕ
-places m p = sum_by (count_in m p.id) (candidates m p)
+places m p = sum_by (count_in m p.id) (candidate_osds m p)
 
 -- how far an OSD is above its share of the places, times the weight of all candidates
 unfoldable pub deviation : ClusterMap → PoolFacts → ℕ → ℤ
-deviation m p osd = pos (count_in m p.id osd * total m p) -ℤ pos (places m p * weight_of m osd)
+deviation m p osd = pos (count_in m p.id osd * total_weight m p) -ℤ pos (places m p * weight_in_map m osd)
 
 -- the square of a whole number
 abbrev pub square : ℤ → ℕ
@@ -63,4 +63,4 @@ square z = nat_abs z * nat_abs z
 
 -- how uneven the pool is: the sum of the squares of the deviations of all candidates
 unfoldable pub unevenness : ClusterMap → PoolFacts → ℕ
-unevenness m p = sum_by (λ osd. square (deviation m p osd)) (candidates m p)
+unevenness m p = sum_by (λ osd. square (deviation m p osd)) (candidate_osds m p)

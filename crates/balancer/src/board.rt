@@ -90,7 +90,7 @@ pub(crate) struct Board<'a> {
 
 impl<'a> Board<'a> {
     ghost use Rattle.std.specs.Prelude.{◌≡◌, ◌<◌, [], ◌∷◌, ◌++◌, IfOk, OnOk};
-    ghost use Rattle.balancer.specs.Plans.{items_at, items_of};
+    ghost use Rattle.balancer.specs.Plans.{items_at, moved_items};
     ghost use Rattle.balancer.specs.Greedy.{after_moves};
     ghost use Rattle.balancer.specs.Boards.{IsGood, IsGone};
     ghost use Rattle.pgtable.specs.Tables.{IsTableOf};
@@ -150,10 +150,10 @@ impl<'a> Board<'a> {
     }
 
     /// For each group moved, by number upwards, all its pairs after the moves; or `Memory` (30).
-    #[tactic(auto, unfolding(crate::specs::Plans::items_of))]
+    #[tactic(auto, unfolding(crate::specs::Plans::moved_items))]
     pub fn items(&self, alloc: Global) -> Result<Vec<Items>, Memory>
         ensures { IfOk result (λ items. items.items
-            ≡ items_of self.now.frame.map.now.map self.now.frame.pool self.now.moves.items) }
+            ≡ moved_items self.now.frame.map.now.map self.now.frame.pool self.now.moves.items) }
     {
         let mut items = Vec::with_capacity(alloc, self.moves.len())?;
         for number in 0..self.frame.pool.pg_num() {

@@ -5,7 +5,7 @@ ghost use Rattle.crush.specs.Limits.{max_devices};
 ghost use Rattle.osdmap.specs.Maps.{pool_at};
 ghost use Rattle.std.specs.List.{list_all};
 ghost use Rattle.osdmap.specs.Placement.{steps_of};
-ghost use Rattle.balancer.specs.Shares.{candidates, total};
+ghost use Rattle.balancer.specs.Shares.{candidate_osds, total_weight};
 ghost use Rattle.balancer.specs.Moves.{level_chosen, levels_of, are_under_same};
 
 use crate::domains::{are_under_same, domain_of, has_way, stands, times};
@@ -70,9 +70,9 @@ pub(crate) struct Frame<'a> {
     pub weight: u64,
     ghost pool_is: { pool_at map.now.map.pools pool.id ≡ Some pool },
     ghost levels_are: { levels.items ≡ levels_of (steps_of map.now.map pool) },
-    ghost osds_are: { osds.items ≡ candidates map.now.map pool },
+    ghost osds_are: { osds.items ≡ candidate_osds map.now.map pool },
     ghost osds_few: { length osds.items ≤ max_devices },
-    ghost weight_is: { weight ≡ total map.now.map pool },
+    ghost weight_is: { weight ≡ total_weight map.now.map pool },
     ghost weight_small: { weight ≤ 2 ^ 58 },
 }
 
@@ -81,7 +81,7 @@ impl<'a> Frame<'a> {
     ghost use Rattle.osdmap.specs.Maps.{pool_at};
 
     /// What a plan for a pool of a map goes by; or `Memory` (30).
-    #[tactic(auto, unfolding(crate::specs::Shares::total))]
+    #[tactic(auto, unfolding(crate::specs::Shares::total_weight))]
     pub fn new(alloc: Global, map: &'a OsdMap, pool: Pool) -> Result<Frame<'a>, Memory>
         requires { pool_at map.now.map.pools pool.id ≡ Some pool }
         ensures map { IfOk result (λ frame. frame.map.now ≡ map.now) }
@@ -101,23 +101,33 @@ impl<'a> Frame<'a> {
 }
 
 impl Frame<'_> {
-    ghost use Rattle.std.specs.Prelude.{◌≡◌, ◌<◌, length, position, IfSome};
+    ghost use Rattle.std.specs.Prelude.{◌≡◌, ◌<◌, length, position, IfSome, true, false};
     ghost use Rattle.std.specs.List.{list_all};
     ghost use Rattle.osdmap.specs.Placement.{steps_of};
-    ghost use Rattle.balancer.specs.Moves.{are_under_same, are_beside, domain_of, last_level, levels_of};
+    ghost use Rattle.balancer.specs.Moves.{are_under_same, are_beside, domain_of, earlier_levels, last_level, levels_of, is_allowed};
     ghost use Rattle.balancer.specs.Boards.{may_go};
+    ghost use Rattle.stated.specs.Sets.{stands};
+    ghost use Rattle.balancer.specs.declared.moves.Move.{Move};
+
+    /// The types that the pool's rule chooses before the last.
+    fn earlier_levels(&self) -> &[u8]
+        ensures { result.now ≡ earlier_levels (levels_of (steps_of self.now.map.now.map self.now.pool)) }
+    {
+        match self.levels.as_slice().split_last() {
+            Some((_, earlier)) => earlier,
+            None => &[],
+        }
+    }
 
     /// Whether two OSDs are under the same bucket of each type that the pool's rule chooses before the last, or under
     /// none.
     #[tactic(auto, unfolding(crate::specs::Moves::are_beside))]
     pub fn are_beside(&self, some: u32, other: u32) -> bool
-        ensures { result ≡ are_beside self.now.map.now.map self.now.pool some other }
+        ensures value { result ≡ are_beside self.now.map.now.map self.now.pool some other }
+        ensures apart { result ≡ false → (v : Move) → v.from ≡ some → v.to ≡ other
+            → is_allowed self.now.map.now.map self.now.pool v ≡ false }
     {
-        let levels = self.levels.as_slice();
-        match levels.split_last() {
-            Some((_, earlier)) => are_under_same_all(self.map, some, other, earlier),
-            None => true,
-        }
+        are_under_same_all(self.map, some, other, self.earlier_levels())
     }
 
     /// The last type that the pool's rule chooses.
@@ -138,7 +148,8 @@ impl Frame<'_> {
     /// Whether a group may go from one OSD to another, where both are candidates and beside one another.
     #[tactic(auto, unfolding(crate::specs::Boards::may_go))]
     pub fn may_go(&self, from: u32, to: u32, group: &Group) -> bool
-        ensures { result ≡ may_go self.now.map.now.map self.now.pool from to group.now }
+        ensures value { result ≡ may_go self.now.map.now.map self.now.pool from to group.now }
+        ensures new { result ≡ true → stands to group.now.places ≡ false }
     {
         let places = group.places.as_slice();
         !group.is_fixed

@@ -3,10 +3,11 @@
 ghost use Rattle.std.specs.Prelude.{◌≡◌, ◌<◌, ◌≤◌, length, position, Some, IfOk};
 ghost use Rattle.std.specs.List.{list_any};
 ghost use Rattle.osdmap.specs.Maps.{pool_at};
-ghost use Rattle.osdmap.specs.Mapped.{is_of, is_weightless, replaced};
+ghost use Rattle.osdmap.specs.Mapped.{is_weightless, replaced};
+ghost use Rattle.stated.specs.Sets.{is_of};
 ghost use Rattle.osdmap.specs.Placement.{mapped_set};
 ghost use Rattle.balancer.specs.Moves.{pairs_in};
-ghost use Rattle.balancer.specs.Boards.{is_fixed, group_at, groups_of, gone};
+ghost use Rattle.balancer.specs.Boards.{is_fixed, group_at, board_groups, gone};
 
 use crate::moves::Move;
 use crate::shares::reweight;
@@ -102,7 +103,7 @@ fn group_at(placing: &Placing, number: u32, work: &mut Work) -> Result<Group, Me
 /// What is kept of the groups of a pool, by number; or `Memory` (30).
 pub(crate) fn groups(alloc: Global, map: &OsdMap, pool: &Pool) -> Result<Vec<Group>, Memory>
     requires { pool_at map.now.map.pools pool.now.id ≡ Some pool.now }
-    ensures { IfOk result (λ groups. groups.items ≡ groups_of map.now.map pool.now) }
+    ensures { IfOk result (λ groups. groups.items ≡ board_groups map.now.map pool.now) }
 {
     let placing = map.placing(pool);
     let mut work = Work::new(alloc, map.forest())?;

@@ -1,8 +1,11 @@
 //! Between which OSDs no group may go, as far as it is known.
 
-ghost use Rattle.std.specs.Prelude.{◌≡◌, ℕ, true, false, length, replicate, slice_set, slice_index_or, IfOk};
-ghost use Rattle.placement_laws.specs.Standing.{stands};
-ghost use Rattle.balancer.specs.Marks.{is_shut, shut_in, opened};
+ghost use Rattle.std.specs.Prelude.{◌≡◌, ℕ, true, false, length, replicate, slice_set, slice_index_or, IfOk, List};
+ghost use Rattle.stated.specs.Sets.{stands};
+ghost use Rattle.balancer.specs.Marks.{is_shut, shut_in, forgotten, NoneGoes, IsMarked};
+ghost use Rattle.osdmap.specs.Maps.{ClusterMap};
+ghost use Rattle.stated.specs.Pools.{PoolFacts};
+ghost use Rattle.balancer.specs.declared.group.Group.{Group};
 
 use refusal::Memory;
 use std::alloc::Global;
@@ -88,7 +91,9 @@ impl Marks {
 
     /// Whether it is known that no group may go from one OSD to another.
     pub fn is_shut(&self, from: u32, to: u32) -> bool
-        ensures { result ≡ is_shut self.now from to }
+        ensures value { result ≡ is_shut self.now from to }
+        ensures known { (m : ClusterMap) (p : PoolFacts) (groups : List Group) → IsMarked m p groups self.now
+            → result ≡ true → NoneGoes m p groups from to }
     {
         match self.rows.get(from as usize) {
             Some(row) => row.is_shut(to),
@@ -108,7 +113,7 @@ impl Marks {
 
     /// Nothing is known any longer of groups that would leave the OSD of a place.
     fn open(&mut self, place: Option<u32>)
-        ensures { self.new ≡ opened place self.old }
+        ensures { self.new ≡ forgotten place self.old }
     {
         let Some(osd) = place else {
             return;

@@ -19,7 +19,7 @@ fn precedes(u: Move, v: Move) -> bool
 
 impl Board<'_> {
     ghost use Rattle.std.specs.Prelude.{◌≡◌, ◌<◌, ℕ, pos, neg_ℤ, int_lt, ◌<ℤ◌, ◌^◌, ◌==◌, [], ◌∷◌, ◌++◌, length, position, true, false, Some, IfSome, IfOk, MatchOption, OnOk};
-    ghost use Rattle.balancer.specs.Shares.{is_candidate, total, deviation};
+    ghost use Rattle.balancer.specs.Shares.{is_candidate, total_weight, deviation};
     ghost use Rattle.balancer.specs.Moves.{are_beside, last_level, levels_of};
     ghost use Rattle.balancer.specs.Greedy.{gap, beats, good_moves, greedy, after_moves};
     ghost use Rattle.balancer.specs.Reached.{reached, AreAll, AreMeasured, IsOrderOf};
@@ -63,7 +63,7 @@ impl Board<'_> {
     fn is_wide(&self, from: u32, to: u32) -> bool
         requires from { is_candidate self.now.frame.map.now.map self.now.frame.pool from ≡ true }
         requires to { is_candidate self.now.frame.map.now.map self.now.frame.pool to ≡ true }
-        ensures { result ≡ int_lt (pos (total (reached self.now) self.now.frame.pool))
+        ensures { result ≡ int_lt (pos (total_weight (reached self.now) self.now.frame.pool))
             (gap (reached self.now) self.now.frame.pool from to) }
     {
         self.gap(from, to) > i128::from(self.frame.weight)

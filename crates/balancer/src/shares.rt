@@ -12,7 +12,7 @@ ghost use Rattle.osdmap.specs.Mapped.{is_weightless};
 ghost use Rattle.osdmap.specs.Placement.{steps_of};
 ghost use Rattle.pgtable.specs.Index.{count_in};
 ghost use Rattle.pgtable.specs.Tables.{IsTableOf};
-ghost use Rattle.balancer.specs.Shares.{is_candidate, osds_of, candidates, item_weight, weight_of};
+ghost use Rattle.balancer.specs.Shares.{is_candidate, osds_of, candidate_osds, item_weight, weight_in_map};
 
 use crush::{Bucket, Item};
 use osdmap::{OsdMap, Pool};
@@ -51,7 +51,7 @@ pub(crate) fn is_candidate(map: &OsdMap, pool: &Pool, osd: u32) -> bool
 
 /// The OSDs between which groups of a pool may be moved, by number upwards; or `Memory` (30).
 pub(crate) fn candidates(alloc: Global, map: &OsdMap, pool: &Pool) -> Result<Vec<u32>, Memory>
-    ensures osds { IfOk result (λ osds. osds.items ≡ candidates map.now.map pool.now) }
+    ensures osds { IfOk result (λ osds. osds.items ≡ candidate_osds map.now.map pool.now) }
     ensures few { IfOk result (λ osds. length osds.items ≤ max_devices) }
 {
     let mut osds = Vec::with_capacity(alloc, map.max_osd() as usize)?;
@@ -97,9 +97,9 @@ pub(crate) fn reweight(map: &OsdMap, osd: u32) -> u32
 }
 
 /// The weight of an OSD: that in its bucket times its reweight.
-#[tactic(auto, unfolding(crate::specs::Shares::weight_of))]
+#[tactic(auto, unfolding(crate::specs::Shares::weight_in_map))]
 pub(crate) fn weight_of(map: &OsdMap, osd: u32) -> u64
-    ensures value { result ≡ weight_of map.now.map osd }
+    ensures value { result ≡ weight_in_map map.now.map osd }
     ensures small { result < 2 ^ 48 }
 {
     u64::from(item_weight(map.forest().buckets(), osd)) * u64::from(reweight(map, osd))
@@ -108,7 +108,7 @@ pub(crate) fn weight_of(map: &OsdMap, osd: u32) -> u64
 /// What some OSDs weigh together.
 pub(crate) fn total(map: &OsdMap, osds: &[u32]) -> u64
     requires { length osds.now ≤ max_devices }
-    ensures value { result ≡ sum_by (weight_of map.now.map) osds.now }
+    ensures value { result ≡ sum_by (weight_in_map map.now.map) osds.now }
     ensures small { result ≤ 2 ^ 58 }
 {
     let mut total = 0;

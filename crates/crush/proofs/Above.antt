@@ -1,5 +1,5 @@
 -- What stands above an item, as a path that is there: the tests of paths hold where there is one.
-use Rattle.std.proofs.Common.{◌≡◌, ◌↔◌, ℕ, zero, suc, ◌<◌, ◌≤◌, Bool, true, false, ◌||◌, List, [], ◌∷◌, ◌++◌, length, map, get_or, Option, Some, None, ℤ, IsSomeAnd, IsTrue, refl, ap, ◌∙◌, arith}
+use Rattle.std.proofs.Common.{◌≡◌, ◌↔◌, ℕ, zero, suc, ◌<◌, ◌≤◌, Bool, true, false, ◌||◌, List, [], ◌∷◌, ◌++◌, length, map, get_or, Option, Some, None, ℤ, IsSomeAnd, IsTrue, is_some, refl, ap, ◌∙◌, arith}
 use Rattle.std.specs.List.{list_any, flat_map}
 use Rattle.std.specs.Option.{option_map_or}
 use Rattle.std.specs.Ordering.{int_eq}
@@ -113,3 +113,12 @@ pub path-listed : (buckets : List Bucket) (between : List ℤ) (top item : ℤ) 
 unfolding AreBuckets
 path-listed buckets between top item few path =
     listed buckets (λ ids. is_path buckets top ids item) 15 between few (path-buckets buckets between top item path).1 ((path-tested buckets between top item).1 path)
+
+-- a path leads down from a bucket of the forest
+path-known : (buckets : List Bucket) (between : List ℤ) (top item : ℤ) → IsPath buckets top between item → is_some (bucket_at buckets top) ≡ true
+path-known buckets [] top item path = ap is_some (some-and _ (bucket_at buckets top) path).1
+path-known buckets (next ∷ between) top item path = ap is_some (some-and _ (bucket_at buckets top) path.0).1
+
+-- so what stands above an item is one
+pub above-known : (buckets : List Bucket) (top item : ℤ) → is_above buckets top item ≡ true → is_some (bucket_at buckets top) ≡ true
+above-known buckets top item above = let found = above-found buckets top item above in path-known buckets found.between top item found.path

@@ -82,6 +82,7 @@ at_failed : (k : Choosing) (chosen : List Choice) (e : Choice) (r : ℕ) (found 
 at_failed k chosen e r None h = h
 at_failed k chosen e r (Some p) h = with_failed k chosen e r p.item h
 
+-- and a try from a bucket
 try_failed : (k : Choosing) (chosen : List Choice) (e : Choice) (start : Bucket) (r : ℕ) → attempt_of k chosen start r ≡ Failed → attempt_of k (chosen ++ e ∷ []) start r ≡ Failed
 unfolding attempt_of
 try_failed k chosen e start r h = at_failed k chosen e r (item_below k.world (λ _. r) k.choose.level start) h

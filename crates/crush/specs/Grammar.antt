@@ -105,6 +105,6 @@ rule_fault kind steps buckets =
     if rule_limits_ok steps then refused_unless (rule_ok kind steps buckets) BadRule else Some BadLimit
 
 -- what each rule is, over whatever forest
-pub record IsLawful (kind : RuleKind) (steps : List Step) : Type 0 where
+pub record IsLawfulRule (kind : RuleKind) (steps : List Step) : Type 0 where
   pub limits : IsTrue (rule_limits_ok steps)
   pub grammar : IsTrue (is_rule kind steps)

@@ -92,12 +92,13 @@ impl Draw {
 }
 
 impl Position {
-    ghost use Rattle.std.specs.Prelude.{◌≡◌};
+    ghost use Rattle.std.specs.Prelude.{◌≡◌, true, None};
     ghost use Rattle.crush.specs.Indep.{is_open, leaf_at};
 
     /// Whether the position is still to be filled.
     pub fn is_open(self) -> bool
-        ensures { result ≡ is_open self }
+        ensures value { result ≡ is_open self }
+        ensures empty { result ≡ true → leaf_at self ≡ None }
     {
         matches!(self, Position::Open)
     }

@@ -114,7 +114,8 @@ impl Chooser<'_> {
         requires input { start.now.x ≡ self.now.placement.x }
         requires picks { Remembers (world self.now.placement) picks.old }
         requires known { HaveFailed (choosing self.now) chosen.now start.now.bucket.now rep (rep + known.old) }
-        ensures value { result ≡ replica_of (choosing self.now) chosen.now start.now.bucket.now self.now.tries.total rep }
+        ensures value { result
+            ≡ replica_of (choosing self.now) chosen.now start.now.bucket.now self.now.tries.total rep }
         ensures picks { Remembers (world self.now.placement) picks.new }
         ensures known { HaveFailed (choosing self.now) chosen.now start.now.bucket.now (rep + 1) (rep + 1 + known.new) }
     {

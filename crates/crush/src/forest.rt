@@ -35,7 +35,7 @@ impl Model for Forest {
 }
 
 impl Forest {
-    ghost use Rattle.std.specs.Prelude.{◌≡◌, ◌↔◌, ℤ, pos, IfSome, IfOk, IsTrue, IsPermutation};
+    ghost use Rattle.std.specs.Prelude.{◌≡◌, ◌↔◌, ℤ, pos, IfSome, IfOk, IsTrue, IsPermutation, true, is_some};
     ghost use Rattle.std.specs.List.{find};
     ghost use Rattle.std.specs.Option.{option_copied};
     ghost use Rattle.refusal.specs.Outcomes.{Judges, refused_unless};
@@ -117,7 +117,8 @@ impl Forest {
 
     /// Whether a bucket stands above an item: it has it, or a bucket above it.
     pub fn is_above(&self, bucket: i32, item: i32) -> bool
-        ensures { result ≡ is_above self.now bucket item }
+        ensures value { result ≡ is_above self.now bucket item }
+        ensures known { result ≡ true → is_some (bucket_at self.now bucket) ≡ true }
     {
         let mut below = item;
         while let Some(parent) = self.parent(below) {

@@ -4,6 +4,7 @@
 pub mod bucket;
 pub mod choose;
 mod chooser;
+mod device;
 mod firstn;
 pub mod forest;
 mod grammar;

@@ -21,20 +21,20 @@ pub struct Rule {
 impl Model for Rule {
     ghost use Rattle.std.specs.Prelude.{◌≡◌, true};
     ghost use Rattle.crush.specs.Rules.{Recipe};
-    ghost use Rattle.crush.specs.Grammar.{IsLawful};
+    ghost use Rattle.crush.specs.Grammar.{IsLawfulRule};
 
     ghost Value = { Recipe };
 
     ghost view = { λ r. record { kind = r.kind; steps = r.steps.items } };
 
-    ghost invariant = { λ r. IsLawful r.kind r.steps.items };
+    ghost invariant = { λ r. IsLawfulRule r.kind r.steps.items };
 }
 
 impl Rule {
-    ghost use Rattle.std.specs.Prelude.{◌≡◌, IfOk, IsTrue, pos};
+    ghost use Rattle.std.specs.Prelude.{◌≡◌, IfOk, IsTrue, pos, All, false};
     ghost use Rattle.refusal.specs.Outcomes.{Judges, refused_unless};
-    ghost use Rattle.crush.specs.Grammar.{rule_limits_ok, rule_ok, rule_fault, IsLawful};
-    ghost use Rattle.crush.specs.Paths.{reaches};
+    ghost use Rattle.crush.specs.Grammar.{rule_limits_ok, rule_ok, rule_fault, IsLawfulRule};
+    ghost use Rattle.crush.specs.Paths.{reaches, takes_above};
 
     /// The rule of these steps over a forest. It is refused with 12 (`BadLimit`) where it has no step or more than 16,
     /// takes a bucket outside -1 to -65,536, or chooses a type above 15 or more than 10 items, or sets
@@ -72,7 +72,7 @@ impl Rule {
     /// Its steps, in order: one or more blocks.
     pub fn steps(&self) -> &[Step]
         ensures value { result.now ≡ self.now.steps }
-        ensures lawful { IsLawful self.now.kind self.now.steps }
+        ensures lawful { IsLawfulRule self.now.kind self.now.steps }
     {
         &self.steps
     }
@@ -86,7 +86,8 @@ impl Rule {
 
     /// Whether the rule reaches the device of a number in a forest: it is under a bucket that the rule takes.
     pub fn reaches(&self, forest: &Forest, osd: u32) -> bool
-        ensures { result ≡ reaches forest.now self.now.steps (pos osd) }
+        ensures value { result ≡ reaches forest.now self.now.steps (pos osd) }
+        ensures none { result ≡ false → All (λ step. takes_above forest.now (pos osd) step ≡ false) self.now.steps }
     {
         self.steps.iter().any(|step| takes_above(step, forest, osd))
     }

@@ -17,7 +17,7 @@ use Rattle.crush.specs.declared.step.RuleKind.{RuleKind}
 use Rattle.crush.specs.declared.step.Step.{Step}
 use Rattle.crush.specs.declared.step.Step.TheVariants.{SetChooseTries, SetChooseleafTries, Take, Choose as Chooses, Emit}
 use Rattle.crush.specs.Forest.{bucket_at, level_of}
-use Rattle.crush.specs.Grammar.{step_limits_ok, IsLawful}
+use Rattle.crush.specs.Grammar.{step_limits_ok, IsLawfulRule}
 use Rattle.crush_laws.specs.Runs.{RunPlacesReached, RunReadsReached}
 use Rattle.crush.specs.Paths.{has_item, takes_above, reaches}
 use Rattle.crush.proofs.Above.{IsItemOf, IsPath, IsAbove, and-some}
@@ -132,7 +132,7 @@ takes_device buckets n (Chooses c) forest limits h = absurd h
 takes_device buckets n Emit forest limits h = absurd h
 
 -- the same of the steps of a rule
-held_reached : (buckets : List Bucket) (kind : RuleKind) (steps : List Step) (n : ℕ) → IsForest buckets → IsLawful kind steps → IsHeld buckets steps (pos n) → reaches buckets steps (pos n) ≡ true
+held_reached : (buckets : List Bucket) (kind : RuleKind) (steps : List Step) (n : ℕ) → IsForest buckets → IsLawfulRule kind steps → IsHeld buckets steps (pos n) → reaches buckets steps (pos n) ≡ true
 held_reached buckets kind steps n forest lawful held =
     let limits : step_limits_ok held.1 ≡ true = rw held.3 at (list_all-at step_limits_ok steps held.0 held.1 held.2 (and_parts _ _ lawful.limits).1) in
     list_any-from_Any (takes_above buckets (pos n)) steps (held.0, held.1, held.2, held.3, takes_device buckets n held.1 forest limits held.4)
@@ -143,7 +143,7 @@ unfolding is_out
 out_alike buckets weights others x n same = ap (λ weight. nat_lt weight 65536 && nat_le weight (hash2_of x n % 65536)) same
 
 -- two lists that agree on what is reached agree on what is held
-held_alike : (buckets : List Bucket) (kind : RuleKind) (steps : List Step) (weights others : List ℕ) (x : ℕ) → IsForest buckets → IsLawful kind steps → ((osd : ℕ) → IsTrue (reaches buckets steps (pos osd)) → slice_index weights osd ≡ slice_index others osd) → AreAlike (IsHeld buckets steps) (world_of buckets weights x) others
+held_alike : (buckets : List Bucket) (kind : RuleKind) (steps : List Step) (weights others : List ℕ) (x : ℕ) → IsForest buckets → IsLawfulRule kind steps → ((osd : ℕ) → IsTrue (reaches buckets steps (pos osd)) → slice_index weights osd ≡ slice_index others osd) → AreAlike (IsHeld buckets steps) (world_of buckets weights x) others
 held_alike buckets kind steps weights others x forest lawful agree = record {
   below = λ id b held e. held_items buckets steps id b forest held e;
   alike = λ d held device.

@@ -5,7 +5,7 @@ use Rattle.crush.specs.declared.step.RuleKind.{RuleKind}
 use Rattle.crush.specs.declared.step.Step.{Step}
 use Rattle.crush.specs.World.{World, world_of}
 use Rattle.crush.specs.Run.{run_of}
-use Rattle.crush.specs.Grammar.{IsLawful}
+use Rattle.crush.specs.Grammar.{IsLawfulRule}
 use Rattle.crush.specs.Paths.{reaches}
 use Rattle.crush.specs.WellFormed.{IsForest}
 use Rattle.crush_laws.specs.Forests.{IsDeviceNumber}
@@ -22,18 +22,18 @@ HoldsDevice (Some id) = IsDeviceNumber id
 -- a rule places devices alone
 abbrev pub RunPlacesDevices : Type 0
 RunPlacesDevices = (buckets : List Bucket) (kind : RuleKind) (steps : List Step) (weights : List ℕ) (x size : ℕ) →
-    IsForest buckets → IsLawful kind steps → All HoldsDevice (run_of (world_of buckets weights x) steps size)
+    IsForest buckets → IsLawfulRule kind steps → All HoldsDevice (run_of (world_of buckets weights x) steps size)
 
 -- everything that a rule places is reached
 abbrev pub RunPlacesReached : Type 0
 RunPlacesReached = (buckets : List Bucket) (kind : RuleKind) (steps : List Step) (weights : List ℕ) (x size : ℕ) →
-    IsForest buckets → IsLawful kind steps →
+    IsForest buckets → IsLawfulRule kind steps →
     (osd : ℕ) → Contains (run_of (world_of buckets weights x) steps size) (Some (pos osd)) →
     IsTrue (reaches buckets steps (pos osd))
 
 -- two lists of reweights that agree on the devices that a rule reaches give the same places
 abbrev pub RunReadsReached : Type 0
 RunReadsReached = (buckets : List Bucket) (kind : RuleKind) (steps : List Step) (weights others : List ℕ) (x size : ℕ) →
-    IsForest buckets → IsLawful kind steps →
+    IsForest buckets → IsLawfulRule kind steps →
     ((osd : ℕ) → IsTrue (reaches buckets steps (pos osd)) → slice_index weights osd ≡ slice_index others osd) →
     run_of (world_of buckets weights x) steps size ≡ run_of (world_of buckets others x) steps size

@@ -4,7 +4,7 @@ use Rattle.std.specs.Prelude.{Contains}
 use Rattle.std.proofs.lemmas.Option.{slice_get_within, get_or_from_slice_get, same_Some}
 use Rattle.stated.specs.Incrementals.{Step}
 use Rattle.epochlog.specs.Epochs.{IsNumbered, last_epoch}
-use Rattle.sealed.specs.History.{Seen}
+use Rattle.sealed.specs.History.{PassFacts}
 
 -- the last epoch is as far from the first as there are incrementals
 pub last_is : (before : ℕ) (is : List Step) → IsNumbered before is → last_epoch before is ≡ before + length is
@@ -27,12 +27,12 @@ pub contained : {T : Type 0} (xs : List T) (k : ℕ) (x : T) → slice_get xs k 
 contained xs k x e = (k, slice_get_within xs k x e, get_or_from_slice_get xs k x x e)
 
 -- where the history is as it was, or longer by an incremental of the next epoch
-pub numbered_if : {R : Type 0} (shown : R → Step) (o : Option R) (first : ℕ) (old new : Seen Step) → IsNumbered first old.history → IfSome o (λ r. new.history ≡ old.history ++ shown r ∷ []) → IfNone o (new ≡ old) → IfSome o (λ r. (shown r).epoch ≡ last_epoch first old.history + 1) → IsNumbered first new.history
+pub numbered_if : {R : Type 0} (shown : R → Step) (o : Option R) (first : ℕ) (old new : PassFacts Step) → IsNumbered first old.history → IfSome o (λ r. new.history ≡ old.history ++ shown r ∷ []) → IfNone o (new ≡ old) → IfSome o (λ r. (shown r).epoch ≡ last_epoch first old.history + 1) → IsNumbered first new.history
 numbered_if shown None first old new numbered grown same next = subst (λ s. IsNumbered first s.history) (sym same) numbered
 numbered_if shown (Some r) first old new numbered grown same next = subst (IsNumbered first) (sym grown) (numbered_more first old.history (shown r) numbered next)
 
 -- a sealing that answers Ok puts the next epoch behind a history, and one that does not leaves it, so its epochs go on
 -- by one
-pub numbered_on : {A B : Type 0} (r : Result A B) (i : Step) (first : ℕ) (old new : Seen Step) → IsNumbered first old.history → OnOk r (new.history ≡ old.history ++ i ∷ []) → OnErr r (new ≡ old) → i.epoch ≡ last_epoch first old.history + 1 → IsNumbered first new.history
+pub numbered_on : {A B : Type 0} (r : Result A B) (i : Step) (first : ℕ) (old new : PassFacts Step) → IsNumbered first old.history → OnOk r (new.history ≡ old.history ++ i ∷ []) → OnErr r (new ≡ old) → i.epoch ≡ last_epoch first old.history + 1 → IsNumbered first new.history
 numbered_on (Ok a) i first old new numbered grown same next = subst (IsNumbered first) (sym grown) (numbered_more first old.history i numbered next)
 numbered_on (Err b) i first old new numbered grown same next = subst (λ s. IsNumbered first s.history) (sym same) numbered

@@ -35,8 +35,8 @@ abbrev pub max_capacity : ℕ
 max_capacity = 65536
 
 -- a first epoch and a capacity within their limits
-abbrev pub IsWithinLimits : ℕ → ℕ → Type 0
-IsWithinLimits first capacity = (1 ≤ first) × (first ≤ max_first_epoch) × (1 ≤ capacity) × (capacity ≤ max_capacity)
+abbrev pub IsRowSize : ℕ → ℕ → Type 0
+IsRowSize first capacity = (1 ≤ first) × (first ≤ max_first_epoch) × (1 ≤ capacity) × (capacity ≤ max_capacity)
 
 -- the same as a test
 abbrev pub is_within_limits : ℕ → ℕ → Bool

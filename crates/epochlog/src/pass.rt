@@ -14,14 +14,14 @@ pub struct Pass {
 }
 
 impl Model for Pass {
-    ghost use Rattle.epochlog.specs.Epochs.{Seen, IsNumbered, IsWithinLimits};
+    ghost use Rattle.epochlog.specs.Epochs.{Seen, IsNumbered, IsRowSize};
     ghost use Rattle.std.specs.Prelude.{length};
 
     ghost Value = { Seen };
 
     ghost view = { λ p. record { row = record { first = p.first; cells = p.seen.row }; history = p.seen.history } };
 
-    ghost invariant = { λ p. IsNumbered p.first p.seen.history × IsWithinLimits p.first (length p.seen.row) };
+    ghost invariant = { λ p. IsNumbered p.first p.seen.history × IsRowSize p.first (length p.seen.row) };
 }
 
 impl Pass {

@@ -3,7 +3,7 @@ ghost use Rattle.std.specs.Prelude.{◌≡◌, true, false, ◌+◌, ◌-◌, �
 ghost use Rattle.std.specs.Prelude.{IfOk, IfErr, OnOk, OnErr, IfSome, IfNone};
 ghost use Rattle.refusal.specs.Outcomes.{refused_unless, Gives};
 ghost use Rattle.refusal.specs.declared.refused.Refusal.TheVariants.{BadLimit};
-ghost use Rattle.epochlog.specs.Epochs.{epoch_of, is_within_limits, IsWithinLimits};
+ghost use Rattle.epochlog.specs.Epochs.{epoch_of, is_within_limits, IsRowSize};
 
 use crate::error::NotSealed;
 use crate::pass::Pass;
@@ -25,14 +25,14 @@ pub struct Row {
 }
 
 impl Model for Row {
-    ghost use Rattle.epochlog.specs.Epochs.{Line, IsWithinLimits};
+    ghost use Rattle.epochlog.specs.Epochs.{Line, IsRowSize};
     ghost use Rattle.std.specs.Prelude.{length};
 
     ghost Value = { Line };
 
     ghost view = { λ r. record { first = r.first; cells = r.cells } };
 
-    ghost invariant = { λ r. IsWithinLimits r.first (length r.cells) };
+    ghost invariant = { λ r. IsRowSize r.first (length r.cells) };
 }
 
 impl Row {
@@ -41,7 +41,7 @@ impl Row {
     pub fn new(alloc: Global, first: u64, capacity: u32) -> Result<Row, Refusal>
         ensures made { Gives result (refused_unless (is_within_limits first capacity) BadLimit)
             (λ row. (row.first ≡ first) × (length row.cells ≡ capacity)) }
-        ensures limits { OnOk result (IsWithinLimits first capacity) }
+        ensures limits { OnOk result (IsRowSize first capacity) }
     {
         if !(1..=MAX_FIRST_EPOCH).contains(&first) || !(1..=MAX_CAPACITY).contains(&capacity) {
             return Err(Refusal::BadLimit);
@@ -53,7 +53,7 @@ impl Row {
     /// How many epochs it takes, 1 to 65,536.
     pub fn capacity(&self) -> u32
         ensures capacity { result ≡ length self.now.cells }
-        ensures limits { IsWithinLimits self.now.first result }
+        ensures limits { IsRowSize self.now.first result }
     {
         self.cells.capacity() as u32
     }

@@ -4,7 +4,8 @@ use Rattle.std.specs.List.{filter, range_with_len}
 use Rattle.std.proofs.lemmas.Bool.{lt-ltb, le-ltb, cases_order}
 use Rattle.std.proofs.lemmas.List.{length-set, get_or-set_same, get_or-set_other}
 use Rattle.grouptable.specs.Keys.{with_key, without_key}
-use Rattle.grouptable.specs.Sets.{Places, is_at, stands, set_of, groups_of, left, joined}
+use Rattle.grouptable.specs.Sets.{set_of, groups_of, left, joined}
+use Rattle.stated.specs.Sets.{Places, stands, is_of}
 use Rattle.grouptable.proofs.Steps.{filter_same, filter_with, filter_without}
 
 -- removing or adding twice
@@ -58,18 +59,18 @@ or_none true = refl
 or_none false = refl
 
 -- an OSD stands in one place more, or did before
-stands_more : (k : ℕ) (s : Places) (i : ℕ) → i < length s → stands k (take (suc i) s) ≡ (stands k (take i s) || is_at k (get_or s i None))
+stands_more : (k : ℕ) (s : Places) (i : ℕ) → i < length s → stands k (take (suc i) s) ≡ (stands k (take i s) || is_of k (get_or s i None))
 stands_more k [] i h = absurd (omega arith)
-stands_more k (p ∷ s) zero h = or_none (is_at k p)
-stands_more k (p ∷ s) (suc i) h = ap (λ b. is_at k p || b) (stands_more k s i (omega arith)) ∙ or_group (is_at k p) (stands k (take i s)) (is_at k (get_or s i None))
+stands_more k (p ∷ s) zero h = or_none (is_of k p)
+stands_more k (p ∷ s) (suc i) h = ap (λ b. is_of k p || b) (stands_more k s i (omega arith)) ∙ or_group (is_of k p) (stands k (take i s)) (is_of k (get_or s i None))
 
 -- leaving by the places so far, by one place more
-pub left_step : (k g : ℕ) (s : Places) (i : ℕ) (a : Bool) (place : Option ℕ) (t now next : List ℕ) → i < length s → place ≡ get_or s i None → now ≡ left (stands k (take i s)) a g t → next ≡ left (is_at k place) a g now → next ≡ left (stands k (take (i + 1) s)) a g t
-left_step k g s i a place t now next h p e f = rw (add-one, stands_more k s i h) (f ∙ rw (p, e) (left_twice (stands k (take i s)) (is_at k (get_or s i None)) a g t))
+pub left_step : (k g : ℕ) (s : Places) (i : ℕ) (a : Bool) (place : Option ℕ) (t now next : List ℕ) → i < length s → place ≡ get_or s i None → now ≡ left (stands k (take i s)) a g t → next ≡ left (is_of k place) a g now → next ≡ left (stands k (take (i + 1) s)) a g t
+left_step k g s i a place t now next h p e f = rw (add-one, stands_more k s i h) (f ∙ rw (p, e) (left_twice (stands k (take i s)) (is_of k (get_or s i None)) a g t))
 
 -- joining by the places so far, by one place more
-pub joined_step : (k g : ℕ) (s : Places) (i : ℕ) (b : Bool) (place : Option ℕ) (t now next : List ℕ) → i < length s → place ≡ get_or s i None → now ≡ joined b (stands k (take i s)) g t → next ≡ joined b (is_at k place) g now → next ≡ joined b (stands k (take (i + 1) s)) g t
-joined_step k g s i b place t now next h p e f = rw (add-one, stands_more k s i h) (f ∙ rw (p, e) (joined_twice b (stands k (take i s)) (is_at k (get_or s i None)) g t))
+pub joined_step : (k g : ℕ) (s : Places) (i : ℕ) (b : Bool) (place : Option ℕ) (t now next : List ℕ) → i < length s → place ≡ get_or s i None → now ≡ joined b (stands k (take i s)) g t → next ≡ joined b (is_of k place) g now → next ≡ joined b (stands k (take (i + 1) s)) g t
+joined_step k g s i b place t now next h p e f = rw (add-one, stands_more k s i h) (f ∙ rw (p, e) (joined_twice b (stands k (take i s)) (is_of k (get_or s i None)) g t))
 
 -- the groups of an OSD, where one set is replaced
 other_set : (osd g : ℕ) (new : Places) (sets : List Places) (x : ℕ) → (x ≡ g → ⊥) → stands osd (set_of (set sets g new) x) ≡ stands osd (set_of sets x)

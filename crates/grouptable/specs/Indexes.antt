@@ -4,7 +4,7 @@ use Rattle.std.specs.Option.{IsSome}
 use Rattle.std.specs.Map.{lookup}
 use Rattle.crush.specs.Limits.{max_devices}
 use Rattle.grouptable.specs.Sets.{listed, over}
-use Rattle.grouptable.specs.Lists.{list_of}
+use Rattle.grouptable.specs.Lists.{osd_list}
 
 -- the list that an index has for an OSD
 abbrev pub list_in : List (ℕ × List ℕ) → ℕ → Option (List ℕ)
@@ -20,7 +20,7 @@ HasTheSame old new = (osd : ℕ) → list_in new osd ≡ list_in old osd
 
 -- the index of lists that stand by their OSD: it has those with a group
 abbrev pub IsIndexOf : List (List ℕ) → List (ℕ × List ℕ) → Type 0
-IsIndexOf lists index = (osd : ℕ) → osd < max_devices → list_in index osd ≡ listed (list_of lists osd)
+IsIndexOf lists index = (osd : ℕ) → osd < max_devices → list_in index osd ≡ listed (osd_list lists osd)
 
 -- fresh lists are put into an index: their OSDs have them, if they have a group, and the others what they had
 abbrev pub IsPutInto : List (ℕ × List ℕ) → List (ℕ × List ℕ) → List (ℕ × List ℕ) → Type 0

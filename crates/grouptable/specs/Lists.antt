@@ -1,25 +1,26 @@
 -- What stands for each OSD, by its number, while an index is built.
 use Rattle.std.specs.Prelude.{◌≡◌, ℕ, ◌<◌, Bool, false, List, [], length, slice_index_or}
 use Rattle.crush.specs.Limits.{max_devices}
-use Rattle.grouptable.specs.Sets.{Places, groups_of, joined}
+use Rattle.grouptable.specs.Sets.{groups_of, joined}
+use Rattle.stated.specs.Sets.{Places}
 
 -- there is one for each OSD
 abbrev pub AreForEachOsd : {A : Type 0} → List A → Type 0
 AreForEachOsd each = length each ≡ max_devices
 
 -- the list of an OSD
-abbrev pub list_of : List (List ℕ) → ℕ → List ℕ
-list_of lists osd = slice_index_or lists osd []
+abbrev pub osd_list : List (List ℕ) → ℕ → List ℕ
+osd_list lists osd = slice_index_or lists osd []
 
 -- no OSD's list has a group
 abbrev pub AreEmpty : List (List ℕ) → Type 0
-AreEmpty lists = (osd : ℕ) → osd < max_devices → list_of lists osd ≡ []
+AreEmpty lists = (osd : ℕ) → osd < max_devices → osd_list lists osd ≡ []
 
 -- each OSD's list is of the groups in whose set it stands
 abbrev pub AreListsOf : List Places → List (List ℕ) → Type 0
-AreListsOf sets lists = (osd : ℕ) → osd < max_devices → list_of lists osd ≡ groups_of osd sets
+AreListsOf sets lists = (osd : ℕ) → osd < max_devices → osd_list lists osd ≡ groups_of osd sets
 
 -- the lists of the OSDs that pass a test have a group more, the others those that they had
 abbrev pub AreJoined : (ℕ → Bool) → ℕ → List (List ℕ) → List (List ℕ) → Type 0
 AreJoined joins group old new =
-    (osd : ℕ) → osd < max_devices → list_of new osd ≡ joined false (joins osd) group (list_of old osd)
+    (osd : ℕ) → osd < max_devices → osd_list new osd ≡ joined false (joins osd) group (osd_list old osd)

@@ -1,10 +1,10 @@
 //! A set of at most 10 places, two bytes each.
 
-ghost use Rattle.std.specs.Prelude.{◌≡◌, ◌<◌, ◌≤◌, ◌++◌, [], ◌∷◌, Option, None, Some, length, slice_index_or, IfSome};
-ghost use Rattle.std.specs.Prelude.{◌==◌, map};
+ghost use Rattle.std.specs.Prelude.{◌≡◌, ◌<◌, ◌≤◌, ◌++◌, [], ◌∷◌, Option, None, Some, length, slice_index_or, IfSome, ◌==◌, map};
 ghost use Rattle.std.specs.List.{list_any};
 ghost use Rattle.crush.specs.Limits.{max_devices, max_size};
-ghost use Rattle.grouptable.specs.Sets.{place_of, stands};
+ghost use Rattle.grouptable.specs.Sets.{place_stored};
+ghost use Rattle.stated.specs.Sets.{stands};
 
 use crush::limits;
 use std::marker::Model;
@@ -28,11 +28,12 @@ pub struct OsdSet {
 impl Model for OsdSet {
     ghost use Rattle.std.specs.Prelude.{◌≤◌, map, take};
     ghost use Rattle.crush.specs.Limits.{max_size};
-    ghost use Rattle.grouptable.specs.Sets.{Places, place_of};
+    ghost use Rattle.grouptable.specs.Sets.{place_stored};
+    ghost use Rattle.stated.specs.Sets.{Places};
 
     ghost Value = { Places };
 
-    ghost view = { λ s. map place_of (take s.len s.places) };
+    ghost view = { λ s. map place_stored (take s.len s.places) };
 
     ghost invariant = { λ s. s.len ≤ max_size };
 }
@@ -76,7 +77,7 @@ impl OsdSet {
 
     /// What is stored.
     fn filled(&self) -> &[u16]
-        ensures { map place_of result.now ≡ self.now }
+        ensures { map place_stored result.now ≡ self.now }
     {
         &self.places[..usize::from(self.len)]
     }

@@ -10,7 +10,7 @@ use Rattle.json.proofs.Grammar.{left, skip_value-shorter, items_end, items_fail,
 use Rattle.serde_json.specs.Data.{Data, array, Items, no_items, item}
 use Rattle.serde_json.specs.Read.{of_json, of_items, converted}
 use Rattle.jsonstream.specs.Stream.{next, rest_of_list, added, pair_if, triple_if}
-use Rattle.jsonstream.specs.Json.{entries_of, list_of, count_of, both_of, three_of}
+use Rattle.jsonstream.specs.Json.{entries_of, stated_list, item_count, both_of, three_of}
 use Rattle.serde_json.specs.Find.{as_array}
 use Rattle.refusal.specs.declared.refused.Refusal.{Refusal}
 use Rattle.refusal.specs.declared.refused.Refusal.TheVariants.{BadJson, Memory as OutOfMemory}
@@ -76,7 +76,7 @@ pub next_shorter : (depth : ℕ) (ts : List Token) (d : Data) (r : List Token) �
 next_shorter depth ts d r e = let j = converted_some of_json (value depth ts) d r e in skip_value-shorter depth ts r (ap left j.1)
 
 -- a list is what is left of it behind its bracket
-pub list_made : {X : Type 0} (stated : Data → Option X) (o : Option (Items × List Token)) → parse_map (list_of stated) (parse_map array o) ≡ parse_map (entries_of stated) o
+pub list_made : {X : Type 0} (stated : Data → Option X) (o : Option (Items × List Token)) → parse_map (stated_list stated) (parse_map array o) ≡ parse_map (entries_of stated) o
 list_made stated None = refl
 list_made stated (Some p) = refl
 
@@ -85,8 +85,8 @@ pub made_none : {A B C : Type 0} (f : A → B) (g : B → C) (o : Option (A × L
 made_none f g o e = ap (parse_map g) e
 
 -- no list states nothing
-pub none_listed : {X : Type 0} (stated : Data → Option X) (o : Option (Data × List Token)) (r : List Token) → parse_map as_array o ≡ Some (None, r) → parse_map (list_of stated) o ≡ Some (None, r)
-none_listed stated o r e = let d = mapped_some as_array o None r e in ap (parse_map (list_of stated)) d.1 ∙ ap (λ a. Some (option_and_then (entries_of stated) a, r)) d.2
+pub none_listed : {X : Type 0} (stated : Data → Option X) (o : Option (Data × List Token)) (r : List Token) → parse_map as_array o ≡ Some (None, r) → parse_map (stated_list stated) o ≡ Some (None, r)
+none_listed stated o r e = let d = mapped_some as_array o None r e in ap (parse_map (stated_list stated)) d.1 ∙ ap (λ a. Some (option_and_then (entries_of stated) a, r)) d.2
 
 -- what refuses a part refuses the whole
 pub still_refused : {X Y : Type 0} (e : Refusal) (o : Option X) (p : Option Y) → (o ≡ None → p ≡ None) → (e ≡ OutOfMemory) ⊎ ((e ≡ BadJson) × (o ≡ None)) → (e ≡ OutOfMemory) ⊎ ((e ≡ BadJson) × (p ≡ None))
@@ -137,14 +137,14 @@ no_zero : (n : ℕ) → (suc n == 0) ≡ false
 no_zero n = eqb-suc-zero n
 
 -- a list that is not at its end has values to come, by its next value
-begun_at : (depth : ℕ) (ts : List Token) (ds : Items) (r : List Token) → after_end_array ts ≡ None → (q : Option (Data × List Token)) → next depth ts ≡ q → rest_of_list depth ts ≡ Some (ds, r) → (count_of ds == 0) ≡ false
+begun_at : (depth : ℕ) (ts : List Token) (ds : Items) (r : List Token) → after_end_array ts ≡ None → (q : Option (Data × List Token)) → next depth ts ≡ q → rest_of_list depth ts ≡ Some (ds, r) → (item_count ds == 0) ≡ false
 begun_at depth ts ds r going None is e = let none = list_refused depth ts going is in absurd (cc)
 begun_at depth ts ds r going (Some q) is e =
     let more = mapped_some (item q.0) (rest_of_list depth q.1) ds r (sym (list_more depth ts q.1 q.0 going is) ∙ e) in
-    ap (λ xs. count_of xs == 0) (sym more.2) ∙ no_zero (count_of more.0)
+    ap (λ xs. item_count xs == 0) (sym more.2) ∙ no_zero (item_count more.0)
 
 -- a list that is not at its end has values to come
-pub list_begun : (depth : ℕ) (ts : List Token) (ds : Items) (r : List Token) → after_end_array ts ≡ None → rest_of_list depth ts ≡ Some (ds, r) → (count_of ds == 0) ≡ false
+pub list_begun : (depth : ℕ) (ts : List Token) (ds : Items) (r : List Token) → after_end_array ts ≡ None → rest_of_list depth ts ≡ Some (ds, r) → (item_count ds == 0) ≡ false
 list_begun depth ts ds r going e = begun_at depth ts ds r going (next depth ts) refl e
 
 -- two more than none are two, and no other
@@ -153,8 +153,8 @@ two_more zero = refl
 two_more (suc n) = ne_eqb (suc (suc (suc n))) 2 (λ e. omega (arith, e)) ∙ sym (no_zero n)
 
 -- a list of at least two values is a pair where it has no more
-pub both_made : {X Y : Type 0} (s : Data → Option X) (t : Data → Option Y) (x : Option X) (y : Option Y) (d e : Data) (ds : Items) → s d ≡ x → t e ≡ y → both_of s t (array (item d (item e ds))) ≡ pair_if (count_of ds == 0) x y
-both_made s t x y d e ds is also = rw (two_more (count_of ds), is, also) refl
+pub both_made : {X Y : Type 0} (s : Data → Option X) (t : Data → Option Y) (x : Option X) (y : Option Y) (d e : Data) (ds : Items) → s d ≡ x → t e ≡ y → both_of s t (array (item d (item e ds))) ≡ pair_if (item_count ds == 0) x y
+both_made s t x y d e ds is also = rw (two_more (item_count ds), is, also) refl
 
 -- three more than none are three, and no other
 three_more : (n : ℕ) → (suc (suc (suc n)) == 3) ≡ (n == 0)
@@ -163,5 +163,5 @@ three_more (suc n) = ne_eqb (suc (suc (suc (suc n)))) 3 (λ e. omega (arith, e))
 
 -- a list of at least three values is those three where it has no more
 pub three_made : {X Y Z : Type 0} (s : Data → Option X) (t : Data → Option Y) (u : Data → Option Z) (x : Option X) (y : Option Y) (z : Option Z) (d e f : Data) (ds : Items) → s d ≡ x → t e ≡ y → u f ≡ z
-    → three_of s t u (array (item d (item e (item f ds)))) ≡ triple_if (count_of ds == 0) x y z
-three_made s t u x y z d e f ds is also last = rw (three_more (count_of ds), is, also, last) refl
+    → three_of s t u (array (item d (item e (item f ds)))) ≡ triple_if (item_count ds == 0) x y z
+three_made s t u x y z d e f ds is also last = rw (three_more (item_count ds), is, also, last) refl

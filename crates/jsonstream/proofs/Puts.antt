@@ -8,7 +8,7 @@ use Rattle.std.proofs.lemmas.Map.Text.{is_eq-slice_cmp}
 use Rattle.serde_json.specs.Data.{Data, Members, no_members, member, put}
 use Rattle.serde_json.specs.Find.{get_member}
 use Rattle.serde_json.proofs.Views.{get_member-put, get_member-put_other}
-use Rattle.jsonstream.specs.Stream.{slot}
+use Rattle.jsonstream.specs.Stream.{member_slot}
 use Rattle.jsonstream.specs.Json.{has_only_keys}
 
 -- a test twice is that test
@@ -28,12 +28,12 @@ apart : (q k : List ℕ) → bytes_eq q k ≡ false → q ≡ k → ⊥
 apart q k e same = true≢false (sym ((bytes_eq-Decides q k).1 same) ∙ e)
 
 -- a slot after one member more, by whether its key is the one put in
-slot_put_at : {X : Type 0} (b : Bool) (stated : Data → Option X) (q k : List ℕ) (d : Data) (ms : Members) → bytes_eq q k ≡ b → slot stated q (put k d ms) ≡ (if b then Some (stated d) else slot stated q ms)
+slot_put_at : {X : Type 0} (b : Bool) (stated : Data → Option X) (q k : List ℕ) (d : Data) (ms : Members) → bytes_eq q k ≡ b → member_slot stated q (put k d ms) ≡ (if b then Some (stated d) else member_slot stated q ms)
 slot_put_at true stated q k d ms e = let same : q ≡ k = (bytes_eq-Decides q k).0 e in ap (λ n. option_map stated (get_member n (put k d ms))) same ∙ ap (option_map stated) (get_member-put k d ms)
 slot_put_at false stated q k d ms e = ap (option_map stated) (get_member-put_other q k d ms (apart q k e))
 
 -- a member that is put in is found at its own key, and no other is lost
-pub slot_put : {X : Type 0} (stated : Data → Option X) (q k : List ℕ) (d : Data) (ms : Members) → slot stated q (put k d ms) ≡ (if bytes_eq q k then Some (stated d) else slot stated q ms)
+pub slot_put : {X : Type 0} (stated : Data → Option X) (q k : List ℕ) (d : Data) (ms : Members) → member_slot stated q (put k d ms) ≡ (if bytes_eq q k then Some (stated d) else member_slot stated q ms)
 slot_put stated q k d ms = slot_put_at (bytes_eq q k) stated q k d ms refl
 
 -- the keys after one member more, by the order of the first two
@@ -52,7 +52,7 @@ known_put names k d no_members = refl
 known_put names k d (member l e ms) = known_at _ names k l d e ms refl (known_put names k d ms)
 
 -- a member that is put in at another key changes no slot
-pub slot_kept : {X : Type 0} (stated : Data → Option X) (q k : List ℕ) (d : Data) (ms : Members) → (k ≡ q → ⊥) → slot stated q (put k d ms) ≡ slot stated q ms
+pub slot_kept : {X : Type 0} (stated : Data → Option X) (q k : List ℕ) (d : Data) (ms : Members) → (k ≡ q → ⊥) → member_slot stated q (put k d ms) ≡ member_slot stated q ms
 slot_kept stated q k d ms other = ap (option_map stated) (get_member-put_other q k d ms (λ same. other (sym same)))
 
 -- texts that differ are not equal byte by byte

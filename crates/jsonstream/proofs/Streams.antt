@@ -9,7 +9,7 @@ use Rattle.serde_json.specs.Data.{Num, Data, number, array, object, no_items, it
 use Rattle.serde_json.specs.Read.{number_of, of_json, of_items, of_members, converted}
 use Rattle.serde_json.specs.Find.{as_integer}
 use Rattle.refusal.specs.declared.refused.Refusal.{Refusal}
-use Rattle.jsonstream.specs.Stream.{next, rest_of_list, rest_of_object, Passes}
+use Rattle.jsonstream.specs.Stream.{next, rest_of_list, rest_of_object, StepsOver}
 
 -- what is there, or another
 abbrev pick : {A : Type 0} → A → Option A → A
@@ -168,7 +168,7 @@ pub number_refused : (depth : ℕ) (s : List ℕ) (ts : List Token) → option_m
 number_refused depth s ts e = next_number depth s ts ∙ number_refused_at (number_of s) ts e
 
 -- what passes a thing passes what is made of it
-pub passes_made : {U A B : Type 0} (f : A → B) (o : Option (A × List Token)) (p : Option (B × List Token)) (r : Result U Refusal) (rest : List Token) → p ≡ parse_map f o → Passes o r rest → Passes p r rest
+pub passes_made : {U A B : Type 0} (f : A → B) (o : Option (A × List Token)) (p : Option (B × List Token)) (r : Result U Refusal) (rest : List Token) → p ≡ parse_map f o → StepsOver o r rest → StepsOver p r rest
 passes_made f o p (Ok u) rest e h = ap left e ∙ left-parse_map f o ∙ h
 passes_made f o p (Err x) rest e h = (h.0, e ∙ ap (parse_map f) h.1)
 

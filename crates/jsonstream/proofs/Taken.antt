@@ -7,8 +7,8 @@ use Rattle.serde_json.specs.Data.{Data, Members, object}
 use Rattle.serde_json.specs.Find.{as_object, get_member}
 use Rattle.refusal.specs.declared.refused.Refusal.{Refusal}
 use Rattle.refusal.specs.declared.refused.Refusal.TheVariants.{BadJson, Memory as OutOfMemory}
-use Rattle.jsonstream.specs.Stream.{slot, flat, or_empty, if_there}
-use Rattle.jsonstream.specs.Json.{list_of, has_only, has_only_keys, field, optional_list, optional}
+use Rattle.jsonstream.specs.Stream.{member_slot, flat, or_empty, if_there}
+use Rattle.jsonstream.specs.Json.{stated_list, has_only, has_only_keys, field, optional_list, optional}
 use Rattle.jsonstream.proofs.Entries.{mapped_none, still_refused}
 
 -- ---- one thing after another
@@ -38,7 +38,7 @@ flat_map stated None = refl
 flat_map stated (Some d) = refl
 
 -- what a list states that may be missing
-empty_map : {X : Type 0} (stated : Data → Option X) (o : Option Data) → option_map_or (list_of stated) o (Some []) ≡ or_empty (option_map (list_of stated) o)
+empty_map : {X : Type 0} (stated : Data → Option X) (o : Option Data) → option_map_or (stated_list stated) o (Some []) ≡ or_empty (option_map (stated_list stated) o)
 empty_map stated None = refl
 empty_map stated (Some d) = refl
 
@@ -48,15 +48,15 @@ there_map stated None = refl
 there_map stated (Some d) = refl
 
 -- a field that has to be there states what its slot holds
-pub field_held : {X : Type 0} (stated : Data → Option X) (k : List ℕ) (ms : Members) (s : Option (Option X)) → s ≡ slot stated k ms → field stated k (object ms) ≡ flat s
+pub field_held : {X : Type 0} (stated : Data → Option X) (k : List ℕ) (ms : Members) (s : Option (Option X)) → s ≡ member_slot stated k ms → field stated k (object ms) ≡ flat s
 field_held stated k ms s e = flat_map stated (get_member k ms) ∙ ap flat (sym e)
 
 -- so does a list that may be missing
-pub list_held : {X : Type 0} (stated : Data → Option X) (k : List ℕ) (ms : Members) (s : Option (Option (List X))) → s ≡ slot (list_of stated) k ms → optional_list stated k (object ms) ≡ or_empty s
+pub list_held : {X : Type 0} (stated : Data → Option X) (k : List ℕ) (ms : Members) (s : Option (Option (List X))) → s ≡ member_slot (stated_list stated) k ms → optional_list stated k (object ms) ≡ or_empty s
 list_held stated k ms s e = empty_map stated (get_member k ms) ∙ ap or_empty (sym e)
 
 -- so does a member that may be missing
-pub optional_held : {X : Type 0} (stated : Data → Option X) (k : List ℕ) (ms : Members) (s : Option (Option X)) → s ≡ slot stated k ms → optional stated k (object ms) ≡ if_there s
+pub optional_held : {X : Type 0} (stated : Data → Option X) (k : List ℕ) (ms : Members) (s : Option (Option X)) → s ≡ member_slot stated k ms → optional stated k (object ms) ≡ if_there s
 optional_held stated k ms s e = there_map stated (get_member k ms) ∙ ap if_there (sym e)
 
 -- what is no object has no keys

@@ -8,7 +8,7 @@ use Rattle.serde_json.specs.Data.{Num, Data, null, boolean, number, string, arra
 use Rattle.serde_json.specs.Read.{number_of, of_json, of_items, of_members, converted}
 use Rattle.serde_json.specs.Find.{as_integer, as_bool, as_str, as_array, as_object}
 use Rattle.jsonstream.specs.Stream.{next, token_number, token_text, token_flag, opens_list, opens_object}
-use Rattle.jsonstream.specs.Json.{number_of as number_in_data}
+use Rattle.jsonstream.specs.Json.{whole_number as number_in_data}
 use Rattle.jsonstream.proofs.Streams.{converted_some, next_number}
 
 -- the kind of value that a token begins

@@ -16,8 +16,8 @@ o >>= f = option_and_then f o
 -- ---- values
 
 -- a whole number from -2^63 to 2^64 - 1; one with a fraction or an exponent is none, nor is -0
-abbrev pub number_of : Data → Option ℤ
-number_of d = option_and_then as_integer (as_number d)
+abbrev pub whole_number : Data → Option ℤ
+whole_number d = option_and_then as_integer (as_number d)
 
 -- each value of a list, by what states one
 abbrev pub entries_of : {X : Type 0} → (Data → Option X) → Items → Option (List X)
@@ -25,19 +25,19 @@ entries_of stated no_items = Some []
 entries_of stated (item d ds) = option_and_then (λ x. option_map (λ xs. x ∷ xs) (entries_of stated ds)) (stated d)
 
 -- a list, by what states each of its values
-abbrev pub list_of : {X : Type 0} → (Data → Option X) → Data → Option (List X)
-list_of stated d = option_and_then (entries_of stated) (as_array d)
+abbrev pub stated_list : {X : Type 0} → (Data → Option X) → Data → Option (List X)
+stated_list stated d = option_and_then (entries_of stated) (as_array d)
 
 -- ---- lists of a fixed form
 
 -- how many values a list has
-abbrev pub count_of : Items → ℕ
-count_of no_items = 0
-count_of (item d ds) = suc (count_of ds)
+abbrev pub item_count : Items → ℕ
+item_count no_items = 0
+item_count (item d ds) = suc (item_count ds)
 
 -- a list of this many values
 abbrev pub has_count : ℕ → Data → Bool
-has_count n d = option_map_or (λ ds. count_of ds == n) (as_array d) false
+has_count n d = option_map_or (λ ds. item_count ds == n) (as_array d) false
 
 -- the value at a place of a list
 abbrev pub place : {X : Type 0} → (Data → Option X) → ℕ → Data → Option X
@@ -80,7 +80,7 @@ field stated key d = option_and_then stated (get key d)
 
 -- the list at a key, which is empty where the key is missing
 abbrev pub optional_list : {X : Type 0} → (Data → Option X) → List ℕ → Data → Option (List X)
-optional_list stated key d = option_map_or (list_of stated) (get key d) (Some [])
+optional_list stated key d = option_map_or (stated_list stated) (get key d) (Some [])
 
 -- what the value at a key states, where the key is there
 abbrev pub optional : {X : Type 0} → (Data → Option X) → List ℕ → Data → Option (Option X)

@@ -30,16 +30,16 @@ abbrev pub TakesPlain : {X : Type 0} → Option (X × List Token) → Result X R
 TakesPlain there r left = MatchResult r (λ x. there ≡ Some (x, left)) (λ e. (e ≡ BadJson) × (there ≡ None))
 
 -- the tokens behind what was read
-abbrev pub left : {A : Type 0} → Option (A × List Token) → Option (List Token)
-left read = option_map (λ p. p.1) read
+abbrev pub tokens_left : {A : Type 0} → Option (A × List Token) → Option (List Token)
+tokens_left read = option_map (λ p. p.1) read
 
 -- a call passes this; or no such thing comes
-abbrev pub Passes : {U X : Type 0} → Option (X × List Token) → Result U Refusal → List Token → Type 0
-Passes there r rest = MatchResult r (λ _. left there ≡ Some rest) (λ e. (e ≡ BadJson) × (there ≡ None))
+abbrev pub StepsOver : {U X : Type 0} → Option (X × List Token) → Result U Refusal → List Token → Type 0
+StepsOver there r rest = MatchResult r (λ _. tokens_left there ≡ Some rest) (λ e. (e ≡ BadJson) × (there ≡ None))
 
 -- what the value of a member states, where the member is there
-abbrev pub slot : {X : Type 0} → (Data → Option X) → List ℕ → Members → Option (Option X)
-slot stated key ms = option_map stated (get_member key ms)
+abbrev pub member_slot : {X : Type 0} → (Data → Option X) → List ℕ → Members → Option (Option X)
+member_slot stated key ms = option_map stated (get_member key ms)
 
 -- what a member states, which has to be there
 abbrev pub flat : {X : Type 0} → Option (Option X) → Option X
@@ -57,8 +57,8 @@ if_there None = Some None
 if_there (Some x) = option_map (λ y. Some y) x
 
 -- a call takes one member into what is held
-abbrev pub TakesMember : {U S : Type 0} → (S → Members → Type 0) → List ℕ → Option (Data × List Token) → S → Result U Refusal
-    → S → List Token → Type 0
+abbrev pub TakesMember : {U S : Type 0} → (S → Members → Type 0) → List ℕ → Option (Data × List Token) → S
+    → Result U Refusal → S → List Token → Type 0
 TakesMember hold key there before r after rest = MatchResult r
     (λ _. (d : Data) × (there ≡ Some (d, rest)) × ((ms : Members) → hold before ms → hold after (put key d ms)))
     (λ e. (e ≡ OutOfMemory) ⊎ ((e ≡ BadJson) × (there ≡ None)))
@@ -133,9 +133,9 @@ opens_object Token.null = false
 opens_object Token.bad = false
 
 -- what a call reads of a list: the value that comes and what is left, or no value at its end
-abbrev pub IsEntry : {X : Type 0} → (Data → Option X) → ℕ → List Token → Option (Option X) → List Token → Type 0
-IsEntry stated depth ts None rest = rest_of_list depth ts ≡ Some (no_items, rest)
-IsEntry stated depth ts (Some x) rest =
+abbrev pub ReadsEntry : {X : Type 0} → (Data → Option X) → ℕ → List Token → Option (Option X) → List Token → Type 0
+ReadsEntry stated depth ts None rest = rest_of_list depth ts ≡ Some (no_items, rest)
+ReadsEntry stated depth ts (Some x) rest =
     (d : Data) × (stated d ≡ x) × (rest_of_list depth ts ≡ parse_map (item d) (rest_of_list depth rest))
 
 -- two values, where both state something and no more come

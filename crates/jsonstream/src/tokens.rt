@@ -7,8 +7,8 @@ ghost use Rattle.std.specs.Bool.{MatchBool};
 ghost use Rattle.serde_json.specs.Data.{Data, array, object};
 ghost use Rattle.serde_json.specs.Find.{as_array, as_bool, as_object, as_str, as_integer};
 ghost use Rattle.serde_json.specs.Read.{number_of, number_from, float_of};
-ghost use Rattle.jsonstream.specs.Stream.{next, rest_of_list, rest_of_object, Passes, TakesPlain, token_number, token_text, token_flag, opens_list, opens_object};
-ghost use Rattle.jsonstream.specs.Json.{number_of as number_in_data};
+ghost use Rattle.jsonstream.specs.Stream.{next, rest_of_list, rest_of_object, StepsOver, TakesPlain, token_number, token_text, token_flag, opens_list, opens_object};
+ghost use Rattle.jsonstream.specs.Json.{whole_number as number_in_data};
 
 use fast_float::Numeral;
 use json::{Reader, Token};
@@ -88,7 +88,7 @@ pub fn next_key<'a>(reader: &mut Reader<'a>) -> Result<Option<&'a str>, Refusal>
 /// Passes the value that begins with a token: `BadJson` (10) where none does.
 #[cycle(skip)]
 pub fn finish(token: Token<'_>, reader: &mut Reader<'_>, depth: usize) -> Result<(), Refusal>
-    ensures value { Passes (next depth (token_of token.entry ∷ reader.old)) result reader.new }
+    ensures value { StepsOver (next depth (token_of token.entry ∷ reader.old)) result reader.new }
     ensures shorter { OnOk result (length reader.new ≤ length reader.old) }
 {
     match token {
@@ -114,7 +114,7 @@ pub fn finish(token: Token<'_>, reader: &mut Reader<'_>, depth: usize) -> Result
 /// Passes what is left of a list: `BadJson` (10) where it does not end.
 #[cycle(skip)]
 pub fn skip_list(reader: &mut Reader<'_>, depth: usize) -> Result<(), Refusal>
-    ensures value { Passes (rest_of_list depth reader.old) result reader.new }
+    ensures value { StepsOver (rest_of_list depth reader.old) result reader.new }
     ensures shorter { OnOk result (length reader.new < length reader.old) }
 {
     'items: while !reader.take_end_array() {
@@ -127,7 +127,7 @@ pub fn skip_list(reader: &mut Reader<'_>, depth: usize) -> Result<(), Refusal>
 /// Passes what is left of an object: `BadJson` (10) where it does not end.
 #[cycle(skip)]
 pub fn skip_object(reader: &mut Reader<'_>, depth: usize) -> Result<(), Refusal>
-    ensures value { Passes (rest_of_object depth reader.old) result reader.new }
+    ensures value { StepsOver (rest_of_object depth reader.old) result reader.new }
     ensures shorter { OnOk result (length reader.new < length reader.old) }
 {
     'members: while let Some(_) = next_key(reader)? {

@@ -14,7 +14,7 @@ use Rattle.keylist.specs.Keys.{entry_at}
 use Rattle.stated.specs.Pools.{PoolFacts}
 use Rattle.stated.specs.Parts.{pg_fits, pool_fits, exception_fits, pool_of, exception_of}
 use Rattle.osdmap.specs.PartsOf.{pg_part}
-use Rattle.stated.specs.PgText.{parts_in, group_of, group_text}
+use Rattle.stated.specs.PgText.{parts_in, group_of_parts, group_text}
 use Rattle.stated.proofs.Within.{natural_between, pool_fits_each}
 use Rattle.stated.proofs.GroupTexts.{group_in-text}
 use Rattle.mapjson.specs.Written.{IsNamed, AreNamed}
@@ -22,13 +22,13 @@ use Rattle.mapjson.specs.Written.{IsNamed, AreNamed}
 -- ---- one group
 
 -- parts that make up a group are those of that group
-whole_parts : (pool number : Option ℕ) (g : Pg) → group_of (record { pool = pool; number = number }) ≡ Some g → record { pool = pool; number = number } ≡ pg_part g
+whole_parts : (pool number : Option ℕ) (g : Pg) → group_of_parts (record { pool = pool; number = number }) ≡ Some g → record { pool = pool; number = number } ≡ pg_part g
 whole_parts (Some pool) (Some number) g h = cc
 whole_parts (Some pool) None g h = cc
 whole_parts None number g h = cc
 
 -- parts that make a group are its own
-pub parts_of_group : (o : Option PgParts) (g : Pg) → option_and_then group_of o ≡ Some g → o ≡ Some (pg_part g)
+pub parts_of_group : (o : Option PgParts) (g : Pg) → option_and_then group_of_parts o ≡ Some g → o ≡ Some (pg_part g)
 parts_of_group (Some parts) g h = ap Some (whole_parts parts.pool parts.number g h)
 parts_of_group None g h = cc
 

@@ -18,26 +18,26 @@ use Rattle.stated.specs.declared.parts.PoolPart.{PoolPart}
 use Rattle.stated.specs.declared.parts.OsdPart.{OsdPart}
 use Rattle.stated.specs.declared.parts.ExceptionPart.{ExceptionPart}
 use Rattle.stated.specs.declared.parts.PairPart.{PairPart}
-use Rattle.jsonstream.specs.Json.{number_of, list_of}
-use Rattle.partjson.specs.StatedMaps.{item_of, bucket_kind_of, bucket_of, rule_kind_of, step_of, step_by, take_of, choose_of, emit_of, tries_of, leaf_tries_of, rule_of, pool_of, osd_of, pair_of, exception_of, map_of, in_its_version, stated_map}
+use Rattle.jsonstream.specs.Json.{whole_number, stated_list}
+use Rattle.partjson.specs.StatedMaps.{stated_item, bucket_kind_of, stated_bucket, rule_kind_of, stated_step, step_by, take_of, choose_of, emit_of, tries_of, leaf_tries_of, stated_rule, stated_pool, osd_of, stated_pair, stated_exception, map_of, in_its_version, stated_map}
 use Rattle.mapjson.specs.Written.{number_data, list_data, item_data, kind_word, bucket_data, use_word, step_data, rule_data, pool_data, osd_data, IsNamed, AreNamed, pair_data, exception_data, map_data}
 
 -- ---- values
 
 -- a number reads back as itself
-number_back : (z : ℤ) → number_of (number_data z) ≡ Some z
+number_back : (z : ℤ) → whole_number (number_data z) ≡ Some z
 number_back (pos n) = refl
 number_back (negsuc n) = refl
 
 -- a list of which each value is read back that has what P says
 entries_back : {X : Type 0} (stated : Data → Option X) (entry : X → Data) (P : X → Type 0) → ((x : X) → P x → stated (entry x) ≡ Some x)
-    → (xs : List X) → All P xs → list_of stated (list_data entry xs) ≡ Some xs
+    → (xs : List X) → All P xs → stated_list stated (list_data entry xs) ≡ Some xs
 entries_back stated entry P back [] all = refl
 entries_back stated entry P back (x ∷ xs) all =
     rw (back x (all 0 x (omega arith)), entries_back stated entry P back xs (λ k d below. all (suc k) d (omega arith)))
 
 -- a list reads back where each of its entries does
-list_back : {X : Type 0} (stated : Data → Option X) (entry : X → Data) → ((x : X) → stated (entry x) ≡ Some x) → (xs : List X) → list_of stated (list_data entry xs) ≡ Some xs
+list_back : {X : Type 0} (stated : Data → Option X) (entry : X → Data) → ((x : X) → stated (entry x) ≡ Some x) → (xs : List X) → stated_list stated (list_data entry xs) ≡ Some xs
 list_back stated entry back xs = entries_back stated entry (λ x. ⊤) (λ x h. back x) xs (λ k d below. tt)
 
 -- ---- the forest
@@ -49,14 +49,14 @@ kind_back Listed = refl
 kind_back Tree = refl
 
 -- an item reads back as itself
-item_back : (i : ItemPart) → item_of (item_data i) ≡ Some i
-unfolding item_of
+item_back : (i : ItemPart) → stated_item (item_data i) ≡ Some i
+unfolding stated_item
 item_back i = rw (number_back i.id, number_back i.weight)
 
 -- a bucket reads back as itself
-bucket_back : (b : BucketPart) → bucket_of (bucket_data b) ≡ Some b
-unfolding bucket_of bucket_data
-bucket_back b = rw (number_back b.id, number_back b.level, kind_back b.kind, list_back item_of item_data item_back b.items)
+bucket_back : (b : BucketPart) → stated_bucket (bucket_data b) ≡ Some b
+unfolding stated_bucket bucket_data
+bucket_back b = rw (number_back b.id, number_back b.level, kind_back b.kind, list_back stated_item item_data item_back b.items)
 
 -- ---- rules
 
@@ -66,16 +66,16 @@ use_back Replicated = refl
 use_back Erasure = refl
 
 -- a choose step reads back as itself
-choose_back : (mode : Mode) (to_leaf : Bool) (count level : ℤ) → let c : StepPart = Choose (record { mode = mode; to_leaf = to_leaf; count = count; level = level }) in step_of (step_data c) ≡ Some c
-unfolding step_of step_by take_of choose_of emit_of step_data
+choose_back : (mode : Mode) (to_leaf : Bool) (count level : ℤ) → let c : StepPart = Choose (record { mode = mode; to_leaf = to_leaf; count = count; level = level }) in stated_step (step_data c) ≡ Some c
+unfolding stated_step step_by take_of choose_of emit_of step_data
 choose_back Firstn false count level = rw (number_back count, number_back level)
 choose_back Indep false count level = rw (number_back count, number_back level)
 choose_back Firstn true count level = rw (number_back count, number_back level)
 choose_back Indep true count level = rw (number_back count, number_back level)
 
 -- a step reads back as itself
-step_back : (s : StepPart) → step_of (step_data s) ≡ Some s
-unfolding step_of step_by take_of choose_of emit_of tries_of leaf_tries_of step_data
+step_back : (s : StepPart) → stated_step (step_data s) ≡ Some s
+unfolding stated_step step_by take_of choose_of emit_of tries_of leaf_tries_of step_data
 step_back (SetChooseTries tries) = rw (number_back tries)
 step_back (SetChooseleafTries tries) = rw (number_back tries)
 step_back (Take id) = rw (number_back id)
@@ -83,15 +83,15 @@ step_back (Choose c) = choose_back c.mode c.to_leaf c.count c.level
 step_back Emit = refl
 
 -- a rule reads back as itself
-rule_back : (r : RulePart) → rule_of (rule_data r) ≡ Some r
-unfolding rule_of rule_data
-rule_back r = rw (number_back r.id, use_back r.kind, list_back step_of step_data step_back r.steps)
+rule_back : (r : RulePart) → stated_rule (rule_data r) ≡ Some r
+unfolding stated_rule rule_data
+rule_back r = rw (number_back r.id, use_back r.kind, list_back stated_step step_data step_back r.steps)
 
 -- ---- pools and OSDs
 
 -- a pool reads back as itself
-pool_back : (p : PoolPart) → pool_of (pool_data p) ≡ Some p
-unfolding pool_of pool_data
+pool_back : (p : PoolPart) → stated_pool (pool_data p) ≡ Some p
+unfolding stated_pool pool_data
 pool_back p = rw (number_back p.id, use_back p.kind, number_back p.pg_num, number_back p.pgp_num, number_back p.rule, number_back p.size)
 
 -- an OSD reads back as itself
@@ -102,20 +102,20 @@ osd_back o = rw (number_back o.id, number_back o.weight)
 -- ---- exceptions
 
 -- a pair reads back as itself
-pair_back : (p : PairPart) → pair_of (pair_data p) ≡ Some p
-unfolding pair_of
+pair_back : (p : PairPart) → stated_pair (pair_data p) ≡ Some p
+unfolding stated_pair
 pair_back p = rw (number_back p.from, number_back p.to)
 
 -- an exception of a named group reads back where each of its entries does
 exception_back : {X : Type 0} (stated : Data → Option X) (entry : X → Data) → ((x : X) → stated (entry x) ≡ Some x)
-    → (e : ExceptionPart X) → IsNamed e.pg → exception_of stated (exception_data entry e) ≡ Some e
-unfolding exception_of exception_data
+    → (e : ExceptionPart X) → IsNamed e.pg → stated_exception stated (exception_data entry e) ≡ Some e
+unfolding stated_exception exception_data
 exception_back stated entry back e named = rw (named, list_back stated entry back e.entries)
 
 -- exceptions of named groups read back where each of their entries does
 exceptions_back : {X : Type 0} (stated : Data → Option X) (entry : X → Data) → ((x : X) → stated (entry x) ≡ Some x)
-    → (es : List (ExceptionPart X)) → AreNamed es → list_of (exception_of stated) (list_data (exception_data entry) es) ≡ Some es
-exceptions_back stated entry back es named = entries_back (exception_of stated) (exception_data entry) (λ e. IsNamed e.pg) (exception_back stated entry back) es named
+    → (es : List (ExceptionPart X)) → AreNamed es → stated_list (stated_exception stated) (list_data (exception_data entry) es) ≡ Some es
+exceptions_back stated entry back es named = entries_back (stated_exception stated) (exception_data entry) (λ e. IsNamed e.pg) (exception_back stated entry back) es named
 
 -- ---- the map
 
@@ -126,12 +126,12 @@ parts_back p explicit items = rw (
   number_back p.version,
   number_back p.epoch,
   number_back p.max_osd,
-  list_back bucket_of bucket_data bucket_back p.buckets,
-  list_back rule_of rule_data rule_back p.rules,
-  list_back pool_of pool_data pool_back p.pools,
+  list_back stated_bucket bucket_data bucket_back p.buckets,
+  list_back stated_rule rule_data rule_back p.rules,
+  list_back stated_pool pool_data pool_back p.pools,
   list_back osd_of osd_data osd_back p.osds,
-  exceptions_back number_of number_data number_back p.pg_upmap explicit,
-  exceptions_back pair_of pair_data pair_back p.pg_upmap_items items,
+  exceptions_back whole_number number_data number_back p.pg_upmap explicit,
+  exceptions_back stated_pair pair_data pair_back p.pg_upmap_items items,
 )
 
 -- parts that set tries in version 2 alone

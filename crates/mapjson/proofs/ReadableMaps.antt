@@ -2,6 +2,7 @@
 use Rattle.std.proofs.Common.{◌≡◌, ℕ, zero, suc, ◌/◌, ◌%◌, ◌^◌, ◌==◌, ◌<◌, ◌≤◌, nat_lt, ◌++◌, ◌≤ℤ◌, ℤ, pos, negsuc, int_le, Bool, true, false, List, [], ◌∷◌, map, if◌then◌else◌, refl, arith}
 use Rattle.std.specs.Prelude.{⊤}
 use Rattle.std.specs.List.{list_all}
+use Rattle.std.proofs.lemmas.Bool.Decides.{nat_tests}
 use Rattle.std.proofs.lemmas.Bool.{and_parts}
 use Rattle.std.proofs.lemmas.Int.{ints}
 use Rattle.std.proofs.lemmas.Nat.{mod_below}
@@ -26,8 +27,9 @@ use Rattle.stated.specs.declared.parts.OsdPart.{OsdPart}
 use Rattle.stated.specs.declared.parts.ExceptionPart.{ExceptionPart}
 use Rattle.stated.specs.declared.parts.PairPart.{PairPart}
 use Rattle.stated.specs.declared.pg.Pg.{Pg}
+use Rattle.crush.specs.WellFormed.{is_bucket_id}
 use Rattle.stated.specs.PgText.{group_text}
-use Rattle.stated.specs.Parts.{pg_of, is_osd_id, pair_fits, exception_fits, exceptions_fit, is_between, has_between, is_bucket_id, item_fits, bucket_fits, step_fits, rule_fits, pool_fits, osd_fits, head_fits, lists_fit, parts_fit}
+use Rattle.stated.specs.Parts.{pg_of, is_osd_id, pair_fits, exception_fits, exceptions_fit, is_between, has_between, item_fits, bucket_fits, step_fits, rule_fits, pool_fits, osd_fits, head_fits, lists_fit, parts_fit}
 use Rattle.mapjson.specs.Written.{number_data, kind_word, item_data, bucket_data, use_word, choose_word, step_data, rule_data, pool_data, osd_data, pair_data, exception_data, map_data}
 use Rattle.mapjson.proofs.Readable.{IsReadable, ItemsReadable}
 
@@ -77,8 +79,9 @@ item_readable i h =
 
 -- the id of a bucket is readable
 id_readable : (z : ℤ) → is_bucket_id z ≡ true → IsReadable (number_data z)
-unfolding is_bucket_id
-id_readable z h = number_between (negsuc 65535) (negsuc 0) z (omega arith) tt h
+unfolding is_between
+id_readable (pos n) h = number_between (negsuc 65535) (negsuc 0) (pos n) (omega arith) tt (grind (arith, nat_tests))
+id_readable (negsuc n) h = number_between (negsuc 65535) (negsuc 0) (negsuc n) (omega arith) tt (grind (arith, nat_tests))
 
 -- a bucket within its limits is readable
 bucket_readable : (b : BucketPart) → bucket_fits b ≡ true → IsReadable (bucket_data b)

@@ -8,10 +8,10 @@ use Rattle.crush.specs.Grammar as grammar
 use Rattle.stated.specs.declared.rules.NumberedRule.{NumberedRule}
 use Rattle.osdmap.specs.Maps.{ClusterMap}
 use Rattle.osdmap.specs.PartsOf.{step_part, rule_part, parts_of}
-use Rattle.partjson.specs.StatedMaps.{sets_tries, in_its_version}
+use Rattle.partjson.specs.StatedMaps.{states_tries, in_its_version}
 
 -- a part sets tries where its step does
-step_same : (s : Step) → sets_tries (step_part s) ≡ grammar.sets_tries s
+step_same : (s : Step) → states_tries (step_part s) ≡ grammar.sets_tries s
 step_same (step.SetChooseTries n) = refl
 step_same (step.SetChooseleafTries n) = refl
 step_same (step.Take id) = refl
@@ -19,12 +19,12 @@ step_same (step.Choose c) = refl
 step_same step.Emit = refl
 
 -- the parts of steps set tries where the steps do
-steps_same : (steps : List Step) → list_any sets_tries (map step_part steps) ≡ list_any grammar.sets_tries steps
+steps_same : (steps : List Step) → list_any states_tries (map step_part steps) ≡ list_any grammar.sets_tries steps
 steps_same [] = refl
 steps_same (s ∷ steps) = rw (step_same s, steps_same steps) refl
 
 -- the parts of rules set tries where the rules do
-rules_same : (rules : List NumberedRule) → list_any (λ r. list_any sets_tries r.steps) (map rule_part rules) ≡ list_any (λ r. list_any grammar.sets_tries r.rule.steps) rules
+rules_same : (rules : List NumberedRule) → list_any (λ r. list_any states_tries r.steps) (map rule_part rules) ≡ list_any (λ r. list_any grammar.sets_tries r.rule.steps) rules
 rules_same [] = refl
 rules_same (r ∷ rules) = rw (steps_same r.rule.steps, rules_same rules) refl
 

@@ -80,8 +80,8 @@ are_even c = list_all has_enough_groups c.new_pools && list_all grows_evenly c.g
 
 -- a number or a length is outside its limits, else the CRUSH map is none, else a pool has more groups for placement
 -- than groups
-abbrev pub change_fault : RawChange → Option Refusal
-change_fault c =
+abbrev pub raw_change_fault : RawChange → Option Refusal
+raw_change_fault c =
     if not (change_fits c) then Some BadLimit
     else option_or (new_crush_fault c.new_crush) (refused_unless (are_even c) BadPool)
 
@@ -92,13 +92,13 @@ pub record IsChangeOf (c : RawChange) (base : ℕ) (parts : ChangeParts) : Type 
   pub parts_are : parts ≡ parts_within c parts.new_crush
 
 -- a text that states no change, or one with a fault
-abbrev pub fault_of_stated : Result RawChange Refusal → Option Refusal
-fault_of_stated (Ok c) = change_fault c
-fault_of_stated (Err refusal) = Some refusal
+abbrev pub fault_of_stated_change : Result RawChange Refusal → Option Refusal
+fault_of_stated_change (Ok c) = raw_change_fault c
+fault_of_stated_change (Err refusal) = Some refusal
 
 -- why a text is refused as a change
 abbrev pub change_text_fault : List ℕ → Option Refusal
-change_text_fault bytes = fault_of_stated (stated_by stated_change bytes)
+change_text_fault bytes = fault_of_stated_change (stated_by stated_change bytes)
 
 -- the base is the one that a change states, and the parts are those that it states, in order
 pub record IsChangeStated (c : RawChange) (base : ℕ) (parts : ChangeParts) : Type 0 where

@@ -1,7 +1,7 @@
 //! The change that the stated parts of one stand for, and why there is none.
 
 ghost use Rattle.refusal.specs.Outcomes.{Makes};
-ghost use Rattle.mapjson.specs.ChangeTexts.{change_fault, IsChangeOf};
+ghost use Rattle.mapjson.specs.ChangeTexts.{raw_change_fault, IsChangeOf};
 
 mod limits;
 mod within;
@@ -20,7 +20,7 @@ pub(crate) fn change_within(
     alloc: Global,
     change: &RawChange,
 ) -> Result<(u64, ChangeParts), Refusal>
-    ensures { Makes result (change_fault change.now) (λ r. IsChangeOf change.now r.0 r.1) }
+    ensures { Makes result (raw_change_fault change.now) (λ r. IsChangeOf change.now r.0 r.1) }
 {
     if !change_fits(change) {
         return Err(Refusal::BadLimit);

@@ -15,12 +15,12 @@ use Rattle.balancer.specs.Shares.{has_one_block}
 use Rattle.balancer.specs.Plans.{plan_fault, plan_fault_of, plan_change}
 use Rattle.state.specs.States.{Kept, next_step, commit_fault, fault_in, IsRefusedBy}
 use Rattle.state.specs.Balances.{moves_in, IsUnbalanced, Balances as TakesPlan}
-use Rattle.monitor.specs.Balances.{Balances, IsEven, IsUnplanned}
+use Rattle.monitor.specs.Balances.{AnswersBalance, IsEven, IsUnplanned}
 use Rattle.monitor.proofs.Histories.{IsLed, commit_unspent}
 
 -- balancing after a history that goes on from this one is balancing from here too
 pub balances_from : (first : ClusterMap) (most : ℕ) (begun before now : List Step) (pool limit : ℕ) (r : Result (ℕ × ℕ) Refusal)
-    → Begins begun before → Balances first most before now pool limit r → Balances first most begun now pool limit r
+    → Begins begun before → AnswersBalance first most before now pool limit r → AnswersBalance first most begun now pool limit r
 balances_from first most begun before now pool limit (Ok ok) goes done = (
   record { begins = begins_on begun before now goes done.0.begins; lawful = done.0.lawful },
   elim done.1 [
@@ -74,7 +74,7 @@ module _ (old : Kept) (pool limit : ℕ) (led : IsLed old) where
 
   -- what balancing a state answers is answered by its journal
   pub balanced_by : (new : Kept) (r : Result (ℕ × ℕ) Refusal) → IsLed new → TakesPlan old new pool limit r
-      → Balances old.first (length old.pass.row.cells) old.pass.history new.pass.history pool limit r
+      → AnswersBalance old.first (length old.pass.row.cells) old.pass.history new.pass.history pool limit r
   balanced_by new (Ok ok) leads done = elim done.0.2 [
     | inl stays ↦
         let same : old ≡ new = sym stays.2 in (

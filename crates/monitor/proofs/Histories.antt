@@ -11,7 +11,7 @@ use Rattle.epochlog.specs.Epochs.{Begins}
 use Rattle.sealed.proofs.Beginnings.{begins_itself, begins_on}
 use Rattle.state.specs.States.{Kept, committed, next_step, commit_fault, fault_in, unless, IsRefusedBy, Commits as TakesCommit}
 use Rattle.state.proofs.Journals.{accepted}
-use Rattle.monitor.specs.Histories.{Commits}
+use Rattle.monitor.specs.Histories.{AnswersCommit}
 
 -- a history of nothing is lawful
 pub lawful_none : (first : ClusterMap) → IsLawful first []
@@ -20,7 +20,7 @@ lawful_none first = tt
 
 -- a commit to a map after a history that goes on from this one is also one from here
 pub commits_from : (first : ClusterMap) (most : ℕ) (begun before now : List Step) (base : ℕ) (change : ChangeParts)
-    (r : Result (ℕ × ℕ) Refusal) → Begins begun before → Commits first most before now base change r → Commits first most begun now base change r
+    (r : Result (ℕ × ℕ) Refusal) → Begins begun before → AnswersCommit first most before now base change r → AnswersCommit first most begun now base change r
 commits_from first most begun before now base change (Ok ok) goes done = (
   record { begins = begins_on begun before now goes done.0.begins; lawful = done.0.lawful },
   record {
@@ -51,7 +51,7 @@ fault_is k base change map = ap (λ m. commit_fault m (length k.pass.history) (l
 -- a commit to a state is one to the map after its journal
 pub committed_by : (old new : Kept) (base : ℕ) (change : ChangeParts) (r : Result (ℕ × ℕ) Refusal) → IsLed old
     → IsLed new → TakesCommit old new base change r
-    → Commits old.first (length old.pass.row.cells) old.pass.history new.pass.history base change r
+    → AnswersCommit old.first (length old.pass.row.cells) old.pass.history new.pass.history base change r
 committed_by old new base change (Ok ok) led leads done =
     let fine = accepted old base change done.0.0 in
     let is : new ≡ committed old change = done.0.1.0 in

@@ -45,8 +45,8 @@ IsUnplanned first most now pool limit e =
 
 -- what balancing answers: that the plan is committed, or that no move is good; or why there is no answer at the history
 -- now, or that its seat has made its draws
-abbrev pub Balances : ClusterMap → ℕ → List Step → List Step → ℕ → ℕ → Result (ℕ × ℕ) Refusal → Type 0
-Balances first most before now pool limit r =
+abbrev pub AnswersBalance : ClusterMap → ℕ → List Step → List Step → ℕ → ℕ → Result (ℕ × ℕ) Refusal → Type 0
+AnswersBalance first most before now pool limit r =
     GoesOn first before now
     × MatchResult r (λ ok. IsPlanned first most before now pool limit ok.0 ok.1 ⊎ IsEven first now pool limit ok.0 ok.1)
     (λ e. (e ≡ SeatSpent) ⊎ IsUnplanned first most now pool limit e)

@@ -45,8 +45,8 @@ pub record IsCommitted (first : ClusterMap) (most : ℕ) (before now : List Step
 
 -- what a commit answers: that the change is committed; or the fault at the history now, or where there is none that
 -- memory was short or another sealed the epoch; or that its seat has made its draws
-abbrev pub Commits : ClusterMap → ℕ → List Step → List Step → ℕ → ChangeParts → Result (ℕ × ℕ) Refusal → Type 0
-Commits first most before now base change r =
+abbrev pub AnswersCommit : ClusterMap → ℕ → List Step → List Step → ℕ → ChangeParts → Result (ℕ × ℕ) Refusal → Type 0
+AnswersCommit first most before now base change r =
     GoesOn first before now
     × MatchResult r (λ ok. IsCommitted first most before now base change ok.0 ok.1)
     (λ e. (e ≡ SeatSpent) ⊎ IsRefusedBy (commit_fault (after first now) (length now) most base change) e)

@@ -16,8 +16,8 @@ impl Monitor {
     ghost use Rattle.refusal.specs.declared.refused.Refusal.TheVariants.{SeatSpent};
     ghost use Rattle.balancer.specs.Limits.{max_moves};
     ghost use Rattle.state.specs.Answers.{FindsUp, FindsCount, FindsGroups};
-    ghost use Rattle.monitor.specs.Histories.{Looks, FindsEpoch, FindsText, Commits};
-    ghost use Rattle.monitor.specs.Balances.{Balances};
+    ghost use Rattle.monitor.specs.Histories.{Looks, FindsEpoch, FindsText, AnswersCommit};
+    ghost use Rattle.monitor.specs.Balances.{AnswersBalance};
     ghost use Rattle.monitor.specs.Members.{IsMemberOf, IsSpent, DrawsOnce};
 
     /// The epoch and the up set of a group: `UnknownPool` (23), else `UnknownGroup` (25). `SeatSpent` (31) once the
@@ -137,7 +137,7 @@ impl Monitor {
     ) -> Result<(u64, usize), Refusal>
         requires { IsMemberOf self.now member.old }
         ensures member { IsMemberOf self.now member.new }
-        ensures commits { Commits self.now.first (length self.now.row.cells)
+        ensures commits { AnswersCommit self.now.first (length self.now.row.cells)
             member.old.pass.history member.new.pass.history base change result }
         ensures spent { IfErr result (λ e. e ≡ SeatSpent → IsSpent self.now member.new) }
         ensures refused { IsSpent self.now member.old → result ≡ Err SeatSpent }
@@ -168,7 +168,7 @@ impl Monitor {
         requires some { 1 ≤ limit }
         requires few { limit ≤ max_moves }
         ensures member { IsMemberOf self.now member.new }
-        ensures balances { Balances self.now.first
+        ensures balances { AnswersBalance self.now.first
             (length self.now.row.cells) member.old.pass.history member.new.pass.history pool limit result }
         ensures spent { IfErr result (λ e. e ≡ SeatSpent → IsSpent self.now member.new) }
         ensures refused { IsSpent self.now member.old → result ≡ Err SeatSpent }

@@ -5,8 +5,8 @@ ghost use Rattle.refusal.specs.declared.refused.Refusal.TheVariants.{SeatSpent};
 ghost use Rattle.osdmap.specs.Changes.{IsLawful, after};
 ghost use Rattle.epochlog.specs.Epochs.{Begins};
 ghost use Rattle.balancer.specs.Limits.{max_moves};
-ghost use Rattle.monitor.specs.Histories.{Commits};
-ghost use Rattle.monitor.specs.Balances.{Balances};
+ghost use Rattle.monitor.specs.Histories.{AnswersCommit};
+ghost use Rattle.monitor.specs.Balances.{AnswersBalance};
 
 use epochlog::{Pass, Row};
 use osdmap::Change;
@@ -59,7 +59,7 @@ pub(crate) fn commit(
 ) -> Result<(u64, usize), Refusal>
     requires row { state.old.pass.row ≡ row.now }
     requires pass { pass.old ≡ state.old.pass }
-    ensures commits { Commits state.old.first (length row.now.cells)
+    ensures commits { AnswersCommit state.old.first (length row.now.cells)
         pass.old.history pass.new.history base change result }
     ensures unspent { IfErr result (λ e. e ≢ SeatSpent) }
     ensures pass { pass.new ≡ state.new.pass }
@@ -84,7 +84,7 @@ pub(crate) fn balance(
     requires pass { pass.old ≡ state.old.pass }
     requires some { 1 ≤ limit }
     requires few { limit ≤ max_moves }
-    ensures balances { Balances state.old.first
+    ensures balances { AnswersBalance state.old.first
         (length row.now.cells) pass.old.history pass.new.history pool limit result }
     ensures unspent { IfErr result (λ e. e ≢ SeatSpent) }
     ensures pass { pass.new ≡ state.new.pass }

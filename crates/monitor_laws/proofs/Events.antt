@@ -2,7 +2,7 @@
 use Rattle.std.proofs.Common.{◌≡◌, ℕ, ◌+◌, List, [], ◌∷◌, ◌++◌, None, slice_set, refl, arith}
 use Rattle.ticketlock.specs.declared.view.View.{View}
 use Rattle.ticketlock.specs.declared.view.Kind.TheVariants.{Read, Write}
-use Rattle.ticketlock.specs.Rule.{World as LockWorld, draws, reader_looks, writer_looks, reader_enters, writer_closes, writer_leaves, newcomer, drawn_for, looked_at, gone_in, gone_out, with_view, draw_word_up, reader_word_up, writer_word_up}
+use Rattle.ticketlock.specs.Rule.{LockWorld, draws, reader_looks, writer_looks, reader_enters, writer_closes, writer_leaves, newcomer, drawn_for, looked_at, gone_in, gone_out, with_view, draw_word_up, reader_word_up, writer_word_up}
 use Rattle.ticketlock.specs.Law.{start}
 use Rattle.stated.specs.Incrementals.{Step}
 use Rattle.stated.specs.declared.change.ChangeParts.{ChangeParts}
@@ -11,8 +11,8 @@ use Rattle.osdmap.specs.Changes.{IsLawful, after, change_fault}
 use Rattle.epochlog.specs.Epochs.{Line}
 use Rattle.pgtable.specs.Tables.{TableFacts, IsTableOf}
 use Rattle.state.specs.States.{Kept, next_step}
-use Rattle.monitor_laws.specs.World.{World, IsPresent, Event, at_lock, looks, makes, seals, acts, follows, look, change, with_look, with_sealed}
-use Rattle.monitor_laws.specs.Law.{opening, Runs, HasEvents}
+use Rattle.monitor_laws.specs.World.{MonitorWorld, IsPresent, Event, at_lock, looks, makes, seals, acts, follows, look, change, with_look, with_sealed}
+use Rattle.monitor_laws.specs.Law.{opening, RunsTo, HasEvents}
 
 -- the views of the one seat on its way
 abbrev waits : View
@@ -68,40 +68,40 @@ module _ (first : ClusterMap) (row : Line) (table other : TableFacts) (parts : C
   }
 
   -- the worlds after the events
-  abbrev opened : World
+  abbrev opened : MonitorWorld
   opened = opening first row table 1 1
 
-  abbrev w_drawn : World
+  abbrev w_drawn : MonitorWorld
   w_drawn = record opened { lock = drawn }
 
-  abbrev w_writing : World
+  abbrev w_writing : MonitorWorld
   w_writing = record w_drawn { lock = writing }
 
-  abbrev w_sealed : World
+  abbrev w_sealed : MonitorWorld
   w_sealed = with_sealed w_writing 0 step
 
-  abbrev w_made : World
+  abbrev w_made : MonitorWorld
   w_made = record w_sealed { state = present; table = other }
 
-  abbrev w_closing : World
+  abbrev w_closing : MonitorWorld
   w_closing = record w_made { lock = closing }
 
-  abbrev w_left : World
+  abbrev w_left : MonitorWorld
   w_left = record w_closing { lock = left }
 
-  abbrev w_drawn_again : World
+  abbrev w_drawn_again : MonitorWorld
   w_drawn_again = record w_left { lock = drawn_again }
 
-  abbrev w_let_in : World
+  abbrev w_let_in : MonitorWorld
   w_let_in = record w_drawn_again { lock = let_in }
 
-  abbrev w_reading : World
+  abbrev w_reading : MonitorWorld
   w_reading = record w_let_in { lock = reading }
 
-  abbrev w_looked : World
+  abbrev w_looked : MonitorWorld
   w_looked = with_look w_reading 0
 
-  abbrev w_followed : World
+  abbrev w_followed : MonitorWorld
   w_followed = record w_looked { followers = slice_set w_looked.followers 0 (step ∷ []) }
 
   abbrev events : List (Event × ℕ)
@@ -116,7 +116,7 @@ module _ (first : ClusterMap) (row : Line) (table other : TableFacts) (parts : C
   lawful accepted = (refl, accepted, tt)
 
   -- each event leads on
-  runs : row.first ≡ first.epoch → IsTableOf table first → change_fault first parts ≡ None → IsTableOf other (after first (step ∷ [])) → Runs first opened events w_followed
+  runs : row.first ≡ first.epoch → IsTableOf table first → change_fault first parts ≡ None → IsTableOf other (after first (step ∷ [])) → RunsTo first opened events w_followed
   runs begins is_table accepted is_other =
       let back : IsPresent first w_made = record { kept = record { lawful = lawful accepted; begins = begins; map = refl; table = is_other }; from_first = refl; journal = refl } in (
         w_drawn,

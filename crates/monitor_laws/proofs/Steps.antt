@@ -9,7 +9,7 @@ use Rattle.ticketlock.specs.declared.view.View.{View}
 use Rattle.ticketlock.specs.declared.view.Stage.{Stage}
 use Rattle.ticketlock.specs.declared.view.Stage.TheVariants.{Idle, Waiting, Next, Reading, Writing, Closing}
 use Rattle.ticketlock.specs.Rule as lock
-use Rattle.ticketlock.specs.Rule.{World as LockWorld, Step as LockStep, IsKept as KeepsRule}
+use Rattle.ticketlock.specs.Rule.{LockWorld, Step as LockStep, KeepsRule}
 use Rattle.ticketlock.specs.Law.{start, IsWriting, IsReading, IsIn, IsAlone}
 use Rattle.ticketlock.proofs.Runs.{starts, alone_writes}
 use Rattle.ticketlock.proofs.Steps.{step_keeps}
@@ -23,12 +23,12 @@ use Rattle.pgtable.specs.Tables.{TableFacts, IsTableOf}
 use Rattle.pgtable.proofs.Shows.{up_shown, groups_shown, count_shown}
 use Rattle.state.specs.States.{opened, IsKept}
 use Rattle.state.proofs.Journals.{last-shown}
-use Rattle.monitor_laws.specs.World.{World, Act, at_lock, looks, makes, seals, Event, acts, follows, Told, look, change, Does, Happens, IsPresent, PutsBack}
-use Rattle.monitor_laws.specs.Law.{opening, Runs, NoneWrites, IsOneHistory, ShowsMap, IsSound}
+use Rattle.monitor_laws.specs.World.{MonitorWorld, Act, at_lock, looks, makes, seals, Event, acts, follows, Told, look, change, Acts, Happens, IsPresent, PutsBack}
+use Rattle.monitor_laws.specs.Law.{opening, RunsTo, NoneWrites, IsOneHistory, ShowsMap, IsSound}
 
 -- what each event keeps: the lock's rule, what the law says of what was told and read, and, whenever no seat writes, a
 -- state that is present
-pub record Holds (first : ClusterMap) (w : World) : Type 0 where
+pub record Holds (first : ClusterMap) (w : MonitorWorld) : Type 0 where
   pub rule : KeepsRule w.lock
   pub alone : IsAlone w.lock.views
   pub present : NoneWrites w.lock.views → IsPresent first w
@@ -114,7 +114,7 @@ last_epoch_by_place : (first : ClusterMap) (before : List Step) (s : Step) → I
 last_epoch_by_place first before s lawful = omega (arith, epoch_by_place first (before ++ s ∷ []) (length before) s lawful (last-shown before s (length before) refl))
 
 -- a step at the words that is no leaving of a writer leaves the state present where it was
-stays : (first : ClusterMap) (w : World) (s : LockStep) (seat : ℕ) (v : View) (words : LockWorld) → get_elem? w.lock.views seat ≡ some v → lock.Takes s w.lock seat v words
+stays : (first : ClusterMap) (w : MonitorWorld) (s : LockStep) (seat : ℕ) (v : View) (words : LockWorld) → get_elem? w.lock.views seat ≡ some v → lock.Takes s w.lock seat v words
     → PutsBack first w s → (NoneWrites w.lock.views → IsPresent first w) → NoneWrites words.views → IsPresent first w
 stays first w (lock.draws kind) seat v words at t back was none = was (none_before w.lock.views seat v _ at (λ x. subst IsWriting t.0 x) (subst (λ (x : LockWorld). NoneWrites x.views) t.2 none))
 stays first w lock.reader_looks seat v words at t back was none = was (none_before w.lock.views seat v _ at (λ x. subst IsWriting t.1 x) (subst (λ (x : LockWorld). NoneWrites x.views) t.2 none))
@@ -125,7 +125,7 @@ stays first w lock.writer_closes seat v words at t back was none = back
 stays first w lock.writer_leaves seat v words at t back was none = was (none_before w.lock.views seat v _ at (λ x. subst IsWriting t.1 x) (subst (λ (x : LockWorld). NoneWrites x.views) t.2 none))
 
 -- each act of a seat keeps it
-act_keeps : (first : ClusterMap) (a : Act) (w : World) (seat : ℕ) (v : View) (next : World) → get_elem? w.lock.views seat ≡ some v → Does first a w seat v next → Holds first w → Holds first next
+act_keeps : (first : ClusterMap) (a : Act) (w : MonitorWorld) (seat : ℕ) (v : View) (next : MonitorWorld) → get_elem? w.lock.views seat ≡ some v → Acts first a w seat v next → Holds first w → Holds first next
 act_keeps first (at_lock s) w seat v next at d h =
     let rule = step_keeps s w.lock seat v d.0 h.rule at d.1 in
     subst (Holds first) (sym d.3) (record {
@@ -171,7 +171,7 @@ act_keeps first (seals s) w seat v next at d h =
     })
 
 -- so does each event
-event_keeps : (first : ClusterMap) (e : Event) (w : World) (number : ℕ) (next : World) → Happens first e w number next → Holds first w → Holds first next
+event_keeps : (first : ClusterMap) (e : Event) (w : MonitorWorld) (number : ℕ) (next : MonitorWorld) → Happens first e w number next → Holds first w → Holds first next
 event_keeps first (acts a) w seat next d h = act_keeps first a w seat d.0 next d.1 d.2 h
 event_keeps first follows w number next d h = subst (Holds first) (sym d.4) (record {
   rule = h.rule;
@@ -186,7 +186,7 @@ event_keeps first follows w number next d h = subst (Holds first) (sym d.4) (rec
 })
 
 -- and every list of events
-events_keep : (first : ClusterMap) (w : World) (events : List (Event × ℕ)) (last : World) → Runs first w events last → Holds first w → Holds first last
+events_keep : (first : ClusterMap) (w : MonitorWorld) (events : List (Event × ℕ)) (last : MonitorWorld) → RunsTo first w events last → Holds first w → Holds first last
 events_keep first w [] last run h = subst (Holds first) (sym run) h
 events_keep first w (e ∷ events) last run h = events_keep first run.0 events last run.2 (event_keeps first e.0 w e.1 run.0 run.1 h)
 
@@ -216,12 +216,12 @@ shows t m is = record {
 }
 
 -- the map of a state that is present
-present_map : (first : ClusterMap) (w : World) → IsPresent first w → w.state.map ≡ after first w.sealed
+present_map : (first : ClusterMap) (w : MonitorWorld) → IsPresent first w → w.state.map ≡ after first w.sealed
 present_map first w p = p.kept.map ∙ (ap (λ m. after m w.state.pass.history) p.from_first ∙ ap (after first) p.journal)
 
 -- and what each event keeps is what the law says
-pub sound : (first : ClusterMap) (row : Line) (table : TableFacts) (seats followers : ℕ) (events : List (Event × ℕ)) (last : World)
-    → seats ≤ 1024 → row.first ≡ first.epoch → IsTableOf table first → Runs first (opening first row table seats followers) events last → IsSound first last
+pub sound : (first : ClusterMap) (row : Line) (table : TableFacts) (seats followers : ℕ) (events : List (Event × ℕ)) (last : MonitorWorld)
+    → seats ≤ 1024 → row.first ≡ first.epoch → IsTableOf table first → RunsTo first (opening first row table seats followers) events last → IsSound first last
 sound first row table seats followers events last few begins is_table run =
     let h = events_keep first (opening first row table seats followers) events last run (opens first row table seats followers few begins is_table) in record {
       alone = h.alone;

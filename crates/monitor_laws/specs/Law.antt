@@ -13,11 +13,11 @@ use Rattle.epochlog.specs.Epochs.{Line, Begins}
 use Rattle.pgtable.specs.Tables.{TableFacts, IsTableOf, shown_at, shown_groups, shown_in}
 use Rattle.pgtable.specs.Index.{up_at, index_of, count_of, count_in}
 use Rattle.state.specs.States.{opened, next_step, IsKept}
-use Rattle.monitor_laws.specs.World.{World, Event, Told, look, change, Happens}
+use Rattle.monitor_laws.specs.World.{MonitorWorld, Event, Told, look, change, Happens}
 
 -- a monitor as it is opened, with so many seats that are idle and so many followers that have read nothing: the state
 -- at its beginning, nothing sealed and nothing told
-abbrev pub opening : ClusterMap → Line → TableFacts → ℕ → ℕ → World
+abbrev pub opening : ClusterMap → Line → TableFacts → ℕ → ℕ → MonitorWorld
 opening first row table seats followers = record {
   lock = start seats;
   state = opened first row;
@@ -28,9 +28,9 @@ opening first row table seats followers = record {
 }
 
 -- the events, each with the number of its seat or follower, lead from one world to another
-abbrev pub Runs : ClusterMap → World → List (Event × ℕ) → World → Type 0
-Runs first w [] last = last ≡ w
-Runs first w (e ∷ events) last = (next : World) × Happens first e.0 w e.1 next × Runs first next events last
+abbrev pub RunsTo : ClusterMap → MonitorWorld → List (Event × ℕ) → MonitorWorld → Type 0
+RunsTo first w [] last = last ≡ w
+RunsTo first w (e ∷ events) last = (next : MonitorWorld) × Happens first e.0 w e.1 next × RunsTo first next events last
 
 -- no seat writes
 abbrev pub NoneWrites : List View → Type 0
@@ -55,7 +55,7 @@ pub record ShowsMap (t : TableFacts) (m : ClusterMap) : Type 0 where
   pub counts_in : (pool osd : ℕ) → shown_in t pool osd ≡ count_in m pool osd
 
 -- THE HEADLINE, of a monitor after all that its seats and followers did
-pub record IsSound (first : ClusterMap) (w : World) : Type 0 where
+pub record IsSound (first : ClusterMap) (w : MonitorWorld) : Type 0 where
   -- no writer holds the lock beside another holder
   pub alone : IsAlone w.lock.views
   -- whenever no writer holds it, the map is the first map with the sealed epochs applied
@@ -74,9 +74,9 @@ pub record IsSound (first : ClusterMap) (w : World) : Type 0 where
 -- The law: from the opening on it holds after every list of events, of up to 1,024 seats and any number of followers
 abbrev pub HasOneHistory : Type 0
 HasOneHistory = (first : ClusterMap) (row : Line) (table : TableFacts) (seats followers : ℕ)
-    (events : List (Event × ℕ)) (last : World)
+    (events : List (Event × ℕ)) (last : MonitorWorld)
     → seats ≤ 1024 → row.first ≡ first.epoch → IsTableOf table first
-    → Runs first (opening first row table seats followers) events last → IsSound first last
+    → RunsTo first (opening first row table seats followers) events last → IsSound first last
 
 -- It speaks of something: for each map and each change that it does not refuse, some events lead to a world where one
 -- seat has made the change and has looked at it, and a follower has read it
@@ -84,7 +84,7 @@ abbrev pub HasEvents : Type 0
 HasEvents = (first : ClusterMap) (row : Line) (table other : TableFacts) (parts : ChangeParts)
     → row.first ≡ first.epoch → IsTableOf table first → change_fault first parts ≡ None
     → IsTableOf other (after first (next_step first parts ∷ []))
-    → (events : List (Event × ℕ)) × (last : World) × Runs first (opening first row table 1 1) events last
+    → (events : List (Event × ℕ)) × (last : MonitorWorld) × RunsTo first (opening first row table 1 1) events last
     × (last.sealed ≡ next_step first parts ∷ [])
     × (last.told ≡ look 0 (record {
       first = first;

@@ -5,7 +5,7 @@ use mathlib.Core.Option.{some}
 use lib.ListN.{get_elem?}
 use Rattle.ticketlock.specs.declared.view.View.{View}
 use Rattle.ticketlock.specs.Rule as lock
-use Rattle.ticketlock.specs.Rule.{World as LockWorld, Step as LockStep}
+use Rattle.ticketlock.specs.Rule.{LockWorld, Step as LockStep}
 use Rattle.ticketlock.specs.Law.{IsWriting, IsReading}
 use Rattle.stated.specs.Incrementals.{Step}
 use Rattle.osdmap.specs.Maps.{ClusterMap}
@@ -19,7 +19,7 @@ pub data Told : Type 0 where
   look : ℕ → Kept → TableFacts → Told
   change : ℕ → List Step → Step → Told
 
-pub record World : Type 0 where
+pub record MonitorWorld : Type 0 where
   pub lock : LockWorld
   -- the state in its slot, or in the hands of a writer
   pub state : Kept
@@ -44,13 +44,13 @@ pub data Event : Type 0 where
   follows : Event
 
 -- the state is that of the first map with the sealed epochs applied, and its table that of its map
-pub record IsPresent (first : ClusterMap) (w : World) : Type 0 where
+pub record IsPresent (first : ClusterMap) (w : MonitorWorld) : Type 0 where
   pub kept : IsKept w.state w.table
   pub from_first : w.state.first ≡ first
   pub journal : w.state.pass.history ≡ w.sealed
 
 -- a writer has put such a state back when it begins to leave
-abbrev pub PutsBack : ClusterMap → World → LockStep → Type 0
+abbrev pub PutsBack : ClusterMap → MonitorWorld → LockStep → Type 0
 PutsBack first w (lock.draws kind) = Unit {0}
 PutsBack first w lock.reader_looks = Unit {0}
 PutsBack first w lock.writer_looks = Unit {0}
@@ -60,26 +60,26 @@ PutsBack first w lock.writer_closes = IsPresent first w
 PutsBack first w lock.writer_leaves = Unit {0}
 
 -- the world once a seat was told of the history, and once an incremental is sealed by a seat
-abbrev pub with_look : World → ℕ → World
+abbrev pub with_look : MonitorWorld → ℕ → MonitorWorld
 with_look w seat = record w { told = look seat w.state w.table ∷ w.told }
 
-abbrev pub with_sealed : World → ℕ → Step → World
+abbrev pub with_sealed : MonitorWorld → ℕ → Step → MonitorWorld
 with_sealed w seat s = record w { sealed = w.sealed ++ s ∷ []; told = change seat w.sealed s ∷ w.told }
 
 -- the seat of the view v does so, and leads from the world w to the world next: a reader may look, a writer may make
 -- what it likes of the state and seal what is lawful; each step at the words is one of the seven kinds
-abbrev pub Does : ClusterMap → Act → World → ℕ → View → World → Type 0
-Does first (at_lock s) w seat v next =
+abbrev pub Acts : ClusterMap → Act → MonitorWorld → ℕ → View → MonitorWorld → Type 0
+Acts first (at_lock s) w seat v next =
     (words : LockWorld) × lock.Takes s w.lock seat v words × PutsBack first w s × (next ≡ record w { lock = words })
-Does first looks w seat v next = IsReading v.stage × (next ≡ with_look w seat)
-Does first (makes k t) w seat v next = IsWriting v.stage × (next ≡ record w { state = k; table = t })
-Does first (seals s) w seat v next =
+Acts first looks w seat v next = IsReading v.stage × (next ≡ with_look w seat)
+Acts first (makes k t) w seat v next = IsWriting v.stage × (next ≡ record w { state = k; table = t })
+Acts first (seals s) w seat v next =
     IsWriting v.stage × IsLawful first (w.sealed ++ s ∷ []) × (next ≡ with_sealed w seat s)
 
 -- an event of the seat or the follower of a number leads from the world w to the world next
-abbrev pub Happens : ClusterMap → Event → World → ℕ → World → Type 0
+abbrev pub Happens : ClusterMap → Event → MonitorWorld → ℕ → MonitorWorld → Type 0
 Happens first (acts a) w seat next =
-    (v : View) × (get_elem? w.lock.views seat ≡ some v) × Does first a w seat v next
+    (v : View) × (get_elem? w.lock.views seat ≡ some v) × Acts first a w seat v next
 Happens first follows w number next =
     (read : List Step) × (s : Step) × (slice_get w.followers number ≡ Some read)
     × (slice_get w.sealed (length read) ≡ Some s)

@@ -22,7 +22,7 @@ use Rattle.osdmap.specs.Maps.{ClusterMap, has_rule, is_kind, is_presence, HoldsT
 use Rattle.stated.specs.Parts.{is_between, has_between, bucket_fits, rule_fits, pool_fits, osd_fits, is_osd_id, pair_fits, exceptions_fit, head_fits, lists_fit, parts_fit, pool_of}
 use Rattle.stated.specs.Pools.{PoolFacts, IsWithinLimits}
 use Rattle.keylist.specs.Keys.{is_distinct}
-use Rattle.osdmap.specs.Stated.{buckets_of, rules_ok, pool_ok, pools_ok, osd_ok, osds_ok, explicit_of, items_of, all_exceptions_ok, map_fault, listed, presence_in, weight_in, IsStated}
+use Rattle.osdmap.specs.Stated.{buckets_of, rules_ok, pool_ok, pools_ok, osd_ok, osds_ok, explicit_of, items_of, all_exceptions_ok, map_fault, listed_osd, presence_in, weight_in, IsStated}
 use Rattle.refusal.specs.Outcomes.{refused_unless}
 use Rattle.keylist.specs.Order.{Rises}
 use Rattle.stated.specs.CrushMaps.{rule_of, rules_fit, crush_fault, IsCrushMap, IsCrushOf}
@@ -181,16 +181,16 @@ no_fault p m built excepted =
     past_crush p None built.limits built.grown (rw (served, entered, excepted) refl)
 
 -- a row tells the presence that the parts state
-presence_same : (osds : List OsdPart) (n : ℕ) → row_presence (option_map state_of (listed osds n)) ≡ presence_in osds n
-presence_same osds n = by_listed (listed osds n)
+presence_same : (osds : List OsdPart) (n : ℕ) → row_presence (option_map state_of (listed_osd osds n)) ≡ presence_in osds n
+presence_same osds n = by_listed (listed_osd osds n)
   where
     by_listed : (o : Option OsdPart) → row_presence (option_map state_of o) ≡ option_map_or (λ o. record { exists = o.exists; up = o.up }) o (record { exists = false; up = false })
     by_listed None = refl
     by_listed (Some o) = refl
 
 -- and the reweight
-weight_same : (osds : List OsdPart) (n : ℕ) → row_weight (option_map state_of (listed osds n)) ≡ weight_in osds n
-weight_same osds n = by_listed (listed osds n)
+weight_same : (osds : List OsdPart) (n : ℕ) → row_weight (option_map state_of (listed_osd osds n)) ≡ weight_in osds n
+weight_same osds n = by_listed (listed_osd osds n)
   where
     by_listed : (o : Option OsdPart) → row_weight (option_map state_of o) ≡ option_map_or (λ o. nat_abs o.weight) o 0
     by_listed None = refl
@@ -258,18 +258,18 @@ unfolding osd_ok
 up_fine max_osd o h = and_second (nat_lt (nat_abs o.id) max_osd) (not o.up || o.exists) h
 
 -- no row says up of an OSD that does not exist
-row_present : (max_osd : ℕ) (osds : List OsdPart) → list_all (osd_ok max_osd) osds ≡ true → (n : ℕ) → is_presence (row_presence (option_map state_of (listed osds n))) ≡ true
-row_present max_osd osds fit n = by_listed (listed osds n) refl
+row_present : (max_osd : ℕ) (osds : List OsdPart) → list_all (osd_ok max_osd) osds ≡ true → (n : ℕ) → is_presence (row_presence (option_map state_of (listed_osd osds n))) ≡ true
+row_present max_osd osds fit n = by_listed (listed_osd osds n) refl
   where
-    by_listed : (o : Option OsdPart) → listed osds n ≡ o → is_presence (row_presence (option_map state_of o)) ≡ true
+    by_listed : (o : Option OsdPart) → listed_osd osds n ≡ o → is_presence (row_presence (option_map state_of o)) ≡ true
     by_listed None is = refl
     by_listed (Some o) is = up_fine max_osd o (found_passes (λ (p : OsdPart). nat_abs p.id == n) (osd_ok max_osd) osds o is fit)
 
 -- no row has a reweight above 65,536
-row_little : (osds : List OsdPart) → list_all osd_fits osds ≡ true → (n : ℕ) → nat_le (row_weight (option_map state_of (listed osds n))) 65536 ≡ true
-row_little osds fit n = by_listed (listed osds n) refl
+row_little : (osds : List OsdPart) → list_all osd_fits osds ≡ true → (n : ℕ) → nat_le (row_weight (option_map state_of (listed_osd osds n))) 65536 ≡ true
+row_little osds fit n = by_listed (listed_osd osds n) refl
   where
-    by_listed : (o : Option OsdPart) → listed osds n ≡ o → nat_le (row_weight (option_map state_of o)) 65536 ≡ true
+    by_listed : (o : Option OsdPart) → listed_osd osds n ≡ o → nat_le (row_weight (option_map state_of o)) 65536 ≡ true
     by_listed None is = refl
     by_listed (Some o) is =
         let little = (natural_between 0 65536 o.weight (osd_weight_fits o (found_passes (λ (p : OsdPart). nat_abs p.id == n) osd_fits osds o is fit))).most in
@@ -281,7 +281,7 @@ present p m built =
     let fit = and_second (is_distinct (map (λ (o : OsdPart). nat_abs o.id) p.osds)) (list_all (osd_ok (nat_abs p.max_osd)) p.osds) (passed _ _ built.entered) in
     let rows = rows_of p.osds (nat_abs p.max_osd) in
     ap (list_all is_presence) built.presences ∙ list_all-map is_presence row_presence rows
-    ∙ list_all-map (λ r. is_presence (row_presence r)) (λ n. option_map state_of (listed p.osds n)) (range_with_len 0 (nat_abs p.max_osd))
+    ∙ list_all-map (λ r. is_presence (row_presence r)) (λ n. option_map state_of (listed_osd p.osds n)) (range_with_len 0 (nat_abs p.max_osd))
     ∙ all_so _ (row_present (nat_abs p.max_osd) p.osds fit) (range_with_len 0 (nat_abs p.max_osd))
 
 -- and no reweight is above 65,536
@@ -289,7 +289,7 @@ weigh_little : (p : MapParts) (m : ClusterMap) → IsBuilt p m → list_all osd_
 weigh_little p m built fit =
     let rows = rows_of p.osds (nat_abs p.max_osd) in
     ap (list_all (λ w. nat_le w 65536)) built.weights ∙ list_all-map (λ w. nat_le w 65536) row_weight rows
-    ∙ list_all-map (λ r. nat_le (row_weight r) 65536) (λ n. option_map state_of (listed p.osds n)) (range_with_len 0 (nat_abs p.max_osd))
+    ∙ list_all-map (λ r. nat_le (row_weight r) 65536) (λ n. option_map state_of (listed_osd p.osds n)) (range_with_len 0 (nat_abs p.max_osd))
     ∙ all_so _ (row_little p.osds fit) (range_with_len 0 (nat_abs p.max_osd))
 
 -- ---- all of it

@@ -22,7 +22,7 @@ use Rattle.keylist.specs.Order.{IsRising}
 use Rattle.osdmap.specs.Maps.{ClusterMap, osd_exists, HoldsTogether}
 use Rattle.stated.specs.Parts.{has_between, exceptions_fit, head_fits, lists_fit, parts_fit, pool_of}
 use Rattle.stated.specs.Pools.{PoolFacts}
-use Rattle.osdmap.specs.Stated.{buckets_of, osd_ok, rules_ok, pools_ok, osds_ok, is_listed, exceptions_ok, explicit_of, items_of, all_exceptions_ok, map_fault, listed, presence_in, IsStated}
+use Rattle.osdmap.specs.Stated.{buckets_of, osd_ok, rules_ok, pools_ok, osds_ok, is_listed, exceptions_ok, explicit_of, items_of, all_exceptions_ok, map_fault, listed_osd, presence_in, IsStated}
 use Rattle.refusal.specs.Outcomes.{refused_unless}
 use Rattle.keylist.specs.Order.{Rises}
 use Rattle.osdmap.specs.Built.{without_exceptions}
@@ -42,9 +42,9 @@ none_past (x ∷ xs) (suc n) past = none_past xs n (omega arith)
 
 -- no OSD is listed at or past the number of OSDs
 unlisted : (max_osd : ℕ) (osds : List OsdPart) → list_all (osd_ok max_osd) osds ≡ true → (n : ℕ) → max_osd ≤ n → is_listed osds n ≡ false
-unlisted max_osd osds fit n far = by_listed (listed osds n) refl
+unlisted max_osd osds fit n far = by_listed (listed_osd osds n) refl
   where
-    by_listed : (o : Option OsdPart) → listed osds n ≡ o → option_map_or (λ (p : OsdPart). p.exists) o false ≡ false
+    by_listed : (o : Option OsdPart) → listed_osd osds n ≡ o → option_map_or (λ (p : OsdPart). p.exists) o false ≡ false
     by_listed None is = refl
     by_listed (Some o) is =
         let at = find-place (λ (p : OsdPart). eqb (nat_abs p.id) n) osds o is in
@@ -53,7 +53,7 @@ unlisted max_osd osds fit n far = by_listed (listed osds n) refl
 
 -- an OSD exists where it is listed
 exists_in : (osds : List OsdPart) (n : ℕ) → (presence_in osds n).exists ≡ is_listed osds n
-exists_in osds n = by_listed (listed osds n)
+exists_in osds n = by_listed (listed_osd osds n)
   where
     by_listed : (o : Option OsdPart) → (option_map_or {U = Presence} (λ p. record { exists = p.exists; up = p.up }) o (record { exists = false; up = false })).exists ≡ option_map_or (λ (p : OsdPart). p.exists) o false
     by_listed None = refl

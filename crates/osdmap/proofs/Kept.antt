@@ -25,7 +25,7 @@ use Rattle.stated.specs.Exceptions.{key_of, has_group, target, sides, all_named,
 use Rattle.osdmap.specs.Maps.{ClusterMap, osd_exists, has_rule, is_presence, HoldsTogether}
 use Rattle.stated.specs.Incrementals.{Step}
 use Rattle.stated.specs.Ordered.{IsChange}
-use Rattle.osdmap.specs.Changes.{names_osds, weighs_rightly, pools_kept, pools_there, pools_after, buckets_after, rules_after, all_groups, names_groups, brings_new, has_devices_below, brings_forest, grows_from, brings_rightly, excepts_soundly, change_fault, apply, with_up, with_weight}
+use Rattle.osdmap.specs.Changes.{names_osds, weighs_rightly, pools_kept, pools_there, pools_after, buckets_after, rules_after, all_named_groups, names_groups, brings_new, has_devices_below, brings_forest, grows_from, brings_rightly, excepts_soundly, change_fault, apply, with_up, with_weight}
 use Rattle.keylist.proofs.Tests.{and_first, and_second, not_true}
 use Rattle.keylist.proofs.KeyedOrder.{rising-filter}
 use Rattle.keylist.proofs.KeyedMaps.{has-entry, entry-put, entry-without, list_all-puts, list_all-filter, rising-puts}
@@ -234,14 +234,14 @@ exceptions-rise old_pools gone coming es rises = rising-puts key_of _ coming (ri
 -- the explicit sets after an accepted change are right ones
 explicit-after : (m : ClusterMap) (step : Step) → Accepted m step.change → HoldsTogether m
     → list_all (is_exception target is_set (pools_after m step.change) (osd_exists (apply m step))) (exceptions_after step.change.old_pools step.change.old_upmap step.change.new_upmap m.explicit) ≡ true
-unfolding names_osds names_groups all_groups excepts_soundly
+unfolding names_osds names_groups all_named_groups excepts_soundly
 explicit-after m step ok holds =
     exceptions-sound target is_set m step ok.new (rightly-each m step.change ok.rightly).grow step.change.old_upmap step.change.new_upmap m.explicit holds.explicit_sound (grind (arith, ok.osds)) (grind (arith, ok.groups)) (grind (arith, ok.sound))
 
 -- so are the pairs
 items-after : (m : ClusterMap) (step : Step) → Accepted m step.change → HoldsTogether m
     → list_all (is_exception sides are_pairs (pools_after m step.change) (osd_exists (apply m step))) (exceptions_after step.change.old_pools step.change.old_items step.change.new_items m.items) ≡ true
-unfolding names_osds names_groups all_groups excepts_soundly
+unfolding names_osds names_groups all_named_groups excepts_soundly
 items-after m step ok holds =
     exceptions-sound sides are_pairs m step ok.new (rightly-each m step.change ok.rightly).grow step.change.old_items step.change.new_items m.items holds.items_sound (grind (arith, ok.osds)) (grind (arith, ok.groups)) (grind (arith, ok.sound))
 

@@ -1,4 +1,5 @@
 mod MarksLemmas
+mod Masks
 pub mod Named
 pub mod Accepted
 pub mod CheckLemmas

@@ -14,7 +14,7 @@ use Rattle.stated.specs.declared.osd.OsdState.{OsdState}
 use Rattle.stated.specs.declared.parts.OsdPart.{OsdPart}
 use Rattle.keylist.specs.Keys.{is_distinct}
 use Rattle.osdmap.specs.Marks.{are_new}
-use Rattle.osdmap.specs.Stated.{listed}
+use Rattle.osdmap.specs.Stated.{listed_osd}
 use Rattle.osdmap.specs.Built.{state_of, rows_of}
 use Rattle.osdmap.proofs.MarksLemmas.{new_step, new_end, new_unmarked}
 
@@ -54,7 +54,7 @@ module _ (rows : List (Option OsdState)) (osds : List OsdPart) (i : ℕ) (o : Os
       → are_new osd_number (map is_some rows) (drop i osds) ≡ are_new osd_number (map is_some (set rows (nat_abs o.id) (Some s))) (drop (i + 1) osds)
   entered_new s free = rw (new_step osd_number (map is_some rows) osds i o inside is, get_or-map is_some rows (nat_abs o.id) None, free, map-set is_some rows (nat_abs o.id) (Some s)) refl
 
-  more_listed : (n : ℕ) → listed (take (i + 1) osds) n ≡ option_or (listed (take i osds) n) (cond (eqb (nat_abs o.id) n) (Some o) None)
+  more_listed : (n : ℕ) → listed_osd (take (i + 1) osds) n ≡ option_or (listed_osd (take i osds) n) (cond (eqb (nat_abs o.id) n) (Some o) None)
   more_listed n = rw (take_more osds i o inside, ← is, find-append (λ p. eqb (nat_abs p.id) n) (take i osds) (o ∷ [])) refl
 
   or_none : (p : Option OsdPart) → option_or p None ≡ p
@@ -66,12 +66,12 @@ module _ (rows : List (Option OsdState)) (osds : List OsdPart) (i : ℕ) (o : Os
   not_listed (Some p) h = cc
 
   pub entered_row : nat_abs o.id < length rows → is_some (get_or rows (nat_abs o.id) None) ≡ false
-      → ((n : ℕ) → n < length rows → get_or rows n None ≡ option_map state_of (listed (take i osds) n))
-      → (n : ℕ) → n < length rows → get_or (set rows (nat_abs o.id) (Some (state_of o))) n None ≡ option_map state_of (listed (take (i + 1) osds) n)
+      → ((n : ℕ) → n < length rows → get_or rows n None ≡ option_map state_of (listed_osd (take i osds) n))
+      → (n : ℕ) → n < length rows → get_or (set rows (nat_abs o.id) (Some (state_of o))) n None ≡ option_map state_of (listed_osd (take (i + 1) osds) n)
   entered_row room free before n within = elim (cases_Bool (eqb (nat_abs o.id) n)) [
     | inl same ↦
         let here : nat_abs o.id ≡ n = eqb-true _ _ same in
-        let none = not_listed (listed (take i osds) n) (rw (here, before n within) at free) in
+        let none = not_listed (listed_osd (take i osds) n) (rw (here, before n within) at free) in
         rw (more_listed n, none, same, here) (let lt : n < length rows = within in rw get_or-set_same refl)
     | inr other ↦
         let differs : n ≢ nat_abs o.id = λ e. grind (arith, nat_tests) in
@@ -86,9 +86,9 @@ all_new rows osds i past = new_end osd_number (map is_some rows) osds i past
 
 -- the rows then tell all that is listed
 pub all_entered : (rows : List (Option OsdState)) (osds : List OsdPart) (i max_osd : ℕ) → length osds ≤ i → length rows ≡ max_osd
-    → ((n : ℕ) → n < length rows → get_or rows n None ≡ option_map state_of (listed (take i osds) n)) → rows ≡ rows_of osds max_osd
+    → ((n : ℕ) → n < length rows → get_or rows n None ≡ option_map state_of (listed_osd (take i osds) n)) → rows ≡ rows_of osds max_osd
 all_entered rows osds i max_osd past sized entered =
-    fill_by_all (λ n. option_map state_of (listed osds n)) rows max_osd None sized (λ n lt. rw take_all at (entered n (rw sized lt)))
+    fill_by_all (λ n. option_map state_of (listed_osd osds n)) rows max_osd None sized (λ n lt. rw take_all at (entered n (rw sized lt)))
 
 -- ---- what a loop reads
 

@@ -10,7 +10,7 @@ use Rattle.stated.specs.declared.parts.MapParts.{MapParts}
 use Rattle.stated.specs.declared.parts.PoolPart.{PoolPart}
 use Rattle.stated.specs.declared.parts.OsdPart.{OsdPart}
 use Rattle.stated.specs.declared.rules.NumberedRule.{NumberedRule}
-use Rattle.osdmap.specs.Stated.{pool_ok, osd_ok, listed}
+use Rattle.osdmap.specs.Stated.{pool_ok, osd_ok, listed_osd}
 
 -- parts without their exceptions
 abbrev pub without_exceptions : MapParts → MapParts
@@ -30,7 +30,7 @@ state_of o = record { exists = o.exists; up = o.up; weight = nat_abs o.weight }
 
 -- for each OSD below max_osd what is listed of it
 abbrev pub rows_of : List OsdPart → ℕ → List (Option OsdState)
-rows_of osds max_osd = map (λ n. option_map state_of (listed osds n)) (range_with_len 0 max_osd)
+rows_of osds max_osd = map (λ n. option_map state_of (listed_osd osds n)) (range_with_len 0 max_osd)
 
 -- an OSD that is not listed does not exist, is down and has reweight 0
 abbrev pub row_presence : Option OsdState → Presence

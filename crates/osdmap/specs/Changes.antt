@@ -52,8 +52,8 @@ abbrev pub rules_after : ClusterMap → ChangeParts → List NumberedRule
 rules_after m c = option_map_or (λ k. k.rules) c.new_crush m.rules
 
 -- each group that is named passes a test
-unfoldable pub all_groups : (Pg → Bool) → ChangeParts → Bool
-all_groups p c =
+unfoldable pub all_named_groups : (Pg → Bool) → ChangeParts → Bool
+all_named_groups p c =
     list_all p c.old_upmap && list_all p c.old_items && list_all (λ e. p e.pg) c.new_upmap
     && list_all (λ e. p e.pg) c.new_items
 
@@ -62,7 +62,7 @@ all_groups p c =
 unfoldable pub names_pools : ClusterMap → ChangeParts → Bool
 names_pools m c =
     list_all (has_pool m.pools) c.old_pools && list_all (λ g. has_pool (pools_there m c) g.pool) c.grow_pool
-    && all_groups (has_pool_of (pools_there m c)) c
+    && all_named_groups (has_pool_of (pools_there m c)) c
 
 -- no pool comes whose id is there
 unfoldable pub brings_new : ClusterMap → ChangeParts → Bool
@@ -89,7 +89,7 @@ brings_rightly m c =
 
 -- each group that is named is there then
 unfoldable pub names_groups : ClusterMap → ChangeParts → Bool
-names_groups m c = all_groups (has_group (pools_after m c)) c
+names_groups m c = all_named_groups (has_group (pools_after m c)) c
 
 -- each exception that comes says something, no more than the size of its pool, and that soundly
 unfoldable pub excepts_soundly : ClusterMap → ChangeParts → Bool

@@ -12,15 +12,15 @@ use Rattle.osdmap.specs.Maps.{ClusterMap}
 use Rattle.osdmap.specs.Placement.{group_of, steps_of}
 
 -- whether a pool's rule reaches an OSD that gets another reweight
-unfoldable pub reaches : ClusterMap → ChangeParts → PoolFacts → Bool
-reaches m c p = list_any (λ w. paths.reaches m.buckets (steps_of m p) (pos w.osd)) c.weight
+unfoldable pub reaches_reweighted : ClusterMap → ChangeParts → PoolFacts → Bool
+reaches_reweighted m c p = list_any (λ w. paths.reaches m.buckets (steps_of m p) (pos w.osd)) c.weight
 
 -- whether all groups of a pool are placed anew: the forest and the rules are replaced, the pool comes or grows with the
 -- change, or its rule reaches such an OSD
 unfoldable pub is_touched : ClusterMap → ChangeParts → PoolFacts → Bool
 is_touched m c p =
     is_some c.new_crush || has_key (λ q. q.id) c.new_pools p.id || has_key
-    (λ g. g.pool) c.grow_pool p.id || reaches m c p
+    (λ g. g.pool) c.grow_pool p.id || reaches_reweighted m c p
 
 -- whether exceptions of a group go or come
 unfoldable pub is_named : ChangeParts → Pg → Bool

@@ -1,16 +1,12 @@
 -- What exceptions make of the set of a group (Ceph, OSDMap.cc: _apply_upmap).
-use Rattle.std.specs.Prelude.{ℕ, ◌==◌, Bool, false, ◌||◌, List, [], ◌∷◌, map, Option, Some, None, slice_index, if◌then◌else◌}
+use Rattle.std.specs.Prelude.{ℕ, ◌==◌, Bool, ◌||◌, List, [], ◌∷◌, map, Option, Some, None, slice_index, if◌then◌else◌}
 use Rattle.std.specs.List.{list_any, fold}
-use Rattle.std.specs.Option.{option_map_or}
 use Rattle.stated.specs.declared.exception.Pair.{Pair}
+use Rattle.stated.specs.Sets.{is_of}
 
 -- whether an OSD is out for good: its reweight is 0
 abbrev pub is_weightless : List ℕ → ℕ → Bool
 is_weightless weights osd = slice_index weights osd == 0
-
--- whether a place has an OSD
-abbrev pub is_of : ℕ → Option ℕ → Bool
-is_of osd place = option_map_or (λ o. o == osd) place false
 
 -- one OSD goes to another where it first stands
 unfoldable pub replaced : Pair → List (Option ℕ) → List (Option ℕ)

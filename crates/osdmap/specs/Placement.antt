@@ -79,7 +79,7 @@ unfoldable pub up_set : ClusterMap → PoolFacts → ℕ → List (Option ℕ)
 up_set m p n = kept p.kind (map (option_and_then (upward m)) (mapped_set m p n))
 
 -- a set of the group is the one that a definition gives, where the group's pool is there
-pub record Places (set : ClusterMap → PoolFacts → ℕ → List (Option ℕ)) (m : ClusterMap) (pg : Pg)
+pub record IsPlacedBy (set : ClusterMap → PoolFacts → ℕ → List (Option ℕ)) (m : ClusterMap) (pg : Pg)
     (places : List (Option ℕ)) : Type 0 where
   pub is : IfSome (pool_at m.pools pg.pool) (λ p. places ≡ set m p pg.number)
 

@@ -88,18 +88,18 @@ map_fault p =
 -- ---- the map that parts state
 
 -- what is listed of an OSD
-abbrev pub listed : List OsdPart → ℕ → Option OsdPart
-listed osds n = find (λ o. nat_abs o.id == n) osds
+abbrev pub listed_osd : List OsdPart → ℕ → Option OsdPart
+listed_osd osds n = find (λ o. nat_abs o.id == n) osds
 
 -- an OSD that is not listed does not exist, is down and has reweight 0
 abbrev pub presence_in : List OsdPart → ℕ → Presence
-presence_in osds n = option_map_or (λ o. record { exists = o.exists; up = o.up }) (listed osds n) (record {
+presence_in osds n = option_map_or (λ o. record { exists = o.exists; up = o.up }) (listed_osd osds n) (record {
   exists = false;
   up = false;
 })
 
 abbrev pub weight_in : List OsdPart → ℕ → ℕ
-weight_in osds n = option_map_or (λ o. nat_abs o.weight) (listed osds n) 0
+weight_in osds n = option_map_or (λ o. nat_abs o.weight) (listed_osd osds n) 0
 
 -- the map has what the parts state: the buckets by id downwards, rules and pools by id upwards, each OSD by number, and
 -- the exceptions by group upwards

@@ -84,7 +84,8 @@ impl OsdMap {
         requires next { incremental.now.epoch ≡ self.old.map.epoch + 1 }
         requires lawful { change_fault self.old.map incremental.now.change ≡ None }
         requires room { HasRoomFor incremental.now.change self.old }
-        ensures { self.new.map ≡ apply self.old.map incremental.now }
+        ensures value { self.new.map ≡ apply self.old.map incremental.now }
+        ensures next { self.new.map.epoch ≡ self.old.map.epoch + 1 }
     {
         self.change_to(incremental.epoch(), incremental.change());
     }

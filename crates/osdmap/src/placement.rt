@@ -1,8 +1,8 @@
 //! Where a map places the groups of its pools (Ceph, OSDMap.cc).
 
-ghost use Rattle.std.specs.Prelude.{◌≡◌, ◌<◌, Some, unwrap_or, nat_le};
-ghost use Rattle.std.specs.List.{find};
+ghost use Rattle.std.specs.Prelude.{◌≡◌, ◌<◌, ◌≤◌, Some};
 ghost use Rattle.stated.specs.CrushMaps.{rule_at};
+ghost use Rattle.stated.specs.Limits.{max_groups};
 ghost use Rattle.osdmap.specs.Placement.{mask_of, stable_mod};
 
 use crate::map::OsdMap;
@@ -12,29 +12,20 @@ use refusal::{Memory, Refusal};
 use rjenkins::hash2;
 use stated::{Pair, Pg, Pool};
 
-/// The numbers one less than a power of two, up to the greatest number of groups.
-const MASKS: [u32; 13] = [0, 1, 3, 7, 15, 31, 63, 127, 255, 511, 1023, 2047, 4095];
-
-/// The first of some masks that is at least a number.
-fn first_mask(masks: &[u32], number: u32) -> Option<u32>
-    ensures { result ≡ find (λ m. nat_le number m) masks.now }
-{
-    masks.iter().copied().find(|mask| number <= *mask)
-}
-
-/// The least mask that is at least `count - 1`.
-#[tactic(auto, unfolding(crate::specs::Placement::mask_of, crate::specs::Placement::masks))]
+/// The mask of a count: the least number that is one less than a power of two and at least `count - 1`.
 fn mask(count: u32) -> u32
-    requires { 0 < count }
+    requires some { 0 < count }
+    requires few { count ≤ max_groups }
     ensures { result ≡ mask_of count }
 {
-    first_mask(&MASKS, count - 1).unwrap_or(4095)
+    count.next_power_of_two() - 1
 }
 
 /// A number folded into the numbers below `count`, by the mask of `count` (Ceph, `ceph_stable_mod`).
 #[tactic(auto, unfolding(crate::specs::Placement::stable_mod))]
 pub fn stable_mod(number: u32, count: u32, mask: u32) -> u32
-    ensures { result ≡ stable_mod number count mask }
+    ensures value { result ≡ stable_mod number count mask }
+    ensures below { 0 < count → mask ≡ mask_of count → result < count }
 {
     if number & mask < count {
         number & mask
@@ -117,7 +108,7 @@ impl OsdMap {
     ghost use Rattle.osdmap.specs.Maps.{pool_at, has_rule};
     ghost use Rattle.osdmap.specs.Mapped.{is_weightless, with_pair, mapped};
     ghost use Rattle.osdmap.specs.Sets.{kept};
-    ghost use Rattle.osdmap.specs.Placement.{group_fault, existing, upward, placed, raw_set, mapped_with, mapped_set, up_set, Places, RunsOnce};
+    ghost use Rattle.osdmap.specs.Placement.{group_fault, existing, upward, placed, raw_set, mapped_with, mapped_set, up_set, IsPlacedBy, RunsOnce};
 
     /// The OSD of a device, where it exists.
     fn existing(&self, device: i32) -> Option<u32>
@@ -157,6 +148,7 @@ impl OsdMap {
         ensures pool { result.pool ≡ pool.now }
     {
         let rule = self.rule(pool.rule()).unwrap();
+        pool.is_within_limits();
         let mask = mask(pool.pgp_num());
         Placing {
             map: self,
@@ -252,7 +244,7 @@ impl OsdMap {
     /// The raw set of a group: the OSDs that its pool's rule places and that exist (Ceph, `_pg_to_raw_osds`). It takes
     /// one run of the rule, which `work` counts. `UnknownPool` (23), `UnknownGroup` (25), else `Memory` (30).
     pub fn raw_of(&self, pg: Pg, work: &mut Work) -> Result<UpSet, Refusal>
-        ensures set { Gives result (group_fault self.now.map pg) (λ set. Places raw_set self.now.map pg set) }
+        ensures set { Gives result (group_fault self.now.map pg) (λ set. IsPlacedBy raw_set self.now.map pg set) }
         ensures run { RunsOnce work.old work.new result }
     {
         let pool = self.pool_of(pg)?;
@@ -263,7 +255,7 @@ impl OsdMap {
     /// explicit set has reweight 0, neither that set nor its pairs act. It takes one run of the rule, which `work`
     /// counts. `UnknownPool` (23), `UnknownGroup` (25), else `Memory` (30).
     pub fn mapped_of(&self, pg: Pg, work: &mut Work) -> Result<UpSet, Refusal>
-        ensures set { Gives result (group_fault self.now.map pg) (λ set. Places mapped_set self.now.map pg set) }
+        ensures set { Gives result (group_fault self.now.map pg) (λ set. IsPlacedBy mapped_set self.now.map pg set) }
         ensures run { RunsOnce work.old work.new result }
     {
         let pool = self.pool_of(pg)?;
@@ -282,7 +274,7 @@ impl OsdMap {
     ) -> Result<UpSet, Refusal>
         requires { IfSome explicit (λ osds. length osds.now ≤ 10) }
         ensures set { Gives result (group_fault self.now.map pg)
-            (λ set. Places (mapped_with (option_copied explicit.entry)
+            (λ set. IsPlacedBy (mapped_with (option_copied explicit.entry)
             (option_copied items.entry)) self.now.map pg set) }
         ensures run { RunsOnce work.old work.new result }
     {
@@ -295,7 +287,7 @@ impl OsdMap {
     /// the rule, which `work` counts. `UnknownPool` (23), `UnknownGroup` (25), else `Memory` (30).
     #[tactic(auto, unfolding(crate::specs::Placement::up_set))]
     pub fn up_of(&self, pg: Pg, work: &mut Work) -> Result<UpSet, Refusal>
-        ensures set { Gives result (group_fault self.now.map pg) (λ set. Places up_set self.now.map pg set) }
+        ensures set { Gives result (group_fault self.now.map pg) (λ set. IsPlacedBy up_set self.now.map pg set) }
         ensures run { RunsOnce work.old work.new result }
     {
         let pool = self.pool_of(pg)?;

@@ -3,7 +3,7 @@
 ghost use Rattle.std.specs.Prelude.{◌≡◌, Some, position};
 ghost use Rattle.std.specs.Fmt.{DisplaysOnOk};
 ghost use Rattle.std.specs.List.{list_any};
-ghost use Rattle.osdmap.specs.Mapped.{is_of};
+ghost use Rattle.stated.specs.Sets.{is_of};
 ghost use Rattle.osdmap.specs.Primary.{primary_of};
 ghost use Rattle.osdmap.specs.SetText.{place_text, list_text};
 
@@ -71,7 +71,8 @@ impl UpSet {
     ghost use Rattle.osdmap.specs.Primary.{primary_of};
     ghost use Rattle.std.specs.Prelude.{◌≡◌, ◌≤◌, ◌<◌, [], ◌∷◌, ◌++◌, length, map, Some};
     ghost use Rattle.std.specs.List.{list_any};
-    ghost use Rattle.osdmap.specs.Mapped.{is_of, replaced};
+    ghost use Rattle.osdmap.specs.Mapped.{replaced};
+    ghost use Rattle.stated.specs.Sets.{is_of};
     ghost use Rattle.osdmap.specs.Sets.{kept_in};
 
     /// The set without a place.

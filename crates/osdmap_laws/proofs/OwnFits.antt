@@ -13,12 +13,12 @@ use Rattle.crush.specs.declared.bucket.BucketKind.TheVariants.{Uniform, List as 
 use Rattle.crush.specs.declared.step.Step.{Step}
 use Rattle.crush.specs.declared.step.Step.TheVariants as step
 use Rattle.crush.specs.Forest.{weight_of}
-use Rattle.crush.specs.WellFormed.{is_within, is_bucket_id as may_be_bucket, item_limits_ok, bucket_limits_ok, is_even, weights_ok}
+use Rattle.crush.specs.WellFormed.{is_within, is_bucket_id, item_limits_ok, bucket_limits_ok, is_even, weights_ok}
 use Rattle.crush.specs.Grammar.{step_limits_ok}
 use Rattle.keylist.proofs.Each.{list_all-at, list_all-from}
 use Rattle.stated.specs.declared.rules.NumberedRule.{NumberedRule}
 use Rattle.stated.specs.CrushMaps.{is_rule_over}
-use Rattle.stated.specs.Parts.{is_between, has_between, is_bucket_id, item_fits, bucket_fits, step_fits, rule_fits, pool_fits}
+use Rattle.stated.specs.Parts.{is_between, has_between, item_fits, bucket_fits, step_fits, rule_fits, pool_fits}
 use Rattle.osdmap.specs.PartsOf.{item_part, bucket_part, step_part, rule_part, pool_part}
 use Rattle.stated.specs.Pools.{PoolFacts, IsWithinLimits}
 use Rattle.keylist.proofs.Tests.{and_first}
@@ -43,12 +43,6 @@ count_fits f low high xs least most = rw (length-map xs f) (grind (arith, nat_te
 -- so it is where the number is tested
 within_counts : {X Y : Type 0} (f : X → Y) (low high : ℕ) (xs : List X) → is_within low high (length xs) ≡ true → has_between low high (map f xs) ≡ true
 within_counts f low high xs h = count_fits f low high xs (grind (arith, nat_tests, h)) (grind (arith, nat_tests, h))
-
--- an id that a bucket may have is one that a text may give
-bucket_id_fits : (z : ℤ) → may_be_bucket z ≡ true → is_bucket_id z ≡ true
-unfolding is_bucket_id is_between
-bucket_id_fits (pos n) h = grind (arith, nat_tests, h)
-bucket_id_fits (negsuc n) h = grind (arith, nat_tests, h)
 
 -- ---- the forest
 
@@ -80,7 +74,7 @@ items_fine items limits light =
 bucket_fine : (b : Bucket) → bucket_limits_ok b ≡ true → weights_ok b.kind b.items ≡ true → bucket_fits (bucket_part b) ≡ true
 unfolding bucket_fits
 bucket_fine b limits weights =
-    let id = bucket_id_fits b.id (grind (arith, limits)) in
+    let id : is_bucket_id b.id ≡ true = grind (arith, limits) in
     let level = within_fits 1 15 b.level (grind (arith, limits)) in
     let count = within_counts item_part 1 64 b.items (grind (arith, limits)) in
     let items = items_fine b.items (grind (arith, limits)) (weights_light b.kind b.items weights) in
@@ -102,7 +96,7 @@ step_fine : (s : Step) → step_limits_ok s ≡ true → step_fits (step_part s)
 unfolding step_fits
 step_fine (step.SetChooseTries n) h = natural_fits 1 200 n (grind (arith, nat_tests, h)) (grind (arith, nat_tests, h))
 step_fine (step.SetChooseleafTries n) h = natural_fits 1 200 n (grind (arith, nat_tests, h)) (grind (arith, nat_tests, h))
-step_fine (step.Take id) h = bucket_id_fits id h
+step_fine (step.Take id) h = h
 step_fine (step.Choose c) h =
     let count = natural_fits 0 10 c.count (omega arith) (grind (arith, nat_tests, h)) in
     let level = natural_fits 0 15 c.level (omega arith) (grind (arith, nat_tests, h)) in

@@ -15,43 +15,43 @@ use Rattle.stated.specs.declared.parts.OsdPart.{OsdPart}
 use Rattle.keylist.specs.Keys.{is_distinct}
 use Rattle.osdmap.specs.Maps.{ClusterMap, is_presence, HoldsTogether}
 use Rattle.stated.specs.Parts.{osd_fits}
-use Rattle.osdmap.specs.Stated.{osd_ok, listed, presence_in, weight_in}
+use Rattle.osdmap.specs.Stated.{osd_ok, listed_osd, presence_in, weight_in}
 use Rattle.osdmap.specs.PartsOf.{osd_part, is_notable, part_listed, osd_parts}
 use Rattle.osdmap_laws.proofs.OwnFits.{natural_fits}
 
 -- ---- lists of what some numbers give, each under its own number
 
 module _ (f : ℕ → Option OsdPart) (own : (n : ℕ) (o : OsdPart) → f n ≡ Some o → nat_abs o.id ≡ n) where
-  absent : (a n k : ℕ) → k < a → listed (filter_map f (range_with_len a n)) k ≡ None
+  absent : (a n k : ℕ) → k < a → listed_osd (filter_map f (range_with_len a n)) k ≡ None
   absent a zero k below = refl
   absent a (suc n) k below = by_first (f a) refl (absent (a + 1) n k (omega arith))
     where
-      by_first : (o : Option OsdPart) → f a ≡ o → listed (filter_map f (range_with_len (a + 1) n)) k ≡ None → listed (filter_map f (range_with_len a (suc n))) k ≡ None
+      by_first : (o : Option OsdPart) → f a ≡ o → listed_osd (filter_map f (range_with_len (a + 1) n)) k ≡ None → listed_osd (filter_map f (range_with_len a (suc n))) k ≡ None
       by_first None is rest = rw is rest
       by_first (Some o) is rest = rw (is, own a o is, ne_eqb a k (λ same. omega (arith, same, below))) rest
 
-  found : (a n k : ℕ) → a ≤ k → k < a + n → listed (filter_map f (range_with_len a n)) k ≡ f k
+  found : (a n k : ℕ) → a ≤ k → k < a + n → listed_osd (filter_map f (range_with_len a n)) k ≡ f k
   found a zero k low high = absurd (omega arith)
   found a (suc n) k low high = elim (cases_eq a k) [
     | inl same ↦ rw (← same) (by_first (f a) refl)
     | inr other ↦ by_other (f a) refl (found (a + 1) n k (omega (arith, other, low)) (omega arith)) other
   ]
     where
-      by_first : (o : Option OsdPart) → f a ≡ o → listed (filter_map f (range_with_len a (suc n))) a ≡ f a
+      by_first : (o : Option OsdPart) → f a ≡ o → listed_osd (filter_map f (range_with_len a (suc n))) a ≡ f a
       by_first None is = rw is (absent (a + 1) n a (omega arith))
       by_first (Some o) is = rw (is, own a o is, eq-eqb a a refl) refl
 
-      by_other : (o : Option OsdPart) → f a ≡ o → listed (filter_map f (range_with_len (a + 1) n)) k ≡ f k → a ≢ k → listed (filter_map f (range_with_len a (suc n))) k ≡ f k
+      by_other : (o : Option OsdPart) → f a ≡ o → listed_osd (filter_map f (range_with_len (a + 1) n)) k ≡ f k → a ≢ k → listed_osd (filter_map f (range_with_len a (suc n))) k ≡ f k
       by_other None is rest other = rw is rest
       by_other (Some o) is rest other = rw (is, own a o is, ne_eqb a k other) rest
 
-  none_named : (k : ℕ) (os : List OsdPart) → listed os k ≡ None → list_any (λ j. eqb j k) (map (λ o. nat_abs o.id) os) ≡ false
+  none_named : (k : ℕ) (os : List OsdPart) → listed_osd os k ≡ None → list_any (λ j. eqb j k) (map (λ o. nat_abs o.id) os) ≡ false
   none_named k [] none = refl
   none_named k (o ∷ os) none = by_test (eqb (nat_abs o.id) k) refl (none_named k os)
     where
-      by_test : (b : Bool) → eqb (nat_abs o.id) k ≡ b → (listed os k ≡ None → list_any (λ j. eqb j k) (map (λ o. nat_abs o.id) os) ≡ false) → list_any (λ j. eqb j k) (map (λ o. nat_abs o.id) (o ∷ os)) ≡ false
+      by_test : (b : Bool) → eqb (nat_abs o.id) k ≡ b → (listed_osd os k ≡ None → list_any (λ j. eqb j k) (map (λ o. nat_abs o.id) os) ≡ false) → list_any (λ j. eqb j k) (map (λ o. nat_abs o.id) (o ∷ os)) ≡ false
       by_test true is others = let wrong : Some o ≡ None = rw is at none in cc
-      by_test false is others = let rest : listed os k ≡ None = rw is at none in rw is (others rest)
+      by_test false is others = let rest : listed_osd os k ≡ None = rw is at none in rw is (others rest)
 
   apart : (a n : ℕ) → is_distinct (map (λ o. nat_abs o.id) (filter_map f (range_with_len a n))) ≡ true
   unfolding is_distinct
@@ -100,7 +100,7 @@ own_number : (m : ClusterMap) (n : ℕ) (o : OsdPart) → part_listed m n ≡ So
 own_number m n o is = let listed_is = is_listed_of m n o is in rw listed_is.is refl
 
 -- and found there among the parts
-pub own_listed : (m : ClusterMap) (n : ℕ) → n < length m.presences → listed (osd_parts m) n ≡ part_listed m n
+pub own_listed : (m : ClusterMap) (n : ℕ) → n < length m.presences → listed_osd (osd_parts m) n ≡ part_listed m n
 own_listed m n inside = found (part_listed m) (own_number m) 0 (length m.presences) n (omega arith) (omega arith)
 
 -- no OSD is listed twice

@@ -14,14 +14,14 @@ use Rattle.osdmap.specs.Changes.{change_fault, apply, with_up, after, IsLawful}
 -- ---- the order of parts
 
 -- the map after what goes down and what comes up the other way round
-abbrev pub turned : ClusterMap → Step → ClusterMap
-turned m step =
+abbrev pub turned_round : ClusterMap → Step → ClusterMap
+turned_round m step =
     record m { presences = fold (with_up false) (fold (with_up true) m.presences step.change.up) step.change.down }
 
 -- an OSD is up after a change, and down after its parts the other way round
 pub record EndsUp (m : ClusterMap) (step : Step) (osd : ℕ) : Type 0 where
   pub in_order : osd_is_up (apply m step) osd ≡ true
-  pub other_way : osd_is_up (turned m step) osd ≡ false
+  pub other_way : osd_is_up (turned_round m step) osd ≡ false
 
 -- so is an OSD that goes down and comes up
 abbrev pub UpAfterDown : Type 0

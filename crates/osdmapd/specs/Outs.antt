@@ -2,5 +2,5 @@
 use Rattle.std.specs.Prelude.{◌≡◌, ℕ, List, ◌++◌, Option, Some}
 
 -- the writer has these bytes behind those that it had at first, where its contents are known
-abbrev pub IsOut : List ℕ → Option (List ℕ) → Option (List ℕ) → Type 0
-IsOut bytes first now = (xs : List ℕ) → first ≡ Some xs → now ≡ Some (xs ++ bytes)
+abbrev pub IsPutOut : List ℕ → Option (List ℕ) → Option (List ℕ) → Type 0
+IsPutOut bytes first now = (xs : List ℕ) → first ≡ Some xs → now ≡ Some (xs ++ bytes)

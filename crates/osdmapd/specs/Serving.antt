@@ -36,19 +36,20 @@ unseen = record { member = []; follower = [] }
 
 -- the text of the session of a number: its heading, and the answers of its script, from this first map and with a
 -- journal for so many changes; the last of them leaves its member with this history
-abbrev pub IsTextOf : ClusterMap → ℕ → ℕ → List ℕ → List ℕ → List Step → Type 0
-IsTextOf first journal number script text seen =
+abbrev pub IsSessionText : ClusterMap → ℕ → ℕ → List ℕ → List ℕ → List Step → Type 0
+IsSessionText first journal number script text seen =
     (answers : List ℕ) × (last : Sight) × IsTranscript (session_with first journal lets_all) 1 unseen
     (lines_in script) answers last
     × (last.member ≡ seen) × (text ≡ heading number ++ answers)
 
 -- the same of a session of this monitor
 abbrev pub IsTextBy : Monitored → ℕ → List ℕ → List ℕ → List Step → Type 0
-IsTextBy monitor number script text seen = IsTextOf monitor.first (length monitor.row.cells) number script text seen
+IsTextBy monitor number script text seen =
+    IsSessionText monitor.first (length monitor.row.cells) number script text seen
 
 -- what is left to put out of the session of a part, once it has ended: the text of a script; of a live session nothing
 abbrev pub IsLeftOf : ClusterMap → ℕ → ℕ → Part → List ℕ → List Step → Type 0
-IsLeftOf first journal number (Script script) text seen = IsTextOf first journal number script.items text seen
+IsLeftOf first journal number (Script script) text seen = IsSessionText first journal number script.items text seen
 IsLeftOf first journal number (Live source target) text seen = text ≡ []
 
 -- what is to be put out of what is left

@@ -1,6 +1,6 @@
 //! A writer as a sink that keeps answers until a session has them out.
 ghost use Rattle.std.specs.Prelude.{◌≡◌, ℕ, List, false};
-ghost use Rattle.osdmapd.specs.Outs.{IsOut};
+ghost use Rattle.osdmapd.specs.Outs.{IsPutOut};
 
 use session::{Sink, WriteFailed};
 use std::alloc::Global;
@@ -57,7 +57,7 @@ pub struct Out<W: io::Write> {
     kept: Kept,
     failed: bool,
     short: bool,
-    ghost out: { failed ≡ false → IsOut gone.bytes (W.contents first.value) (W.contents to) },
+    ghost out: { failed ≡ false → IsPutOut gone.bytes (W.contents first.value) (W.contents to) },
 }
 
 impl<W: io::Write> Out<W> {

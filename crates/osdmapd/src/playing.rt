@@ -271,9 +271,7 @@ fn start_all<'s, E, R: Wait + Eprint + Sync>(
     let mut players = Vec::with_capacity(alloc, parts.len())?;
     let mut free = members;
     for part in parts {
-        let Some(member) = next(monitor, &mut free) else {
-            unreachable!()
-        };
+        let member = next(monitor, &mut free).unwrap();
         let number = players.len() + 1;
         let promise = LeftOf {
             monitor,

@@ -1,20 +1,29 @@
 -- What slots hold after one member more.
-use Rattle.std.proofs.Common.{◌≡◌, ◌&&◌, ℕ, Bool, List, bytes_eq, Result, Ok, Err, MatchResult, Option, Some, None, if◌then◌else◌, sym, ap, ◌∙◌, ◌⊎◌, inr}
+use Rattle.std.proofs.Common.{◌≡◌, ◌&&◌, not, ℕ, Bool, true, false, List, bytes_eq, Result, Ok, Err, MatchResult, Option, Some, None, if◌then◌else◌, refl, sym, ap, ◌∙◌, ◌⊎◌, inr}
 use Rattle.std.specs.List.{list_any}
 use Rattle.json.specs.Token.{Token}
 use Rattle.serde_json.specs.Data.{Data, Members, put}
 use Rattle.refusal.specs.declared.refused.Refusal.{Refusal}
 use Rattle.refusal.specs.declared.refused.Refusal.TheVariants.{BadJson, Memory as OutOfMemory}
 use Rattle.jsonstream.specs.Json.{has_only_keys}
-use Rattle.jsonstream.specs.Stream.{slot, TakesMember}
-use Rattle.jsonstream.proofs.Puts.{slot_put, known_put}
+use Rattle.jsonstream.specs.Stream.{member_slot, TakesMember}
+use Rattle.jsonstream.proofs.Puts.{NoneOf, slot_put, known_put, unknown_put}
 
--- whether all keys are known, after one more
-pub known_held : (names : List (List ℕ)) (k : List ℕ) (d : Data) (ms : Members) (known : Bool) → known ≡ has_only_keys names ms → (list_any (bytes_eq k) names && known) ≡ has_only_keys names (put k d ms)
-known_held names k d ms known e = ap (λ b. list_any (bytes_eq k) names && b) e ∙ sym (known_put names k d ms)
+-- whether a key is unknown, after one more: by whether its key is known
+unknown_at : (b known : Bool) → (if b then not known else true) ≡ not (b && known)
+unknown_at true known = refl
+unknown_at false known = refl
+
+-- whether a key is unknown, after one more
+pub unknown_held : (names : List (List ℕ)) (k : List ℕ) (d : Data) (ms : Members) (unknown : Bool) → unknown ≡ not (has_only_keys names ms) → (if list_any (bytes_eq k) names then unknown else true) ≡ not (has_only_keys names (put k d ms))
+unknown_held names k d ms unknown e = ap (λ u. if list_any (bytes_eq k) names then u else true) e ∙ unknown_at (list_any (bytes_eq k) names) (has_only_keys names ms) ∙ ap not (sym (known_put names k d ms))
+
+-- a key is unknown after one that is
+pub unknown_past : (names : List (List ℕ)) (k : List ℕ) (d : Data) (ms : Members) → NoneOf k names → true ≡ not (has_only_keys names (put k d ms))
+unknown_past names k d ms others = ap not (sym (unknown_put names k d ms others))
 
 -- a slot after one member more
-pub slot_held : {X : Type 0} (stated : Data → Option X) (q k : List ℕ) (d : Data) (ms : Members) (s : Option (Option X)) → s ≡ slot stated q ms → (if bytes_eq q k then Some (stated d) else s) ≡ slot stated q (put k d ms)
+pub slot_held : {X : Type 0} (stated : Data → Option X) (q k : List ℕ) (d : Data) (ms : Members) (s : Option (Option X)) → s ≡ member_slot stated q ms → (if bytes_eq q k then Some (stated d) else s) ≡ member_slot stated q (put k d ms)
 slot_held stated q k d ms s e = ap (λ x. if bytes_eq q k then Some (stated d) else x) e ∙ sym (slot_put stated q k d ms)
 
 -- a call that reads a member holds it

@@ -7,15 +7,15 @@ use Rattle.crush.specs.declared.step.Mode.{Mode}
 use Rattle.crush.specs.declared.step.Mode.TheVariants.{Firstn, Indep}
 use Rattle.stated.specs.declared.parts.StepPart.{StepPart}
 use Rattle.stated.specs.declared.parts.StepPart.TheVariants as part
-use Rattle.jsonstream.specs.Json.{◌>>=◌, number_of, entries_of, has_count, count_of, place}
+use Rattle.jsonstream.specs.Json.{◌>>=◌, whole_number, entries_of, has_count, item_count, place}
 use Rattle.partjson.specs.declared.rules.StepWord.{StepWord}
 use Rattle.partjson.specs.declared.rules.StepWord.TheVariants.{Take, Choose, Emit, Tries, LeafTries}
-use Rattle.partjson.specs.StatedMaps.{step_of, step_by, take_of, choose_of, emit_of, tries_of, leaf_tries_of}
+use Rattle.partjson.specs.StatedMaps.{stated_step, step_by, take_of, choose_of, emit_of, tries_of, leaf_tries_of}
 use Rattle.partjson.specs.Steps.{step_word, step_word_of, one_number, emit_with, choose_with, step_with, step_if}
 
 -- what is no list states no step
-pub no_step : (d : Data) → as_array d ≡ None → step_of d ≡ None
-unfolding step_of
+pub no_step : (d : Data) → as_array d ≡ None → stated_step d ≡ None
+unfolding stated_step
 no_step null e = refl
 no_step (boolean b) e = refl
 no_step (number n) e = refl
@@ -43,11 +43,11 @@ three_or_more n = ne_eqb (suc (suc (suc n))) 2 (λ e. omega (arith, e))
 
 -- a step of one number
 one_is : (make : ℤ → StepPart) (d : Data) (ds : Items) → (if has_count 2 (array (item d ds)) then (do
-  n ← place number_of 1 (array (item d ds))
-  Some (make n)) else None) ≡ option_and_then (λ ns. option_map make (one_number ns)) (entries_of number_of ds)
+  n ← place whole_number 1 (array (item d ds))
+  Some (make n)) else None) ≡ option_and_then (λ ns. option_map make (one_number ns)) (entries_of whole_number ds)
 one_is make d no_items = refl
-one_is make d (item e no_items) = one_at make (number_of e)
-one_is make d (item e (item f ds)) = rw (three_or_more (count_of ds)) (not_one make (number_of e) (number_of f) (entries_of number_of ds))
+one_is make d (item e no_items) = one_at make (whole_number e)
+one_is make d (item e (item f ds)) = rw (three_or_more (item_count ds)) (not_one make (whole_number e) (whole_number f) (entries_of whole_number ds))
 
 -- one number or more are not none
 not_none : (o : Option ℤ) (q : Option (List ℤ)) → None ≡ option_and_then emit_with (option_and_then (λ x. option_map (λ xs. x ∷ xs) q) o)
@@ -60,9 +60,9 @@ two_or_more : (n : ℕ) → (suc (suc n) == 1) ≡ false
 two_or_more n = ne_eqb (suc (suc n)) 1 (λ e. omega (arith, e))
 
 -- a step of no number
-none_is : (d : Data) (ds : Items) → (if has_count 1 (array (item d ds)) then Some part.Emit else None) ≡ option_and_then emit_with (entries_of number_of ds)
+none_is : (d : Data) (ds : Items) → (if has_count 1 (array (item d ds)) then Some part.Emit else None) ≡ option_and_then emit_with (entries_of whole_number ds)
 none_is d no_items = refl
-none_is d (item e ds) = rw (two_or_more (count_of ds)) (not_none (number_of e) (entries_of number_of ds))
+none_is d (item e ds) = rw (two_or_more (item_count ds)) (not_none (whole_number e) (entries_of whole_number ds))
 
 module _ (mode : Mode) (to_leaf : Bool) where
   -- the choose step of a count and a type
@@ -95,12 +95,12 @@ module _ (mode : Mode) (to_leaf : Bool) where
   four_or_more n = ne_eqb (suc (suc (suc (suc n)))) 3 (λ e. omega (arith, e))
 
   -- a step of two numbers
-  two_is : (d : Data) (ds : Items) → choose_of mode to_leaf (array (item d ds)) ≡ option_and_then (choose_with mode to_leaf) (entries_of number_of ds)
+  two_is : (d : Data) (ds : Items) → choose_of mode to_leaf (array (item d ds)) ≡ option_and_then (choose_with mode to_leaf) (entries_of whole_number ds)
   unfolding choose_of
   two_is d no_items = refl
-  two_is d (item e no_items) = first_alone (number_of e)
-  two_is d (item e (item f no_items)) = two_at (number_of e) (number_of f)
-  two_is d (item e (item f (item g ds))) = rw (four_or_more (count_of ds)) (not_two (number_of e) (number_of f) (number_of g) (entries_of number_of ds))
+  two_is d (item e no_items) = first_alone (whole_number e)
+  two_is d (item e (item f no_items)) = two_at (whole_number e) (whole_number f)
+  two_is d (item e (item f (item g ds))) = rw (four_or_more (item_count ds)) (not_two (whole_number e) (whole_number f) (whole_number g) (entries_of whole_number ds))
 
 -- ---- by the word
 
@@ -110,11 +110,11 @@ picked f true w x rest others is later = is
 picked f false w x rest others is later = later
 
 -- what a list states is picked by its word
-by_word : (d : Data) (ds : Items) (o : Option (List ℕ)) → option_and_then (λ w. step_by w (array (item d ds))) o ≡ step_if (option_and_then step_word o) (entries_of number_of ds)
+by_word : (d : Data) (ds : Items) (o : Option (List ℕ)) → option_and_then (λ w. step_by w (array (item d ds))) o ≡ step_if (option_and_then step_word o) (entries_of whole_number ds)
 unfolding step_by take_of emit_of tries_of leaf_tries_of
 by_word d ds None = refl
 by_word d ds (Some w) =
-    let f = λ (s : StepWord). option_and_then (step_with s) (entries_of number_of ds) in
+    let f = λ (s : StepWord). option_and_then (step_with s) (entries_of whole_number ds) in
     picked f (bytes_eq w (codes "take")) Take _ _ _ (one_is (λ n. part.Take n) d ds)
     (picked f (bytes_eq w (codes "choose_firstn")) (Choose Firstn false) _ _ _ (two_is Firstn false d ds)
     (picked f (bytes_eq w (codes "choose_indep")) (Choose Indep false) _ _ _ (two_is Indep false d ds)
@@ -125,6 +125,6 @@ by_word d ds (Some w) =
     (picked f (bytes_eq w (codes "set_chooseleaf_tries")) LeafTries _ _ _ (one_is (λ n. part.SetChooseleafTries n) d ds) refl)))))))
 
 -- a list states the step of its word and the numbers behind it
-pub step_is : (d : Data) (ds : Items) → step_of (array (item d ds)) ≡ step_if (step_word_of d) (entries_of number_of ds)
-unfolding step_of
+pub step_is : (d : Data) (ds : Items) → stated_step (array (item d ds)) ≡ step_if (step_word_of d) (entries_of whole_number ds)
+unfolding stated_step
 step_is d ds = by_word d ds (as_str d)

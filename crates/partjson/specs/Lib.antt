@@ -3,3 +3,4 @@ pub mod StatedChanges
 pub mod Steps
 pub mod Members
 pub mod Places
+pub mod Laws

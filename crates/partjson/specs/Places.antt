@@ -6,8 +6,8 @@ use Rattle.stated.specs.declared.parts.GrowPart.{GrowPart}
 use Rattle.partjson.specs.declared.change.RawReweight.{RawReweight}
 
 -- an item: [id, weight]
-abbrev pub item_at : ℤ × ℤ → ItemPart
-item_at p = record { id = p.0; weight = p.1 }
+abbrev pub item_placed : ℤ × ℤ → ItemPart
+item_placed p = record { id = p.0; weight = p.1 }
 
 -- a pair: [from, to]
 abbrev pub pair_at : ℤ × ℤ → PairPart

@@ -23,7 +23,7 @@ use Rattle.stated.specs.declared.parts.ExceptionPart.{ExceptionPart}
 use Rattle.stated.specs.declared.parts.PairPart.{PairPart}
 use Rattle.stated.specs.declared.pg_text.PgParts.{PgParts}
 use Rattle.stated.specs.PgText.{parts_in}
-use Rattle.jsonstream.specs.Json.{◌>>=◌, number_of, list_of, has_count, place, both_of, has_only, field, optional_list}
+use Rattle.jsonstream.specs.Json.{◌>>=◌, whole_number, stated_list, has_count, place, both_of, has_only, field, optional_list}
 
 -- ---- the forest
 
@@ -39,20 +39,20 @@ abbrev pub bucket_kind_of : Data → Option BucketKind
 bucket_kind_of d = as_str d >>= bucket_kind
 
 -- an item: [item, weight]
-unfoldable pub item_of : Data → Option ItemPart
-item_of d = option_map (λ item. record { id = item.0; weight = item.1 }) (both_of number_of number_of d)
+unfoldable pub stated_item : Data → Option ItemPart
+stated_item d = option_map (λ item. record { id = item.0; weight = item.1 }) (both_of whole_number whole_number d)
 
 -- the keys of a bucket
 abbrev pub bucket_keys : List (List ℕ)
 bucket_keys = codes "id" ∷ codes "items" ∷ codes "kind" ∷ codes "type" ∷ []
 
 -- a bucket: id, items, kind and type
-unfoldable pub bucket_of : Data → Option BucketPart
-bucket_of d = if has_only bucket_keys d then (do
-  id ← field number_of (codes "id") d
-  level ← field number_of (codes "type") d
+unfoldable pub stated_bucket : Data → Option BucketPart
+stated_bucket d = if has_only bucket_keys d then (do
+  id ← field whole_number (codes "id") d
+  level ← field whole_number (codes "type") d
   kind ← field bucket_kind_of (codes "kind") d
-  items ← field (list_of item_of) (codes "items") d
+  items ← field (stated_list stated_item) (codes "items") d
   Some (record { id = id; level = level; kind = kind; items = items })) else None
 
 -- ---- rules
@@ -74,25 +74,25 @@ emit_of d = if has_count 1 d then Some Emit else None
 -- ["take", bucket]
 unfoldable pub take_of : Data → Option StepPart
 take_of d = if has_count 2 d then (do
-  id ← place number_of 1 d
+  id ← place whole_number 1 d
   Some (Take id)) else None
 
 -- [word, count, type], where the word gives the mode and whether a device is taken below
 unfoldable pub choose_of : Mode → Bool → Data → Option StepPart
 choose_of mode to_leaf d = if has_count 3 d then (do
-  count ← place number_of 1 d
-  level ← place number_of 2 d
+  count ← place whole_number 1 d
+  level ← place whole_number 2 d
   Some (Choose (record { mode = mode; to_leaf = to_leaf; count = count; level = level }))) else None
 
 -- ["set_choose_tries", n] and ["set_chooseleaf_tries", n]
 unfoldable pub tries_of : Data → Option StepPart
 tries_of d = if has_count 2 d then (do
-  tries ← place number_of 1 d
+  tries ← place whole_number 1 d
   Some (SetChooseTries tries)) else None
 
 unfoldable pub leaf_tries_of : Data → Option StepPart
 leaf_tries_of d = if has_count 2 d then (do
-  tries ← place number_of 1 d
+  tries ← place whole_number 1 d
   Some (SetChooseleafTries tries)) else None
 
 -- a step, by its word
@@ -109,8 +109,8 @@ step_by word d =
     else None
 
 -- a step, whose word stands first
-unfoldable pub step_of : Data → Option StepPart
-step_of d = do
+unfoldable pub stated_step : Data → Option StepPart
+stated_step d = do
   word ← place as_str 0 d
   step_by word d
 
@@ -119,11 +119,11 @@ abbrev pub rule_keys : List (List ℕ)
 rule_keys = codes "id" ∷ codes "kind" ∷ codes "steps" ∷ []
 
 -- a rule: id, kind and steps
-unfoldable pub rule_of : Data → Option RulePart
-rule_of d = if has_only rule_keys d then (do
-  id ← field number_of (codes "id") d
+unfoldable pub stated_rule : Data → Option RulePart
+stated_rule d = if has_only rule_keys d then (do
+  id ← field whole_number (codes "id") d
   kind ← field rule_kind_of (codes "kind") d
-  steps ← field (list_of step_of) (codes "steps") d
+  steps ← field (stated_list stated_step) (codes "steps") d
   Some (record { id = id; kind = kind; steps = steps })) else None
 
 -- ---- pools and OSDs
@@ -133,15 +133,22 @@ abbrev pub pool_keys : List (List ℕ)
 pool_keys = codes "id" ∷ codes "kind" ∷ codes "pg_num" ∷ codes "pgp_num" ∷ codes "rule" ∷ codes "size" ∷ []
 
 -- a pool: id, kind, pg_num, pgp_num, rule and size
-unfoldable pub pool_of : Data → Option PoolPart
-pool_of d = if has_only pool_keys d then (do
-  id ← field number_of (codes "id") d
+unfoldable pub stated_pool : Data → Option PoolPart
+stated_pool d = if has_only pool_keys d then (do
+  id ← field whole_number (codes "id") d
   kind ← field rule_kind_of (codes "kind") d
-  pg_num ← field number_of (codes "pg_num") d
-  pgp_num ← field number_of (codes "pgp_num") d
-  rule ← field number_of (codes "rule") d
-  size ← field number_of (codes "size") d
-  Some (record { id = id; kind = kind; pg_num = pg_num; pgp_num = pgp_num; rule = rule; size = size })) else None
+  pg_num ← field whole_number (codes "pg_num") d
+  pgp_num ← field whole_number (codes "pgp_num") d
+  rule ← field whole_number (codes "rule") d
+  size ← field whole_number (codes "size") d
+  Some (record {
+    id = id;
+    kind = kind;
+    pg_num = pg_num;
+    pgp_num = pgp_num;
+    rule = rule;
+    size = size;
+  })) else None
 
 -- the keys of an OSD
 abbrev pub osd_keys : List (List ℕ)
@@ -150,54 +157,55 @@ osd_keys = codes "exists" ∷ codes "id" ∷ codes "up" ∷ codes "weight" ∷ [
 -- an OSD: exists, id, up and weight
 unfoldable pub osd_of : Data → Option OsdPart
 osd_of d = if has_only osd_keys d then (do
-  id ← field number_of (codes "id") d
+  id ← field whole_number (codes "id") d
   exists ← field as_bool (codes "exists") d
   up ← field as_bool (codes "up") d
-  weight ← field number_of (codes "weight") d
+  weight ← field whole_number (codes "weight") d
   Some (record { id = id; exists = exists; up = up; weight = weight })) else None
 
 -- ---- exceptions
 
 -- a group, by its text
-abbrev pub pg_of : Data → Option PgParts
-pg_of d = as_str d >>= parts_in
+abbrev pub stated_pg : Data → Option PgParts
+stated_pg d = as_str d >>= parts_in
 
 -- a pair: [from, to]
-unfoldable pub pair_of : Data → Option PairPart
-pair_of d = option_map (λ pair. record { from = pair.0; to = pair.1 }) (both_of number_of number_of d)
+unfoldable pub stated_pair : Data → Option PairPart
+stated_pair d = option_map (λ pair. record { from = pair.0; to = pair.1 }) (both_of whole_number whole_number d)
 
 -- an exception: [group, [entry, ..]], by what states an entry
-unfoldable pub exception_of : {X : Type 0} → (Data → Option X) → Data → Option (ExceptionPart X)
-exception_of stated d = option_map (λ said. record { pg = said.0; entries = said.1 }) (both_of pg_of (list_of stated) d)
+unfoldable pub stated_exception : {X : Type 0} → (Data → Option X) → Data → Option (ExceptionPart X)
+stated_exception stated d =
+    option_map (λ said. record { pg = said.0; entries = said.1 }) (both_of stated_pg (stated_list stated) d)
 
 -- ---- the map
 
 -- the keys of a map
 abbrev pub map_keys : List (List ℕ)
 map_keys =
-    codes "buckets" ∷ codes "epoch" ∷ codes "max_osd" ∷ codes "osds" ∷ codes "pg_upmap" ∷ codes "pg_upmap_items"
-    ∷ codes "pools" ∷ codes "rules" ∷ codes "version" ∷ []
+    codes "buckets" ∷ codes "epoch" ∷ codes "max_osd" ∷ codes "osds" ∷ codes "pg_upmap"
+    ∷ codes "pg_upmap_items" ∷ codes "pools" ∷ codes "rules" ∷ codes "version" ∷ []
 
 -- whether a step sets tries
-abbrev pub sets_tries : StepPart → Bool
-sets_tries (SetChooseTries _) = true
-sets_tries (SetChooseleafTries _) = true
-sets_tries (Take _) = false
-sets_tries (Choose _) = false
-sets_tries Emit = false
+abbrev pub states_tries : StepPart → Bool
+states_tries (SetChooseTries _) = true
+states_tries (SetChooseleafTries _) = true
+states_tries (Take _) = false
+states_tries (Choose _) = false
+states_tries Emit = false
 
 -- the parts of a map: all are required but the exceptions, which may be missing
 unfoldable pub map_of : Data → Option MapParts
 map_of d = if has_only map_keys d then (do
-  version ← field number_of (codes "version") d
-  epoch ← field number_of (codes "epoch") d
-  max_osd ← field number_of (codes "max_osd") d
-  buckets ← field (list_of bucket_of) (codes "buckets") d
-  rules ← field (list_of rule_of) (codes "rules") d
-  pools ← field (list_of pool_of) (codes "pools") d
-  osds ← field (list_of osd_of) (codes "osds") d
-  pg_upmap ← optional_list (exception_of number_of) (codes "pg_upmap") d
-  pg_upmap_items ← optional_list (exception_of pair_of) (codes "pg_upmap_items") d
+  version ← field whole_number (codes "version") d
+  epoch ← field whole_number (codes "epoch") d
+  max_osd ← field whole_number (codes "max_osd") d
+  buckets ← field (stated_list stated_bucket) (codes "buckets") d
+  rules ← field (stated_list stated_rule) (codes "rules") d
+  pools ← field (stated_list stated_pool) (codes "pools") d
+  osds ← field (stated_list osd_of) (codes "osds") d
+  pg_upmap ← optional_list (stated_exception whole_number) (codes "pg_upmap") d
+  pg_upmap_items ← optional_list (stated_exception stated_pair) (codes "pg_upmap_items") d
   Some (record {
     version = version;
     epoch = epoch;
@@ -213,7 +221,8 @@ map_of d = if has_only map_keys d then (do
 -- rules set tries in maps of version 2 alone
 abbrev pub in_its_version : MapParts → Option MapParts
 in_its_version p =
-    if not (int_eq p.version (pos 2)) && list_any (λ r. list_any sets_tries r.steps) p.rules then None else Some p
+    if not (int_eq p.version (pos 2)) && list_any (λ r. list_any states_tries r.steps) p.rules then None
+    else Some p
 
 -- the parts of a map of its version
 unfoldable pub stated_map : Data → Option MapParts

@@ -1,14 +1,15 @@
 //! Changes as JSON texts state them.
 
+ghost use Rattle.std.proofs.Common.{rules};
 ghost use Rattle.std.specs.Prelude.{◌≡◌, option_map};
-ghost use Rattle.serde_json.specs.Data.{no_members};
-ghost use Rattle.partjson.specs.StatedChanges.{reweight_of, growth_of, crush_of, stated_change};
+ghost use Rattle.partjson.specs.StatedChanges.{reweight_of, stated_growth, crush_of, stated_change};
 ghost use Rattle.partjson.specs.Members.{HoldsCrush, HoldsChange, crush_if, change_if};
+ghost use Rattle.partjson.specs.Laws.{crush_made, no_crush, change_made, no_change};
 ghost use Rattle.partjson.specs.Places.{reweight_at, growth_at};
 
 use crate::lists::triple;
-use crate::objects::{FromJson, Slots, object};
-use crate::slots::{Slot, flat, if_there, member, or_empty};
+use crate::objects::{FromJson, Slots, read_object};
+use crate::slots::{Slot, flat, if_there, member, or_empty, three_lists};
 use json::Reader;
 use jsonstream::tokens::skip;
 use keylist::Entries;
@@ -90,7 +91,7 @@ fn growth_of_places(places: Option<(i128, i128, i128)>) -> Option<GrowPart>
 }
 
 impl FromJson for GrowPart {
-    ghost stated = { growth_of };
+    ghost stated = { stated_growth };
 
     fn read(
         alloc: Global,
@@ -103,41 +104,27 @@ impl FromJson for GrowPart {
 }
 
 /// The members of a CRUSH map that have come.
-#[derive(Drop)]
+#[derive(Default, Drop)]
 struct CrushSlots {
-    known: bool,
+    unknown: bool,
     buckets: Slot<Entries<BucketPart>>,
     rules: Slot<Entries<RulePart>>,
 }
 
-impl CrushSlots {
-    /// None has come.
-    fn new() -> CrushSlots
-        ensures { HoldsCrush result no_members }
-    {
-        CrushSlots {
-            known: true,
-            buckets: None,
-            rules: None,
-        }
-    }
-
-    /// A CRUSH map of these members: none where a key is missing or too much, or a value states nothing.
-    fn part(self) -> Option<CrushParts>
-        ensures { result ≡ crush_if self }
-    {
-        if !self.known {
-            return None;
-        }
-        Some(CrushParts {
-            buckets: flat(self.buckets)?,
-            rules: flat(self.rules)?,
-        })
-    }
-}
-
 impl Slots for CrushSlots {
+    type Part = CrushParts;
+
     ghost hold = { HoldsCrush };
+
+    ghost made = { crush_if };
+
+    ghost stated = { crush_of };
+
+    ghost none_held = { Prim.search rules };
+
+    ghost object_stated = { crush_made };
+
+    ghost other_stated = { no_crush };
 
     fn take(
         &mut self,
@@ -150,10 +137,20 @@ impl Slots for CrushSlots {
             "buckets" => member(alloc, reader, depth, &mut self.buckets),
             "rules" => member(alloc, reader, depth, &mut self.rules),
             _ => {
-                self.known = false;
+                self.unknown = true;
                 skip(reader, depth)
             }
         }
+    }
+
+    fn part(self, _alloc: Global) -> Option<CrushParts> {
+        if self.unknown {
+            return None;
+        }
+        Some(CrushParts {
+            buckets: flat(self.buckets)?,
+            rules: flat(self.rules)?,
+        })
     }
 }
 
@@ -165,18 +162,14 @@ impl FromJson for CrushParts {
         reader: &mut Reader<'_>,
         depth: usize,
     ) -> Result<Option<CrushParts>, Refusal> {
-        let mut slots = CrushSlots::new();
-        if !object(alloc, reader, depth, &mut slots)? {
-            return Ok(None);
-        }
-        Ok(slots.part())
+        read_object::<CrushSlots>(alloc, reader, depth)
     }
 }
 
 /// The members of a change that have come.
-#[derive(Drop)]
+#[derive(Default, Drop)]
 struct ChangeSlots {
-    known: bool,
+    unknown: bool,
     base: Slot<i128>,
     down: Slot<Entries<i128>>,
     grow_pool: Slot<Entries<GrowPart>>,
@@ -191,79 +184,20 @@ struct ChangeSlots {
     weight: Slot<Entries<RawReweight>>,
 }
 
-impl ChangeSlots {
-    /// None has come.
-    fn new() -> ChangeSlots
-        ensures { HoldsChange result no_members }
-    {
-        ChangeSlots {
-            known: true,
-            base: None,
-            down: None,
-            grow_pool: None,
-            new_crush: None,
-            new_items: None,
-            new_pools: None,
-            new_upmap: None,
-            old_items: None,
-            old_pools: None,
-            old_upmap: None,
-            up: None,
-            weight: None,
-        }
-    }
-
-    /// A change of these members: none where a key is missing or too much, or a value states nothing.
-    fn part(self, alloc: Global) -> Option<RawChange>
-        ensures { result ≡ change_if self }
-    {
-        let first = triple(
-            flat(self.base),
-            or_empty(alloc, self.old_pools),
-            if_there(self.new_crush),
-            self.known,
-        );
-        let second = triple(
-            or_empty(alloc, self.new_pools),
-            or_empty(alloc, self.grow_pool),
-            or_empty(alloc, self.down),
-            true,
-        );
-        let third = triple(
-            or_empty(alloc, self.up),
-            or_empty(alloc, self.weight),
-            or_empty(alloc, self.old_upmap),
-            true,
-        );
-        let fourth = triple(
-            or_empty(alloc, self.old_items),
-            or_empty(alloc, self.new_upmap),
-            or_empty(alloc, self.new_items),
-            true,
-        );
-        let (base, old_pools, new_crush) = first?;
-        let (new_pools, grow_pool, down) = second?;
-        let (up, weight, old_upmap) = third?;
-        let (old_items, new_upmap, new_items) = fourth?;
-        Some(RawChange {
-            base,
-            old_pools,
-            new_crush,
-            new_pools,
-            grow_pool,
-            down,
-            up,
-            weight,
-            old_upmap,
-            old_items,
-            new_upmap,
-            new_items,
-        })
-    }
-}
-
 impl Slots for ChangeSlots {
+    type Part = RawChange;
+
     ghost hold = { HoldsChange };
+
+    ghost made = { change_if };
+
+    ghost stated = { stated_change };
+
+    ghost none_held = { Prim.search rules };
+
+    ghost object_stated = { change_made };
+
+    ghost other_stated = { no_change };
 
     fn take(
         &mut self,
@@ -286,10 +220,40 @@ impl Slots for ChangeSlots {
             "up" => member(alloc, reader, depth, &mut self.up),
             "weight" => member(alloc, reader, depth, &mut self.weight),
             _ => {
-                self.known = false;
+                self.unknown = true;
                 skip(reader, depth)
             }
         }
+    }
+
+    fn part(self, alloc: Global) -> Option<RawChange> {
+        let first = triple(
+            flat(self.base),
+            or_empty(alloc, self.old_pools),
+            if_there(self.new_crush),
+            !self.unknown,
+        );
+        let second = three_lists(alloc, self.new_pools, self.grow_pool, self.down);
+        let third = three_lists(alloc, self.up, self.weight, self.old_upmap);
+        let fourth = three_lists(alloc, self.old_items, self.new_upmap, self.new_items);
+        let (base, old_pools, new_crush) = first?;
+        let (new_pools, grow_pool, down) = second?;
+        let (up, weight, old_upmap) = third?;
+        let (old_items, new_upmap, new_items) = fourth?;
+        Some(RawChange {
+            base,
+            old_pools,
+            new_crush,
+            new_pools,
+            grow_pool,
+            down,
+            up,
+            weight,
+            old_upmap,
+            old_items,
+            new_upmap,
+            new_items,
+        })
     }
 }
 
@@ -301,10 +265,6 @@ impl FromJson for RawChange {
         reader: &mut Reader<'_>,
         depth: usize,
     ) -> Result<Option<RawChange>, Refusal> {
-        let mut slots = ChangeSlots::new();
-        if !object(alloc, reader, depth, &mut slots)? {
-            return Ok(None);
-        }
-        Ok(slots.part(alloc))
+        read_object::<ChangeSlots>(alloc, reader, depth)
     }
 }

@@ -2,7 +2,7 @@
 
 ghost use Rattle.std.specs.Prelude.{◌≡◌, option_map};
 ghost use Rattle.stated.specs.PgText.{parts_in};
-ghost use Rattle.partjson.specs.StatedMaps.{pg_of, pair_of, exception_of};
+ghost use Rattle.partjson.specs.StatedMaps.{stated_pg, stated_pair, stated_exception};
 ghost use Rattle.partjson.specs.Places.{pair_at};
 
 use crate::objects::FromJson;
@@ -22,7 +22,7 @@ impl FromWord for PgParts {
 }
 
 impl FromJson for PgParts {
-    ghost stated = { pg_of };
+    ghost stated = { stated_pg };
 
     fn read(
         _alloc: Global,
@@ -42,7 +42,7 @@ fn pair_of_places(places: Option<(i128, i128)>) -> Option<PairPart>
 }
 
 impl FromJson for PairPart {
-    ghost stated = { pair_of };
+    ghost stated = { stated_pair };
 
     fn read(
         alloc: Global,
@@ -55,7 +55,7 @@ impl FromJson for PairPart {
 }
 
 impl<E: FromJson> FromJson for ExceptionPart<E> {
-    ghost stated = { exception_of E.stated };
+    ghost stated = { stated_exception E.stated };
 
     fn read(
         alloc: Global,

@@ -1,12 +1,13 @@
 //! The forest as JSON texts state it.
 
+ghost use Rattle.std.proofs.Common.{rules};
 ghost use Rattle.std.specs.Prelude.{◌≡◌, option_map};
-ghost use Rattle.serde_json.specs.Data.{no_members};
-ghost use Rattle.partjson.specs.StatedMaps.{bucket_kind, bucket_kind_of, item_of, bucket_of};
+ghost use Rattle.partjson.specs.StatedMaps.{bucket_kind, bucket_kind_of, stated_item, stated_bucket};
 ghost use Rattle.partjson.specs.Members.{HoldsBucket, bucket_if};
-ghost use Rattle.partjson.specs.Places.{item_at};
+ghost use Rattle.partjson.specs.Laws.{bucket_made, no_bucket};
+ghost use Rattle.partjson.specs.Places.{item_placed};
 
-use crate::objects::{FromJson, Slots, object};
+use crate::objects::{FromJson, Slots, read_object};
 use crate::slots::{Slot, flat, member};
 use crate::words::{FromWord, word};
 use crush::BucketKind;
@@ -44,14 +45,14 @@ impl FromJson for BucketKind {
 
 /// An item of the numbers at its places.
 fn item_of_places(places: Option<(i128, i128)>) -> Option<ItemPart>
-    ensures { result ≡ option_map item_at places }
+    ensures { result ≡ option_map item_placed places }
 {
     let (id, weight) = places?;
     Some(ItemPart { id, weight })
 }
 
 impl FromJson for ItemPart {
-    ghost stated = { item_of };
+    ghost stated = { stated_item };
 
     fn read(
         alloc: Global,
@@ -64,47 +65,29 @@ impl FromJson for ItemPart {
 }
 
 /// The members of a bucket that have come.
-#[derive(Drop)]
+#[derive(Default, Drop)]
 struct BucketSlots {
-    known: bool,
+    unknown: bool,
     id: Slot<i128>,
     items: Slot<Entries<ItemPart>>,
     kind: Slot<BucketKind>,
     level: Slot<i128>,
 }
 
-impl BucketSlots {
-    /// None has come.
-    fn new() -> BucketSlots
-        ensures { HoldsBucket result no_members }
-    {
-        BucketSlots {
-            known: true,
-            id: None,
-            items: None,
-            kind: None,
-            level: None,
-        }
-    }
-
-    /// A bucket of these members: none where a key is missing or too much, or a value states nothing.
-    fn part(self) -> Option<BucketPart>
-        ensures { result ≡ bucket_if self }
-    {
-        if !self.known {
-            return None;
-        }
-        Some(BucketPart {
-            id: flat(self.id)?,
-            level: flat(self.level)?,
-            kind: flat(self.kind)?,
-            items: flat(self.items)?,
-        })
-    }
-}
-
 impl Slots for BucketSlots {
+    type Part = BucketPart;
+
     ghost hold = { HoldsBucket };
+
+    ghost made = { bucket_if };
+
+    ghost stated = { stated_bucket };
+
+    ghost none_held = { Prim.search rules };
+
+    ghost object_stated = { bucket_made };
+
+    ghost other_stated = { no_bucket };
 
     fn take(
         &mut self,
@@ -119,25 +102,33 @@ impl Slots for BucketSlots {
             "kind" => member(alloc, reader, depth, &mut self.kind),
             "type" => member(alloc, reader, depth, &mut self.level),
             _ => {
-                self.known = false;
+                self.unknown = true;
                 skip(reader, depth)
             }
         }
     }
+
+    fn part(self, _alloc: Global) -> Option<BucketPart> {
+        if self.unknown {
+            return None;
+        }
+        Some(BucketPart {
+            id: flat(self.id)?,
+            level: flat(self.level)?,
+            kind: flat(self.kind)?,
+            items: flat(self.items)?,
+        })
+    }
 }
 
 impl FromJson for BucketPart {
-    ghost stated = { bucket_of };
+    ghost stated = { stated_bucket };
 
     fn read(
         alloc: Global,
         reader: &mut Reader<'_>,
         depth: usize,
     ) -> Result<Option<BucketPart>, Refusal> {
-        let mut slots = BucketSlots::new();
-        if !object(alloc, reader, depth, &mut slots)? {
-            return Ok(None);
-        }
-        Ok(slots.part())
+        read_object::<BucketSlots>(alloc, reader, depth)
     }
 }

@@ -3,8 +3,8 @@
 ghost use Rattle.std.specs.Prelude.{◌≡◌, ◌⊎◌, ◌==◌, Some, None, MatchResult, option_map};
 ghost use Rattle.json.specs.Json.{parse_map};
 ghost use Rattle.serde_json.specs.Data.{Items, array};
-ghost use Rattle.jsonstream.specs.Stream.{next, rest_of_list, added, IsEntry, pair_if, triple_if};
-ghost use Rattle.jsonstream.specs.Json.{entries_of, list_of, count_of, both_of, three_of};
+ghost use Rattle.jsonstream.specs.Stream.{next, rest_of_list, added, ReadsEntry, pair_if, triple_if};
+ghost use Rattle.jsonstream.specs.Json.{entries_of, stated_list, item_count, both_of, three_of};
 
 use crate::objects::FromJson;
 use json::Reader;
@@ -48,7 +48,7 @@ pub(crate) fn entries<T: FromJson>(
 /// The longest list that is copied to be cut to its length.
 const SHORT: usize = 256;
 
-/// A list of exactly the length of what was found: a short one is copied, as what is cut off it would lie waste.
+/// A list of exactly the length of what was found: a short one is copied, as what is cut off would lie waste.
 fn cut<T: Drop>(alloc: Global, found: Vec<T>) -> Result<Vec<T>, Refusal>
     ensures { MatchResult result (λ list. list.items ≡ found.items) (λ e. e ≡ Refusal.Memory) }
 {
@@ -71,7 +71,7 @@ fn exact<T: Drop>(alloc: Global, found: Option<Vec<T>>) -> Result<Option<Entries
 }
 
 impl<T: FromJson> FromJson for Entries<T> {
-    ghost stated = { list_of T.stated };
+    ghost stated = { stated_list T.stated };
 
     fn read(
         alloc: Global,
@@ -92,7 +92,7 @@ pub(crate) fn next_entry<T: FromJson>(
     reader: &mut Reader<'_>,
     depth: usize,
 ) -> Result<Option<Option<T>>, Refusal>
-    ensures { MatchResult result (λ r. IsEntry T.stated depth reader.old r reader.new)
+    ensures { MatchResult result (λ r. ReadsEntry T.stated depth reader.old r reader.new)
         (λ e. (e ≡ Refusal.Memory) ⊎ ((e ≡ Refusal.BadJson) × (rest_of_list depth reader.old ≡ None))) }
 {
     if reader.take_end_array() {
@@ -106,7 +106,7 @@ pub(crate) fn next_entry<T: FromJson>(
 fn is_over(reader: &mut Reader<'_>, depth: usize) -> Result<bool, Refusal>
     ensures { MatchResult result
         (λ over. (ds : Items) × (rest_of_list depth reader.old ≡ Some (ds, reader.new))
-        × (over ≡ (count_of ds == 0)))
+        × (over ≡ (item_count ds == 0)))
         (λ e. (e ≡ Refusal.BadJson) × (rest_of_list depth reader.old ≡ None)) }
 {
     if reader.take_end_array() {

@@ -1,15 +1,13 @@
 //! Maps as JSON texts state them.
 
+ghost use Rattle.std.proofs.Common.{rules};
 ghost use Rattle.std.specs.Prelude.{◌≡◌};
 ghost use Rattle.std.specs.List.{list_any};
-ghost use Rattle.json.specs.Json.{parse_map};
-ghost use Rattle.serde_json.specs.Data.{no_members};
-ghost use Rattle.jsonstream.specs.Stream.{next, TakesValue};
-ghost use Rattle.partjson.specs.StatedMaps.{sets_tries, map_of, in_its_version, stated_map};
+ghost use Rattle.partjson.specs.StatedMaps.{states_tries, in_its_version, stated_map};
 ghost use Rattle.partjson.specs.Members.{HoldsMap, map_if};
+ghost use Rattle.partjson.specs.Laws.{map_made, no_map};
 
-use crate::lists::triple;
-use crate::objects::{FromJson, Slots, object};
+use crate::objects::{FromJson, Slots, read_object};
 use crate::slots::{Slot, flat, member, or_empty};
 use json::Reader;
 use jsonstream::tokens::skip;
@@ -21,9 +19,9 @@ use stated::{
 use std::alloc::Global;
 
 /// The members of a map that have come.
-#[derive(Drop)]
+#[derive(Default, Drop)]
 struct MapSlots {
-    known: bool,
+    unknown: bool,
     buckets: Slot<Entries<BucketPart>>,
     epoch: Slot<i128>,
     max_osd: Slot<i128>,
@@ -35,61 +33,20 @@ struct MapSlots {
     version: Slot<i128>,
 }
 
-impl MapSlots {
-    /// None has come.
-    fn new() -> MapSlots
-        ensures { HoldsMap result no_members }
-    {
-        MapSlots {
-            known: true,
-            buckets: None,
-            epoch: None,
-            max_osd: None,
-            osds: None,
-            pg_upmap: None,
-            pg_upmap_items: None,
-            pools: None,
-            rules: None,
-            version: None,
-        }
-    }
-
-    /// A map of these members: none where a key is missing or too much, or a value states nothing.
-    fn part(self, alloc: Global) -> Option<MapParts>
-        ensures { result ≡ map_if self }
-    {
-        let first = triple(
-            flat(self.version),
-            flat(self.epoch),
-            flat(self.max_osd),
-            self.known,
-        );
-        let second = triple(flat(self.buckets), flat(self.rules), flat(self.pools), true);
-        let third = triple(
-            flat(self.osds),
-            or_empty(alloc, self.pg_upmap),
-            or_empty(alloc, self.pg_upmap_items),
-            true,
-        );
-        let (version, epoch, max_osd) = first?;
-        let (buckets, rules, pools) = second?;
-        let (osds, pg_upmap, pg_upmap_items) = third?;
-        Some(MapParts {
-            version,
-            epoch,
-            max_osd,
-            buckets,
-            rules,
-            pools,
-            osds,
-            pg_upmap,
-            pg_upmap_items,
-        })
-    }
-}
-
 impl Slots for MapSlots {
+    type Part = MapParts;
+
     ghost hold = { HoldsMap };
+
+    ghost made = { map_if };
+
+    ghost stated = { stated_map };
+
+    ghost none_held = { Prim.search rules };
+
+    ghost object_stated = { map_made };
+
+    ghost other_stated = { no_map };
 
     fn take(
         &mut self,
@@ -109,27 +66,33 @@ impl Slots for MapSlots {
             "rules" => member(alloc, reader, depth, &mut self.rules),
             "version" => member(alloc, reader, depth, &mut self.version),
             _ => {
-                self.known = false;
+                self.unknown = true;
                 skip(reader, depth)
             }
         }
     }
-}
 
-/// The parts of a map, whatever its version.
-fn map_of(alloc: Global, reader: &mut Reader<'_>, depth: usize) -> Result<Option<MapParts>, Refusal>
-    ensures { TakesValue (parse_map map_of (next depth reader.old)) result reader.new }
-{
-    let mut slots = MapSlots::new();
-    if !object(alloc, reader, depth, &mut slots)? {
-        return Ok(None);
+    fn part(self, alloc: Global) -> Option<MapParts> {
+        if self.unknown {
+            return None;
+        }
+        in_its_version(MapParts {
+            version: flat(self.version)?,
+            epoch: flat(self.epoch)?,
+            max_osd: flat(self.max_osd)?,
+            buckets: flat(self.buckets)?,
+            rules: flat(self.rules)?,
+            pools: flat(self.pools)?,
+            osds: flat(self.osds)?,
+            pg_upmap: or_empty(alloc, self.pg_upmap)?,
+            pg_upmap_items: or_empty(alloc, self.pg_upmap_items)?,
+        })
     }
-    Ok(slots.part(alloc))
 }
 
 /// Whether a step sets tries.
 fn sets_tries(step: &StepPart) -> bool
-    ensures { result ≡ sets_tries step.now }
+    ensures { result ≡ states_tries step.now }
 {
     match step {
         StepPart::SetChooseTries(_) | StepPart::SetChooseleafTries(_) => true,
@@ -139,14 +102,14 @@ fn sets_tries(step: &StepPart) -> bool
 
 /// Whether a rule sets tries.
 fn rule_sets_tries(rule: &RulePart) -> bool
-    ensures { result ≡ list_any sets_tries rule.now.steps }
+    ensures { result ≡ list_any states_tries rule.now.steps }
 {
     rule.steps.iter().any(|step| sets_tries(step))
 }
 
 /// Whether one of some rules sets tries.
 fn set_tries(rules: &[RulePart]) -> bool
-    ensures { result ≡ list_any (λ r. list_any sets_tries r.steps) rules.now }
+    ensures { result ≡ list_any (λ r. list_any states_tries r.steps) rules.now }
 {
     rules.iter().any(|rule| rule_sets_tries(rule))
 }
@@ -169,9 +132,6 @@ impl FromJson for MapParts {
         reader: &mut Reader<'_>,
         depth: usize,
     ) -> Result<Option<MapParts>, Refusal> {
-        let Some(parts) = map_of(alloc, reader, depth)? else {
-            return Ok(None);
-        };
-        Ok(in_its_version(parts))
+        read_object::<MapSlots>(alloc, reader, depth)
     }
 }

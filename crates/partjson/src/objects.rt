@@ -1,6 +1,6 @@
 //! Objects.
 
-ghost use Rattle.std.specs.Prelude.{Option, ◌≡◌, ◌⊎◌, true, false, Some, None, MatchResult};
+ghost use Rattle.std.specs.Prelude.{Option, ◌≡◌, ◌⊎◌, Some, None, MatchResult};
 ghost use Rattle.json.specs.Json.{parse_map};
 ghost use Rattle.serde_json.specs.Data.{Data, Members, no_members, object};
 ghost use Rattle.serde_json.specs.Find.{as_object};
@@ -20,9 +20,19 @@ pub(crate) trait FromJson: Drop {
         ensures { TakesValue (parse_map stated (next depth reader.old)) result reader.new };
 }
 
-/// The members of an object that have come.
-pub(crate) trait Slots: Drop {
+/// A table of the members of an object that have come, and of what the object states.
+pub(crate) trait Slots: Default + Drop {
+    /// What an object of these members states.
+    type Part: Drop;
+
+    /// The table holds these members.
     ghost hold: { Self → Members → Type 0 };
+
+    /// What its members make.
+    ghost made: { Self → Option Self.Part };
+
+    /// What a value states.
+    ghost stated: { Data → Option Self.Part };
 
     /// Takes the member of a key.
     fn take(
@@ -33,6 +43,19 @@ pub(crate) trait Slots: Drop {
         depth: usize,
     ) -> Result<(), Refusal>
         ensures { TakesMember hold key.now (next depth reader.old) self.old result self.new reader.new };
+
+    /// The part of the members: none where a key is missing or too much, or a value states nothing.
+    fn part(self, alloc: Global) -> Option<Self::Part>
+        ensures { result ≡ made self };
+
+    /// A table that begins holds no member.
+    ghost none_held: { (s : Self) → Self.is_default s → hold s no_members };
+
+    /// An object states what its members make.
+    ghost object_stated: { (s : Self) (ms : Members) → hold s ms → stated (object ms) ≡ made s };
+
+    /// What is no object states nothing.
+    ghost other_stated: { (d : Data) → as_object d ≡ None → stated d ≡ None };
 }
 
 /// Reads the members that are left of an object.
@@ -44,7 +67,8 @@ fn members<S: Slots>(
 ) -> Result<(), Refusal>
     requires { S.hold slots.old no_members }
     ensures { MatchResult result
-        (λ _. (ms : Members) × (rest_of_object depth reader.old ≡ Some (ms, reader.new)) × S.hold slots.new ms)
+        (λ _. (ms : Members) × (rest_of_object depth reader.old ≡ Some (ms, reader.new))
+        × S.hold slots.new ms)
         (λ e. (e ≡ Refusal.Memory) ⊎ ((e ≡ Refusal.BadJson) × (rest_of_object depth reader.old ≡ None))) }
 {
     'members: while let Some(key) = next_key(reader)? {
@@ -53,23 +77,18 @@ fn members<S: Slots>(
     Ok(())
 }
 
-/// Reads an object: `false` where the value is none.
-pub(crate) fn object<S: Slots>(
+/// What the next value states, read into a table: `None` where it is no object, or none of the kind.
+pub(crate) fn read_object<S: Slots>(
     alloc: Global,
     reader: &mut Reader<'_>,
     depth: usize,
-    slots: &mut S,
-) -> Result<bool, Refusal>
-    requires { S.hold slots.old no_members }
-    ensures { MatchResult result
-        (λ is_object. (d : Data) × (next depth reader.old ≡ Some (d, reader.new))
-        × (is_object ≡ true → (ms : Members) × (d ≡ object ms) × S.hold slots.new ms)
-        × (is_object ≡ false → as_object d ≡ None))
-        (λ e. (e ≡ Refusal.Memory) ⊎ ((e ≡ Refusal.BadJson) × (next depth reader.old ≡ None))) }
+) -> Result<Option<S::Part>, Refusal>
+    ensures { TakesValue (parse_map S.stated (next depth reader.old)) result reader.new }
 {
     if !object_begins(reader, depth)? {
-        return Ok(false);
+        return Ok(None);
     }
-    members(alloc, reader, depth - 1, slots)?;
-    Ok(true)
+    let mut slots = S::default();
+    members(alloc, reader, depth - 1, &mut slots)?;
+    Ok(slots.part(alloc))
 }

@@ -1,11 +1,11 @@
 //! Pools and OSDs as JSON texts state them.
 
-ghost use Rattle.std.specs.Prelude.{◌≡◌};
-ghost use Rattle.serde_json.specs.Data.{no_members};
-ghost use Rattle.partjson.specs.StatedMaps.{pool_of, osd_of};
+ghost use Rattle.std.proofs.Common.{rules};
+ghost use Rattle.partjson.specs.StatedMaps.{stated_pool, osd_of};
 ghost use Rattle.partjson.specs.Members.{HoldsPool, HoldsOsd, pool_if, osd_if};
+ghost use Rattle.partjson.specs.Laws.{pool_made, no_pool, osd_made, no_osd};
 
-use crate::objects::{FromJson, Slots, object};
+use crate::objects::{FromJson, Slots, read_object};
 use crate::slots::{Slot, flat, member};
 use crush::RuleKind;
 use json::Reader;
@@ -15,9 +15,9 @@ use stated::{OsdPart, PoolPart};
 use std::alloc::Global;
 
 /// The members of a pool that have come.
-#[derive(Drop)]
+#[derive(Default, Drop)]
 struct PoolSlots {
-    known: bool,
+    unknown: bool,
     id: Slot<i128>,
     kind: Slot<RuleKind>,
     pg_num: Slot<i128>,
@@ -26,42 +26,20 @@ struct PoolSlots {
     size: Slot<i128>,
 }
 
-impl PoolSlots {
-    /// None has come.
-    fn new() -> PoolSlots
-        ensures { HoldsPool result no_members }
-    {
-        PoolSlots {
-            known: true,
-            id: None,
-            kind: None,
-            pg_num: None,
-            pgp_num: None,
-            rule: None,
-            size: None,
-        }
-    }
-
-    /// A pool of these members: none where a key is missing or too much, or a value states nothing.
-    fn part(self) -> Option<PoolPart>
-        ensures { result ≡ pool_if self }
-    {
-        if !self.known {
-            return None;
-        }
-        Some(PoolPart {
-            id: flat(self.id)?,
-            kind: flat(self.kind)?,
-            pg_num: flat(self.pg_num)?,
-            pgp_num: flat(self.pgp_num)?,
-            rule: flat(self.rule)?,
-            size: flat(self.size)?,
-        })
-    }
-}
-
 impl Slots for PoolSlots {
+    type Part = PoolPart;
+
     ghost hold = { HoldsPool };
+
+    ghost made = { pool_if };
+
+    ghost stated = { stated_pool };
+
+    ghost none_held = { Prim.search rules };
+
+    ghost object_stated = { pool_made };
+
+    ghost other_stated = { no_pool };
 
     fn take(
         &mut self,
@@ -78,71 +56,63 @@ impl Slots for PoolSlots {
             "rule" => member(alloc, reader, depth, &mut self.rule),
             "size" => member(alloc, reader, depth, &mut self.size),
             _ => {
-                self.known = false;
+                self.unknown = true;
                 skip(reader, depth)
             }
         }
     }
+
+    fn part(self, _alloc: Global) -> Option<PoolPart> {
+        if self.unknown {
+            return None;
+        }
+        Some(PoolPart {
+            id: flat(self.id)?,
+            kind: flat(self.kind)?,
+            pg_num: flat(self.pg_num)?,
+            pgp_num: flat(self.pgp_num)?,
+            rule: flat(self.rule)?,
+            size: flat(self.size)?,
+        })
+    }
 }
 
 impl FromJson for PoolPart {
-    ghost stated = { pool_of };
+    ghost stated = { stated_pool };
 
     fn read(
         alloc: Global,
         reader: &mut Reader<'_>,
         depth: usize,
     ) -> Result<Option<PoolPart>, Refusal> {
-        let mut slots = PoolSlots::new();
-        if !object(alloc, reader, depth, &mut slots)? {
-            return Ok(None);
-        }
-        Ok(slots.part())
+        read_object::<PoolSlots>(alloc, reader, depth)
     }
 }
 
 /// The members of an OSD that have come.
-#[derive(Drop)]
+#[derive(Default, Drop)]
 struct OsdSlots {
-    known: bool,
+    unknown: bool,
     exists: Slot<bool>,
     id: Slot<i128>,
     up: Slot<bool>,
     weight: Slot<i128>,
 }
 
-impl OsdSlots {
-    /// None has come.
-    fn new() -> OsdSlots
-        ensures { HoldsOsd result no_members }
-    {
-        OsdSlots {
-            known: true,
-            exists: None,
-            id: None,
-            up: None,
-            weight: None,
-        }
-    }
-
-    /// An OSD of these members: none where a key is missing or too much, or a value states nothing.
-    fn part(self) -> Option<OsdPart>
-        ensures { result ≡ osd_if self }
-    {
-        if !self.known {
-            return None;
-        }
-        Some(OsdPart {
-            id: flat(self.id)?,
-            exists: flat(self.exists)?,
-            up: flat(self.up)?,
-            weight: flat(self.weight)?,
-        })
-    }
-}
-
 impl Slots for OsdSlots {
+    type Part = OsdPart;
+
     ghost hold = { HoldsOsd };
+
+    ghost made = { osd_if };
+
+    ghost stated = { osd_of };
+
+    ghost none_held = { Prim.search rules };
+
+    ghost object_stated = { osd_made };
+
+    ghost other_stated = { no_osd };
 
     fn take(
         &mut self,
@@ -157,10 +127,22 @@ impl Slots for OsdSlots {
             "up" => member(alloc, reader, depth, &mut self.up),
             "weight" => member(alloc, reader, depth, &mut self.weight),
             _ => {
-                self.known = false;
+                self.unknown = true;
                 skip(reader, depth)
             }
         }
+    }
+
+    fn part(self, _alloc: Global) -> Option<OsdPart> {
+        if self.unknown {
+            return None;
+        }
+        Some(OsdPart {
+            id: flat(self.id)?,
+            exists: flat(self.exists)?,
+            up: flat(self.up)?,
+            weight: flat(self.weight)?,
+        })
     }
 }
 
@@ -172,10 +154,6 @@ impl FromJson for OsdPart {
         reader: &mut Reader<'_>,
         depth: usize,
     ) -> Result<Option<OsdPart>, Refusal> {
-        let mut slots = OsdSlots::new();
-        if !object(alloc, reader, depth, &mut slots)? {
-            return Ok(None);
-        }
-        Ok(slots.part())
+        read_object::<OsdSlots>(alloc, reader, depth)
     }
 }

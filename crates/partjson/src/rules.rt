@@ -1,15 +1,17 @@
 //! Rules as JSON texts state them.
 
+ghost use Rattle.std.proofs.Common.{rules};
 ghost use Rattle.std.specs.Prelude.{◌≡◌, option_map};
 ghost use Rattle.json.specs.Json.{parse_map};
-ghost use Rattle.serde_json.specs.Data.{array, no_members};
+ghost use Rattle.serde_json.specs.Data.{array};
 ghost use Rattle.jsonstream.specs.Stream.{rest_of_list, TakesValue};
-ghost use Rattle.partjson.specs.StatedMaps.{rule_kind, rule_kind_of, step_of, rule_of};
+ghost use Rattle.partjson.specs.StatedMaps.{rule_kind, rule_kind_of, stated_step, stated_rule};
 ghost use Rattle.partjson.specs.Members.{HoldsRule, rule_if};
+ghost use Rattle.partjson.specs.Laws.{rule_made, no_rule};
 ghost use Rattle.partjson.specs.Steps.{step_word, step_word_of, one_number, emit_with, choose_with, step_with, step_if};
 
 use crate::lists::{entries, next_entry};
-use crate::objects::{FromJson, Slots, object};
+use crate::objects::{FromJson, Slots, read_object};
 use crate::slots::{Slot, flat, member};
 use crate::words::{FromWord, word};
 use crush::{Mode, RuleKind};
@@ -49,8 +51,8 @@ impl FromJson for RuleKind {
 enum StepWord {
     /// `take`.
     Take,
-    /// `choose_firstn`, `choose_indep`, `chooseleaf_firstn` or `chooseleaf_indep`: the mode, and whether a device is
-    /// taken below.
+    /// `choose_firstn`, `choose_indep`, `chooseleaf_firstn` or `chooseleaf_indep`: the mode, and whether a
+    /// device is taken below.
     Choose(Mode, bool),
     /// `emit`.
     Emit,
@@ -148,13 +150,14 @@ fn step_of_list(word: Option<StepWord>, numbers: Option<Vec<i128>>) -> Option<St
 }
 
 /// The step that what is left of a list states.
-#[tactic(auto, unfolding(crate::specs::StatedMaps::step_of))]
+#[tactic(auto, unfolding(crate::specs::StatedMaps::stated_step))]
 fn rest_of_step(
     alloc: Global,
     reader: &mut Reader<'_>,
     depth: usize,
 ) -> Result<Option<StepPart>, Refusal>
-    ensures { TakesValue (parse_map (λ ds. step_of (array ds)) (rest_of_list depth reader.old)) result reader.new }
+    ensures { TakesValue
+        (parse_map (λ ds. stated_step (array ds)) (rest_of_list depth reader.old)) result reader.new }
 {
     let Some(word) = next_entry(alloc, reader, depth)? else {
         return Ok(None);
@@ -164,7 +167,7 @@ fn rest_of_step(
 }
 
 impl FromJson for StepPart {
-    ghost stated = { step_of };
+    ghost stated = { stated_step };
 
     #[tactic(auto, using(crate::proofs::Steps::no_step))]
     fn read(
@@ -180,44 +183,28 @@ impl FromJson for StepPart {
 }
 
 /// The members of a rule that have come.
-#[derive(Drop)]
+#[derive(Default, Drop)]
 struct RuleSlots {
-    known: bool,
+    unknown: bool,
     id: Slot<i128>,
     kind: Slot<RuleKind>,
     steps: Slot<Entries<StepPart>>,
 }
 
-impl RuleSlots {
-    /// None has come.
-    fn new() -> RuleSlots
-        ensures { HoldsRule result no_members }
-    {
-        RuleSlots {
-            known: true,
-            id: None,
-            kind: None,
-            steps: None,
-        }
-    }
-
-    /// A rule of these members: none where a key is missing or too much, or a value states nothing.
-    fn part(self) -> Option<RulePart>
-        ensures { result ≡ rule_if self }
-    {
-        if !self.known {
-            return None;
-        }
-        Some(RulePart {
-            id: flat(self.id)?,
-            kind: flat(self.kind)?,
-            steps: flat(self.steps)?,
-        })
-    }
-}
-
 impl Slots for RuleSlots {
+    type Part = RulePart;
+
     ghost hold = { HoldsRule };
+
+    ghost made = { rule_if };
+
+    ghost stated = { stated_rule };
+
+    ghost none_held = { Prim.search rules };
+
+    ghost object_stated = { rule_made };
+
+    ghost other_stated = { no_rule };
 
     fn take(
         &mut self,
@@ -231,25 +218,32 @@ impl Slots for RuleSlots {
             "kind" => member(alloc, reader, depth, &mut self.kind),
             "steps" => member(alloc, reader, depth, &mut self.steps),
             _ => {
-                self.known = false;
+                self.unknown = true;
                 skip(reader, depth)
             }
         }
     }
+
+    fn part(self, _alloc: Global) -> Option<RulePart> {
+        if self.unknown {
+            return None;
+        }
+        Some(RulePart {
+            id: flat(self.id)?,
+            kind: flat(self.kind)?,
+            steps: flat(self.steps)?,
+        })
+    }
 }
 
 impl FromJson for RulePart {
-    ghost stated = { rule_of };
+    ghost stated = { stated_rule };
 
     fn read(
         alloc: Global,
         reader: &mut Reader<'_>,
         depth: usize,
     ) -> Result<Option<RulePart>, Refusal> {
-        let mut slots = RuleSlots::new();
-        if !object(alloc, reader, depth, &mut slots)? {
-            return Ok(None);
-        }
-        Ok(slots.part())
+        read_object::<RuleSlots>(alloc, reader, depth)
     }
 }

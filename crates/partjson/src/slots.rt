@@ -1,8 +1,9 @@
-//! Slots of the members of an object: none where a key has not come, and in it none where its value stated nothing.
+//! Slots of the members of an object: none where a key has not come, and in it none where its value states
+//! nothing.
 
-ghost use Rattle.std.specs.Prelude.{◌≡◌, ◌⊎◌, Some, None, MatchResult};
+ghost use Rattle.std.specs.Prelude.{◌≡◌, ◌⊎◌, true, Some, None, MatchResult};
 ghost use Rattle.serde_json.specs.Data.{Data};
-ghost use Rattle.jsonstream.specs.Stream.{next, flat, or_empty, if_there};
+ghost use Rattle.jsonstream.specs.Stream.{next, flat, or_empty, if_there, triple_if};
 
 use crate::objects::FromJson;
 use json::Reader;
@@ -53,4 +54,20 @@ pub(crate) fn if_there<T: Drop>(slot: Slot<T>) -> Option<Option<T>>
         Some(part) => Some(Some(part?)),
         None => Some(None),
     }
+}
+
+/// The lists that three members state, each of which is empty where its member is missing.
+pub(crate) fn three_lists<A: Drop, B: Drop, C: Drop>(
+    alloc: Global,
+    first: Slot<Entries<A>>,
+    second: Slot<Entries<B>>,
+    third: Slot<Entries<C>>,
+) -> Option<(Entries<A>, Entries<B>, Entries<C>)>
+    ensures { result ≡ triple_if true (or_empty first) (or_empty second) (or_empty third) }
+{
+    Some((
+        or_empty(alloc, first)?,
+        or_empty(alloc, second)?,
+        or_empty(alloc, third)?,
+    ))
 }

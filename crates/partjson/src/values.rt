@@ -1,7 +1,7 @@
 //! Numbers and flags.
 
 ghost use Rattle.serde_json.specs.Find.{as_bool};
-ghost use Rattle.jsonstream.specs.Json.{number_of};
+ghost use Rattle.jsonstream.specs.Json.{whole_number};
 
 use crate::objects::FromJson;
 use json::Reader;
@@ -10,7 +10,7 @@ use refusal::Refusal;
 use std::alloc::Global;
 
 impl FromJson for i128 {
-    ghost stated = { number_of };
+    ghost stated = { whole_number };
 
     fn read(
         _alloc: Global,

@@ -12,8 +12,8 @@ use std::alloc::Global;
 /// How deep a text may nest.
 const MAX_DEPTH: usize = 127;
 
-/// What the one value that is left states: `None` where that is nothing of the kind; `BadJson` (10) where no value or
-/// more than one is left; `Memory` (30).
+/// What the one value that is left states: `None` where that is nothing of the kind; `BadJson` (10) where no
+/// value or more than one is left; `Memory` (30).
 fn only_value<T: FromJson>(alloc: Global, reader: &mut Reader<'_>) -> Result<Option<T>, Refusal>
     ensures { MatchResult result (λ r. option_map T.stated (document reader.old) ≡ Some r)
         (λ e. (e ≡ Refusal.Memory) ⊎ ((e ≡ Refusal.BadJson) × (document reader.old ≡ None))) }
@@ -25,8 +25,8 @@ fn only_value<T: FromJson>(alloc: Global, reader: &mut Reader<'_>) -> Result<Opt
     Ok(part)
 }
 
-/// What a text states: `BadJson` (10) where it is no JSON, else `BadField` (11) where its value states nothing of the
-/// kind; `Memory` (30).
+/// What a text states: `BadJson` (10) where it is no JSON, else `BadField` (11) where its value states
+/// nothing of the kind; `Memory` (30).
 #[tactic(auto, using(jsonstream::proofs::Texts::json_of_some, jsonstream::proofs::Texts::json_of_none))]
 pub(crate) fn stated_by<T: FromJson>(alloc: Global, bytes: &[u8]) -> Result<T, Refusal>
     ensures { Answers result (stated_by T.stated bytes.now) }

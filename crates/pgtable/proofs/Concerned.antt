@@ -29,7 +29,7 @@ use Rattle.osdmap.proofs.Coming.{comes}
 use Rattle.keylist.proofs.KeyedOrder.{rising_head, rising_tail, rising_from, rising-filter}
 use Rattle.keylist.proofs.Tests.{and_first, and_second}
 use Rattle.keylist.proofs.Each.{same_tests}
-use Rattle.pgtable.specs.Candidates.{NamedRise, groups_of, joined, named_in, candidates_by, candidates, number_at, number_in, named_numbers}
+use Rattle.pgtable.specs.Candidates.{NamedRise, excepted_groups, merged, named_in, candidates_by, candidates, number_at, concerned_number, named_numbers}
 use Rattle.pgtable.specs.Candidates as spec
 use Rattle.pgtable.specs.Patches.{concerned}
 use Rattle.pgtable.proofs.Keeping.{among}
@@ -236,18 +236,18 @@ concerned_found m c p groups up complete =
 -- ---- candidates
 
 -- the groups of exceptions are those that have one
-groups_have : {E : Type 0} (es : List (Exception E)) (k : ℕ) → has_key place_of (groups_of es) k ≡ has_key key_of es k
+groups_have : {E : Type 0} (es : List (Exception E)) (k : ℕ) → has_key place_of (excepted_groups es) k ≡ has_key key_of es k
 groups_have [] k = refl
 groups_have (e ∷ es) k = ap (λ b. eqb (key_of e) k || b) (groups_have es k)
 
 -- they rise where the exceptions do
-pub groups_rise : {E : Type 0} (es : List (Exception E)) → IsRising key_of es → IsRising place_of (groups_of es)
+pub groups_rise : {E : Type 0} (es : List (Exception E)) → IsRising key_of es → IsRising place_of (excepted_groups es)
 groups_rise es up i j d less inside =
-    let long : length (groups_of es) ≡ length es = length-map es (λ e. e.pg) in
+    let long : length (excepted_groups es) ≡ length es = length-map es (λ e. e.pg) in
     let last : j < length es = omega (arith, long, inside) in
     by_element es up i j d less last (element es i (omega arith))
   where
-    by_element : {E : Type 0} (es : List (Exception E)) → IsRising key_of es → (i j : ℕ) (d : Pg) → i < j → j < length es → Exception E → place_of (Rattle.std.proofs.Common.get_or (groups_of es) i d) < place_of (Rattle.std.proofs.Common.get_or (groups_of es) j d)
+    by_element : {E : Type 0} (es : List (Exception E)) → IsRising key_of es → (i j : ℕ) (d : Pg) → i < j → j < length es → Exception E → place_of (Rattle.std.proofs.Common.get_or (excepted_groups es) i d) < place_of (Rattle.std.proofs.Common.get_or (excepted_groups es) j d)
     by_element es up i j d less last e = rw (get_or-map (λ x. x.pg) es i e d (omega arith), get_or-map (λ x. x.pg) es j e d last) (up i j e less last)
 
     element : {X : Type 0} (xs : List X) (i : ℕ) → i < length xs → X
@@ -287,7 +287,7 @@ other_or : (a b : Bool) → b ≡ true → (a || b) ≡ true
 other_or a b h = rw h (true_behind a)
 
 -- a group is among two lists joined where it is in either
-has_joined : (some others : List Pg) (k : ℕ) → has_key place_of (joined some others) k ≡ (has_key place_of others k || has_key place_of some k)
+has_joined : (some others : List Pg) (k : ℕ) → has_key place_of (merged some others) k ≡ (has_key place_of others k || has_key place_of some k)
 has_joined some others k = has-puts place_of some others k
 
 -- a group that a change names is among those named
@@ -295,15 +295,15 @@ named_has : (c : ChangeParts) (g : Pg) → is_named c g ≡ true → has_key pla
 unfolding is_named
 named_has c g named =
     let k = place_of g in
-    let both = joined c.old_upmap c.old_items in
-    let three = joined both (groups_of c.new_upmap) in
+    let both = merged c.old_upmap c.old_items in
+    let three = merged both (excepted_groups c.new_upmap) in
     let in_both = λ (h : (is_among c.old_upmap g || is_among c.old_items g) ≡ true). has_joined c.old_upmap c.old_items k ∙ elim (or_cases _ _ h) [
       | inl first ↦ other_or (has_key place_of c.old_items k) (has_key place_of c.old_upmap k) first
       | inr second ↦ some_or (has_key place_of c.old_items k) (has_key place_of c.old_upmap k) second
     ] in
-    has_joined three (groups_of c.new_items) k ∙ elim (or_cases _ _ named) [
+    has_joined three (excepted_groups c.new_items) k ∙ elim (or_cases _ _ named) [
       | inr last ↦ some_or _ _ (groups_have c.new_items k ∙ last)
-      | inl rest ↦ other_or _ _ (has_joined both (groups_of c.new_upmap) k ∙ elim (or_cases _ _ rest) [
+      | inl rest ↦ other_or _ _ (has_joined both (excepted_groups c.new_upmap) k ∙ elim (or_cases _ _ rest) [
         | inr third ↦ some_or _ _ (groups_have c.new_upmap k ∙ third)
         | inl olds ↦ other_or _ _ (in_both olds)
       ])
@@ -344,9 +344,9 @@ by_weight m c g [] is loud = elim (or_cases _ _ loud) [
 ]
 by_weight m c g (w ∷ ws) is loud =
     let k = place_of g in
-    has_joined (joined (named_in c) (groups_of m.explicit)) (groups_of m.items) k ∙ elim (or_cases _ _ loud) [
+    has_joined (merged (named_in c) (excepted_groups m.explicit)) (excepted_groups m.items) k ∙ elim (or_cases _ _ loud) [
       | inr items ↦ some_or _ _ (groups_have m.items k ∙ said_has sides c m.items g items)
-      | inl rest ↦ other_or _ _ (has_joined (named_in c) (groups_of m.explicit) k ∙ elim (or_cases _ _ rest) [
+      | inl rest ↦ other_or _ _ (has_joined (named_in c) (excepted_groups m.explicit) k ∙ elim (or_cases _ _ rest) [
         | inr explicit ↦ some_or _ _ (groups_have m.explicit k ∙ said_has target c m.explicit g explicit)
         | inl named ↦ other_or _ _ (named_has c g named)
       ])
@@ -382,11 +382,11 @@ named_found m c p groups none up complete =
     ∙ filter_agree (λ n. is_named c (group_of p n)) (λ n. concerns m c (group_of p n)) (λ n. sym (concerns_named m c (group_of p n) none)) (range_with_len 0 p.pg_num)
 
 -- the groups of exceptions with rising keys, and groups with others among them, rise
-pub groups_rise_all : {E : Type 0} (es : List (Exception E)) (gs : List Pg) (i : ℕ) → IsRising key_of es → gs ≡ groups_of (take i es) → length es ≤ i → IsRising place_of gs
+pub groups_rise_all : {E : Type 0} (es : List (Exception E)) (gs : List Pg) (i : ℕ) → IsRising key_of es → gs ≡ excepted_groups (take i es) → length es ≤ i → IsRising place_of gs
 groups_rise_all es gs i up is past =
-    let all : gs ≡ groups_of es = is ∙ ap groups_of (take_all i es past) in
+    let all : gs ≡ excepted_groups es = is ∙ ap excepted_groups (take_all i es past) in
     rw all (groups_rise es up)
 
 -- joined groups rise
-pub joined_rise : (some others gs : List Pg) → IsRising place_of some → gs ≡ joined some others → IsRising place_of gs
+pub joined_rise : (some others gs : List Pg) → IsRising place_of some → gs ≡ merged some others → IsRising place_of gs
 joined_rise some others gs up is = rw is (rising-puts place_of some others up)

@@ -13,7 +13,8 @@ use Rattle.std.proofs.lemmas.List.Folds.{list_any_at, find_at}
 use Rattle.std.proofs.lemmas.List.FromFn.{length-range_with_len, length-map-range_with_len, get_or-range_with_len, get_or-map-range_with_len}
 use Rattle.std.proofs.lemmas.List.Sums.{length-filter, sum_by-cons}
 use Rattle.std.proofs.lemmas.Option.{slice_get_within, slice_get-get_or, get_or_from_slice_get}
-use Rattle.grouptable.specs.Sets.{Places, changed}
+use Rattle.grouptable.specs.Sets.{changed}
+use Rattle.stated.specs.Sets.{Places}
 use Rattle.grouptable.proofs.Changes.{length-changed}
 use Rattle.stated.specs.declared.change.ChangeParts.{ChangeParts}
 use Rattle.stated.specs.Pools.{PoolFacts}

@@ -11,7 +11,8 @@ use Rattle.std.proofs.lemmas.Option.{slice_get-map, slice_get_within, get_or_fro
 use Rattle.keylist.specs.Keys.{has_key, entry_at}
 use Rattle.keylist.specs.Order.{IsRising}
 use Rattle.keylist.proofs.KeyedMaps.{entry-puts, entry-reverse, entry-without}
-use Rattle.grouptable.specs.Sets.{Places, changed}
+use Rattle.grouptable.specs.Sets.{changed}
+use Rattle.stated.specs.Sets.{Places}
 use Rattle.grouptable.specs.Tables.{IsPatchFor}
 use Rattle.grouptable.specs.declared.table.GroupPatch.{GroupPatch}
 use Rattle.stated.specs.CrushMaps.{CrushFacts}
@@ -25,15 +26,15 @@ use Rattle.stated.specs.Ordered.{IsChange}
 use Rattle.stated.specs.Pools.{PoolFacts}
 use Rattle.osdmap.specs.Maps.{ClusterMap, pool_at, has_rule, HoldsTogether}
 use Rattle.osdmap.specs.Changes.{change_fault, apply, pools_kept, pools_there, pools_after}
-use Rattle.osdmap.specs.Evals.{reaches, is_touched, evals_of}
+use Rattle.osdmap.specs.Evals.{reaches_reweighted, is_touched, evals_of}
 use Rattle.osdmap.specs.Mapped.{mapped}
-use Rattle.osdmap.specs.Placement.{group_of, raw_set, mapped_with, mapped_set, Places as IsPlaced}
+use Rattle.osdmap.specs.Placement.{group_of, raw_set, mapped_with, mapped_set, IsPlacedBy as IsPlaced}
 use Rattle.osdmap.proofs.PlacementLemmas.{found_passes}
 use Rattle.osdmap.proofs.Kept.{HoldsTogether-after}
 use Rattle.placement_laws.proofs.Others.{raw_stays}
 use Rattle.pgtable.specs.declared.pool_table.PoolTable.{PoolTable}
 use Rattle.pgtable.specs.Tables.{TableFacts, sets_of, pool_table, tables_of, IsTableOf}
-use Rattle.pgtable.specs.Patches.{next, LeadsFrom, is_empty, leaves_pools, leaves_raw_sets, said_after, regrouped, FitGroups, RegroupsPool, RegroupsAll, changes_of, evals_in}
+use Rattle.pgtable.specs.Patches.{changed_map, LeadsFrom, is_empty, leaves_pools, leaves_raw_sets, said_after, regrouped, FitGroups, RegroupsPool, RegroupsAll, changes_of, evals_in}
 use Rattle.pgtable.proofs.Carrying.{same_lists, get_set_other, get_set_same, long_zip, get_zip}
 use Rattle.pgtable.proofs.Found.{found_at, mapped_small}
 use Rattle.pgtable.proofs.Keeping.{sets_kept, changes_within, changes_ascend}
@@ -72,12 +73,12 @@ leaving c is = record {
 
 -- no pool is touched
 pub none_touched : (m : ClusterMap) (c : ChangeParts) (p : PoolFacts) → LeavesRawSets c → is_touched m c p ≡ false
-unfolding is_touched reaches
+unfolding is_touched reaches_reweighted
 none_touched m c p s = rw (s.new_crush, s.new_pools, s.grow_pool, s.weight) refl
 
 -- a rule reaches no OSD that gets another reweight
-none_reached : (m : ClusterMap) (c : ChangeParts) (p : PoolFacts) → LeavesRawSets c → reaches m c p ≡ false
-unfolding reaches
+none_reached : (m : ClusterMap) (c : ChangeParts) (p : PoolFacts) → LeavesRawSets c → reaches_reweighted m c p ≡ false
+unfolding reaches_reweighted
 none_reached m c p s = rw s.weight refl
 
 -- all stay where none goes
@@ -92,12 +93,12 @@ none_grown [] = refl
 none_grown (p ∷ ps) = ap (λ qs. p ∷ qs) (none_grown ps)
 
 -- so the pools stay
-pub pools_stay : (m : ClusterMap) (c : ChangeParts) → LeavesRawSets c → (next m c).pools ≡ m.pools
+pub pools_stay : (m : ClusterMap) (c : ChangeParts) → LeavesRawSets c → (changed_map m c).pools ≡ m.pools
 unfolding apply pools_after pools_there pools_kept
 pools_stay m c s = rw (s.grow_pool, s.new_pools, s.old_pools) (none_grown _ ∙ all_stay m.pools)
 
 -- and the reweights
-weights_stay : (m : ClusterMap) (c : ChangeParts) → LeavesRawSets c → (next m c).weights ≡ m.weights
+weights_stay : (m : ClusterMap) (c : ChangeParts) → LeavesRawSets c → (changed_map m c).weights ≡ m.weights
 unfolding apply
 weights_stay m c s = rw s.weight refl
 
@@ -119,20 +120,20 @@ said_then {E} gone new es g rises =
     by_cases (Some e) b q = refl
 
 -- so of the explicit set of a group
-explicit_then : (m : ClusterMap) (c : ChangeParts) (g : Pg) → LeavesRawSets c → IsRising key_of c.new_upmap → said_of (next m c).explicit g ≡ said_after c.old_upmap c.new_upmap (said_of m.explicit g) g
+explicit_then : (m : ClusterMap) (c : ChangeParts) (g : Pg) → LeavesRawSets c → IsRising key_of c.new_upmap → said_of (changed_map m c).explicit g ≡ said_after c.old_upmap c.new_upmap (said_of m.explicit g) g
 unfolding apply
 explicit_then m c g s rises = rw s.old_pools (said_then c.old_upmap c.new_upmap m.explicit g rises)
 
 -- and of its pairs
-items_then : (m : ClusterMap) (c : ChangeParts) (g : Pg) → LeavesRawSets c → IsRising key_of c.new_items → said_of (next m c).items g ≡ said_after c.old_items c.new_items (said_of m.items g) g
+items_then : (m : ClusterMap) (c : ChangeParts) (g : Pg) → LeavesRawSets c → IsRising key_of c.new_items → said_of (changed_map m c).items g ≡ said_after c.old_items c.new_items (said_of m.items g) g
 unfolding apply
 items_then m c g s rises = rw s.old_pools (said_then c.old_items c.new_items m.items g rises)
 
 -- the raw set of a group stays
-raw_stay : (m : ClusterMap) (c : ChangeParts) (p : PoolFacts) (n : ℕ) → LeavesRawSets c → HoldsTogether m → pool_at m.pools p.id ≡ Some p → raw_set m p n ≡ raw_set (next m c) p n
+raw_stay : (m : ClusterMap) (c : ChangeParts) (p : PoolFacts) (n : ℕ) → LeavesRawSets c → HoldsTogether m → pool_at m.pools p.id ≡ Some p → raw_set m p n ≡ raw_set (changed_map m c) p n
 raw_stay m c p n s holds there =
     let has = found_passes _ (has_rule m.rules) m.pools p there holds.ruled in
-    raw_stays m (record { epoch = m.epoch + 1; change = c }) p n holds has s.new_crush (none_reached (next m c) c p s)
+    raw_stays m (record { epoch = m.epoch + 1; change = c }) p n holds has s.new_crush (none_reached (changed_map m c) c p s)
 
 -- the same reweights, exceptions and raw set make the same mapped set
 all_same : (ws ws' : List ℕ) (explicit explicit' : Option (List ℕ)) (items items' : Option (List Pair)) (raw raw' : List (Option ℕ)) → ws ≡ ws' → explicit ≡ explicit' → items ≡ items' → raw ≡ raw'
@@ -141,10 +142,10 @@ all_same ws ws' explicit explicit' items items' raw raw' e f g h = rw (e, f, g, 
 
 -- the raw set under what the change makes of the group's exceptions is its mapped set after the change
 mapped_then : (m : ClusterMap) (c : ChangeParts) (p : PoolFacts) (n : ℕ) → LeavesRawSets c → HoldsTogether m → pool_at m.pools p.id ≡ Some p → IsRising key_of c.new_upmap → IsRising key_of c.new_items
-    → mapped_with (said_after c.old_upmap c.new_upmap (said_of m.explicit (group_of p n)) (group_of p n)) (said_after c.old_items c.new_items (said_of m.items (group_of p n)) (group_of p n)) m p n ≡ mapped_set (next m c) p n
+    → mapped_with (said_after c.old_upmap c.new_upmap (said_of m.explicit (group_of p n)) (group_of p n)) (said_after c.old_items c.new_items (said_of m.items (group_of p n)) (group_of p n)) m p n ≡ mapped_set (changed_map m c) p n
 unfolding mapped_set
 mapped_then m c p n s holds there upmap items =
-    all_same m.weights (next m c).weights _ (said_of (next m c).explicit (group_of p n)) _ (said_of (next m c).items (group_of p n)) (raw_set m p n) (raw_set (next m c) p n)
+    all_same m.weights (changed_map m c).weights _ (said_of (changed_map m c).explicit (group_of p n)) _ (said_of (changed_map m c).items (group_of p n)) (raw_set m p n) (raw_set (changed_map m c) p n)
     (sym (weights_stay m c s)) (sym (explicit_then m c (group_of p n) s upmap)) (sym (items_then m c (group_of p n) s items)) (raw_stay m c p n s holds there)
 
 -- so that is what is placed under these exceptions
@@ -152,7 +153,7 @@ pub placed_then : (m : ClusterMap) (c : ChangeParts) (p : PoolFacts) (id n : ℕ
     → IsRising key_of c.new_upmap → IsRising key_of c.new_items → id ≡ p.id
     → explicit ≡ said_after c.old_upmap c.new_upmap (said_of m.explicit (record { pool = id; number = n })) (record { pool = id; number = n })
     → items ≡ said_after c.old_items c.new_items (said_of m.items (record { pool = id; number = n })) (record { pool = id; number = n })
-    → IsPlaced (mapped_with explicit items) m (record { pool = id; number = n }) places → places ≡ mapped_set (next m c) p n
+    → IsPlaced (mapped_with explicit items) m (record { pool = id; number = n }) places → places ≡ mapped_set (changed_map m c) p n
 placed_then m c p id n places explicit items s holds there upmap pairs same first second is =
     let found : pool_at m.pools id ≡ Some p = rw same there in
     let made : places ≡ mapped_with explicit items m p n = rw found at is.is in
@@ -163,7 +164,7 @@ placed_then m c p id n places explicit items s holds there upmap pairs same firs
 -- ---- tables
 
 -- a change that nothing refuses leads to the next map
-pub leads_next : (m : ClusterMap) (c : ChangeParts) → change_fault m c ≡ None → IsChange c → HoldsTogether m → LeadsFrom m c (next m c)
+pub leads_next : (m : ClusterMap) (c : ChangeParts) → change_fault m c ≡ None → IsChange c → HoldsTogether m → LeadsFrom m c (changed_map m c)
 leads_next m c lawful is holds = record {
   lawful = lawful;
   is = refl;
@@ -172,16 +173,16 @@ leads_next m c lawful is holds = record {
 }
 
 -- what such a set names are OSDs below 1,024
-pub small_then : (m : ClusterMap) (c : ChangeParts) (p : PoolFacts) (n : ℕ) (places : List (Option ℕ)) → LeadsFrom m c (next m c) → places ≡ mapped_set (next m c) p n
+pub small_then : (m : ClusterMap) (c : ChangeParts) (p : PoolFacts) (n : ℕ) (places : List (Option ℕ)) → LeadsFrom m c (changed_map m c) → places ≡ mapped_set (changed_map m c) p n
     → All (λ place. IfSome place (λ osd. osd < 1024)) places
-small_then m c p n places leads is = mapped_small (next m c) p n places leads.holds_after is
+small_then m c p n places leads is = mapped_small (changed_map m c) p n places leads.holds_after is
 
 -- the table of a pool with the sets that a change gives to its groups
-pub pool_regroups : (m : ClusterMap) (c : ChangeParts) (q : PoolTable) (one : Option GroupPatch) (cs : List (ℕ × Places)) → LeadsFrom m c (next m c) → LeavesRawSets c → q ≡ pool_table m q.pool → pool_at m.pools q.pool.id ≡ Some q.pool
-    → cs ≡ changes_of (next m c) c q.pool → regrouped q one ≡ record { pool = q.pool; groups = changed q.groups cs } → IfSome one (IsPatchFor q.groups) → RegroupsPool (next m c) q one
+pub pool_regroups : (m : ClusterMap) (c : ChangeParts) (q : PoolTable) (one : Option GroupPatch) (cs : List (ℕ × Places)) → LeadsFrom m c (changed_map m c) → LeavesRawSets c → q ≡ pool_table m q.pool → pool_at m.pools q.pool.id ≡ Some q.pool
+    → cs ≡ changes_of (changed_map m c) c q.pool → regrouped q one ≡ record { pool = q.pool; groups = changed q.groups cs } → IfSome one (IsPatchFor q.groups) → RegroupsPool (changed_map m c) q one
 pool_regroups m c q one cs leads s is there made gives fits =
-    let there_after : pool_at (next m c).pools q.pool.id ≡ Some q.pool = rw (pools_stay m c s) there in
-    let sets = sets_kept m (next m c) c q.pool leads there_after (none_touched (next m c) c q.pool s) in
+    let there_after : pool_at (changed_map m c).pools q.pool.id ≡ Some q.pool = rw (pools_stay m c s) there in
+    let sets = sets_kept m (changed_map m c) c q.pool leads there_after (none_touched (changed_map m c) c q.pool s) in
     let groups : q.groups ≡ sets_of m q.pool = ap (λ (t : PoolTable). t.groups) is in
     record {
       table = gives ∙ ap (λ gs. record { pool = q.pool; groups = gs }) (rw (groups, made) sets);
@@ -306,19 +307,19 @@ evals_of_tables m n c (p ∷ ps) =
     sum_by-cons (λ (q : PoolTable). evals_in n c q.pool) (pool_table m p) (map (pool_table m) ps) ∙ ap (λ k. evals_in n c p + k) (evals_of_tables m n c ps) ∙ sym (sum_by-cons (evals_in n c) p ps)
 
 -- and so those of the change
-pub evals_regrouped : (t : TableFacts) (m : ClusterMap) (c : ChangeParts) (i : ℕ) → IsTableOf t m → LeavesRawSets c → length t.pools ≤ i → sum_by (λ (q : PoolTable). evals_in (next m c) c q.pool) (take i t.pools) ≡ evals_of (next m c) c
+pub evals_regrouped : (t : TableFacts) (m : ClusterMap) (c : ChangeParts) (i : ℕ) → IsTableOf t m → LeavesRawSets c → length t.pools ≤ i → sum_by (λ (q : PoolTable). evals_in (changed_map m c) c q.pool) (take i t.pools) ≡ evals_of (changed_map m c) c
 unfolding evals_of
 evals_regrouped t m c i is s past =
-    let of = λ (q : PoolTable). evals_in (next m c) c q.pool in
-    ap (sum_by of) (take_all i t.pools past ∙ is.pools) ∙ evals_of_tables m (next m c) c m.pools ∙ ap (sum_by (evals_in (next m c) c)) (sym (pools_stay m c s))
+    let of = λ (q : PoolTable). evals_in (changed_map m c) c q.pool in
+    ap (sum_by of) (take_all i t.pools past ∙ is.pools) ∙ evals_of_tables m (changed_map m c) c m.pools ∙ ap (sum_by (evals_in (changed_map m c) c)) (sym (pools_stay m c s))
 
 -- which are few
-pub evals_of_regrouped : (t : TableFacts) (m : ClusterMap) (c : ChangeParts) → IsTableOf t m → LeavesRawSets c → HoldsTogether (next m c) → sum_by (λ (q : PoolTable). evals_in (next m c) c q.pool) t.pools ≤ 131072
+pub evals_of_regrouped : (t : TableFacts) (m : ClusterMap) (c : ChangeParts) → IsTableOf t m → LeavesRawSets c → HoldsTogether (changed_map m c) → sum_by (λ (q : PoolTable). evals_in (changed_map m c) c q.pool) t.pools ≤ 131072
 evals_of_regrouped t m c is s holds =
-    let of = λ (q : PoolTable). evals_in (next m c) c q.pool in
-    let all : sum_by of t.pools ≡ sum_by (evals_in (next m c) c) (next m c).pools =
-    ap (sum_by of) is.pools ∙ evals_of_tables m (next m c) c m.pools ∙ ap (sum_by (evals_in (next m c) c)) (sym (pools_stay m c s)) in
-    rw all (evals_whole (next m c) c holds)
+    let of = λ (q : PoolTable). evals_in (changed_map m c) c q.pool in
+    let all : sum_by of t.pools ≡ sum_by (evals_in (changed_map m c) c) (changed_map m c).pools =
+    ap (sum_by of) is.pools ∙ evals_of_tables m (changed_map m c) c m.pools ∙ ap (sum_by (evals_in (changed_map m c) c)) (sym (pools_stay m c s)) in
+    rw all (evals_whole (changed_map m c) c holds)
 
 -- ---- one pool
 
@@ -327,24 +328,24 @@ pub no_entries : {X : Type 0} (xs : List X) (n : ℕ) (b : Bool) → b ≡ eqb n
 no_entries [] n b is empty long = refl
 no_entries (x ∷ xs) n b is empty long = let none : n ≡ 0 = eqb-true n 0 (sym is ∙ empty) in absurd (omega arith)
 
-module _ (m : ClusterMap) (c : ChangeParts) (q : PoolTable) (cs : List (ℕ × Places)) (is : q ≡ pool_table m q.pool) (made : cs ≡ changes_of (next m c) c q.pool) where
+module _ (m : ClusterMap) (c : ChangeParts) (q : PoolTable) (cs : List (ℕ × Places)) (is : q ≡ pool_table m q.pool) (made : cs ≡ changes_of (changed_map m c) c q.pool) where
   -- the groups that get other sets are there
   pub within_regrouped : All (λ e. e.0 < length q.groups) cs
   within_regrouped =
       let groups : q.groups ≡ sets_of m q.pool = ap (λ (t : PoolTable). t.groups) is in
-      rw (groups, made) (changes_within m (next m c) c q.pool)
+      rw (groups, made) (changes_within m (changed_map m c) c q.pool)
 
   -- in ascending order
   pub ascend_regrouped : AllPairs (λ a b. a.0 < b.0) cs
-  ascend_regrouped = rw made (changes_ascend (next m c) c q.pool)
+  ascend_regrouped = rw made (changes_ascend (changed_map m c) c q.pool)
 
-  module _ (leads : LeadsFrom m c (next m c)) (s : LeavesRawSets c) (there : pool_at m.pools q.pool.id ≡ Some q.pool) where
+  module _ (leads : LeadsFrom m c (changed_map m c)) (s : LeavesRawSets c) (there : pool_at m.pools q.pool.id ≡ Some q.pool) where
     -- a pool of which none gets another set
-    pub regroups_none : cs ≡ [] → RegroupsPool (next m c) q None
+    pub regroups_none : cs ≡ [] → RegroupsPool (changed_map m c) q None
     regroups_none none = pool_regroups m c q None cs leads s is there made (rw none refl) tt
 
     -- a pool of which some do
-    pub regroups_some : (g : GroupPatch) → g.changes.items ≡ cs → IsPatchFor q.groups g → RegroupsPool (next m c) q (Some g)
+    pub regroups_some : (g : GroupPatch) → g.changes.items ≡ cs → IsPatchFor q.groups g → RegroupsPool (changed_map m c) q (Some g)
     regroups_some g same fits = pool_regroups m c q (Some g) cs leads s is there made (rw same refl) fits
 
 -- the table of a pool that stands at a place, and the pool in the map
@@ -363,6 +364,6 @@ table_at t m i q is at = by_pool (slice_get m.pools i) refl
         rw e (refl, there, found)
 
 -- so all tables with what they get are those of the map after the change
-pub regrouped_all : (t : TableFacts) (m : ClusterMap) (c : ChangeParts) (patches : List (Option GroupPatch)) → IsTableOf t m → LeavesRawSets c → Regroups t.pools (next m c) (length t.pools) patches → RegroupsAll t.pools (next m c) patches
+pub regrouped_all : (t : TableFacts) (m : ClusterMap) (c : ChangeParts) (patches : List (Option GroupPatch)) → IsTableOf t m → LeavesRawSets c → Regroups t.pools (changed_map m c) (length t.pools) patches → RegroupsAll t.pools (changed_map m c) patches
 regrouped_all t m c patches is s sofar =
-    regroup_ends t.pools (next m c) patches (ap length is.pools ∙ length-map m.pools (pool_table m) ∙ sym (ap length (pools_stay m c s))) (λ k q at. rw (pools_stay m c s) ((table_at t m k q is at).2)) sofar
+    regroup_ends t.pools (changed_map m c) patches (ap length is.pools ∙ length-map m.pools (pool_table m) ∙ sym (ap length (pools_stay m c s))) (λ k q at. rw (pools_stay m c s) ((table_at t m k q is at).2)) sofar

@@ -5,9 +5,9 @@ use Rattle.stated.specs.declared.change.ChangeParts.{ChangeParts}
 use Rattle.stated.specs.CrushMaps.{rule_at}
 use Rattle.stated.specs.Pools.{PoolFacts}
 use Rattle.osdmap.specs.Maps.{ClusterMap}
-use Rattle.osdmap.specs.Evals.{reaches}
+use Rattle.osdmap.specs.Evals.{reaches_reweighted}
 
 -- a pool without a rule reaches nothing
-pub no_rule : (m : ClusterMap) (c : ChangeParts) (p : PoolFacts) → rule_at m.rules p.rule ≡ None → reaches m c p ≡ false
-unfolding reaches
+pub no_rule : (m : ClusterMap) (c : ChangeParts) (p : PoolFacts) → rule_at m.rules p.rule ≡ None → reaches_reweighted m c p ≡ false
+unfolding reaches_reweighted
 no_rule m c p none = list_any_none _ c.weight (λ k d below. rw none)

@@ -15,16 +15,17 @@ use Rattle.osdmap.specs.Evals.{concerns, is_named}
 use Rattle.osdmap.specs.Placement.{group_of}
 
 -- the groups of some exceptions
-abbrev pub groups_of : {E : Type 0} → List (Exception E) → List Pg
-groups_of es = map (λ e. e.pg) es
+abbrev pub excepted_groups : {E : Type 0} → List (Exception E) → List Pg
+excepted_groups es = map (λ e. e.pg) es
 
 -- two rising lists of groups made one
-abbrev pub joined : List Pg → List Pg → List Pg
-joined some others = fold (put place_of) some others
+abbrev pub merged : List Pg → List Pg → List Pg
+merged some others = fold (put place_of) some others
 
 -- the groups that a change names
 abbrev pub named_in : ChangeParts → List Pg
-named_in c = joined (joined (joined c.old_upmap c.old_items) (groups_of c.new_upmap)) (groups_of c.new_items)
+named_in c =
+    merged (merged (merged c.old_upmap c.old_items) (excepted_groups c.new_upmap)) (excepted_groups c.new_items)
 
 -- what a change names is in ascending order, each once
 pub record NamedRise (c : ChangeParts) : Type 0 where
@@ -36,7 +37,7 @@ pub record NamedRise (c : ChangeParts) : Type 0 where
 -- with those that have exceptions, where some OSD gets another reweight
 abbrev pub candidates_by : List Reweight → ClusterMap → ChangeParts → List Pg
 candidates_by [] m c = named_in c
-candidates_by (w ∷ ws) m c = joined (joined (named_in c) (groups_of m.explicit)) (groups_of m.items)
+candidates_by (w ∷ ws) m c = merged (merged (named_in c) (excepted_groups m.explicit)) (excepted_groups m.items)
 
 unfoldable pub candidates : ClusterMap → ChangeParts → List Pg
 candidates m c = candidates_by c.weight m c
@@ -47,12 +48,12 @@ number_at q base n place =
     if nat_le base place && (nat_lt (place - base) n && q (place - base)) then Some (place - base) else None
 
 -- the number in a pool of a group that a change concerns
-abbrev pub number_in : ClusterMap → ChangeParts → PoolFacts → Pg → Option ℕ
-number_in m c p g = number_at (λ n. concerns m c (group_of p n)) (p.id * 2 ^ 32) p.pg_num (place_of g)
+abbrev pub concerned_number : ClusterMap → ChangeParts → PoolFacts → Pg → Option ℕ
+concerned_number m c p g = number_at (λ n. concerns m c (group_of p n)) (p.id * 2 ^ 32) p.pg_num (place_of g)
 
 -- the numbers of some groups
 abbrev pub numbers_in : ClusterMap → ChangeParts → PoolFacts → List Pg → List ℕ
-numbers_in m c p groups = filter_map (number_in m c p) groups
+numbers_in m c p groups = filter_map (concerned_number m c p) groups
 
 -- the same of a group that a change names
 abbrev pub named_number : ChangeParts → PoolFacts → Pg → Option ℕ

@@ -6,7 +6,7 @@ use Rattle.stated.specs.declared.pg.Pg.{Pg}
 use Rattle.stated.specs.Pools.{PoolFacts}
 use Rattle.osdmap.specs.Maps.{ClusterMap, pool_at}
 use Rattle.osdmap.specs.Placement.{group_of, up_set}
-use Rattle.placement_laws.specs.Standing.{stands}
+use Rattle.stated.specs.Sets.{stands}
 
 -- the up set of a group, where it is there
 abbrev pub up_at : ClusterMap → Pg → Option (List (Option ℕ))

@@ -6,7 +6,8 @@ use Rattle.osdmap.specs.Placement.{group_of, mapped_set}
 use Rattle.std.specs.Option.{option_map, option_map_or, option_or}
 use Rattle.crush.specs.Limits.{max_devices}
 use Rattle.stated.specs.Limits.{max_pools}
-use Rattle.grouptable.specs.Sets.{Places, changed}
+use Rattle.grouptable.specs.Sets.{changed}
+use Rattle.stated.specs.Sets.{Places}
 use Rattle.grouptable.specs.Tables.{IsPatchFor}
 use Rattle.grouptable.specs.declared.table.GroupPatch.{GroupPatch}
 use Rattle.stated.specs.declared.change.ChangeParts.{ChangeParts}
@@ -25,13 +26,13 @@ use Rattle.pgtable.specs.declared.patch.Patch.{Patch}
 use Rattle.pgtable.specs.Tables.{TableFacts, sets_of, pool_table, tables_of, IsTableOf}
 
 -- the map after a change, one epoch on
-abbrev pub next : ClusterMap → ChangeParts → ClusterMap
-next m c = apply m (record { epoch = m.epoch + 1; change = c })
+abbrev pub changed_map : ClusterMap → ChangeParts → ClusterMap
+changed_map m c = apply m (record { epoch = m.epoch + 1; change = c })
 
 -- a change that nothing refuses leads from one map to another
 pub record LeadsFrom (m : ClusterMap) (c : ChangeParts) (after : ClusterMap) : Type 0 where
   pub lawful : change_fault m c ≡ None
-  pub is : after ≡ next m c
+  pub is : after ≡ changed_map m c
   pub holds : HoldsTogether m
   pub holds_after : HoldsTogether after
 
@@ -54,12 +55,12 @@ abbrev pub said_after : {E : Type 0} → List Pg → List (Exception E) → Opti
 said_after gone new said g = option_or (said_of new g) (if is_among gone g then None else said)
 
 -- some OSDs go up or down
-abbrev pub turned : Bool → List Bool → List ℕ → List Bool
-turned up ups osds = fold (λ us osd. slice_set us osd up) ups osds
+abbrev pub ups_turned : Bool → List Bool → List ℕ → List Bool
+ups_turned up ups osds = fold (λ us osd. slice_set us osd up) ups osds
 
 -- which OSDs are up after a change
 abbrev pub ups_after : List Bool → ChangeParts → List Bool
-ups_after ups c = turned true (turned false ups c.down) c.up
+ups_after ups c = ups_turned true (ups_turned false ups c.down) c.up
 
 -- the groups of a pool whose exceptions a change concerns
 abbrev pub concerned : ClusterMap → ChangeParts → PoolFacts → List ℕ

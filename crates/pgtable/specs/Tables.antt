@@ -3,7 +3,8 @@ use Rattle.std.specs.Prelude.{◌≡◌, ℕ, ◌+◌, ◌-◌, ◌^◌, ◌==�
 use Rattle.std.specs.List.{find, flat_map, range_with_len}
 use Rattle.std.specs.Option.{option_map, option_map_or}
 use Rattle.crush.specs.Run.{Ran}
-use Rattle.grouptable.specs.Sets.{Places, groups_of}
+use Rattle.grouptable.specs.Sets.{groups_of}
+use Rattle.stated.specs.Sets.{Places}
 use Rattle.stated.specs.declared.pg.Pg.{Pg}
 use Rattle.stated.specs.Pools.{PoolFacts}
 use Rattle.osdmap.specs.Maps.{ClusterMap, osd_is_up, HoldsTogether}

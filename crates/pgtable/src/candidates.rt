@@ -5,8 +5,8 @@ ghost use Rattle.keylist.specs.Order.{IsRising};
 ghost use Rattle.stated.specs.Exceptions.{place_of, key_of};
 ghost use Rattle.osdmap.specs.Changes.{change_fault};
 ghost use Rattle.osdmap.specs.Evals.{is_named};
-ghost use Rattle.pgtable.specs.Candidates.{groups_of, joined, NamedRise, IsCandidates, named_in, candidates, number_at};
-ghost use Rattle.pgtable.specs.Patches.{next, leaves_raw_sets};
+ghost use Rattle.pgtable.specs.Candidates.{excepted_groups, merged, NamedRise, IsCandidates, named_in, candidates, number_at};
+ghost use Rattle.pgtable.specs.Patches.{changed_map, leaves_raw_sets};
 
 use keylist::{has, put_all};
 use osdmap::{Change, Exception, OsdMap, Pg, Pool};
@@ -30,7 +30,7 @@ pub(crate) fn is_named(change: &Change, pg: Pg) -> bool
 /// The groups of some exceptions, in their order; or `Memory` (30).
 fn groups_of<E: Blank>(alloc: Global, exceptions: &[Exception<E>]) -> Result<Vec<Pg>, Memory>
     requires { IsRising key_of exceptions.now }
-    ensures groups { IfOk result (λ groups. groups.items ≡ groups_of exceptions.now) }
+    ensures groups { IfOk result (λ groups. groups.items ≡ excepted_groups exceptions.now) }
     ensures rising { IfOk result (λ groups. IsRising place_of groups.items) }
 {
     let mut groups = Vec::with_capacity(alloc, exceptions.len())?;
@@ -44,7 +44,7 @@ fn groups_of<E: Blank>(alloc: Global, exceptions: &[Exception<E>]) -> Result<Vec
 fn join(groups: &mut Vec<Pg>, others: &[Pg]) -> Result<(), Memory>
     requires some { IsRising place_of groups.old.items }
     requires others { IsRising place_of others.now }
-    ensures groups { OnOk result (groups.new.items ≡ joined groups.old.items others.now) }
+    ensures groups { OnOk result (groups.new.items ≡ merged groups.old.items others.now) }
     ensures rising { OnOk result (IsRising place_of groups.new.items) }
 {
     groups.reserve(others.len())?;
@@ -116,7 +116,7 @@ pub(crate) fn candidates_named(
 ) -> Result<Vec<Pg>, Memory>
     requires lawful { change_fault map.now.map change.now ≡ None }
     requires leaves { leaves_raw_sets change.now ≡ true }
-    ensures { IfOk result (λ groups. IsCandidates (next map.now.map change.now) change.now groups.items) }
+    ensures { IfOk result (λ groups. IsCandidates (changed_map map.now.map change.now) change.now groups.items) }
 {
     rise(map, change);
     let groups = named(alloc, change)?;

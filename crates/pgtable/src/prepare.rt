@@ -2,7 +2,7 @@
 
 ghost use Rattle.std.specs.Prelude.{◌≡◌, true, length};
 ghost use Rattle.osdmap.specs.Marks.{are_below};
-ghost use Rattle.pgtable.specs.Patches.{is_empty, leaves_pools, leaves_raw_sets, turned};
+ghost use Rattle.pgtable.specs.Patches.{is_empty, leaves_pools, leaves_raw_sets, ups_turned};
 
 use crate::candidates::{candidates, candidates_named};
 use crate::patch::{Brought, Patch};
@@ -44,7 +44,7 @@ pub(crate) fn leaves_raw_sets(change: &Change) -> bool
 /// Some OSDs go up or down.
 fn turn(ups: &mut [bool], osds: &[u32], up: bool)
     requires { are_below (λ osd. osd) (length ups.old) osds.now ≡ true }
-    ensures { ups.new ≡ turned up ups.old osds.now }
+    ensures { ups.new ≡ ups_turned up ups.old osds.now }
 {
     for osd in osds {
         ups[*osd as usize] = up;
@@ -54,7 +54,7 @@ fn turn(ups: &mut [bool], osds: &[u32], up: bool)
 impl PgTable {
     ghost use Rattle.std.specs.Prelude.{◌≡◌, ◌<◌, true, length, map, None, ◌+◌, ◌^◌, IfOk};
     ghost use Rattle.osdmap.specs.Marks.{are_below};
-    ghost use Rattle.pgtable.specs.Patches.{leaves_raw_sets, next, LeadsTo, ups_after};
+    ghost use Rattle.pgtable.specs.Patches.{leaves_raw_sets, changed_map, LeadsTo, ups_after};
     ghost use Rattle.osdmap.specs.Changes.{change_fault};
     ghost use Rattle.osdmap.specs.Evals.{evals_of};
     ghost use Rattle.pgtable.specs.Tables.{IsTableOf, RunsMore};
@@ -70,8 +70,8 @@ impl PgTable {
         requires table { IsTableOf self.now map.now.map }
         requires lawful { change_fault map.now.map change.now ≡ None }
         requires epoch { map.now.map.epoch + 1 < 2 ^ 64 }
-        ensures leads { IfOk result (LeadsTo (next map.now.map change.now) self.now) }
-        ensures counted { IfOk result (λ p. p.evals ≡ evals_of (next map.now.map change.now) change.now) }
+        ensures leads { IfOk result (LeadsTo (changed_map map.now.map change.now) self.now) }
+        ensures counted { IfOk result (λ p. p.evals ≡ evals_of (changed_map map.now.map change.now) change.now) }
         ensures runs { IfOk result (λ p. RunsMore p.evals work.old work.new) }
     {
         let after = map.after(alloc, change)?;
@@ -105,8 +105,8 @@ impl PgTable {
         requires table { IsTableOf self.now map.now.map }
         requires lawful { change_fault map.now.map change.now ≡ None }
         requires leaves { leaves_raw_sets change.now ≡ true }
-        ensures leads { IfOk result (LeadsTo (next map.now.map change.now) self.now) }
-        ensures counted { IfOk result (λ p. p.evals ≡ evals_of (next map.now.map change.now) change.now) }
+        ensures leads { IfOk result (LeadsTo (changed_map map.now.map change.now) self.now) }
+        ensures counted { IfOk result (λ p. p.evals ≡ evals_of (changed_map map.now.map change.now) change.now) }
         ensures runs { IfOk result (λ p. RunsMore p.evals work.old work.new) }
     {
         map.holds_together();
@@ -150,8 +150,8 @@ impl PgTable {
         requires table { IsTableOf self.now map.now.map }
         requires lawful { change_fault map.now.map change.now ≡ None }
         requires epoch { map.now.map.epoch + 1 < 2 ^ 64 }
-        ensures leads { IfOk result (LeadsTo (next map.now.map change.now) self.now) }
-        ensures counted { IfOk result (λ p. p.evals ≡ evals_of (next map.now.map change.now) change.now) }
+        ensures leads { IfOk result (LeadsTo (changed_map map.now.map change.now) self.now) }
+        ensures counted { IfOk result (λ p. p.evals ≡ evals_of (changed_map map.now.map change.now) change.now) }
         ensures runs { IfOk result (λ p. RunsMore p.evals work.old work.new) }
     {
         if leaves_raw_sets(change) {

@@ -8,7 +8,7 @@ ghost use Rattle.keylist.specs.Order.{IsRising};
 ghost use Rattle.crush.specs.Limits.{max_size};
 ghost use Rattle.stated.specs.Exceptions.{place_of, key_of};
 ghost use Rattle.pgtable.specs.Candidates.{IsCandidates};
-ghost use Rattle.pgtable.specs.Patches.{LeadsFrom, next, leaves_raw_sets, said_after};
+ghost use Rattle.pgtable.specs.Patches.{LeadsFrom, changed_map, leaves_raw_sets, said_after};
 
 use crate::candidates::{is_named, number_of, rise};
 use crate::mapped::stored;
@@ -27,9 +27,9 @@ pub(crate) struct Regroup<'a> {
     pub change: &'a Change,
     /// Among these groups are all whose exceptions the change concerns.
     pub groups: &'a [Pg],
-    ghost leads: { LeadsFrom map.now.map change.now (next map.now.map change.now) },
+    ghost leads: { LeadsFrom map.now.map change.now (changed_map map.now.map change.now) },
     ghost leaves: { leaves_raw_sets change.now ≡ true },
-    ghost candidates: { IsCandidates (next map.now.map change.now) change.now groups.now },
+    ghost candidates: { IsCandidates (changed_map map.now.map change.now) change.now groups.now },
 }
 
 /// What a change makes of what is said of a group: what comes in its place, nothing where it goes, else what was said.
@@ -58,14 +58,14 @@ impl Regroup<'_> {
     ghost use Rattle.osdmap.specs.Placement.{mapped_set, RunsOnce};
     ghost use Rattle.pgtable.specs.Tables.{RunsMore};
     ghost use Rattle.pgtable.specs.Candidates.{IsCandidates, named_number, named_numbers};
-    ghost use Rattle.pgtable.specs.Patches.{LeadsFrom, next, leaves_raw_sets, concerned, with_sets, changes_of};
+    ghost use Rattle.pgtable.specs.Patches.{LeadsFrom, changed_map, leaves_raw_sets, concerned, with_sets, changes_of};
 
     /// What holds of the map and the change: for proofs alone.
     pub fn holds(&self)
         ensures leads { LeadsFrom self.now.map.now.map self.now.change.now
-            (next self.now.map.now.map self.now.change.now) }
+            (changed_map self.now.map.now.map self.now.change.now) }
         ensures leaves { leaves_raw_sets self.now.change.now ≡ true }
-        ensures candidates { IsCandidates (next self.now.map.now.map self.now.change.now)
+        ensures candidates { IsCandidates (changed_map self.now.map.now.map self.now.change.now)
             self.now.change.now self.now.groups.now }
     {
         let _ = &self.groups;
@@ -76,7 +76,7 @@ impl Regroup<'_> {
         requires there { pool_at self.now.map.now.map.pools pool.now.id ≡ Some pool.now }
         requires within { number < pool.now.pg_num }
         ensures set { IfOk result (λ set. set ≡ mapped_set
-            (next self.now.map.now.map self.now.change.now) pool.now number) }
+            (changed_map self.now.map.now.map self.now.change.now) pool.now number) }
         ensures run { RunsOnce work.old work.new result }
     {
         let pg = Pg {
@@ -132,7 +132,7 @@ impl Regroup<'_> {
     /// The groups of a pool whose exceptions the change concerns; or `Memory` (30).
     fn concerned(&self, alloc: Global, pool: &Pool) -> Result<Vec<u32>, Memory>
         ensures { IfOk result (λ numbers. numbers.items
-            ≡ concerned (next self.now.map.now.map self.now.change.now) self.now.change.now pool.now) }
+            ≡ concerned (changed_map self.now.map.now.map self.now.change.now) self.now.change.now pool.now) }
     {
         self.holds();
         let numbers = self.numbers_in(alloc, pool)?;
@@ -148,9 +148,9 @@ impl Regroup<'_> {
     ) -> Result<Vec<(u32, OsdSet)>, Memory>
         requires { pool_at self.now.map.now.map.pools pool.now.id ≡ Some pool.now }
         ensures changes { IfOk result (λ changes. changes.items
-            ≡ changes_of (next self.now.map.now.map self.now.change.now) self.now.change.now pool.now) }
+            ≡ changes_of (changed_map self.now.map.now.map self.now.change.now) self.now.change.now pool.now) }
         ensures runs { OnOk result (RunsMore (length
-            (concerned (next self.now.map.now.map self.now.change.now) self.now.change.now pool.now))
+            (concerned (changed_map self.now.map.now.map self.now.change.now) self.now.change.now pool.now))
             work.old work.new) }
     {
         let numbers = self.concerned(alloc, pool)?;
@@ -169,7 +169,7 @@ impl Regroup<'_> {
         requires there { pool_at self.now.map.now.map.pools pool.now.id ≡ Some pool.now }
         requires within { All (λ number. number < pool.now.pg_num) numbers.now }
         ensures changes { IfOk result (λ changes. changes.items
-            ≡ with_sets (next self.now.map.now.map self.now.change.now) pool.now numbers.now) }
+            ≡ with_sets (changed_map self.now.map.now.map self.now.change.now) pool.now numbers.now) }
         ensures runs { OnOk result (RunsMore (length numbers.now) work.old work.new) }
     {
         let _ = work.runs();

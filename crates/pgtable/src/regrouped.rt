@@ -10,7 +10,7 @@ use std::alloc::Global;
 
 impl PgTable {
     ghost use Rattle.std.specs.Prelude.{◌≡◌, Some, IfOk, OnOk};
-    ghost use Rattle.pgtable.specs.Patches.{next, evals_in, RegroupsPool, RegroupsAll};
+    ghost use Rattle.pgtable.specs.Patches.{changed_map, evals_in, RegroupsPool, RegroupsAll};
     ghost use Rattle.osdmap.specs.Maps.{pool_at};
     ghost use Rattle.osdmap.specs.Evals.{evals_of};
     ghost use Rattle.pgtable.specs.Tables.{IsTableOf, pool_table, RunsMore};
@@ -26,11 +26,11 @@ impl PgTable {
         requires table { table.now ≡ pool_table regroup.now.map.now.map table.now.pool }
         requires there { pool_at regroup.now.map.now.map.pools table.now.pool.id ≡ Some table.now.pool }
         ensures made { IfOk result (λ r.
-            RegroupsPool (next regroup.now.map.now.map regroup.now.change.now) table.now r.0) }
+            RegroupsPool (changed_map regroup.now.map.now.map regroup.now.change.now) table.now r.0) }
         ensures evals { IfOk result (λ r. r.1 ≡ evals_in
-            (next regroup.now.map.now.map regroup.now.change.now) regroup.now.change.now table.now.pool) }
+            (changed_map regroup.now.map.now.map regroup.now.change.now) regroup.now.change.now table.now.pool) }
         ensures runs { OnOk result (RunsMore (evals_in
-            (next regroup.now.map.now.map regroup.now.change.now) regroup.now.change.now table.now.pool)
+            (changed_map regroup.now.map.now.map regroup.now.change.now) regroup.now.change.now table.now.pool)
             work.old work.new) }
     {
         regroup.holds();
@@ -52,11 +52,11 @@ impl PgTable {
     ) -> Result<(Vec<Option<GroupPatch>>, usize), Memory>
         requires { IsTableOf self.now regroup.now.map.now.map }
         ensures made { IfOk result (λ r. RegroupsAll self.now.pools
-            (next regroup.now.map.now.map regroup.now.change.now) r.0.items) }
+            (changed_map regroup.now.map.now.map regroup.now.change.now) r.0.items) }
         ensures evals { IfOk result (λ r. r.1 ≡ evals_of
-            (next regroup.now.map.now.map regroup.now.change.now) regroup.now.change.now) }
+            (changed_map regroup.now.map.now.map regroup.now.change.now) regroup.now.change.now) }
         ensures runs { OnOk result (RunsMore (evals_of
-            (next regroup.now.map.now.map regroup.now.change.now) regroup.now.change.now) work.old work.new) }
+            (changed_map regroup.now.map.now.map regroup.now.change.now) regroup.now.change.now) work.old work.new) }
     {
         regroup.holds();
         let _ = work.runs();

@@ -175,7 +175,8 @@ impl PgTable {
 
     /// In how many up sets of groups of a pool an OSD stands.
     pub fn count_in(&self, pool: u32, osd: u32) -> usize
-        ensures { (m : ClusterMap) → IsTableOf self.now m → result ≡ count_in m pool osd }
+        ensures value { (m : ClusterMap) → IsTableOf self.now m → result ≡ count_in m pool osd }
+        ensures few { (m : ClusterMap) → IsTableOf self.now m → result ≤ count_of m osd }
     {
         self.shown_in(pool, osd)
     }

@@ -5,7 +5,7 @@ ghost use Rattle.std.specs.Option.{option_copied};
 ghost use Rattle.std.specs.List.{list_any};
 ghost use Rattle.std.specs.List.Sorted.{IsNonDecreasingBy};
 ghost use Rattle.keylist.specs.Keys.{has_key};
-ghost use Rattle.osdmap.specs.Evals.{names_reweighted, reaches};
+ghost use Rattle.osdmap.specs.Evals.{names_reweighted, reaches_reweighted};
 ghost use Rattle.pgtable.specs.Candidates.{IsCandidates};
 ghost use Rattle.pgtable.specs.Patches.{LeadsFrom};
 
@@ -64,9 +64,9 @@ fn names_reweighted<E: Entry>(change: &Change, said: Option<&[E]>) -> bool
 }
 
 /// Whether the rule of a pool of a map reaches an OSD that gets another reweight.
-#[tactic(auto, unfolding(osdmap::specs::Evals::reaches))]
+#[tactic(auto, unfolding(osdmap::specs::Evals::reaches_reweighted))]
 fn reaches(map: &OsdMap, change: &Change, pool: &Pool) -> bool
-    ensures { result ≡ reaches map.now.map change.now pool.now }
+    ensures { result ≡ reaches_reweighted map.now.map change.now pool.now }
 {
     match map.rule(pool.rule()) {
         Some(rule) => change
@@ -79,12 +79,12 @@ fn reaches(map: &OsdMap, change: &Change, pool: &Pool) -> bool
 }
 
 impl Update<'_> {
-    ghost use Rattle.std.specs.Prelude.{◌≡◌, length, Some, IfOk, OnOk};
+    ghost use Rattle.std.specs.Prelude.{◌≡◌, length, Some, IfOk, OnOk, false, None};
     ghost use Rattle.osdmap.specs.Maps.{pool_at};
     ghost use Rattle.pgtable.specs.Tables.{RunsMore};
     ghost use Rattle.osdmap.specs.Placement.{group_of};
     ghost use Rattle.osdmap.specs.Evals.{is_touched, concerns};
-    ghost use Rattle.pgtable.specs.Candidates.{IsCandidates, number_in, numbers_in};
+    ghost use Rattle.pgtable.specs.Candidates.{IsCandidates, concerned_number, numbers_in};
     ghost use Rattle.pgtable.specs.Patches.{LeadsFrom, concerned, with_sets, changes_of};
 
     /// The change leads from the one map to the other: for proofs alone.
@@ -105,7 +105,8 @@ impl Update<'_> {
     /// with the change, or its rule reaches an OSD that got another reweight.
     #[tactic(auto, unfolding(osdmap::specs::Evals::is_touched))]
     pub fn is_touched(&self, pool: &Pool) -> bool
-        ensures { result ≡ is_touched self.now.after.now.map self.now.change.now pool.now }
+        ensures value { result ≡ is_touched self.now.after.now.map self.now.change.now pool.now }
+        ensures forest { result ≡ false → self.now.change.now.new_crush ≡ None }
     {
         let parts = self.change.parts();
         let id = u64::from(pool.id());
@@ -132,7 +133,7 @@ impl Update<'_> {
 
     /// The number in a pool of a group that stands in it and that the change concerns.
     fn number_in(&self, pool: &Pool, group: Pg) -> Option<u32>
-        ensures { result ≡ number_in self.now.after.now.map self.now.change.now pool.now group }
+        ensures { result ≡ concerned_number self.now.after.now.map self.now.change.now pool.now group }
     {
         let number = number_of(pool, group)?;
         if self.concerns(pool, number) {

@@ -14,7 +14,8 @@ use Rattle.stated.specs.declared.pg.Pg.{Pg}
 use Rattle.stated.specs.Pools.{PoolFacts}
 use Rattle.stated.specs.Exceptions.{place_of, key_of, said_of, is_exception, all_named, has_group, is_sound, target, sides, is_set, are_pairs}
 use Rattle.osdmap.specs.Maps.{ClusterMap, osd_exists, HoldsTogether}
-use Rattle.osdmap.specs.Mapped.{is_of, is_weightless, replaced, with_pair, with_items, mapped}
+use Rattle.osdmap.specs.Mapped.{is_weightless, replaced, with_pair, with_items, mapped}
+use Rattle.stated.specs.Sets.{is_of}
 use Rattle.osdmap.specs.Sets.{kept, kept_in}
 use Rattle.osdmap.specs.Placement.{group_of, existing, placed, raw_set, mapped_set}
 use Rattle.osdmap.proofs.PlacementLemmas.{found_passes}

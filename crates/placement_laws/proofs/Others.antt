@@ -17,7 +17,7 @@ use Rattle.keylist.proofs.Each.{map-agree}
 use Rattle.keylist.proofs.KeyedFinds.{find-none_reverse}
 use Rattle.keylist.proofs.KeyedMaps.{entry-put, entry-filter}
 use Rattle.crush.specs.declared.bucket.Bucket.{Bucket}
-use Rattle.crush.specs.Grammar.{IsLawful, rule_limits_ok, rule_ok, is_rule, takes_known}
+use Rattle.crush.specs.Grammar.{IsLawfulRule, rule_limits_ok, rule_ok, is_rule, takes_known}
 use Rattle.crush.specs.Paths as paths
 use Rattle.crush_laws.proofs.RunsReached.{run_reads_reached}
 use Rattle.stated.specs.declared.change.ChangeParts.{ChangeParts}
@@ -35,7 +35,7 @@ use Rattle.crush.specs.World.{world_of}
 use Rattle.stated.specs.Exceptions.{place_of, key_of, said_of, is_among, has_group, all_named, is_exception, is_sound, target, sides, stays, exceptions_after}
 use Rattle.osdmap.specs.Maps.{ClusterMap, pool_at, osd_exists, has_rule, HoldsTogether}
 use Rattle.osdmap.specs.Changes.{pools_kept, pools_after, with_weight, apply, pools_there}
-use Rattle.osdmap.specs.Evals.{reaches, is_touched, is_named, names_reweighted, concerns}
+use Rattle.osdmap.specs.Evals.{reaches_reweighted, is_touched, is_named, names_reweighted, concerns}
 use Rattle.osdmap.specs.Sets.{kept}
 use Rattle.osdmap.specs.Placement.{placement_input, group_of, existing, placed, raw_set, steps_of}
 use Rattle.osdmap.proofs.PlacementLemmas.{found_passes}
@@ -227,7 +227,7 @@ unreached reach (w ∷ ws) osd is none =
     ]
 
 -- a rule of a map is lawful
-rule_lawful : (buckets : List Bucket) (r : NumberedRule) → is_rule_over buckets r ≡ true → IsLawful r.rule.kind r.rule.steps
+rule_lawful : (buckets : List Bucket) (r : NumberedRule) → is_rule_over buckets r ≡ true → IsLawfulRule r.rule.kind r.rule.steps
 unfolding is_rule_over
 rule_lawful buckets r ok =
     let first = and_first _ (rule_ok r.rule.kind r.rule.steps buckets) ok in
@@ -268,14 +268,14 @@ unfolding apply
 weights_are m step = refl
 
 -- a rule that reaches no reweighted OSD after a change reached none before
-unreached_before : (m other : ClusterMap) (c : ChangeParts) (p : PoolFacts) → other.buckets ≡ m.buckets → other.rules ≡ m.rules → reaches other c p ≡ false → list_any (λ w. paths.reaches m.buckets (steps_of m p) (pos w.osd)) c.weight ≡ false
-unfolding reaches
+unreached_before : (m other : ClusterMap) (c : ChangeParts) (p : PoolFacts) → other.buckets ≡ m.buckets → other.rules ≡ m.rules → reaches_reweighted other c p ≡ false → list_any (λ w. paths.reaches m.buckets (steps_of m p) (pos w.osd)) c.weight ≡ false
+unfolding reaches_reweighted
 unreached_before m other c p buckets rules none =
     subst (λ (rs : List NumberedRule). list_any (λ w. paths.reaches m.buckets (option_map_or (λ r. r.steps) (rule_at rs p.rule) []) (pos w.osd)) c.weight ≡ false) rules
     (subst (λ (bs : List Bucket). list_any (λ w. paths.reaches bs (steps_of other p) (pos w.osd)) c.weight ≡ false) buckets none)
 
 -- a rule that reaches no reweighted OSD places a group as before
-placed_stays : (m : ClusterMap) (step : Step) (p : PoolFacts) (n : ℕ) → HoldsTogether m → has_rule m.rules p ≡ true → step.change.new_crush ≡ None → reaches (apply m step) step.change p ≡ false → placed m p n ≡ placed (apply m step) p n
+placed_stays : (m : ClusterMap) (step : Step) (p : PoolFacts) (n : ℕ) → HoldsTogether m → has_rule m.rules p ≡ true → step.change.new_crush ≡ None → reaches_reweighted (apply m step) step.change p ≡ false → placed m p n ≡ placed (apply m step) p n
 placed_stays m step p n holds has same none =
     let buckets = buckets_stay m step same in
     let rules = rules_stay m step same in
@@ -288,7 +288,7 @@ existing_stays m step (Some (pos osd)) = rw (exists-after m step osd) refl
 existing_stays m step (Some (negsuc n)) = refl
 
 -- the raw set of a group stays where no forest comes and the pool's rule reaches no OSD that gets another reweight
-pub raw_stays : (m : ClusterMap) (step : Step) (p : PoolFacts) (n : ℕ) → HoldsTogether m → has_rule m.rules p ≡ true → step.change.new_crush ≡ None → reaches (apply m step) step.change p ≡ false → raw_set m p n ≡ raw_set (apply m step) p n
+pub raw_stays : (m : ClusterMap) (step : Step) (p : PoolFacts) (n : ℕ) → HoldsTogether m → has_rule m.rules p ≡ true → step.change.new_crush ≡ None → reaches_reweighted (apply m step) step.change p ≡ false → raw_set m p n ≡ raw_set (apply m step) p n
 unfolding raw_set
 raw_stays m step p n holds has same none =
     let first = map-agree (option_and_then (existing m)) (option_and_then (existing (apply m step))) (existing_stays m step) (placed m p n) in
@@ -332,20 +332,20 @@ pub record IsUntouched (m : ClusterMap) (c : ChangeParts) (p : PoolFacts) : Type
   pub crush : c.new_crush ≡ None
   pub new : has_key (λ q. q.id) c.new_pools p.id ≡ false
   pub grow : has_key (λ g. g.pool) c.grow_pool p.id ≡ false
-  pub reach : reaches m c p ≡ false
+  pub reach : reaches_reweighted m c p ≡ false
 
 -- a pool that a change does not touch is not new, does not grow, keeps its forest and rules, and reaches no reweighted
 -- OSD
 pub untouched : (m : ClusterMap) (c : ChangeParts) (p : PoolFacts) → is_touched m c p ≡ false → IsUntouched m c p
 unfolding is_touched
 untouched m c p none =
-    let three = or_first _ (reaches m c p) none in
+    let three = or_first _ (reaches_reweighted m c p) none in
     let two = or_first _ (has_key (λ g. g.pool) c.grow_pool p.id) three in
     record {
       crush = none_there c.new_crush (or_first (is_some c.new_crush) (has_key (λ q. q.id) c.new_pools p.id) two);
       new = or_second (is_some c.new_crush) (has_key (λ q. q.id) c.new_pools p.id) two;
       grow = or_second _ (has_key (λ g. g.pool) c.grow_pool p.id) three;
-      reach = or_second _ (reaches m c p) none;
+      reach = or_second _ (reaches_reweighted m c p) none;
     }
 
 -- the pool of a change that does not touch it was there

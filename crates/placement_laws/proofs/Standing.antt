@@ -7,10 +7,10 @@ use Rattle.std.proofs.lemmas.List.Concat.{flat_map-cons}
 use Rattle.crush.specs.declared.step.RuleKind.{RuleKind}
 use Rattle.crush.specs.declared.step.RuleKind.TheVariants.{Replicated, Erasure}
 use Rattle.osdmap.specs.Maps.{ClusterMap, osd_is_up}
-use Rattle.osdmap.specs.Mapped.{is_of}
+use Rattle.stated.specs.Sets.{is_of, stands}
 use Rattle.osdmap.specs.Sets.{kept, kept_in}
 use Rattle.osdmap.specs.Placement.{upward, mapped_set, up_set}
-use Rattle.placement_laws.specs.Standing.{stands, UpAreMappedAndUp}
+use Rattle.placement_laws.specs.Standing.{UpAreMappedAndUp}
 
 -- or with false is the first
 or_none : (a : Bool) → (a || false) ≡ a

@@ -1,14 +1,9 @@
 -- Which OSDs stand in the sets of a group.
-use Rattle.std.specs.Prelude.{◌≡◌, ℕ, true, Bool, ◌&&◌, List, Option, All, IfSome}
-use Rattle.std.specs.List.{list_any}
+use Rattle.std.specs.Prelude.{◌≡◌, ℕ, true, ◌&&◌, All, IfSome}
 use Rattle.stated.specs.Pools.{PoolFacts}
+use Rattle.stated.specs.Sets.{stands}
 use Rattle.osdmap.specs.Maps.{ClusterMap, osd_exists, osd_is_up, HoldsTogether}
-use Rattle.osdmap.specs.Mapped.{is_of}
 use Rattle.osdmap.specs.Placement.{mapped_set, up_set}
-
--- whether an OSD stands in a set
-abbrev pub stands : ℕ → List (Option ℕ) → Bool
-stands osd places = list_any (is_of osd) places
 
 -- an OSD stands in the up set of a group exactly where it stands in the mapped set and is up
 abbrev pub UpAreMappedAndUp : Type 0

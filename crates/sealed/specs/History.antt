@@ -3,7 +3,7 @@ use Rattle.std.specs.Prelude.{◌≡◌, ℕ, List, ◌++◌, ◌⊎◌, length,
 
 -- what contracts see of a pass: the row that it is of, by the names of its cells, and its history, the values that it
 -- has seen, in the order of the cells
-pub record Seen (T : Type 0) : Type 0 where
+pub record PassFacts (T : Type 0) : Type 0 where
   pub row : List ℕ
   pub history : List T
 

@@ -18,10 +18,10 @@ pub struct Pass<T> {
 
 impl<T> Model for Pass<T> {
     ghost use Rattle.std.specs.Prelude.{◌≡◌, length};
-    ghost use Rattle.sealed.specs.History.{Seen};
+    ghost use Rattle.sealed.specs.History.{PassFacts};
     ghost use Rattle.sealed.specs.Tokens.{cells_of, values_of};
 
-    ghost Value = { Seen T };
+    ghost Value = { PassFacts T };
 
     ghost view = { λ p. record { row = cells_of p.tokens.items; history = values_of p.len p.tokens.items } };
 

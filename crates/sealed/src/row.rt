@@ -1,7 +1,7 @@
 //! A row of cells that are sealed once each.
 ghost use Rattle.std.specs.Prelude.{◌≡◌, ◌<◌, [], ◌∷◌, ◌++◌, length, true, IfOk, OnOk, IfErr, OnErr, IfSome, IfNone, slice_get};
 ghost use Rattle.std.specs.Fn.{FnOnceReturnsAt};
-ghost use Rattle.sealed.specs.History.{Seen};
+ghost use Rattle.sealed.specs.History.{PassFacts};
 
 use crate::known::Known;
 use crate::pass::Pass;

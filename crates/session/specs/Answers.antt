@@ -15,8 +15,8 @@ use Rattle.pgtable.specs.Index.{up_at}
 use Rattle.mapjson.specs.ChangeTexts.{change_text_fault, StatesChange}
 use Rattle.mapjson.specs.Written.{written}
 use Rattle.state.specs.Answers.{FindsUp, FindsCount, FindsGroups}
-use Rattle.monitor.specs.Histories.{GoesOn, Looks, FindsEpoch, FindsText, Commits}
-use Rattle.monitor.specs.Balances.{Balances}
+use Rattle.monitor.specs.Histories.{GoesOn, Looks, FindsEpoch, FindsText, AnswersCommit}
+use Rattle.monitor.specs.Balances.{AnswersBalance}
 use Rattle.session.specs.declared.command.Question.{Question}
 use Rattle.session.specs.declared.command.Question.TheVariants.{Up, Count, Groups, Epoch, Dump}
 use Rattle.session.specs.declared.command.Task.{Task}
@@ -55,7 +55,8 @@ Asks first before now Dump answer =
 abbrev pub Changes : ClusterMap → ℕ → List Step → List Step → List ℕ → Result (ℕ × ℕ) Refusal → Type 0
 Changes first most before now text r =
     (read : Result (ℕ × ChangeParts) Refusal) × Makes read (change_text_fault text) (StatesChange text)
-    × MatchResult read (λ stated. Commits first most before now stated.0 stated.1 r) (λ e. (r ≡ Err e) × (now ≡ before))
+    × MatchResult read (λ stated. AnswersCommit first most before now stated.0 stated.1 r)
+    (λ e. (r ≡ Err e) × (now ≡ before))
 
 -- what waiting for an epoch answers: one that is at least that, at the history that its member has seen then, which
 -- goes on from the one before; or that the turns are spent, at a history whose epoch is below it; or that its seat has
@@ -97,7 +98,7 @@ Does first most before (Some (wait epoch)) answer now =
     IsLineOf (Awaits first epoch before.member now.member) (epoch_text (codes "epoch")) answer
     × (now.follower ≡ before.follower)
 Does first most before (Some (balance pool limit)) answer now =
-    IsLineOf (Balances first most before.member now.member pool limit) (λ ok. moved_text ok.1 ok.0) answer
+    IsLineOf (AnswersBalance first most before.member now.member pool limit) (λ ok. moved_text ok.1 ok.0) answer
     × (now.follower ≡ before.follower)
 Does first most before (Some (follower t)) answer now =
     Tells first before.follower now.follower t answer × (now.member ≡ before.member)

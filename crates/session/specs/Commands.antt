@@ -41,8 +41,8 @@ abbrev pub two_words : List ℕ → Option (List ℕ × List ℕ)
 two_words text = option_map (λ at. (take at text, drop (at + 1) text)) (position (λ c. c == 32) text)
 
 -- the number of a pool, of 32 bits
-abbrev pub pool_in : List ℕ → Option ℕ
-pool_in text = number_below (2 ^ 32) text
+abbrev pub pool_number : List ℕ → Option ℕ
+pool_number text = number_below (2 ^ 32) text
 
 -- a number of moves, from 1 to that
 abbrev pub limit_in : List ℕ → Option ℕ
@@ -95,7 +95,8 @@ task_in line =
 -- the plan of a text: a pool, a space and a number of moves
 unfoldable pub plan_in : List ℕ → Option Command
 plan_in text =
-    option_and_then (λ words. option_and_then (λ pool. option_map (balance pool) (limit_in words.1)) (pool_in words.0))
+    option_and_then
+    (λ words. option_and_then (λ pool. option_map (balance pool) (limit_in words.1)) (pool_number words.0))
     (two_words text)
 
 -- the command of a line: `change ` and a text, `await ` and an epoch, `balance ` and a plan, a question, or a task;

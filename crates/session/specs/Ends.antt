@@ -3,7 +3,7 @@ use Rattle.std.specs.Prelude.{◌≡◌, ◌⊎◌, ℕ, true, false, Bool, List
 use Rattle.session.specs.declared.error.SessionError.{SessionError}
 use Rattle.session.specs.declared.error.SessionError.TheVariants.{Write, Memory, Held, Read}
 use Rattle.session.specs.Sinks.{HasPut}
-use Rattle.session.specs.Transcripts.{Manner, Stopping, Rests, Breaks, Holds}
+use Rattle.session.specs.Transcripts.{Manner, Stopping, Rests, Breaks, IsHeldBack}
 
 -- whether the sink has failed: at `Write`, and else not
 abbrev pub has_sink_failed : {X : Type 0} → Result X SessionError → Bool
@@ -33,5 +33,5 @@ Halts m Write number between others before out last =
     Rests between before out last ⊎ Breaks m number between others before out last
 Halts m Memory number between others before out last =
     Rests between before out last ⊎ Breaks m number between others before out last
-Halts m Held number between others before out last = Holds m number between others before out last
+Halts m Held number between others before out last = IsHeldBack m number between others before out last
 Halts m Read number between others before out last = ⊥

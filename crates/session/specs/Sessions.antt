@@ -8,13 +8,13 @@ use Rattle.session.specs.Transcripts.{Manner}
 use Rattle.session.specs.Answers.{Sight, session_with}
 
 -- the follower's history, and an empty one where there is none yet
-abbrev pub followed : Option Followed → List Step
-followed (Some follower) = follower.history
-followed None = []
+abbrev pub followed_history : Option Followed → List Step
+followed_history (Some follower) = follower.history
+followed_history None = []
 
 -- what is seen by a member and a follower
 abbrev pub seen_by : Member → Option Followed → Sight
-seen_by member follower = record { member = member.pass.history; follower = followed follower }
+seen_by member follower = record { member = member.pass.history; follower = followed_history follower }
 
 -- the follower, where there is one, is of this monitor
 abbrev pub IsFollowerOf : Monitored → Option Followed → Type 0

@@ -48,13 +48,13 @@ impl<'a, R, G> Desk<'a, R, G> {
     ghost use Rattle.session.specs.Texts.{line_of};
     ghost use Rattle.session.specs.Replies.{reply_text};
     ghost use Rattle.session.specs.Answers.{Tells};
-    ghost use Rattle.session.specs.Sessions.{followed, IsFollowerOf};
+    ghost use Rattle.session.specs.Sessions.{followed_history, IsFollowerOf};
 
     /// Makes the follower, where there is none yet.
     fn need_follower(&self, follower: &mut Option<Follower>) -> Result<(), Memory>
         requires { IsFollowerOf self.now.monitor.now follower.old }
         ensures there { OnOk result (IsSomeAnd follower.new (Follows self.now.monitor.now)
-            × (followed follower.new ≡ followed follower.old)) }
+            × (followed_history follower.new ≡ followed_history follower.old)) }
         ensures none { OnErr result ((follower.old ≡ None) × (follower.new ≡ None)) }
     {
         if follower.is_none() {
@@ -130,7 +130,8 @@ impl<'a, R, G> Desk<'a, R, G> {
     fn follow(&self, follower: &mut Option<Follower>, task: Task) -> Result<Reply, Refusal>
         requires { IsFollowerOf self.now.monitor.now follower.old }
         ensures follower { IsFollowerOf self.now.monitor.now follower.new }
-        ensures tells { Tells self.now.monitor.now.first (followed follower.old) (followed follower.new) task
+        ensures tells { Tells self.now.monitor.now.first (followed_history follower.old)
+            (followed_history follower.new) task
             (line_of reply_text result) }
     {
         self.need_follower(follower)?;
@@ -146,7 +147,7 @@ impl<'a, R: Wait, G> Desk<'a, R, G> {
     ghost use Rattle.std.specs.Option.{option_map};
     ghost use Rattle.monitor.specs.Members.{IsMemberOf};
     ghost use Rattle.monitor.specs.Sharing.{IsSharing};
-    ghost use Rattle.monitor.specs.Balances.{Balances};
+    ghost use Rattle.monitor.specs.Balances.{AnswersBalance};
     ghost use Rattle.session.specs.Texts.{line_of};
     ghost use Rattle.session.specs.Commands.{shown};
     ghost use Rattle.session.specs.Replies.{reply_text};
@@ -235,7 +236,7 @@ impl<'a, R: Wait, G> Desk<'a, R, G> {
     fn balance(&self, member: &mut Member, plan: Plan) -> Result<(u64, usize), Refusal>
         requires { IsMemberOf self.now.monitor.now member.old }
         ensures member { IsMemberOf self.now.monitor.now member.new }
-        ensures balances { Balances self.now.monitor.now.first (length self.now.monitor.now.row.cells)
+        ensures balances { AnswersBalance self.now.monitor.now.first (length self.now.monitor.now.row.cells)
             member.old.pass.history member.new.pass.history plan.pool plan.limit result }
     {
         self.monitor.balance(self.rt, member, plan.pool, plan.limit)

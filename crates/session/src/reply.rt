@@ -2,7 +2,7 @@
 ghost use Rattle.std.specs.Prelude.{◌≡◌, ◌++◌, codes, decimal, OnOk};
 ghost use Rattle.std.specs.String.{string_bytes};
 ghost use Rattle.osdmap.specs.SetText.{place_text, osd_text, list_text};
-ghost use Rattle.session.specs.Texts.{epoch_text, dump_text, up_text, groups_text, refusal_text, line_of};
+ghost use Rattle.session.specs.Texts.{count_text, epoch_text, dump_text, up_text, groups_text, refusal_text, line_of};
 ghost use Rattle.session.specs.Replies.{up_word, epoch_word, dump_word, reply_text};
 ghost use Rattle.stated.specs.PgText.{group_text};
 
@@ -194,6 +194,14 @@ fn push_set(
     text.push_str("\n")
 }
 
+/// Adds the line of an OSD's count.
+#[tactic(auto, unfolding(crate::specs::Texts::count_text))]
+fn push_count(text: &mut String, epoch: u64, osd: u32, count: usize) -> Result<(), AllocError>
+    ensures { OnOk result (string_bytes text.new ≡ string_bytes text.old ++ count_text epoch osd count) }
+{
+    writeln!(text, "count {epoch} {osd} {count}")
+}
+
 /// Adds the line of an OSD's groups.
 #[tactic(auto, unfolding(crate::specs::Texts::groups_text))]
 fn push_groups(text: &mut String, epoch: u64, osd: u32, groups: &[Pg]) -> Result<(), AllocError>
@@ -218,13 +226,13 @@ fn push_refusal(text: &mut String, refusal: Refusal) -> Result<(), AllocError>
 
 impl Reply {
     /// Puts the reply's line behind a text. The one error is out of memory.
-    #[tactic(auto, unfolding(crate::specs::Texts::count_text, crate::specs::Texts::ok_text, crate::specs::Texts::moved_text))]
+    #[tactic(auto, unfolding(crate::specs::Texts::ok_text, crate::specs::Texts::moved_text))]
     fn push_to(&self, text: &mut String) -> Result<(), AllocError>
         ensures { OnOk result (string_bytes text.new ≡ string_bytes text.old ++ reply_text self.now) }
     {
         match self {
             Reply::Up { by, epoch, pg, set } => push_set(text, by.up_word(), *epoch, *pg, set),
-            Reply::Count { epoch, osd, count } => writeln!(text, "count {epoch} {osd} {count}"),
+            Reply::Count { epoch, osd, count } => push_count(text, *epoch, *osd, *count),
             Reply::Groups { epoch, osd, groups } => push_groups(text, *epoch, *osd, groups),
             Reply::Epoch { by, epoch } => push_epoch(text, by.epoch_word(), *epoch),
             Reply::Dump { by, map } => push_dump(text, by.dump_word(), map),

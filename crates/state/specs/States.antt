@@ -11,7 +11,7 @@ use Rattle.osdmap.specs.Changes.{change_fault, apply, after, IsLawful}
 use Rattle.epochlog.specs.Epochs.{Line, Seen, max_capacity}
 use Rattle.osdmap.specs.Stored.{StoredMap, HasRoomFor}
 use Rattle.pgtable.specs.declared.patch.Patch.{Patch}
-use Rattle.pgtable.specs.Patches.{next, LeadsTo}
+use Rattle.pgtable.specs.Patches.{changed_map, LeadsTo}
 use Rattle.pgtable.specs.Tables.{TableFacts, IsTableOf}
 
 -- the greatest epoch of a state: that of the last cell of the longest row, from the greatest first epoch on
@@ -73,15 +73,15 @@ IsRefusedBy fault e = ((fault ≡ None) × ((e ≡ OutOfMemory) ⊎ (e ≡ NotSe
 
 -- of a commit: what is done exactly where there is no fault, but that a growth may be refused there, or the epoch be
 -- sealed by another
-abbrev pub Takes : {X : Type 0} → Result X Refusal → Option Refusal → (X → Type 0) → Type 0
-Takes r fault P =
+abbrev pub IsDoneUnless : {X : Type 0} → Result X Refusal → Option Refusal → (X → Type 0) → Type 0
+IsDoneUnless r fault P =
     MatchResult r (λ x. (fault ≡ None) × P x) (IsRefusedBy fault)
 
 -- what a commit answers and leaves: where there is no fault the new epoch and the evaluations, with the journal longer
 -- by the change; else the fault; and after a refusal nothing is changed
 abbrev pub Commits : Kept → Kept → ℕ → ChangeParts → Result (ℕ × ℕ) Refusal → Type 0
 Commits old new base change r =
-    Takes r (fault_in old base change) (λ ok. (new ≡ committed old change) × (ok.0 ≡ base + 1)
+    IsDoneUnless r (fault_in old base change) (λ ok. (new ≡ committed old change) × (ok.0 ≡ base + 1)
     × (ok.1 ≡ evals_of new.map change))
     × OnErr r (new ≡ old)
 
@@ -90,5 +90,5 @@ Commits old new base change r =
 pub record IsReady (m : StoredMap) (t : TableFacts) (change : ChangeParts) (patch : Patch) (made : Step) : Type 0 where
   pub step : made ≡ next_step m.map change
   pub room : HasRoomFor change m
-  pub leads : LeadsTo (next m.map change) t patch
-  pub counted : patch.evals ≡ evals_of (next m.map change) change
+  pub leads : LeadsTo (changed_map m.map change) t patch
+  pub counted : patch.evals ≡ evals_of (changed_map m.map change) change

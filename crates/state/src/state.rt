@@ -36,6 +36,15 @@ impl Model for State {
     ghost invariant = { λ s. IsKept (record { first = s.first.map; pass = s.pass; map = s.map.map }) s.table };
 }
 
+/// The table of a map, and the room for runs of its rules.
+fn table_of(alloc: Global, map: &OsdMap) -> Result<(PgTable, Work), Memory>
+    ensures { IfOk result (λ made. IsTableOf made.0 map.now.map) }
+{
+    let mut work = Work::new(alloc, map.forest())?;
+    let table = PgTable::build(alloc, map, &mut work)?;
+    Ok((table, work))
+}
+
 /// All that a commit needs memory for: room in the map, the patch of its table, for which `work` counts a rule run for
 /// each evaluation, and the incremental of the next epoch in a box.
 fn prepared(
@@ -85,9 +94,8 @@ impl State {
         ensures { IfOk result (λ s. s ≡ opened map.map row.now) }
     {
         let first = map.copy(alloc)?;
-        let mut work = Work::new(alloc, map.forest())?;
-        let table = PgTable::build(alloc, &map, &mut work)?;
         let pass = row.pass(alloc)?;
+        let (table, work) = table_of(alloc, &map)?;
         Ok(State {
             alloc,
             first,

@@ -6,7 +6,7 @@ use Rattle.std.proofs.lemmas.List.Elements.{All-head, All-tail}
 use Rattle.std.proofs.lemmas.List.Sorted.{length_permutation}
 use Rattle.crush.specs.declared.bucket.Bucket.{Bucket}
 use Rattle.crush.specs.WellFormed.{IsForest}
-use Rattle.crush.specs.Grammar.{rule_limits_ok, rule_ok, IsLawful}
+use Rattle.crush.specs.Grammar.{rule_limits_ok, rule_ok, IsLawfulRule}
 use Rattle.keylist.specs.Order.{Rises}
 use Rattle.keylist.proofs.Distinct.{list_all-moved}
 use Rattle.keylist.proofs.Each.{all_both}
@@ -15,11 +15,11 @@ use Rattle.stated.specs.Parts.{has_between}
 use Rattle.stated.specs.CrushMaps.{is_rule_over, rule_ids_fit, rules_over, IsCrushMap}
 
 -- each rule that is one is within the limits
-limits_of : (rules : List NumberedRule) → All (λ r. IsLawful r.rule.kind r.rule.steps) rules → list_all (λ r. rule_limits_ok r.rule.steps) rules ≡ true
+limits_of : (rules : List NumberedRule) → All (λ r. IsLawfulRule r.rule.kind r.rule.steps) rules → list_all (λ r. rule_limits_ok r.rule.steps) rules ≡ true
 limits_of [] lawful = refl
 limits_of (r ∷ rules) lawful =
-    let this = All-head (λ (r : NumberedRule). IsLawful r.rule.kind r.rule.steps) r rules lawful in
-    grind (arith, this.limits, limits_of rules (All-tail (λ (r : NumberedRule). IsLawful r.rule.kind r.rule.steps) r rules lawful))
+    let this = All-head (λ (r : NumberedRule). IsLawfulRule r.rule.kind r.rule.steps) r rules lawful in
+    grind (arith, this.limits, limits_of rules (All-tail (λ (r : NumberedRule). IsLawfulRule r.rule.kind r.rule.steps) r rules lawful))
 
 -- what the tests found of the ids
 ids_fit : (rules : List NumberedRule) → rule_ids_fit rules ≡ true → list_all (λ r. nat_le r.id 255) rules ≡ true
@@ -49,7 +49,7 @@ over buckets r fits ok = grind (arith, fits, ok)
 
 -- all of it
 pub is_crush_with : (buckets : List Bucket) (rules sorted : List NumberedRule) → IsForest buckets → rule_ids_fit rules ≡ true → rules_over buckets rules ≡ true
-    → All (λ r. IsLawful r.rule.kind r.rule.steps) rules → Rises (λ r. r.id) rules sorted → IsCrushMap (record { buckets = buckets; rules = sorted })
+    → All (λ r. IsLawfulRule r.rule.kind r.rule.steps) rules → Rises (λ r. r.id) rules sorted → IsCrushMap (record { buckets = buckets; rules = sorted })
 is_crush_with buckets rules sorted forest fit good lawful rises =
     let both = all_both (λ r. nat_le r.id 255) (λ r. rule_limits_ok r.rule.steps) _ (numbered buckets) rules (ids_fit rules fit) (limits_of rules lawful) in
     record {

@@ -12,8 +12,8 @@ use Rattle.stated.specs.declared.parts.ChoosePart.{ChoosePart}
 use Rattle.stated.specs.declared.parts.StepPart.{StepPart}
 use Rattle.stated.specs.declared.parts.StepPart.TheVariants.{SetChooseTries, SetChooseleafTries, Take, Choose as Chooses, Emit}
 use Rattle.stated.specs.declared.parts.OsdPart.{OsdPart}
-use Rattle.stated.specs.Parts.{is_between, has_between, is_bucket_id, item_fits, bucket_fits, step_fits, rule_fits, osd_fits, item_of, bucket_of, step_of}
-use Rattle.crush.specs.WellFormed.{is_within, is_bucket_id as may_be_bucket, item_limits_ok, bucket_limits_ok, forest_limits_ok}
+use Rattle.stated.specs.Parts.{is_between, has_between, item_fits, bucket_fits, step_fits, rule_fits, osd_fits, item_of, bucket_of, step_of}
+use Rattle.crush.specs.WellFormed.{is_within, is_bucket_id, item_limits_ok, bucket_limits_ok, forest_limits_ok}
 use Rattle.crush.specs.Grammar.{step_limits_ok, rule_limits_ok}
 use Rattle.stated.proofs.Within.{word_between, natural_between}
 use Rattle.keylist.proofs.Each.{all_more}
@@ -26,7 +26,7 @@ byte_between low high (negsuc n) byte h = absurd (false≢true h)
 
 -- a bucket's id is one of an item
 bucket_is_item : (z : ℤ) → is_bucket_id z ≡ true → IsTrue (is_between (negsuc 65535) (pos 1023) z)
-unfolding is_between is_bucket_id
+unfolding is_between
 bucket_is_item (pos n) h = grind (arith, nat_tests)
 bucket_is_item (negsuc n) h = grind (arith, nat_tests)
 
@@ -124,12 +124,6 @@ item_within i h =
     let weight = (natural_between 1 4294967295 i.weight (item_weight_fits i h)).least in
     grind (arith, nat_tests, weight)
 
--- an id that a text may give a bucket is one that a bucket may have
-bucket_id_within : (z : ℤ) → is_bucket_id z ≡ true → may_be_bucket z ≡ true
-unfolding is_bucket_id is_between
-bucket_id_within (pos n) h = grind (arith, nat_tests)
-bucket_id_within (negsuc n) h = grind (arith, nat_tests)
-
 -- a number between two limits is, without its sign, within them
 level_within : (low high : ℕ) (z : ℤ) → is_between (pos low) (pos high) z ≡ true → is_within low high (nat_abs z) ≡ true
 level_within low high z h =
@@ -149,7 +143,7 @@ count_within f low high xs h = rw (length-map xs f) h
 bucket_within : (b : BucketPart) → bucket_fits b ≡ true → bucket_limits_ok (bucket_of b) ≡ true
 unfolding bucket_fits
 bucket_within b h =
-    let id = bucket_id_within b.id (grind arith) in
+    let id : is_bucket_id b.id ≡ true = grind arith in
     let level = level_within 1 15 b.level (grind arith) in
     let count = count_within item_of 1 64 b.items (grind arith) in
     let items = items_within b.items (grind arith) in
@@ -168,7 +162,7 @@ step_within : (s : StepPart) → step_fits s ≡ true → step_limits_ok (step_o
 unfolding step_fits
 step_within (SetChooseTries n) h = level_within 1 200 n h
 step_within (SetChooseleafTries n) h = level_within 1 200 n h
-step_within (Take id) h = bucket_id_within id h
+step_within (Take id) h = h
 step_within (Chooses c) h =
     let count = (natural_between 0 10 c.count (grind arith)).most in
     let level = (natural_between 0 15 c.level (grind arith)).most in

@@ -8,9 +8,9 @@ use Rattle.stated.specs.declared.parts.PoolPart.{PoolPart}
 use Rattle.stated.specs.declared.parts.PairPart.{PairPart}
 use Rattle.stated.specs.declared.parts.ExceptionPart.{ExceptionPart}
 use Rattle.stated.specs.declared.parts.GrowPart.{GrowPart}
-use Rattle.stated.specs.Growth.{IsGrowth, growth_fits, growth_of}
+use Rattle.stated.specs.Growth.{IsGrowth, growth_fits, grows_evenly, growth_of}
 use Rattle.stated.specs.Pools.{IsWithinLimits}
-use Rattle.stated.specs.Parts.{is_between, has_between, is_osd_id, pair_fits, exception_fits, exceptions_fit, pool_fits, pool_of}
+use Rattle.stated.specs.Parts.{is_between, has_between, is_osd_id, pair_fits, exception_fits, exceptions_fit, pool_fits, pool_of, has_enough_groups}
 
 -- a number between two naturals is a natural between them
 pub record IsNatural (low high : ℕ) (z : ℤ) : Type 0 where
@@ -69,6 +69,11 @@ pool_within p each few =
       size_most = size.most;
     }
 
+-- so a pool that fits, with enough groups, is within the limits
+pub pool_whole : (p : PoolPart) → pool_fits p ≡ true → has_enough_groups p ≡ true → IsWithinLimits (pool_of p)
+unfolding has_enough_groups
+pool_whole p fits even = pool_within p (pool_fits_each p fits) (omega (arith, ints, even))
+
 -- each number of a growth that is within its limits
 pub record GrowthFits (g : GrowPart) : Type 0 where
   pub pool : is_between (pos 1) (pos 65535) g.pool ≡ true
@@ -94,6 +99,11 @@ growth_within g each few =
       groups_few = omega (arith, ints, few');
       groups_most = pg.most;
     }
+
+-- so a growth that fits, with enough groups, is within the limits
+pub growth_whole : (g : GrowPart) → growth_fits g ≡ true → grows_evenly g ≡ true → IsGrowth (growth_of g)
+unfolding grows_evenly
+growth_whole g fits even = growth_within g (growth_fits_each g fits) (omega (arith, ints, even))
 
 -- an OSD's id is a word
 pub osd_id_word : (z : ℤ) → is_osd_id z ≡ true → IsTrue (is_between (pos 0) (pos 4294967295) z)

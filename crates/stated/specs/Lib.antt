@@ -8,4 +8,5 @@ pub mod Ordered
 pub mod Parts
 pub mod PgText
 pub mod Pools
+pub mod Sets
 pub mod Shorts

@@ -7,6 +7,7 @@ use Rattle.crush.specs.declared.bucket.Bucket.{Bucket}
 use Rattle.crush.specs.declared.step.Step.{Step}
 use Rattle.crush.specs.declared.step.Step.TheVariants.{SetChooseTries as TryFor, SetChooseleafTries as TryForLeaves, Take as TakeBucket, Choose as ChooseBy, Emit as EmitAll}
 use Rattle.crush.specs.Rules.{Recipe}
+use Rattle.crush.specs.WellFormed.{is_bucket_id}
 use Rattle.stated.specs.declared.parts.MapParts.{MapParts}
 use Rattle.stated.specs.declared.parts.BucketPart.{BucketPart}
 use Rattle.stated.specs.declared.parts.ItemPart.{ItemPart}
@@ -38,10 +39,6 @@ is_between low high z = int_le low z && int_le z high
 -- at least `low` and at most `high` entries
 unfoldable pub has_between : {X : Type 0} → ℕ → ℕ → List X → Bool
 has_between low high xs = nat_le low (length xs) && nat_le (length xs) high
-
--- a bucket's id: -1 down to -65,536
-unfoldable pub is_bucket_id : ℤ → Bool
-is_bucket_id z = is_between lowest_bucket (negsuc 0) z
 
 unfoldable pub item_fits : ItemPart → Bool
 item_fits i = is_between lowest_bucket (pos max_osd_id) i.id && is_between (pos 1) (pos max_item_weight) i.weight

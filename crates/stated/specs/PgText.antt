@@ -26,18 +26,18 @@ parts_in text =
     (part_in 16 (drop (point + 1) text))) (part_in 10 (take point text))) (position is_point text)
 
 -- a group of two parts
-abbrev pub group_of : PgParts → Option Pg
-group_of parts =
+abbrev pub group_of_parts : PgParts → Option Pg
+group_of_parts parts =
     option_and_then (λ pool. option_map (λ number. record { pool = pool; number = number }) parts.number) parts.pool
 
 -- the group that a text names
 abbrev pub group_in : List ℕ → Option Pg
-group_in text = option_and_then group_of (parts_in text)
+group_in text = option_and_then group_of_parts (parts_in text)
 
 -- the text of a group
 abbrev pub group_text : Pg → List ℕ
 group_text pg = decimal pg.pool ++ 46 ∷ digits 16 false pg.number
 
 -- the text of a group names that group
-abbrev pub IsReadBack : ℕ → ℕ → Type 0
-IsReadBack pool number = let pg : Pg = record { pool = pool; number = number } in group_in (group_text pg) ≡ Some pg
+abbrev pub TextNamesGroup : ℕ → ℕ → Type 0
+TextNamesGroup pool number = let pg : Pg = record { pool = pool; number = number } in group_in (group_text pg) ≡ Some pg

@@ -2,7 +2,7 @@
 
 ghost use Rattle.std.specs.Prelude.{◌≡◌, ◌≤◌, true, map, nat_le, IfOk};
 ghost use Rattle.std.specs.List.{All, list_all};
-ghost use Rattle.crush.specs.Grammar.{rule_ok, IsLawful};
+ghost use Rattle.crush.specs.Grammar.{rule_ok, IsLawfulRule};
 ghost use Rattle.stated.specs.Limits.{max_rule_id};
 ghost use Rattle.crush.specs.Limits.{max_buckets, max_devices};
 ghost use Rattle.crush.specs.WellFormed.{forest_ok};
@@ -139,7 +139,7 @@ fn rules_over(rules: Vec<NumberedRule>, forest: &Forest) -> Result<Vec<NumberedR
 
 /// Each rule is within its limits: for a proof alone.
 fn are_lawful(rules: &[NumberedRule])
-    ensures { All (λ r. IsLawful r.rule.kind r.rule.steps) rules.now }
+    ensures { All (λ r. IsLawfulRule r.rule.kind r.rule.steps) rules.now }
 {
     for rule in rules {
         let _ = rule.rule.steps();

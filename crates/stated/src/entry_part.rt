@@ -2,6 +2,7 @@
 ghost use Rattle.std.specs.Prelude.{◌≡◌, ◌≤◌, true, map, length, IfOk};
 ghost use Rattle.std.specs.List.{list_all};
 ghost use Rattle.stated.specs.Parts.{pg_fits, exception_fits, exceptions_fit, exception_of};
+ghost use Rattle.stated.specs.Limits.{max_entries};
 
 use crate::exception::{Exception, Pair};
 use crate::limits::{MAX_ENTRIES, MAX_PLACES, MAX_POOL_ID};
@@ -104,7 +105,8 @@ fn all_exceptions_fit<E, P: EntryPart<E>>(exceptions: &[ExceptionPart<P>]) -> bo
 /// number of at most 32 bits, and at most 10 entries that name OSDs of ids 0 to 1,023.
 #[tactic(auto, unfolding(crate::specs::Parts::exceptions_fit))]
 pub fn exceptions_fit<E, P: EntryPart<E>>(exceptions: &[ExceptionPart<P>]) -> bool
-    ensures { result ≡ exceptions_fit P.within exceptions.now }
+    ensures value { result ≡ exceptions_fit P.within exceptions.now }
+    ensures few { result ≡ true → length exceptions.now ≤ max_entries }
 {
     has_between(0, MAX_ENTRIES, exceptions) && all_exceptions_fit(exceptions)
 }

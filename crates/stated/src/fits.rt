@@ -1,9 +1,11 @@
 //! Whether the numbers and lengths of a map are within their limits.
 
-ghost use Rattle.std.specs.Prelude.{◌≡◌};
+ghost use Rattle.std.specs.Prelude.{◌≡◌, ◌≤◌, ◌≤ℤ◌, length, true, pos};
 ghost use Rattle.std.specs.List.{list_all};
 ghost use Rattle.stated.specs.CrushMaps.{crush_fits};
 ghost use Rattle.stated.specs.Parts.{head_fits, lists_fit, parts_fit};
+ghost use Rattle.crush.specs.Limits.{max_buckets};
+ghost use Rattle.stated.specs.Limits.{max_rules, max_first_epoch};
 
 use crate::entry_part::exceptions_fit;
 use crate::limits::{
@@ -106,7 +108,8 @@ impl Limited for OsdPart {
 /// Whether the version, the epoch and `max_osd` are within their limits.
 #[tactic(auto, unfolding(crate::specs::Parts::head_fits))]
 fn head_fits(parts: &MapParts) -> bool
-    ensures { result ≡ head_fits parts.now }
+    ensures value { result ≡ head_fits parts.now }
+    ensures epoch { result ≡ true → (pos 1 ≤ℤ parts.now.epoch) × (parts.now.epoch ≤ℤ pos max_first_epoch) }
 {
     is_between(1, MAX_VERSION, parts.version)
         && is_between(1, MAX_FIRST_EPOCH, parts.epoch)
@@ -126,7 +129,8 @@ fn lists_fit(parts: &MapParts) -> bool
 /// Whether every number and every length of a CRUSH map is within its limits.
 #[tactic(auto, unfolding(crate::specs::CrushMaps::crush_fits))]
 pub fn crush_fits(parts: &CrushParts) -> bool
-    ensures { result ≡ crush_fits parts.now }
+    ensures value { result ≡ crush_fits parts.now }
+    ensures few { result ≡ true → (length parts.now.buckets ≤ max_buckets) × (length parts.now.rules ≤ max_rules) }
 {
     has_between(1, MAX_BUCKETS, &parts.buckets)
         && has_between(1, MAX_RULES, &parts.rules)
@@ -137,7 +141,8 @@ pub fn crush_fits(parts: &CrushParts) -> bool
 /// Whether every number and every length of a map is within its limits.
 #[tactic(auto, unfolding(crate::specs::Parts::parts_fit))]
 pub fn parts_fit(parts: &MapParts) -> bool
-    ensures { result ≡ parts_fit parts.now }
+    ensures value { result ≡ parts_fit parts.now }
+    ensures epoch { result ≡ true → (pos 1 ≤ℤ parts.now.epoch) × (parts.now.epoch ≤ℤ pos max_first_epoch) }
 {
     head_fits(parts)
         && lists_fit(parts)

@@ -1,8 +1,8 @@
 //! Growing pools.
 
-ghost use Rattle.std.specs.Prelude.{◌≡◌};
+ghost use Rattle.std.specs.Prelude.{◌≡◌, true};
 ghost use Rattle.std.specs.List.{list_all};
-ghost use Rattle.stated.specs.Growth.{growth_fits};
+ghost use Rattle.stated.specs.Growth.{growth_fits, IsGrowth, grows_evenly, growth_of};
 
 use crate::limits::{MAX_GROUPS, MAX_POOL_ID};
 use crate::numbers::{is_between, word};
@@ -36,7 +36,8 @@ impl Model for Grow {
 /// Whether each number of a growth is within its limits.
 #[tactic(auto, unfolding(crate::specs::Growth::growth_fits))]
 pub fn growth_fits(part: &GrowPart) -> bool
-    ensures { result ≡ growth_fits part.now }
+    ensures value { result ≡ growth_fits part.now }
+    ensures whole { result ≡ true → grows_evenly part.now ≡ true → IsGrowth (growth_of part.now) }
 {
     is_between(1, MAX_POOL_ID, part.pool)
         && is_between(1, MAX_GROUPS, part.pg_num)

@@ -1,30 +1,35 @@
 //! Numbers between bounds, and the narrower numbers that they then are.
 
-ghost use Rattle.std.specs.Prelude.{◌≡◌, length, ◌≤◌, IsTrue, ℤ, pos, negsuc, nat_abs};
-ghost use Rattle.stated.specs.Parts.{is_between, has_between, is_bucket_id, is_osd_id};
+ghost use Rattle.std.specs.Prelude.{◌≡◌, length, ◌≤◌, IsTrue, ℤ, pos, negsuc, nat_abs, true, ◌<◌, ◌≤ℤ◌};
+ghost use Rattle.crush.specs.WellFormed.{is_bucket_id};
+ghost use Rattle.stated.specs.Parts.{is_between, has_between, is_osd_id};
+ghost use Rattle.crush.specs.Limits.{max_devices};
 
 use crate::limits::{LOWEST_BUCKET, MAX_OSDS};
 
 /// Whether a number is among `low` to `high`.
 #[tactic(auto, unfolding(crate::specs::Parts::is_between))]
 pub fn is_between(low: i128, high: i128, number: i128) -> bool
-    ensures { result ≡ is_between low high number }
+    ensures value { result ≡ is_between low high number }
+    ensures bounds { result ≡ true → (low ≤ℤ number) × (number ≤ℤ high) }
 {
     low <= number && number <= high
 }
 
 /// Whether a number can be a bucket's id.
-#[tactic(auto, unfolding(crate::specs::Parts::is_bucket_id))]
+#[tactic(auto, unfolding(crate::specs::Parts::is_between))]
 pub fn is_bucket_id(number: i128) -> bool
-    ensures { result ≡ is_bucket_id number }
+    ensures value { result ≡ is_bucket_id number }
+    ensures item { result ≡ true → IsTrue (is_between (negsuc 65535) (pos 1023) number) }
 {
-    is_between(LOWEST_BUCKET, -1, number)
+    LOWEST_BUCKET <= number && number < 0
 }
 
 /// Whether a number can be an OSD's id.
 #[tactic(auto, unfolding(crate::specs::Parts::is_osd_id))]
 pub fn is_osd_id(number: i128) -> bool
-    ensures { result ≡ is_osd_id number }
+    ensures value { result ≡ is_osd_id number }
+    ensures device { result ≡ true → nat_abs number < max_devices }
 {
     is_between(0, MAX_OSDS - 1, number)
 }
@@ -32,7 +37,8 @@ pub fn is_osd_id(number: i128) -> bool
 /// Whether a list has `low` to `high` entries.
 #[tactic(auto, unfolding(crate::specs::Parts::has_between))]
 pub fn has_between<T>(low: usize, high: usize, list: &[T]) -> bool
-    ensures { result ≡ has_between low high list.now }
+    ensures value { result ≡ has_between low high list.now }
+    ensures bounds { result ≡ true → (low ≤ length list.now) × (length list.now ≤ high) }
 {
     low <= list.len() && list.len() <= high
 }

@@ -1,7 +1,7 @@
 //! The text of a group: the pool's id in decimal, a point, and the number in lower hexadecimal, both without leading
 //! zeros (Ceph, `pg_t::print`).
 ghost use Rattle.std.specs.Prelude.{◌≡◌, ◌<◌, ◌≤◌, IfSome, length, position, option_and_then};
-ghost use Rattle.stated.specs.PgText.{part_in, within, is_point, IsReadBack};
+ghost use Rattle.stated.specs.PgText.{part_in, within, is_point, TextNamesGroup};
 
 use crate::numeral::number;
 use crate::pg::Pg;
@@ -89,7 +89,7 @@ impl Pg {
 
 /// A law: the text of a group names that group.
 pub fn group_text_is_read_back(_pool: u32, _number: u32)
-    ensures { IsReadBack _pool _number }
+    ensures { TextNamesGroup _pool _number }
 {}
 
 impl fmt::Display for Pg {

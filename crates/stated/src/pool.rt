@@ -1,8 +1,9 @@
 //! Pools: how many groups they have, and the rule and size by which these are placed.
 
-ghost use Rattle.std.specs.Prelude.{◌≡◌};
+ghost use Rattle.std.specs.Prelude.{◌≡◌, true};
 ghost use Rattle.std.specs.List.{list_all};
-ghost use Rattle.stated.specs.Parts.{pool_fits};
+ghost use Rattle.stated.specs.Parts.{pool_fits, has_enough_groups, pool_of};
+ghost use Rattle.stated.specs.Pools.{IsWithinLimits};
 
 use crate::limits::{MAX_GROUPS, MAX_POOL_ID, MAX_RULE_ID, MAX_SIZE};
 use crate::numbers::{is_between, word};
@@ -60,7 +61,8 @@ impl Model for Pool {
 /// Whether each number of a pool is within its limits.
 #[tactic(auto, unfolding(crate::specs::Parts::pool_fits))]
 pub fn pool_fits(pool: &PoolPart) -> bool
-    ensures { result ≡ pool_fits pool.now }
+    ensures value { result ≡ pool_fits pool.now }
+    ensures whole { result ≡ true → has_enough_groups pool.now ≡ true → IsWithinLimits (pool_of pool.now) }
 {
     is_between(1, MAX_POOL_ID, pool.id)
         && is_between(1, MAX_GROUPS, pool.pg_num)

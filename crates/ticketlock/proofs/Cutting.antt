@@ -5,13 +5,13 @@ use lib.ListN.{get_elem?}
 use Rattle.atomic_table.specs.Table.{Splits}
 use Rattle.atomic_table.proofs.Lists.{at_snoc}
 use Rattle.ticketlock.specs.declared.view.View.{View}
-use Rattle.ticketlock.specs.Rule.{World, IsKept, IsServed, Each, has, inside, total, newcomer}
-use Rattle.ticketlock.specs.Places.{IsOrdered, one_cut}
+use Rattle.ticketlock.specs.Rule.{LockWorld, KeepsRule, IsInTurn, Each, has, inside, total, newcomer}
+use Rattle.ticketlock.specs.Places.{IsRuled, one_cut}
 use Rattle.ticketlock.proofs.Totals.{total_set, total_append}
 use Rattle.ticketlock.proofs.Views.{each_set, length_set}
 
 -- one seat more that is idle, cut from one that still may be cut, keeps the rule
-pub cut_keeps : (w : World) (id : ℕ) (v : View) → IsKept w → get_elem? w.views id ≡ some v → 0 < v.spare → IsKept (record { draw_word = w.draw_word; reader_word = w.reader_word; writer_word = w.writer_word; views = set w.views id (one_cut v) ++ newcomer ∷ [] })
+pub cut_keeps : (w : LockWorld) (id : ℕ) (v : View) → KeepsRule w → get_elem? w.views id ≡ some v → 0 < v.spare → KeepsRule (record { draw_word = w.draw_word; reader_word = w.reader_word; writer_word = w.writer_word; views = set w.views id (one_cut v) ++ newcomer ∷ [] })
 cut_keeps w id v k at some_spare = let views : List View = set w.views id (one_cut v) in
     let same_total : (f : View → ℕ) → f (one_cut v) ≡ f v → f newcomer ≡ 0 → total f (views ++ newcomer ∷ []) ≡ total f w.views = λ f e z. (
     let a = total_append f views newcomer in let s = total_set f w.views id v (one_cut v) at in omega arith
@@ -25,7 +25,7 @@ cut_keeps w id v k at some_spare = let views : List View = set w.views id (one_c
         none_yet = λ t high. held t ∙ k.tickets.none_yet t high;
       };
       insiders = ap (λ n. w.writer_word + n) (same_total (λ u. inside u.stage) refl refl) ∙ k.insiders;
-      served = each_cut (λ u. IsServed w.reader_word w.writer_word u.stage) k.served (k.served id v at) tt;
+      served = each_cut (λ u. IsInTurn w.reader_word w.writer_word u.stage) k.served (k.served id v at) tt;
       counted = record {
         sum = k.counted.sum ∙ sym (same_total (λ u. u.draws) refl refl);
         limit = each_cut (λ u. u.draws ≤ 2 ^ 40) k.counted.limit (k.counted.limit id v at) (omega arith);
@@ -35,5 +35,5 @@ cut_keeps w id v k at some_spare = let views : List View = set w.views id (one_c
     }
 
 -- so a seat may be cut off
-pub may_cut : (id : ℕ) (v : View) → 0 < v.spare → Splits {S = ℕ} IsOrdered id v (one_cut v) newcomer
+pub may_cut : (id : ℕ) (v : View) → 0 < v.spare → Splits {S = ℕ} IsRuled id v (one_cut v) newcomer
 may_cut id v some_spare s line at = (line.0, line.1, line.2, line.3, cut_keeps (record { draw_word = line.0; reader_word = line.1; writer_word = line.2; views = s.views }) id v line.4 at some_spare)

@@ -5,12 +5,12 @@ use lib.ListN.{get_elem?}
 use Rattle.ticketlock.specs.declared.view.View.{View}
 use Rattle.ticketlock.specs.declared.view.Kind.{Kind}
 use Rattle.ticketlock.specs.declared.view.Stage.TheVariants.{Idle}
-use Rattle.ticketlock.specs.Rule.{World, has, inside, holders, IsServed, IsKept, drawn_for, draw_word_up}
+use Rattle.ticketlock.specs.Rule.{LockWorld, has, inside, holders, IsInTurn, KeepsRule, drawn_for, draw_word_up}
 use Rattle.ticketlock.proofs.Totals.{total_set, total_stays}
 use Rattle.ticketlock.proofs.Views.{one, is_at, each_set, seats_stay}
 
 -- the drawn ticket is held once, and every other as before
-pub draw_keeps : (w : World) (kind : Kind) (seat : ℕ) (v : View) → IsKept w → get_elem? w.views seat ≡ some v → v.stage ≡ Idle → v.draws < 2 ^ 40 → IsKept (draw_word_up w seat (drawn_for kind w.draw_word v))
+pub draw_keeps : (w : LockWorld) (kind : Kind) (seat : ℕ) (v : View) → KeepsRule w → get_elem? w.views seat ≡ some v → v.stage ≡ Idle → v.draws < 2 ^ 40 → KeepsRule (draw_word_up w seat (drawn_for kind w.draw_word v))
 draw_keeps w kind seat v k at idle room = let new : View = drawn_for kind w.draw_word v in
     let held : (t : ℕ) → holders t (set w.views seat new) ≡ holders t w.views + one t w.draw_word = λ t. (
     let s = total_set (λ u. has t u.stage) w.views seat v new at in let z : has t v.stage ≡ 0 = ap (has t) idle in omega arith
@@ -22,7 +22,7 @@ draw_keeps w kind seat v k at idle room = let new : View = drawn_for kind w.draw
         none_yet = λ t high. ⊎_elim (λ x. absurd (omega arith)) (λ x. let z = k.tickets.none_yet t (omega arith) in let h = held t in omega arith) (is_at t w.draw_word);
       };
       insiders = ap (λ n. w.writer_word + n) (total_stays (λ u. inside u.stage) w.views seat v new at (sym (ap inside idle))) ∙ k.insiders;
-      served = each_set (λ u. IsServed w.reader_word w.writer_word u.stage) w.views seat new tt (λ j u _ e. k.served j u e);
+      served = each_set (λ u. IsInTurn w.reader_word w.writer_word u.stage) w.views seat new tt (λ j u _ e. k.served j u e);
       counted = record {
         sum = let d = total_set (λ u. u.draws) w.views seat v new at in let q = k.counted.sum in omega arith;
         limit = each_set (λ u. u.draws ≤ 2 ^ 40) w.views seat new (omega arith) (λ j u _ e. k.counted.limit j u e);

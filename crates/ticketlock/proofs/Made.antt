@@ -3,7 +3,7 @@ use Rattle.std.proofs.Common.{◌≡◌, ◌≢◌, ℕ, zero, suc, ◌+◌, ◌
 use mathlib.Core.Option.{some, some-injective, some-ne-none}
 use lib.ListN.{get_elem?}
 use Rattle.ticketlock.specs.declared.view.View.{View}
-use Rattle.ticketlock.specs.Rule.{World, IsServed, IsKept}
+use Rattle.ticketlock.specs.Rule.{LockWorld, IsInTurn, KeepsRule}
 use Rattle.ticketlock.specs.Places.{opener}
 use Rattle.ticketlock.specs.Law.{made_with, Event, takes, cuts, Leads}
 use Rattle.ticketlock.proofs.Steps.{step_keeps}
@@ -15,7 +15,7 @@ only x zero v e = some-injective x v e
 only x (suc i) v e = absurd (some-ne-none v (sym e))
 
 -- the world that a lock is made with keeps the rule
-pub starts_made : (seats : ℕ) → 0 < seats → seats ≤ 1024 → IsKept (made_with seats)
+pub starts_made : (seats : ℕ) → 0 < seats → seats ≤ 1024 → KeepsRule (made_with seats)
 starts_made seats one few = record {
   order = (omega arith, omega arith);
   tickets = record {
@@ -24,7 +24,7 @@ starts_made seats one few = record {
     none_yet = λ t high. refl;
   };
   insiders = refl;
-  served = λ j u e. subst (λ (v : View). IsServed 0 0 v.stage) (only (opener seats) j u e) tt;
+  served = λ j u e. subst (λ (v : View). IsInTurn 0 0 v.stage) (only (opener seats) j u e) tt;
   counted = record {
     sum = refl;
     limit = λ j u e. let c : 0 ≡ u.draws = ap (λ (v : View). v.draws) (only (opener seats) j u e) in omega arith;
@@ -33,7 +33,7 @@ starts_made seats one few = record {
 }
 
 -- a list of steps and cuts keeps the rule
-pub lasts_made : (w : World) (events : List Event) (last : World) → IsKept w → Leads w events last → IsKept last
-lasts_made w [] last k run = subst IsKept (sym run) k
+pub lasts_made : (w : LockWorld) (events : List Event) (last : LockWorld) → KeepsRule w → Leads w events last → KeepsRule last
+lasts_made w [] last k run = subst KeepsRule (sym run) k
 lasts_made w (takes s seat ∷ events) last k run = lasts_made run.0 events last (step_keeps s w seat run.1 run.0 k run.2 run.3) run.4
 lasts_made w (cuts seat ∷ events) last k run = lasts_made _ events last (cut_keeps w seat run.0 k run.1 run.2) run.3

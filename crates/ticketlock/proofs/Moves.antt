@@ -7,14 +7,14 @@ use Rattle.ticketlock.specs.declared.view.View.{View}
 use Rattle.ticketlock.specs.declared.view.Stage.TheVariants.{Idle, Waiting, Next, Reading, Writing, Closing}
 use Rattle.ticketlock.specs.declared.view.Kind.{Kind}
 use Rattle.ticketlock.specs.declared.view.Kind.TheVariants.{Read, Write}
-use Rattle.ticketlock.specs.Rule.{World, IsKept, drawn_for, looked_at, gone_in, gone_out, with_view, draw_word_up, reader_word_up, writer_word_up, draws, reader_looks, writer_looks, reader_enters, reader_leaves, writer_closes, writer_leaves}
-use Rattle.ticketlock.specs.Places.{IsOrdered}
+use Rattle.ticketlock.specs.Rule.{LockWorld, KeepsRule, drawn_for, looked_at, gone_in, gone_out, with_view, draw_word_up, reader_word_up, writer_word_up, draws, reader_looks, writer_looks, reader_enters, reader_leaves, writer_closes, writer_leaves}
+use Rattle.ticketlock.specs.Places.{IsRuled}
 use Rattle.ticketlock.proofs.Steps.{step_keeps, few_draws}
 
 module _ (slots id : ℕ) (me : Me ℕ View) where
   -- a draw for either kind
-  draw : (kind : Kind) → me.0.stage ≡ Idle → me.0.draws < 2 ^ 40 → Allows IsOrdered slots id me 0 (λ n. (n + 1) % 2 ^ 64) (λ n you. you ≡ (drawn_for kind n me.0, me.1))
-  draw kind idle room s line len at fits = let w : World = record { draw_word = line.0; reader_word = line.1; writer_word = line.2; views = s.views } in
+  draw : (kind : Kind) → me.0.stage ≡ Idle → me.0.draws < 2 ^ 40 → Allows IsRuled slots id me 0 (λ n. (n + 1) % 2 ^ 64) (λ n you. you ≡ (drawn_for kind n me.0, me.1))
+  draw kind idle room s line len at fits = let w : LockWorld = record { draw_word = line.0; reader_word = line.1; writer_word = line.2; views = s.views } in
       let found : slice_index s.words 0 ≡ line.0 = ap (λ ws. slice_index ws 0) line.3 in
       let few = few_draws w line.4 in
       let whole : (line.0 + 1) % 2 ^ 64 ≡ line.0 + 1 = omega arith in (
@@ -26,22 +26,22 @@ module _ (slots id : ℕ) (me : Me ℕ View) where
           line.1,
           line.2,
           ap (λ ws. slice_set ws 0 ((slice_index ws 0 + 1) % 2 ^ 64)) line.3 ∙ ap (λ (n : ℕ). n ∷ line.1 ∷ line.2 ∷ []) whole,
-          subst (λ (n : ℕ). IsKept (draw_word_up w id (drawn_for kind n me.0))) (sym found) (step_keeps (draws kind) w id me.0 (draw_word_up w id (drawn_for kind line.0 me.0)) line.4 at (idle, room, refl)),
+          subst (λ (n : ℕ). KeepsRule (draw_word_up w id (drawn_for kind n me.0))) (sym found) (step_keeps (draws kind) w id me.0 (draw_word_up w id (drawn_for kind line.0 me.0)) line.4 at (idle, room, refl)),
         ),
         refl,
       )
 
   -- a draw to read
-  pub may_draw_read : me.0.stage ≡ Idle → me.0.draws < 2 ^ 40 → Allows IsOrdered slots id me 0 (λ n. (n + 1) % 2 ^ 64) (λ n you. you ≡ (drawn_for Read n me.0, me.1))
+  pub may_draw_read : me.0.stage ≡ Idle → me.0.draws < 2 ^ 40 → Allows IsRuled slots id me 0 (λ n. (n + 1) % 2 ^ 64) (λ n you. you ≡ (drawn_for Read n me.0, me.1))
   may_draw_read = draw Read
 
   -- a draw to write
-  pub may_draw_write : me.0.stage ≡ Idle → me.0.draws < 2 ^ 40 → Allows IsOrdered slots id me 0 (λ n. (n + 1) % 2 ^ 64) (λ n you. you ≡ (drawn_for Write n me.0, me.1))
+  pub may_draw_write : me.0.stage ≡ Idle → me.0.draws < 2 ^ 40 → Allows IsRuled slots id me 0 (λ n. (n + 1) % 2 ^ 64) (λ n you. you ≡ (drawn_for Write n me.0, me.1))
   may_draw_write = draw Write
 
   -- a reader's look
-  pub may_look_read : (t : ℕ) → me.0.stage ≡ Waiting t Read → Allows IsOrdered slots id me 1 (λ n. n) (λ n you. you ≡ (looked_at n me.0, me.1))
-  may_look_read t waits s line len at fits = let w : World = record { draw_word = line.0; reader_word = line.1; writer_word = line.2; views = s.views } in
+  pub may_look_read : (t : ℕ) → me.0.stage ≡ Waiting t Read → Allows IsRuled slots id me 1 (λ n. n) (λ n you. you ≡ (looked_at n me.0, me.1))
+  may_look_read t waits s line len at fits = let w : LockWorld = record { draw_word = line.0; reader_word = line.1; writer_word = line.2; views = s.views } in
       let found : slice_index s.words 1 ≡ line.1 = ap (λ ws. slice_index ws 1) line.3 in (
         looked_at (slice_index s.words 1) me.0,
         keeps,
@@ -51,14 +51,14 @@ module _ (slots id : ℕ) (me : Me ℕ View) where
           line.1,
           line.2,
           ap (λ ws. slice_set ws 1 (slice_index ws 1)) line.3,
-          subst (λ (n : ℕ). IsKept (with_view w id (looked_at n me.0))) (sym found) (step_keeps reader_looks w id me.0 (with_view w id (looked_at line.1 me.0)) line.4 at (t, waits, refl)),
+          subst (λ (n : ℕ). KeepsRule (with_view w id (looked_at n me.0))) (sym found) (step_keeps reader_looks w id me.0 (with_view w id (looked_at line.1 me.0)) line.4 at (t, waits, refl)),
         ),
         refl,
       )
 
   -- a writer's look
-  pub may_look_write : (t : ℕ) → me.0.stage ≡ Waiting t Write → Allows IsOrdered slots id me 2 (λ n. n) (λ n you. you ≡ (looked_at n me.0, me.1))
-  may_look_write t waits s line len at fits = let w : World = record { draw_word = line.0; reader_word = line.1; writer_word = line.2; views = s.views } in
+  pub may_look_write : (t : ℕ) → me.0.stage ≡ Waiting t Write → Allows IsRuled slots id me 2 (λ n. n) (λ n you. you ≡ (looked_at n me.0, me.1))
+  may_look_write t waits s line len at fits = let w : LockWorld = record { draw_word = line.0; reader_word = line.1; writer_word = line.2; views = s.views } in
       let found : slice_index s.words 2 ≡ line.2 = ap (λ ws. slice_index ws 2) line.3 in (
         looked_at (slice_index s.words 2) me.0,
         keeps,
@@ -68,22 +68,22 @@ module _ (slots id : ℕ) (me : Me ℕ View) where
           line.1,
           line.2,
           ap (λ ws. slice_set ws 2 (slice_index ws 2)) line.3,
-          subst (λ (n : ℕ). IsKept (with_view w id (looked_at n me.0))) (sym found) (step_keeps writer_looks w id me.0 (with_view w id (looked_at line.2 me.0)) line.4 at (t, waits, refl)),
+          subst (λ (n : ℕ). KeepsRule (with_view w id (looked_at n me.0))) (sym found) (step_keeps writer_looks w id me.0 (with_view w id (looked_at line.2 me.0)) line.4 at (t, waits, refl)),
         ),
         refl,
       )
 
   -- an add to the reader word that keeps the rule
-  enters : (v : View) → ((w : World) → IsKept w → get_elem? w.views id ≡ some me.0 → IsKept (reader_word_up w id v)) → Allows IsOrdered slots id me 1 (λ n. (n + 1) % 2 ^ 64) (λ n you. you ≡ (v, me.1))
-  enters v stays s line len at fits = let w : World = record { draw_word = line.0; reader_word = line.1; writer_word = line.2; views = s.views } in
+  enters : (v : View) → ((w : LockWorld) → KeepsRule w → get_elem? w.views id ≡ some me.0 → KeepsRule (reader_word_up w id v)) → Allows IsRuled slots id me 1 (λ n. (n + 1) % 2 ^ 64) (λ n you. you ≡ (v, me.1))
+  enters v stays s line len at fits = let w : LockWorld = record { draw_word = line.0; reader_word = line.1; writer_word = line.2; views = s.views } in
       let few = few_draws w line.4 in
       let o = line.4.order.1 in
       let whole : (line.1 + 1) % 2 ^ 64 ≡ line.1 + 1 = omega arith in
       (v, keeps, tt, (line.0, line.1 + 1, line.2, ap (λ ws. slice_set ws 1 ((slice_index ws 1 + 1) % 2 ^ 64)) line.3 ∙ ap (λ (n : ℕ). line.0 ∷ n ∷ line.2 ∷ []) whole, stays w line.4 at), refl)
 
   -- an add to the writer word that keeps the rule
-  leaves : (v : View) → ((w : World) → IsKept w → get_elem? w.views id ≡ some me.0 → IsKept (writer_word_up w id v)) → Allows IsOrdered slots id me 2 (λ n. (n + 1) % 2 ^ 64) (λ n you. you ≡ (v, me.1))
-  leaves v stays s line len at fits = let w : World = record { draw_word = line.0; reader_word = line.1; writer_word = line.2; views = s.views } in
+  leaves : (v : View) → ((w : LockWorld) → KeepsRule w → get_elem? w.views id ≡ some me.0 → KeepsRule (writer_word_up w id v)) → Allows IsRuled slots id me 2 (λ n. (n + 1) % 2 ^ 64) (λ n you. you ≡ (v, me.1))
+  leaves v stays s line len at fits = let w : LockWorld = record { draw_word = line.0; reader_word = line.1; writer_word = line.2; views = s.views } in
       let few = few_draws w line.4 in
       let o = line.4.order.0 in
       let p = line.4.order.1 in
@@ -91,17 +91,17 @@ module _ (slots id : ℕ) (me : Me ℕ View) where
       (v, keeps, tt, (line.0, line.1, line.2 + 1, ap (λ ws. slice_set ws 2 ((slice_index ws 2 + 1) % 2 ^ 64)) line.3 ∙ ap (λ (n : ℕ). line.0 ∷ line.1 ∷ n ∷ []) whole, stays w line.4 at), refl)
 
   -- a reader enters
-  pub may_enter : (t : ℕ) → me.0.stage ≡ Next t → Allows IsOrdered slots id me 1 (λ n. (n + 1) % 2 ^ 64) (λ n you. you ≡ (gone_in me.0, me.1))
+  pub may_enter : (t : ℕ) → me.0.stage ≡ Next t → Allows IsRuled slots id me 1 (λ n. (n + 1) % 2 ^ 64) (λ n you. you ≡ (gone_in me.0, me.1))
   may_enter t next = enters (gone_in me.0) (λ w k at. step_keeps reader_enters w id me.0 (reader_word_up w id (gone_in me.0)) k at (t, next, refl))
 
   -- a writer leaves, first step
-  pub may_close : (t : ℕ) → me.0.stage ≡ Writing t → Allows IsOrdered slots id me 1 (λ n. (n + 1) % 2 ^ 64) (λ n you. you ≡ (gone_in me.0, me.1))
+  pub may_close : (t : ℕ) → me.0.stage ≡ Writing t → Allows IsRuled slots id me 1 (λ n. (n + 1) % 2 ^ 64) (λ n you. you ≡ (gone_in me.0, me.1))
   may_close t writes = enters (gone_in me.0) (λ w k at. step_keeps writer_closes w id me.0 (reader_word_up w id (gone_in me.0)) k at (t, writes, refl))
 
   -- a reader leaves
-  pub may_leave : (t : ℕ) → me.0.stage ≡ Reading t → Allows IsOrdered slots id me 2 (λ n. (n + 1) % 2 ^ 64) (λ n you. you ≡ (gone_out me.0, me.1))
+  pub may_leave : (t : ℕ) → me.0.stage ≡ Reading t → Allows IsRuled slots id me 2 (λ n. (n + 1) % 2 ^ 64) (λ n you. you ≡ (gone_out me.0, me.1))
   may_leave t reads = leaves (gone_out me.0) (λ w k at. step_keeps reader_leaves w id me.0 (writer_word_up w id (gone_out me.0)) k at (t, reads, refl))
 
   -- a writer leaves, second step
-  pub may_end : (t : ℕ) → me.0.stage ≡ Closing t → Allows IsOrdered slots id me 2 (λ n. (n + 1) % 2 ^ 64) (λ n you. you ≡ (gone_out me.0, me.1))
+  pub may_end : (t : ℕ) → me.0.stage ≡ Closing t → Allows IsRuled slots id me 2 (λ n. (n + 1) % 2 ^ 64) (λ n you. you ≡ (gone_out me.0, me.1))
   may_end t closes = leaves (gone_out me.0) (λ w k at. step_keeps writer_leaves w id me.0 (writer_word_up w id (gone_out me.0)) k at (t, closes, refl))

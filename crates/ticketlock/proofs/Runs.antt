@@ -7,7 +7,7 @@ use lib.ListN.{get_elem?}
 use Rattle.ticketlock.specs.declared.view.View.{View}
 use Rattle.ticketlock.specs.declared.view.Stage.{Stage}
 use Rattle.ticketlock.specs.declared.view.Stage.TheVariants.{Idle, Waiting, Next, Reading, Writing, Closing}
-use Rattle.ticketlock.specs.Rule.{World, Step, has, inside, IsServed, IsKept, newcomer}
+use Rattle.ticketlock.specs.Rule.{LockWorld, Step, has, inside, IsInTurn, KeepsRule, newcomer}
 use Rattle.ticketlock.specs.Law.{start, Runs, IsWriting, IsIn, IsAlone}
 use Rattle.ticketlock.proofs.Totals.{part_of, two_of, total_copies}
 use Rattle.ticketlock.proofs.Views.{is_at}
@@ -25,7 +25,7 @@ length_copies zero x = refl
 length_copies (suc n) x = ap suc (length_copies n x)
 
 -- the start keeps the rule
-pub starts : (seats : ℕ) → seats ≤ 1024 → IsKept (start seats)
+pub starts : (seats : ℕ) → seats ≤ 1024 → KeepsRule (start seats)
 starts seats few = record {
   order = (omega arith, omega arith);
   tickets = record {
@@ -34,7 +34,7 @@ starts seats few = record {
     none_yet = λ t high. total_copies (λ v. has t v.stage) seats newcomer refl;
   };
   insiders = let z = total_copies (λ v. inside v.stage) seats newcomer refl in omega arith;
-  served = λ j u e. subst (λ (v : View). IsServed 0 0 v.stage) (copy_at seats newcomer j u e) tt;
+  served = λ j u e. subst (λ (v : View). IsInTurn 0 0 v.stage) (copy_at seats newcomer j u e) tt;
   counted = record {
     sum = sym (total_copies (λ v. v.draws) seats newcomer refl);
     limit = λ j u e. let c : 0 ≡ u.draws = ap (λ (v : View). v.draws) (copy_at seats newcomer j u e) in omega arith;
@@ -43,12 +43,12 @@ starts seats few = record {
 }
 
 -- a list of steps keeps the rule
-pub lasts : (w : World) (steps : List (Step × ℕ)) (last : World) → IsKept w → Runs w steps last → IsKept last
-lasts w [] last k run = subst IsKept (sym run) k
+pub lasts : (w : LockWorld) (steps : List (Step × ℕ)) (last : LockWorld) → KeepsRule w → Runs w steps last → KeepsRule last
+lasts w [] last k run = subst KeepsRule (sym run) k
 lasts w (s ∷ steps) last k run = lasts run.0 steps last (step_keeps s.0 w s.1 run.1 run.0 k run.2 run.3) run.4
 
 -- who is in beside a writer has the ticket that may enter, or is inside
-in_or_next : (r a : ℕ) (s : Stage) → IsIn s → IsServed r a s → (has r s ≡ 1) ⊎ (inside s ≡ 1)
+in_or_next : (r a : ℕ) (s : Stage) → IsIn s → IsInTurn r a s → (has r s ≡ 1) ⊎ (inside s ≡ 1)
 in_or_next r a Idle h i = absurd h
 in_or_next r a (Waiting t kind) h i = absurd h
 in_or_next r a (Next t) h i = absurd h
@@ -57,7 +57,7 @@ in_or_next r a (Writing t) h i = ⊎_elim (λ x. inl x.1) (λ x. absurd (x.0 (sy
 in_or_next r a (Closing t) h i = inr refl
 
 -- who writes has the ticket that may enter, and nobody is inside
-writes_next : (r a : ℕ) (s : Stage) → IsWriting s → IsServed r a s → (has r s ≡ 1) × (r ≡ a)
+writes_next : (r a : ℕ) (s : Stage) → IsWriting s → IsInTurn r a s → (has r s ≡ 1) × (r ≡ a)
 writes_next r a Idle h i = absurd h
 writes_next r a (Waiting t kind) h i = absurd h
 writes_next r a (Next t) h i = absurd h
@@ -66,7 +66,7 @@ writes_next r a (Writing t) h i = (⊎_elim (λ x. x.1) (λ x. absurd (x.0 (sym 
 writes_next r a (Closing t) h i = absurd h
 
 -- so two seats of which one writes and the other is in are one seat
-pub alone_writes : (w : World) → IsKept w → IsAlone w.views
+pub alone_writes : (w : LockWorld) → KeepsRule w → IsAlone w.views
 alone_writes w k i j v u e d hv hu = let r : ℕ = w.reader_word in dite (ℕ_discrete i j) (λ s. s) (λ n.
     let p = writes_next r w.writer_word v.stage hv (k.served i v e) in
     let q = k.insiders in

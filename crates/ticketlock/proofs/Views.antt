@@ -6,7 +6,7 @@ use native.Mathlib.Decide.{ℕ_discrete, dec_lt}
 use lib.ListN.{get_elem?}
 use Rattle.atomic_table.proofs.Lists.{at_set}
 use Rattle.ticketlock.specs.declared.view.View.{View}
-use Rattle.ticketlock.specs.Rule.{World, Each, has, total, IsCounted, IsHeldOnce}
+use Rattle.ticketlock.specs.Rule.{LockWorld, Each, has, total, IsCounted, IsHeldOnce}
 use Rattle.ticketlock.proofs.Totals.{total_stays, part_of}
 
 -- 1 where k is t, and else 0
@@ -37,7 +37,7 @@ pub seats_stay : (views : List View) (seat : ℕ) (v w : View) → get_elem? vie
 seats_stay views seat v w at e few = let l = length_set views seat w in let s = total_stays (λ u. u.spare) views seat v w at e in omega arith
 
 -- a step that is no draw leaves the count of draws
-pub counted_stays : (w : World) (seat : ℕ) (v new : View) → get_elem? w.views seat ≡ some v → new.draws ≡ v.draws → new.spare ≡ v.spare → IsCounted w → (r a : ℕ)
+pub counted_stays : (w : LockWorld) (seat : ℕ) (v new : View) → get_elem? w.views seat ≡ some v → new.draws ≡ v.draws → new.spare ≡ v.spare → IsCounted w → (r a : ℕ)
     → IsCounted (record { draw_word = w.draw_word; reader_word = r; writer_word = a; views = set w.views seat new })
 counted_stays w seat v new at same_draws same_spare c r a = record {
   sum = let s = total_stays (λ u. u.draws) w.views seat v new at same_draws in let q = c.sum in omega arith;
@@ -46,7 +46,7 @@ counted_stays w seat v new at same_draws same_spare c r a = record {
 }
 
 -- a step that takes and gives no ticket leaves who holds them
-pub tickets_stay : (w : World) (seat : ℕ) (v new : View) → get_elem? w.views seat ≡ some v → ((t : ℕ) → has t new.stage ≡ has t v.stage) → IsHeldOnce w → (a : ℕ)
+pub tickets_stay : (w : LockWorld) (seat : ℕ) (v new : View) → get_elem? w.views seat ≡ some v → ((t : ℕ) → has t new.stage ≡ has t v.stage) → IsHeldOnce w → (a : ℕ)
     → IsHeldOnce (record { draw_word = w.draw_word; reader_word = w.reader_word; writer_word = a; views = set w.views seat new })
 tickets_stay w seat v new at same h a = record {
   once = λ t low high. let s = total_stays (λ u. has t u.stage) w.views seat v new at (same t) in let o = h.once t low high in omega arith;
@@ -55,6 +55,6 @@ tickets_stay w seat v new at same h a = record {
 }
 
 -- a ticket that a seat has may still enter
-pub not_past : (w : World) (seat : ℕ) (v : View) (t : ℕ) → IsHeldOnce w → get_elem? w.views seat ≡ some v → has t v.stage ≡ 1 → w.reader_word ≤ t
+pub not_past : (w : LockWorld) (seat : ℕ) (v : View) (t : ℕ) → IsHeldOnce w → get_elem? w.views seat ≡ some v → has t v.stage ≡ 1 → w.reader_word ≤ t
 not_past w seat v t k at mine = let p = part_of (λ u. has t u.stage) w.views seat v at in
     dite (dec_lt t w.reader_word) (λ h. let z = k.none_past t h in absurd (omega arith)) (λ h. omega arith)

@@ -4,14 +4,14 @@ use Rattle.ticketlock.specs.declared.error.LockError.{LockError}
 use Rattle.ticketlock.specs.declared.error.LockError.TheVariants.{BadLimit, Memory}
 
 -- the number
-abbrev pub number_of : LockError → ℕ
-number_of BadLimit = 12
-number_of Memory = 30
+abbrev pub lock_error_number : LockError → ℕ
+lock_error_number BadLimit = 12
+lock_error_number Memory = 30
 
 -- the name, as the bytes of its text
-abbrev pub name_of : LockError → List ℕ
-name_of BadLimit = codes "BadLimit"
-name_of Memory = codes "Memory"
+abbrev pub lock_error_name : LockError → List ℕ
+lock_error_name BadLimit = codes "BadLimit"
+lock_error_name Memory = codes "Memory"
 
 -- a lock may have so many seats, each with so many draws
 abbrev pub IsWithin : ℕ → ℕ → Type 0

@@ -5,17 +5,17 @@ use lib.ListN.{get_elem?}
 use Rattle.ticketlock.specs.declared.view.View.{View}
 use Rattle.ticketlock.specs.declared.view.Stage.{Stage}
 use Rattle.ticketlock.specs.declared.view.Stage.TheVariants.{Idle, Waiting, Next, Reading, Writing, Closing}
-use Rattle.ticketlock.specs.Rule.{World, Step, Takes, IsKept, newcomer}
+use Rattle.ticketlock.specs.Rule.{LockWorld, Step, Takes, KeepsRule, newcomer}
 use Rattle.ticketlock.specs.Places.{opener, one_cut}
 
 -- so many seats that are idle, and three words of 0
-abbrev pub start : ℕ → World
+abbrev pub start : ℕ → LockWorld
 start seats = record { draw_word = 0; reader_word = 0; writer_word = 0; views = replicate seats newcomer }
 
 -- the steps, each with the number of its seat, lead from the first world to the last
-abbrev pub Runs : World → List (Step × ℕ) → World → Type 0
+abbrev pub Runs : LockWorld → List (Step × ℕ) → LockWorld → Type 0
 Runs first [] last = last ≡ first
-Runs first (s ∷ steps) last = (next : World) × (v : View) × (get_elem? first.views s.1 ≡ some v)
+Runs first (s ∷ steps) last = (next : LockWorld) × (v : View) × (get_elem? first.views s.1 ≡ some v)
     × Takes s.0 first s.1 v next × Runs next steps last
 
 -- it writes
@@ -44,15 +44,15 @@ IsAlone views = (i j : ℕ) (v u : View) → get_elem? views i ≡ some v → ge
 -- The law: of at most 1,024 seats, every list of steps from the start leads to a world that keeps the rule, and where
 -- a writer is alone
 abbrev pub Excludes : Type 0
-Excludes = (seats : ℕ) (steps : List (Step × ℕ)) (last : World) → seats ≤ 1024 → Runs (start seats) steps last
-    → IsKept last × IsAlone last.views
+Excludes = (seats : ℕ) (steps : List (Step × ℕ)) (last : LockWorld) → seats ≤ 1024 → Runs (start seats) steps last
+    → KeepsRule last × IsAlone last.views
 
 -- the world that a lock is made with: three words of 0, and one seat, from which all others may be cut off
-abbrev pub made_with : ℕ → World
+abbrev pub made_with : ℕ → LockWorld
 made_with seats = record { draw_word = 0; reader_word = 0; writer_word = 0; views = opener seats ∷ [] }
 
 -- the world with one more seat, which is cut off from the seat of the view v
-abbrev pub with_cut : World → ℕ → View → World
+abbrev pub with_cut : LockWorld → ℕ → View → LockWorld
 with_cut w seat v = record w { views = slice_set w.views seat (one_cut v) ++ newcomer ∷ [] }
 
 -- what befalls a lock: a seat takes a step, or another seat is cut off from one
@@ -61,17 +61,17 @@ pub data Event : Type 0 where
   cuts : ℕ → Event
 
 -- the events lead from the first world to the last
-abbrev pub Leads : World → List Event → World → Type 0
+abbrev pub Leads : LockWorld → List Event → LockWorld → Type 0
 Leads first [] last = last ≡ first
-Leads first (takes s seat ∷ events) last = (next : World) × (v : View) × (get_elem? first.views seat ≡ some v)
+Leads first (takes s seat ∷ events) last = (next : LockWorld) × (v : View) × (get_elem? first.views seat ≡ some v)
     × Takes s first seat v next × Leads next events last
 Leads first (cuts seat ∷ events) last = (v : View) × (get_elem? first.views seat ≡ some v) × (0 < v.spare)
     × Leads (with_cut first seat v) events last
 
 -- The same law from the world that a lock is made with, and also where seats are cut off between the steps
 abbrev pub ExcludesMade : Type 0
-ExcludesMade = (seats : ℕ) (events : List Event) (last : World) → 0 < seats → seats ≤ 1024
-    → Leads (made_with seats) events last → IsKept last × IsAlone last.views
+ExcludesMade = (seats : ℕ) (events : List Event) (last : LockWorld) → 0 < seats → seats ≤ 1024
+    → Leads (made_with seats) events last → KeepsRule last × IsAlone last.views
 
 -- it reads
 abbrev pub IsReading : Stage → Type 0
@@ -84,5 +84,5 @@ IsReading (Closing t) = ⊥
 
 -- The rule does not forbid to share: of two seats, some list of steps from the start leads to a world where both read
 abbrev pub CanShare : Type 0
-CanShare = (steps : List (Step × ℕ)) × (last : World) × Runs (start 2) steps last × (v : View) × (u : View)
+CanShare = (steps : List (Step × ℕ)) × (last : LockWorld) × Runs (start 2) steps last × (v : View) × (u : View)
     × (last.views ≡ v ∷ u ∷ []) × IsReading v.stage × IsReading u.stage

@@ -2,12 +2,12 @@
 use Rattle.std.specs.Prelude.{◌≡◌, ℕ, ◌-◌, [], ◌∷◌}
 use Rattle.atomic_table.specs.Table.{State}
 use Rattle.ticketlock.specs.declared.view.View.{View}
-use Rattle.ticketlock.specs.Rule.{IsKept, newcomer}
+use Rattle.ticketlock.specs.Rule.{KeepsRule, newcomer}
 
 -- the table's words and views are a world that keeps the rule
-abbrev pub IsOrdered : State ℕ View → Type 0
-IsOrdered s = (U : ℕ) × (R : ℕ) × (W : ℕ) × (s.words ≡ U ∷ R ∷ W ∷ [])
-    × IsKept (record { draw_word = U; reader_word = R; writer_word = W; views = s.views })
+abbrev pub IsRuled : State ℕ View → Type 0
+IsRuled s = (U : ℕ) × (R : ℕ) × (W : ℕ) × (s.words ≡ U ∷ R ∷ W ∷ [])
+    × KeepsRule (record { draw_word = U; reader_word = R; writer_word = W; views = s.views })
 
 -- the view of a newcomer from which n seats may be cut off
 abbrev pub spared : ℕ → View

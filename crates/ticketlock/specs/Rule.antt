@@ -14,7 +14,7 @@ use Rattle.ticketlock.specs.declared.view.Stage.TheVariants.{Idle, Waiting, Next
 -- enter to read, the writer word (W) the one that may enter to write. The view of each seat stands at the seat's
 -- number. A seat without a ticket is idle; with the ticket t it waits to read or to write, is next, reads, writes or
 -- closes.
-pub record World : Type 0 where
+pub record LockWorld : Type 0 where
   pub draw_word : ℕ
   pub reader_word : ℕ
   pub writer_word : ℕ
@@ -71,17 +71,17 @@ pub data Step : Type 0 where
   writer_leaves : Step
 
 -- the world where the seat has the view v and no other seat another, with the words as they were
-abbrev pub with_view : World → ℕ → View → World
+abbrev pub with_view : LockWorld → ℕ → View → LockWorld
 with_view w seat v = record w { views = slice_set w.views seat v }
 
 -- the same with U one more, R one more, W one more
-abbrev pub draw_word_up : World → ℕ → View → World
+abbrev pub draw_word_up : LockWorld → ℕ → View → LockWorld
 draw_word_up w seat v = record w { draw_word = w.draw_word + 1; views = slice_set w.views seat v }
 
-abbrev pub reader_word_up : World → ℕ → View → World
+abbrev pub reader_word_up : LockWorld → ℕ → View → LockWorld
 reader_word_up w seat v = record w { reader_word = w.reader_word + 1; views = slice_set w.views seat v }
 
-abbrev pub writer_word_up : World → ℕ → View → World
+abbrev pub writer_word_up : LockWorld → ℕ → View → LockWorld
 writer_word_up w seat v = record w { writer_word = w.writer_word + 1; views = slice_set w.views seat v }
 
 -- The seat of the view v takes such a step from the world w to the world next
@@ -92,7 +92,7 @@ writer_word_up w seat v = record w { writer_word = w.writer_word + 1; views = sl
 --   reader leaves          W + 1    Reading(t) to Idle
 --   writer leaves, first   R + 1    Writing(t) to Closing(t)
 --   writer leaves, second  W + 1    Closing(t) to Idle
-abbrev pub Takes : Step → World → ℕ → View → World → Type 0
+abbrev pub Takes : Step → LockWorld → ℕ → View → LockWorld → Type 0
 Takes (draws kind) w seat v next =
     (v.stage ≡ Idle) × (v.draws < 2 ^ 40) × (next ≡ draw_word_up w seat (drawn_for kind w.draw_word v))
 Takes reader_looks w seat v next =
@@ -137,28 +137,28 @@ abbrev pub holders : ℕ → List View → ℕ
 holders t views = total (λ v. has t v.stage) views
 
 -- who is next has the ticket R; who writes has the ticket R, and W is the same
-abbrev pub IsServed : ℕ → ℕ → Stage → Type 0
-IsServed reader_word writer_word Idle = Unit {0}
-IsServed reader_word writer_word (Waiting t kind) = Unit {0}
-IsServed reader_word writer_word (Next t) = reader_word ≡ t
-IsServed reader_word writer_word (Reading t) = Unit {0}
-IsServed reader_word writer_word (Writing t) = (reader_word ≡ t) × (writer_word ≡ t)
-IsServed reader_word writer_word (Closing t) = Unit {0}
+abbrev pub IsInTurn : ℕ → ℕ → Stage → Type 0
+IsInTurn reader_word writer_word Idle = Unit {0}
+IsInTurn reader_word writer_word (Waiting t kind) = Unit {0}
+IsInTurn reader_word writer_word (Next t) = reader_word ≡ t
+IsInTurn reader_word writer_word (Reading t) = Unit {0}
+IsInTurn reader_word writer_word (Writing t) = (reader_word ≡ t) × (writer_word ≡ t)
+IsInTurn reader_word writer_word (Closing t) = Unit {0}
 
 -- each ticket from R up to below U is held once, and no other is
-pub record IsHeldOnce (w : World) : Type 0 where
+pub record IsHeldOnce (w : LockWorld) : Type 0 where
   pub once : (t : ℕ) → w.reader_word ≤ t → t < w.draw_word → holders t w.views ≡ 1
   pub none_past : (t : ℕ) → t < w.reader_word → holders t w.views ≡ 0
   pub none_yet : (t : ℕ) → w.draw_word ≤ t → holders t w.views ≡ 0
 
 -- U counts all draws, each seat's at most 2^40; and there are at most 1,024 seats with those that may still be cut off
-pub record IsCounted (w : World) : Type 0 where
+pub record IsCounted (w : LockWorld) : Type 0 where
   pub sum : w.draw_word ≡ total (λ v. v.draws) w.views
   pub limit : Each (λ v. v.draws ≤ 2 ^ 40) w.views
   pub seats : length w.views + total (λ v. v.spare) w.views ≤ 1024
 
 -- The five points
-pub record IsKept (w : World) : Type 0 where
+pub record KeepsRule (w : LockWorld) : Type 0 where
   -- W is at most R, and R at most U
   pub order : (w.writer_word ≤ w.reader_word) × (w.reader_word ≤ w.draw_word)
   -- each ticket from R up to below U is held once, and no other is
@@ -166,6 +166,6 @@ pub record IsKept (w : World) : Type 0 where
   -- those who read or close number R - W
   pub insiders : w.writer_word + total (λ v. inside v.stage) w.views ≡ w.reader_word
   -- who is next has the ticket R; who writes has the ticket R, and W is the same
-  pub served : Each (λ v. IsServed w.reader_word w.writer_word v.stage) w.views
+  pub served : Each (λ v. IsInTurn w.reader_word w.writer_word v.stage) w.views
   -- U is the sum of all draws, each seat's at most 2^40
   pub counted : IsCounted w

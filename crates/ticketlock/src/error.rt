@@ -15,11 +15,11 @@ pub enum LockError {
 }
 
 impl LockError {
-    ghost use Rattle.ticketlock.specs.Errors.{number_of, name_of};
+    ghost use Rattle.ticketlock.specs.Errors.{lock_error_number, lock_error_name};
 
     /// The number.
     pub fn number(&self) -> u8
-        ensures { result ≡ number_of self.now }
+        ensures { result ≡ lock_error_number self.now }
     {
         match self {
             LockError::BadLimit => 12,
@@ -29,7 +29,7 @@ impl LockError {
 
     /// The name.
     pub fn name(&self) -> &'static str
-        ensures { result.now ≡ name_of self.now }
+        ensures { result.now ≡ lock_error_name self.now }
     {
         match self {
             LockError::BadLimit => "BadLimit",
@@ -40,9 +40,9 @@ impl LockError {
 
 impl fmt::Display for LockError {
     ghost use Rattle.std.specs.Prelude.{Some};
-    ghost use Rattle.ticketlock.specs.Errors.{name_of};
+    ghost use Rattle.ticketlock.specs.Errors.{lock_error_name};
 
-    ghost output = { λ error. Some (name_of error) };
+    ghost output = { λ error. Some (lock_error_name error) };
 
     fn fmt<W: fmt::Write>(&self, f: &mut fmt::Formatter<W>) -> fmt::Result {
         f.write_str(self.name())

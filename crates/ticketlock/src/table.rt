@@ -27,9 +27,9 @@ pub(crate) struct Place {
 pub(crate) struct InOrder;
 
 impl TableRule<u8, View, u32> for InOrder {
-    ghost use Rattle.ticketlock.specs.Places.{IsOrdered, opener};
+    ghost use Rattle.ticketlock.specs.Places.{IsRuled, opener};
 
-    ghost holds = { λ _. IsOrdered };
+    ghost holds = { λ _. IsRuled };
 
     ghost first = { opener };
 }

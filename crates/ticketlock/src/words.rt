@@ -17,7 +17,7 @@ use std::alloc::{AllocError, Global};
 impl Words {
     /// Three words of 0, and the place of the first seat, from which the others are cut off.
     pub fn new(alloc: Global, seats: u32, limit: u64) -> Result<(Words, Place), AllocError>
-        requires { (0 < seats) × (seats ≤ 1024) × (limit ≤ 2 ^ 40) }
+        requires { (0 < seats) × (seats ≤ 2 ^ 10) × (limit ≤ 2 ^ 40) }
         ensures { IfOk result (λ r. IsAt r.0 r.1 × (view_of r.1 ≡ opener seats) × (r.0.limit ≡ limit)) }
     {
         let (table, token) = Table::of_words(alloc, &[0, 0, 0], &seats)?;

@@ -10,11 +10,14 @@ use crate::bucket::Item;
 use crate::pick::total_weight;
 use rjenkins::{hash4, hash4_each};
 
+/// How many draws there are: those of the low 16 bits of a hash.
+const DRAWS: u32 = 65_536;
+
 /// Whether an item with this hash wins its draw against `upto`, the weight up to and with it.
 fn wins_draw(item: Item, hash: u32, upto: u32) -> bool
-    ensures { result ≡ nat_lt (hash % 65536 * upto / 65536) item.weight }
+    ensures { result ≡ nat_lt (hash % 2 ^ 16 * upto / 2 ^ 16) item.weight }
 {
-    u64::from(hash % 65536) * u64::from(upto) / 65536 < u64::from(item.weight)
+    u64::from(hash % DRAWS) * u64::from(upto) / u64::from(DRAWS) < u64::from(item.weight)
 }
 
 /// The hash of an item.

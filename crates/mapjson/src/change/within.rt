@@ -31,7 +31,7 @@ fn words(alloc: Global, numbers: &[i128]) -> Result<Vec<u32>, AllocError>
 }
 
 /// A reweight that is within the limits.
-#[tactic(auto, unfolding(crate::specs::ChangeTexts::reweight_fits, stated::specs::Parts::is_osd_id, stated::specs::Parts::is_between))]
+#[tactic(auto, unfolding(crate::specs::ChangeTexts::reweight_fits), using(stated::proofs::Within::osd_id_word))]
 fn reweight(stated: &RawReweight) -> Reweight
     requires { IsTrue (reweight_fits stated.now) }
     ensures { result ≡ reweight_within stated.now }

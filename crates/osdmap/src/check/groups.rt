@@ -29,7 +29,7 @@ impl OsdMap {
     }
 
     /// Whether each group that a change names is there after it.
-    #[tactic(auto, unfolding(crate::specs::Changes::names_groups, crate::specs::Changes::all_groups))]
+    #[tactic(auto, unfolding(crate::specs::Changes::names_groups, crate::specs::Changes::all_named_groups))]
     pub(crate) fn names_groups(&self, change: &Change) -> bool
         ensures { result ≡ names_groups self.now.map change.now }
     {

@@ -4,7 +4,7 @@ use Rattle.json.specs.Json.{parse_map}
 use Rattle.json.specs.Reads.{token_of}
 use Rattle.json.proofs.Grammar.{left_some}
 use Rattle.jsonstream.specs.Stream.{next}
-use Rattle.jsonstream.specs.Json.{number_of as number_in_data}
+use Rattle.jsonstream.specs.Json.{whole_number as number_in_data}
 use Rattle.jsonstream.proofs.Streams.{next_nothing}
 use Rattle.jsonstream.proofs.ValueKinds.{no_number, is_number, number_taken}
 use Rattle.jsonstream.proofs.tokens.number.Goals as goal

@@ -13,9 +13,10 @@ loop-part-preserved g c =
     (ap (λ p. p.monitor.now) c.in_ok-player.ensures.ok) (ap (λ p. p.number) c.in_ok-player.ensures.ok ∙ numbered)
     (ap (λ p. p.part.now) c.in_ok-player.ensures.ok) in
     let more = pairs_more (IsStartedFor c.args.monitor.now) 1 _ _ c.in_ok-player.player c.part-item.result paired started in
+    let one = rw c.unwrap-member.ensures at c.next.ensures.next in
     let taken = take_more c.args.parts.now c.loop-part.part-index c.part-item.result c.loop-part-test.true in (
       c.next.ensures.rest,
-      omega (arith, c.in-Some.ensures.next.1),
+      omega (arith, one.1),
       omega (arith, c.in_ok-push.ensures.len),
       rw (c.in_ok-push.ensures.items, taken, sym c.part-item.is) more,
     )

@@ -2,7 +2,7 @@
 use Rattle.std.proofs.Common.{ℕ, [], ◌∷◌, refl, arith}
 use Rattle.ticketlock.specs.declared.view.View.{View}
 use Rattle.ticketlock.specs.declared.view.Kind.TheVariants.{Read}
-use Rattle.ticketlock.specs.Rule.{World, draws, reader_looks, reader_enters, newcomer, drawn_for, looked_at, gone_in, with_view, draw_word_up, reader_word_up}
+use Rattle.ticketlock.specs.Rule.{LockWorld, draws, reader_looks, reader_enters, newcomer, drawn_for, looked_at, gone_in, with_view, draw_word_up, reader_word_up}
 use Rattle.ticketlock.specs.Law.{start}
 use Rattle.ticketlock.proofs.laws.sharing.Goals as goal
 
@@ -14,22 +14,22 @@ abbrev looked : ℕ → View
 looked t = looked_at t (drawn t)
 
 -- the worlds after each step
-abbrev one_drawn : World
+abbrev one_drawn : LockWorld
 one_drawn = draw_word_up (start 2) 0 (drawn 0)
 
-abbrev both_drawn : World
+abbrev both_drawn : LockWorld
 both_drawn = draw_word_up one_drawn 1 (drawn 1)
 
-abbrev one_next : World
+abbrev one_next : LockWorld
 one_next = with_view both_drawn 0 (looked 0)
 
-abbrev one_reads : World
+abbrev one_reads : LockWorld
 one_reads = reader_word_up one_next 0 (gone_in (looked 0))
 
-abbrev other_next : World
+abbrev other_next : LockWorld
 other_next = with_view one_reads 1 (looked 1)
 
-abbrev both_read : World
+abbrev both_read : LockWorld
 both_read = reader_word_up other_next 1 (gone_in (looked 1))
 
 pub returns : goal.returns

@@ -13,14 +13,14 @@ returns-then-not-is_wanted-clause-covers c =
       | then-not-is_wanted-via-then-not-is_wanted w ↦
           unwanted (after_moves b.frame.map.now.map b.frame.pool b.moves.items) b.frame.pool c.args.from c.args.to c.args.best (sym c.is_wanted.ensures ∙ w.if-not-is_wanted.true)
       | then-not-is_wanted-via-else-not-is_wanted+then-not-are_beside w ↦
-          apart_covers b.frame.map.now.map b.frame.pool b.moves.items b.groups.items b.deviations.items b.board c.args.from c.args.to c.args.best (sym w.are_beside.ensures ∙ w.if-not-are_beside.true)
+          apart_covers b.frame.map.now.map b.frame.pool b.moves.items b.groups.items b.deviations.items b.board c.args.from c.args.to c.args.best (sym w.are_beside.ensures.value ∙ w.if-not-are_beside.true)
     ]
 
 pub returns-in-Some-clause-better : goal.returns-in-Some-clause-better
 returns-in-Some-clause-better c =
     let b = c.args.self.now in
     found_better b.frame.map.now.map b.frame.pool b.moves.items b.groups.items b.deviations.items b.board c.args.from c.args.to c.in-Some.group c.args.best
-    c.requires.best c.requires.from c.requires.to (sym c.is_wanted.ensures ∙ c.if-not-is_wanted.false) (sym c.are_beside.ensures ∙ c.if-not-are_beside.false) (sym c.first_group.ensures ∙ c.in-Some.is)
+    c.requires.best c.requires.from c.requires.to (sym c.is_wanted.ensures ∙ c.if-not-is_wanted.false) (sym c.are_beside.ensures.value ∙ c.if-not-are_beside.false) (sym c.first_group.ensures ∙ c.in-Some.is)
 
 pub returns-in-Some-clause-covers : goal.returns-in-Some-clause-covers
 returns-in-Some-clause-covers c =
@@ -45,4 +45,4 @@ shut-requires-clause-none c =
 pub returns-then-is_shut-clause-covers : goal.returns-then-is_shut-clause-covers
 returns-then-is_shut-clause-covers c =
     let b = c.args.self.now in
-    none_covers b.frame.map.now.map b.frame.pool b.moves.items b.groups.items b.deviations.items b.board c.args.from c.args.to c.args.best (c.requires.marks c.args.from c.args.to (sym c.is_shut.ensures ∙ c.if-is_shut.true))
+    none_covers b.frame.map.now.map b.frame.pool b.moves.items b.groups.items b.deviations.items b.board c.args.from c.args.to c.args.best (c.requires.marks c.args.from c.args.to (sym c.is_shut.ensures.value ∙ c.if-is_shut.true))

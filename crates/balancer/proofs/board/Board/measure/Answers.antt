@@ -6,7 +6,7 @@ use Rattle.std.proofs.lemmas.List.{get_or_default, length-set}
 use Rattle.std.specs.Prelude.{ℤ}
 use Rattle.std.specs.List.Sorted.{IsPermutation}
 use Rattle.balancer.specs.Greedy.{after_moves}
-use Rattle.balancer.specs.Shares.{is_candidate, candidates, deviation}
+use Rattle.balancer.specs.Shares.{is_candidate, candidate_osds, deviation}
 use Rattle.balancer.proofs.Searching.{each_candidate, same_osds, measured_more}
 use Rattle.balancer.proofs.board.Board.measure.Goals as goal
 
@@ -33,6 +33,6 @@ loop-k-preserved c =
     let dev = c.deviation.ensures.value ∙ ap (λ (f : ℤ × ℕ). deviation n b.frame.pool f.1) (read ∙ sym written) in
     rw (to_z-of_z w128 c.deviation.result fits) (
       length-set items k e ∙ c.loop-k.invariant.0,
-      subst (λ xs. IsPermutation xs (candidates b.frame.map.now.map b.frame.pool)) (sym same) c.loop-k.invariant.1,
+      subst (λ xs. IsPermutation xs (candidate_osds b.frame.map.now.map b.frame.pool)) (sym same) c.loop-k.invariant.1,
       measured_more n b.frame.pool items (set items k e) k e inside refl dev c.loop-k.invariant.2,
     )

@@ -1,13 +1,13 @@
 use Rattle.std.proofs.Common.{◌≡◌, map}
 use Rattle.std.specs.List.Sorted.{IsPermutation}
-use Rattle.balancer.specs.Shares.{candidates}
+use Rattle.balancer.specs.Shares.{candidate_osds}
 use Rattle.balancer.specs.Marks.{IsMarked}
 use Rattle.balancer.proofs.Running.{IsUnderWay}
 use Rattle.balancer.proofs.board.Board.run.Given as goal
 
 abbrev pub invariant-loop-count : goal.invariant-loop-count
 invariant-loop-count l = record {
-  order : IsPermutation (map (λ e. e.1) l.order.items) (candidates l.initial.self.frame.map.now.map l.initial.self.frame.pool);
+  order : IsPermutation (map (λ e. e.1) l.order.items) (candidate_osds l.initial.self.frame.map.now.map l.initial.self.frame.pool);
   way : IsUnderWay l.initial.self.frame.map.now.map l.initial.self.frame.pool l.limit l.self.moves.items l._count;
   map : l.self.frame.map.now.map ≡ l.initial.self.frame.map.now.map;
   pool : l.self.frame.pool ≡ l.initial.self.frame.pool;

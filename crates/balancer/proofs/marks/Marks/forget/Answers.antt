@@ -1,6 +1,6 @@
 use Rattle.std.proofs.Common.{◌∙◌, refl, None}
 use Rattle.std.proofs.lemmas.List.Folds.{list_any_more}
-use Rattle.osdmap.specs.Mapped.{is_of}
+use Rattle.stated.specs.Sets.{is_of}
 use Rattle.balancer.proofs.Marking.{opened_marks}
 use Rattle.balancer.proofs.marks.Marks.forget.Goals as goal
 

@@ -1,5 +1,5 @@
 use Rattle.std.proofs.Common.{◌≡◌, ℕ, true, false, take}
-use Rattle.placement_laws.specs.Standing.{stands}
+use Rattle.stated.specs.Sets.{stands}
 use Rattle.balancer.specs.Marks.{is_shut}
 use Rattle.balancer.proofs.marks.Marks.forget.Given as goal
 

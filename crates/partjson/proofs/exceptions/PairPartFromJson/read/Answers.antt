@@ -1,17 +1,17 @@
 use Rattle.std.proofs.Common.{Some, option_map, sym, ap, ◌∙◌, arith}
-use Rattle.jsonstream.specs.Json.{number_of, both_of}
+use Rattle.jsonstream.specs.Json.{whole_number, both_of}
 use Rattle.jsonstream.proofs.Taken.{read_on, refused_on}
-use Rattle.partjson.specs.StatedMaps.{pair_of}
+use Rattle.partjson.specs.StatedMaps.{stated_pair}
 use Rattle.partjson.specs.Places.{pair_at}
 use Rattle.partjson.proofs.exceptions.PairPartFromJson.read.Goals as goal
 
 pub returns-in_err-places : goal.returns-in_err-places
 returns-in_err-places c =
-    let still = refused_on (both_of number_of number_of) pair_of _ _ c.in_err-places.ensures in
+    let still = refused_on (both_of whole_number whole_number) stated_pair _ _ c.in_err-places.ensures in
     grind (arith, still)
 
 pub returns : goal.returns
-unfolding pair_of
+unfolding stated_pair
 returns c =
     let r = c.read.new.reader in
-    read_on (both_of number_of number_of) (option_map pair_at) _ c.in_ok-places.places r c.in_ok-places.ensures ∙ ap (λ x. Some (x, r)) (sym c.pair_of_places.ensures)
+    read_on (both_of whole_number whole_number) (option_map pair_at) _ c.in_ok-places.places r c.in_ok-places.ensures ∙ ap (λ x. Some (x, r)) (sym c.pair_of_places.ensures)

@@ -1,19 +1,19 @@
 use Rattle.std.proofs.Common.{◌≡◌, codes, Some, sym, ◌∙◌}
-use Rattle.jsonstream.specs.Json.{list_of, number_of}
-use Rattle.jsonstream.proofs.Puts.{slot_kept, unknown_put}
-use Rattle.partjson.specs.StatedMaps.{bucket_keys, bucket_kind_of, item_of}
+use Rattle.jsonstream.specs.Json.{stated_list, whole_number}
+use Rattle.jsonstream.proofs.Puts.{slot_kept}
+use Rattle.partjson.specs.StatedMaps.{bucket_keys, bucket_kind_of, stated_item}
 use Rattle.partjson.specs.Members.{HoldsBucket}
-use Rattle.partjson.proofs.Held.{held_by, held_past}
+use Rattle.partjson.proofs.Held.{held_by, held_past, unknown_past}
 use Rattle.partjson.proofs.Members.{bucket_put}
 use Rattle.partjson.proofs.forest.BucketSlotsSlots.take.Goals as goal
 
 pub returns-in-id : goal.returns-in-id
 returns-in-id c =
-    held_by HoldsBucket _ _ _ _ _ _ (λ d. c.member.new.slot ≡ Some (number_of d)) c.member.ensures (λ d is ms h. rw (c.in-id.is, is) (bucket_put (codes "id") d c.args.self.now ms h))
+    held_by HoldsBucket _ _ _ _ _ _ (λ d. c.member.new.slot ≡ Some (whole_number d)) c.member.ensures (λ d is ms h. rw (c.in-id.is, is) (bucket_put (codes "id") d c.args.self.now ms h))
 
 pub returns-in-items : goal.returns-in-items
 returns-in-items c =
-    held_by HoldsBucket _ _ _ _ _ _ (λ d. c.member-in-items.new.slot ≡ Some ((list_of item_of) d)) c.member-in-items.ensures (λ d is ms h. rw (c.in-items.is, is) (bucket_put (codes "items") d c.args.self.now ms h))
+    held_by HoldsBucket _ _ _ _ _ _ (λ d. c.member-in-items.new.slot ≡ Some ((stated_list stated_item) d)) c.member-in-items.ensures (λ d is ms h. rw (c.in-items.is, is) (bucket_put (codes "items") d c.args.self.now ms h))
 
 pub returns-in-kind : goal.returns-in-kind
 returns-in-kind c =
@@ -21,16 +21,16 @@ returns-in-kind c =
 
 pub returns-in-type : goal.returns-in-type
 returns-in-type c =
-    held_by HoldsBucket _ _ _ _ _ _ (λ d. c.member-in-type.new.slot ≡ Some (number_of d)) c.member-in-type.ensures (λ d is ms h. rw (c.in-type.is, is) (bucket_put (codes "type") d c.args.self.now ms h))
+    held_by HoldsBucket _ _ _ _ _ _ (λ d. c.member-in-type.new.slot ≡ Some (whole_number d)) c.member-in-type.ensures (λ d is ms h. rw (c.in-type.is, is) (bucket_put (codes "type") d c.args.self.now ms h))
 
 pub returns-in_default : goal.returns-in_default
 returns-in_default c =
     let n = c.in_default in
     let k = c.args.key.now in
     held_past HoldsBucket _ _ _ _ _ _ c.skip.ensures (λ d ms h. (
-      sym (unknown_put bucket_keys k d ms (n.not-id, (n.not-items, (n.not-kind, (n.not-type, tt))))),
-      h.1 ∙ sym (slot_kept number_of (codes "id") k d ms n.not-id),
-      h.2 ∙ sym (slot_kept (list_of item_of) (codes "items") k d ms n.not-items),
+      unknown_past bucket_keys k d ms (n.not-id, (n.not-items, (n.not-kind, (n.not-type, tt)))),
+      h.1 ∙ sym (slot_kept whole_number (codes "id") k d ms n.not-id),
+      h.2 ∙ sym (slot_kept (stated_list stated_item) (codes "items") k d ms n.not-items),
       h.3 ∙ sym (slot_kept bucket_kind_of (codes "kind") k d ms n.not-kind),
-      h.4 ∙ sym (slot_kept number_of (codes "type") k d ms n.not-type),
+      h.4 ∙ sym (slot_kept whole_number (codes "type") k d ms n.not-type),
     ))

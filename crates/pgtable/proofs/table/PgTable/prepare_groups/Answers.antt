@@ -3,7 +3,7 @@ use Rattle.std.proofs.lemmas.List.FromFn.{length-map-range_with_len}
 use Rattle.osdmap.specs.Maps.{osd_is_up}
 use Rattle.osdmap.proofs.Accepted.{accepted}
 use Rattle.osdmap.proofs.Named.{all_below}
-use Rattle.pgtable.specs.Patches.{next, ups_after}
+use Rattle.pgtable.specs.Patches.{changed_map, ups_after}
 use Rattle.pgtable.proofs.Found.{few_ups}
 use Rattle.pgtable.proofs.Regrouping.{leads_next}
 use Rattle.pgtable.proofs.States.{ups_follow}
@@ -37,7 +37,7 @@ returns-clause-leads c =
     let up = c.in_ok-up.ensures ∙ ap (λ us. ups_after us c.args.change.now) c.requires.table.up ∙ sym (ups_follow m c.args.change.now) in
     let made = c.in_ok-patches.ensures.made in
     record {
-      fits = record { pools = made.fits; few_osds = rw up (few_ups (next m c.args.change.now) 1024 leads.holds_after.few) };
+      fits = record { pools = made.fits; few_osds = rw up (few_ups (changed_map m c.args.change.now) 1024 leads.holds_after.few) };
       table = record { holds = leads.holds_after; pools = made.tables; up = up };
     }
 

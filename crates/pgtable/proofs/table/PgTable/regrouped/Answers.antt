@@ -1,5 +1,5 @@
 use Rattle.std.proofs.Common.{ap, arith}
-use Rattle.pgtable.specs.Patches.{next}
+use Rattle.pgtable.specs.Patches.{changed_map}
 use Rattle.pgtable.proofs.Keeping.{evals_concerned, evals_changes}
 use Rattle.pgtable.proofs.Regrouping.{leaving, none_touched, no_entries, within_regrouped, ascend_regrouped, regroups_none, regroups_some}
 use Rattle.pgtable.proofs.table.PgTable.regrouped.Goals as goal
@@ -18,13 +18,13 @@ returns-then-is_empty-clause-made c =
 pub returns-then-is_empty-clause-evals : goal.returns-then-is_empty-clause-evals
 returns-then-is_empty-clause-evals c =
     let s = leaving c.args.regroup.now.change.now c.holds.ensures.leaves in
-    let after = next c.args.regroup.now.map.now.map c.args.regroup.now.change.now in
+    let after = changed_map c.args.regroup.now.map.now.map c.args.regroup.now.change.now in
     evals_changes after c.args.regroup.now.change.now c.args.table.now.pool c.in_ok-changes.changes.items _ (none_touched after c.args.regroup.now.change.now c.args.table.now.pool s) c.in_ok-changes.ensures.changes (omega (arith, c.in_ok-changes.changes.ok))
 
 pub returns-then-is_empty-clause-runs : goal.returns-then-is_empty-clause-runs
 returns-then-is_empty-clause-runs c =
     let s = leaving c.args.regroup.now.change.now c.holds.ensures.leaves in
-    let after = next c.args.regroup.now.map.now.map c.args.regroup.now.change.now in
+    let after = changed_map c.args.regroup.now.map.now.map c.args.regroup.now.change.now in
     rw (evals_concerned after c.args.regroup.now.change.now c.args.table.now.pool (none_touched after c.args.regroup.now.change.now c.args.table.now.pool s)) c.in_ok-changes.ensures.runs
 
 pub returns-clause-made : goal.returns-clause-made
@@ -35,11 +35,11 @@ returns-clause-made c =
 pub returns-clause-evals : goal.returns-clause-evals
 returns-clause-evals c =
     let s = leaving c.args.regroup.now.change.now c.holds.ensures.leaves in
-    let after = next c.args.regroup.now.map.now.map c.args.regroup.now.change.now in
+    let after = changed_map c.args.regroup.now.map.now.map c.args.regroup.now.change.now in
     evals_changes after c.args.regroup.now.change.now c.args.table.now.pool c.in_ok-changes.changes.items _ (none_touched after c.args.regroup.now.change.now c.args.table.now.pool s) c.in_ok-changes.ensures.changes (omega (arith, c.in_ok-changes.changes.ok))
 
 pub returns-clause-runs : goal.returns-clause-runs
 returns-clause-runs c =
     let s = leaving c.args.regroup.now.change.now c.holds.ensures.leaves in
-    let after = next c.args.regroup.now.map.now.map c.args.regroup.now.change.now in
+    let after = changed_map c.args.regroup.now.map.now.map c.args.regroup.now.change.now in
     rw (evals_concerned after c.args.regroup.now.change.now c.args.table.now.pool (none_touched after c.args.regroup.now.change.now c.args.table.now.pool s)) c.in_ok-changes.ensures.runs
