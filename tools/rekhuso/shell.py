@@ -5,11 +5,9 @@ The lines are those of a script; beside them `help`, `help COMMAND`, `save FILE`
 
 from __future__ import annotations
 
-import contextlib
 import io
 import signal
 import sys
-from collections.abc import Iterator
 from typing import Any
 
 from .faults import Misuse
@@ -32,6 +30,9 @@ HELP = {
     "help": "help [COMMAND]: this",
     "quit": "quit: ends the session, as the end of the input does",
 }
+
+# Seconds between two ticks of the clock while a line is typed.
+TICK = 0.05
 
 
 def completer(text: str, number: int) -> str | None:
@@ -65,14 +66,49 @@ def answered(monitor: Monitor, line: str) -> str | None:
     return monitor.raw([line])[0]
 
 
-@contextlib.contextmanager
-def held() -> Iterator[None]:
-    """Holds Ctrl-C back, so that what is begun is answered and shown; KeyboardInterrupt is raised at the end where it came."""
-    signal.pthread_sigmask(signal.SIG_BLOCK, {signal.SIGINT})
-    try:
-        yield
-    finally:
-        signal.pthread_sigmask(signal.SIG_UNBLOCK, {signal.SIGINT})
+class Prompt:
+    """The prompt at a terminal. Ctrl-C drops the line that is being typed; at any other time it does nothing, so that what is begun
+    is answered and shown.
+
+    Python sees a signal only where it ends a wait for the next key: one that comes just before that wait begins would be seen with the
+    next key. So a clock ticks while a line is typed, and it is the tick that drops the line.
+    """
+
+    def __enter__(self) -> Prompt:
+        """Takes Ctrl-C and the clock over."""
+        self.has_come = False
+        self.before = signal.signal(signal.SIGINT, signal.SIG_IGN), signal.signal(signal.SIGALRM, self.ticked)
+        return self
+
+    def __exit__(self, *_: object) -> None:
+        """Gives both back."""
+        signal.signal(signal.SIGINT, self.before[0])
+        signal.signal(signal.SIGALRM, self.before[1])
+
+    def came(self, *_: object) -> None:
+        """Ctrl-C."""
+        self.has_come = True
+
+    def ticked(self, *_: object) -> None:
+        """KeyboardInterrupt where Ctrl-C has come. Nothing else comes behind it: `input` cannot bear that."""
+        if self.has_come:
+            self.end()
+            raise KeyboardInterrupt
+
+    def end(self) -> None:
+        """No line is typed any more."""
+        signal.setitimer(signal.ITIMER_REAL, 0)
+        signal.signal(signal.SIGINT, signal.SIG_IGN)
+
+    def line(self) -> str:
+        """The line that is typed. KeyboardInterrupt where Ctrl-C drops it; EOFError where there is none."""
+        self.has_come = False
+        signal.signal(signal.SIGINT, self.came)
+        signal.setitimer(signal.ITIMER_REAL, TICK, TICK)
+        try:
+            return input("osdmap> ")
+        finally:
+            self.end()
 
 
 def is_last(monitor: Monitor, line: str) -> bool:
@@ -84,7 +120,7 @@ def is_last(monitor: Monitor, line: str) -> bool:
 
 
 def prompted(monitor: Monitor) -> None:
-    """Reads lines from a terminal until they end. Ctrl-C drops the line that is being typed, and nothing else."""
+    """Reads lines from a terminal until they end."""
     try:
         import readline
         readline.set_completer(completer)
@@ -92,17 +128,16 @@ def prompted(monitor: Monitor) -> None:
     except ImportError:
         pass
     print("help tells the commands", file=sys.stderr)
-    while True:
-        try:
-            line = input("osdmap> ").strip()
-            with held():
-                if is_last(monitor, line):
+    with Prompt() as prompt:
+        while True:
+            try:
+                if is_last(monitor, prompt.line().strip()):
                     return
-        except EOFError:
-            print()
-            return
-        except KeyboardInterrupt:
-            print()
+            except EOFError:
+                print()
+                return
+            except KeyboardInterrupt:
+                print()
 
 
 def piped(monitor: Monitor) -> None:
