@@ -412,14 +412,6 @@ def test_python_of_the_page(program):
     assert done.attempted > 10 and not done.failed, done
 
 
-def test_page_of_the_library(program):
-    """The program that docs/LIBRARY.md shows is the one that the gate proves and runs, and so is what it prints."""
-    page = (HERE.parent / "docs" / "LIBRARY.md").read_text()
-    for name in ("src/main.rt", "stdout"):
-        text = (HERE.parent / "crates" / "library_example" / name).read_text()
-        assert "".join(f"    {line}" if line.strip() else line for line in text.splitlines(keepends=True)) in page, name
-
-
 def tests():
     """Each test by its name."""
     return [(name.removeprefix("test_").replace("_", " "), test) for name, test in globals().items() if name.startswith("test_")]

@@ -15,10 +15,11 @@ a text, or a change as an object. Where a row stands for many runs, or for many 
 have their answers beside them. `plans` and `balanced` are plans of a balancer reckoned apart (plans.py, balanced.py), `soak`
 many sessions whose answers must be those of one history (soak.py), `patched` tables that random changes led to beside tables
 built anew (anew.py), and `apart` holds what reckons apart against Ceph's placements and the kept answers, and the kept picture.
-`clusters` are the tools over clusters of Ceph's (clusters.py), what `import` has against others (brought.py), plans (moves.py), what
-the tools tell (told.py), their edges (edges.py) and their package (packaged.py), `live` sessions that are answered as they are
-typed (live.py). At the end each growth of the examples' runs is refused in turn (memory.py). What is being run is told on standard
-error meanwhile. Each run, and whatever waits in a check, has a limit of time; past it the row has failed, and the others go on.
+`clusters` are the tools over clusters of Ceph's (clusters.py), what `import` has against others (brought.py), plans
+(moves.py), what the tools tell (told.py), their edges (edges.py) and their package (packaged.py), `live` sessions that are
+answered as they are typed (live.py), and `pages` what the pages say of the repository (pages.py). At the end each growth of
+the examples' runs is refused in turn (memory.py). What is being run is told on standard error meanwhile. Each run, and
+whatever waits in a check, has a limit of time; past it the row has failed, and the others go on.
 """
 
 import argparse
@@ -46,13 +47,14 @@ import memory
 import model
 import moves
 import packaged
+import pages
 import soak
 import told
 from plans import cases as plan_cases
 
 HERE = pathlib.Path(__file__).resolve().parent
 TABLES = ["worked", "placements", "changes", "growth", "limits", "texts", "sessions", "balance", "plans", "balanced", "soak", "program", "examples",
-          "apart", "maxima", "patched", "clusters", "races", "live"]
+          "apart", "maxima", "patched", "clusters", "races", "live", "pages"]
 SECONDS = 300
 
 
@@ -585,7 +587,12 @@ def typed():
         yield Check(f"live: {name}", lambda command, test=test: test(command) or [], alone=True)
 
 
-MADE = {"live": typed, "races": races, "clusters": of_clusters, "patched": patched, "plans": plans, "examples": examples, "maxima": maxima, "balanced": balanced_case, "soak": soaks, "apart": apart}
+def of_pages():
+    """What the pages say of the repository, which needs no program."""
+    return (Check(name, lambda _, test=test: test() or []) for name, test in pages.tests())
+
+
+MADE = {"pages": of_pages, "live": typed, "races": races, "clusters": of_clusters, "patched": patched, "plans": plans, "examples": examples, "maxima": maxima, "balanced": balanced_case, "soak": soaks, "apart": apart}
 
 
 def table_of(name):
