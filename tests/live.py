@@ -385,7 +385,7 @@ def in_a_shell(program, commands, typed):
 
 
 def test_dialogues_of_the_pages(program):
-    """Every block of README.md and of the page of examples that shows a dialogue in a shell."""
+    """Every block of README.md and of docs/LIVE.md that shows a dialogue in a shell."""
     found = [*dialogues("README.md"), *dialogues("docs/LIVE.md")]
     equal(len(found), 3)
     for commands, typed, answers in found:
@@ -405,7 +405,7 @@ def test_first_screen(program):
 
 
 def test_python_of_the_page(program):
-    """Every line of Python of the page of examples."""
+    """Every line of Python of docs/LIVE.md."""
     with mock.patch("rekhuso.Monitor", functools.partial(Monitor, timeout=SECONDS)):
         done = doctest.testfile(str(HERE.parent / "docs" / "LIVE.md"), module_relative=False, optionflags=doctest.FAIL_FAST,
                                 globs={"PROGRAM": program, "EXAMPLE": EXAMPLE})

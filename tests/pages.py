@@ -39,7 +39,7 @@ def test_names():
     files = [path for folder, end in forms for path in (TOP / folder).rglob(f"*.{end}") if "out" not in path.relative_to(TOP).parts]
     wrong = re.findall(r"^\| (`.*?) \|", text("docs", "PROVED.md"), re.MULTILINE)
     known = OF_OTHERS.union(*(re.findall(r"\w+", part) for part in [*wrong, *(f"{path.stem} {path.read_text('utf-8')}" for path in files)]))
-    for page in [TOP / "README.md", TOP / "CONTRIBUTING.md", *sorted((TOP / "docs").glob("*.md"))]:
+    for page in [*sorted(TOP.glob("*.md")), TOP / "examples" / "README.md", *sorted((TOP / "docs").glob("*.md"))]:
         said = re.findall(r"\w+", " ".join(re.findall("`[^`\n]+`", page.read_text("utf-8"))))
         unknown = {name for name in said if re.match("[A-Z][a-z]+[A-Z]|.*_.", name) and name not in known}
         assert not unknown, (page.name, unknown)
