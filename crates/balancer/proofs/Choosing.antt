@@ -131,7 +131,7 @@ module _ (m : ClusterMap) (p : PoolFacts) (moves : List Move) (osds : List ℕ) 
   abbrev later : ClusterMap
   later = after_moves m p moves
 
-  osd_in : (osd : ℕ) → is_candidate later p osd ≡ true → Contains osds osd
+  pub osd_in : (osd : ℕ) → is_candidate later p osd ≡ true → Contains osds osd
   osd_in osd is =
       let here : is_candidate m p osd ≡ true = sym (candidate_now m p moves osd) ∙ is in
       subst (λ (xs : List ℕ). Contains xs osd) (sym are) (candidate_in m p osd here)

@@ -13,6 +13,7 @@ pub mod Choosing
 pub mod Stepping
 pub mod Shifting
 pub mod Evening
+pub mod Reaching
 pub mod Made
 pub mod Running
 pub mod Rising

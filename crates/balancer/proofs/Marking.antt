@@ -157,7 +157,7 @@ opened_marks (Some osd) rows f t known = opened_row rows osd f t known
 -- ---- a move
 
 -- a group may not leave an OSD on which it does not stand
-stays_where_not : (m : ClusterMap) (p : PoolFacts) (from to : ℕ) (g : Group) → stands from g.places ≡ false → may_go m p from to g ≡ false
+pub stays_where_not : (m : ClusterMap) (p : PoolFacts) (from to : ℕ) (g : Group) → stands from g.places ≡ false → may_go m p from to g ≡ false
 unfolding may_go
 stays_where_not m p from to g off = false_from_ne_true _ (λ yes.
     let moves = not g.is_fixed in

@@ -88,7 +88,7 @@ module _ (m : ClusterMap) (p : PoolFacts) (v : Move) (good : IsGood m p v) where
       let pairs : pairs_in (moved m p v) group ≡ pairs_in m group ++ pair_of_move v ∷ [] = ap (λ (o : Option (List Pair)). unwrap_or o []) (said_moved m p v) in
       λ i. record { places = mapped_gone i; pairs = pairs i; is_fixed = fixed_stays m p v group i }
 
-  group_other : (n : ℕ) → n ≢ v.group → group_at (moved m p v) p n ≡ group_at m p n
+  pub group_other : (n : ℕ) → n ≢ v.group → group_at (moved m p v) p n ≡ group_at m p n
   unfolding group_at
   group_other n other =
       let pairs : pairs_in (moved m p v) (group_of p n) ≡ pairs_in m (group_of p n) = ap (λ (o : Option (List Pair)). unwrap_or o []) (said_others m p v n other) in

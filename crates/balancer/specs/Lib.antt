@@ -6,3 +6,4 @@ pub mod Plans
 pub mod Boards
 pub mod Marks
 pub mod Reached
+pub mod Reaches

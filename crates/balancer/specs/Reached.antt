@@ -1,11 +1,12 @@
 -- Where a plan stands.
-use Rattle.std.specs.Prelude.{◌≡◌, ℕ, ℤ, List, All, map}
+use Rattle.std.specs.Prelude.{◌≡◌, ℕ, true, false, ℤ, int_lt, List, Option, Some, All, map}
 use Rattle.std.specs.List.Sorted.{IsPermutation}
 use Rattle.osdmap.specs.Maps.{ClusterMap}
 use Rattle.balancer.specs.declared.board.Board.{Board}
-use Rattle.balancer.specs.Shares.{candidate_osds, deviation}
-use Rattle.balancer.specs.Greedy.{after_moves}
+use Rattle.balancer.specs.Shares.{is_candidate, candidate_osds, deviation}
+use Rattle.balancer.specs.Greedy.{after_moves, gap}
 use Rattle.balancer.specs.Boards.{IsOrder}
+use Rattle.balancer.specs.Reaches.{bound_of}
 
 -- the map after the moves so far
 abbrev pub reached : Board → ClusterMap
@@ -22,3 +23,12 @@ AreMeasured b order = AreAll b order × All (λ e. e.0 ≡ deviation (reached b)
 -- the candidates in order, the emptiest first
 abbrev pub IsOrderOf : Board → List (ℤ × ℕ) → Type 0
 IsOrderOf b order = IsOrder b.frame.map.now.map (reached b) b.frame.pool b.frame.osds.items order
+
+-- what is known of how far moves go, once an OSD has become emptier: nothing more than before, and for candidates what
+-- holds of moves to that OSD too
+abbrev pub AreWidened : Board → ℕ → List (Option ℤ) → List (Option ℤ) → Type 0
+AreWidened b emptier before now =
+    (from : ℕ) (bound : ℤ) → bound_of now from ≡ Some bound
+    → ((old : ℤ) × (bound_of before from ≡ Some old) × (int_lt bound old ≡ false))
+    × (is_candidate b.frame.map.now.map b.frame.pool from ≡ true
+    → int_lt bound (gap (reached b) b.frame.pool from emptier) ≡ false)

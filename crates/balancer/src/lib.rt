@@ -10,6 +10,7 @@ pub mod limits;
 mod marks;
 pub mod moves;
 mod plans;
+mod reaches;
 mod search;
 mod shares;
 

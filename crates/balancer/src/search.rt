@@ -7,6 +7,7 @@ use crate::board::Board;
 use crate::group::Group;
 use crate::marks::Marks;
 use crate::moves::Move;
+use crate::reaches::Reaches;
 use refusal::Memory;
 use std::alloc::Global;
 
@@ -22,8 +23,9 @@ impl Board<'_> {
     ghost use Rattle.balancer.specs.Shares.{is_candidate, total_weight, deviation};
     ghost use Rattle.balancer.specs.Moves.{are_beside, last_level, levels_of};
     ghost use Rattle.balancer.specs.Greedy.{gap, beats, good_moves, greedy, after_moves};
-    ghost use Rattle.balancer.specs.Reached.{reached, AreAll, AreMeasured, IsOrderOf};
+    ghost use Rattle.balancer.specs.Reached.{reached, AreAll, AreMeasured, IsOrderOf, AreWidened};
     ghost use Rattle.balancer.specs.Marks.{NoneGoes, IsMarked};
+    ghost use Rattle.balancer.specs.Reaches.{bound_of, IsBound, AreBounds, reach_of};
     ghost use Rattle.balancer.specs.Boards.{may_go, is_wanted, IsGood, IsBest, IsBetter, CoversPair, CoversFrom};
 
     /// The deviation of an OSD.
@@ -107,20 +109,19 @@ impl Board<'_> {
         }
     }
 
-    /// The best move so far, or a better one between two candidates; where no group may go, that is marked.
+    /// The best move so far, or a better one between two candidates, where one would be taken rather than it; where no
+    /// group may go, that is marked.
     fn better(&self, from: u32, to: u32, best: Option<Move>, marks: &mut Marks) -> Option<Move>
         requires from { is_candidate self.now.frame.map.now.map self.now.frame.pool from ≡ true }
         requires to { is_candidate self.now.frame.map.now.map self.now.frame.pool to ≡ true }
         requires best { IfSome best (λ v. IsGood (reached self.now) self.now.frame.pool v) }
+        requires wanted { is_wanted (reached self.now) self.now.frame.pool from to best ≡ true }
         requires marks { IsMarked self.now.frame.map.now.map self.now.frame.pool self.now.groups.items marks.old }
         ensures better { IsBetter (reached self.now) self.now.frame.pool best result }
         ensures covers { CoversPair (reached self.now) self.now.frame.pool result from to }
         ensures marks { IsMarked self.now.frame.map.now.map self.now.frame.pool self.now.groups.items marks.new }
     {
-        if marks.is_shut(from, to) {
-            return best;
-        }
-        if !self.is_wanted(from, to, best) || !self.frame.are_beside(from, to) {
+        if !self.frame.are_beside(from, to) {
             return best;
         }
         match self.first_group(from, to) {
@@ -165,7 +166,8 @@ impl Board<'_> {
         Ok(())
     }
 
-    /// The best move so far, or a better one from a candidate to some: as long as the emptiest that is left is wanted.
+    /// The best move so far, or a better one from a candidate to some: as long as the emptiest that is left is wanted,
+    /// but for those to which no group may go.
     fn better_from(
         &self,
         from: u32,
@@ -183,6 +185,9 @@ impl Board<'_> {
     {
         let mut best = best;
         for (_, to) in order {
+            if marks.is_shut(from, *to) {
+                continue;
+            }
             if !self.is_wanted(from, *to, best) {
                 return best;
             }
@@ -191,42 +196,92 @@ impl Board<'_> {
         best
     }
 
+    /// How far the best move so far goes: by how much the deviations of its OSDs differ.
+    fn reach(&self, best: Option<Move>) -> i128
+        requires { IfSome best (λ v. IsGood (reached self.now) self.now.frame.pool v) }
+        ensures { result ≡ reach_of (reached self.now) self.now.frame.pool best }
+    {
+        match best {
+            Some(best) => self.gap(best.from, best.to),
+            None => i128::from(self.frame.weight),
+        }
+    }
+
+    /// Whether it is known that no move from a candidate is taken rather than the best one so far: it goes no further,
+    /// and from no OSD before that one's.
+    fn is_passed(&self, from: u32, best: Option<Move>, bound: Option<i128>) -> bool
+        requires best { IfSome best (λ v. IsGood (reached self.now) self.now.frame.pool v) }
+        requires bound { IfSome bound (λ b. IsBound (reached self.now) self.now.frame.pool from b) }
+        ensures { result ≡ true
+            → CoversFrom (reached self.now) self.now.frame.pool best from self.now.frame.osds.items }
+    {
+        let Some(bound) = bound else {
+            return false;
+        };
+        match best {
+            Some(best) => best.from < from && bound <= self.gap(best.from, best.to),
+            None => bound <= i128::from(self.frame.weight),
+        }
+    }
+
     /// The best move between candidates, or none where no move is good; or `Memory` (30).
     pub fn best(
         &self,
         marks: &mut Marks,
+        reaches: &mut Reaches,
         order: &mut Vec<(i128, u32)>,
     ) -> Result<Option<Move>, Memory>
         requires marks { IsMarked self.now.frame.map.now.map self.now.frame.pool self.now.groups.items marks.old }
+        requires reaches { AreBounds (reached self.now) self.now.frame.pool reaches.old }
         requires order { AreAll self.now order.old.items }
         ensures order { OnOk result (AreAll self.now order.new.items) }
         ensures best { IfOk result (λ best. MatchOption best (good_moves (reached self.now) self.now.frame.pool ≡ [])
             (λ v. IsBest (reached self.now) self.now.frame.pool v)) }
         ensures marks { OnOk result (IsMarked self.now.frame.map.now.map self.now.frame.pool self.now.groups.items
             marks.new) }
+        ensures reaches { OnOk result (AreBounds (reached self.now) self.now.frame.pool reaches.new) }
     {
         self.order(order)?;
         let mut best = None;
         for from in &self.frame.osds {
+            if self.is_passed(*from, best, reaches.at(*from)) {
+                continue;
+            }
             best = self.better_from(*from, order, best, marks);
+            reaches.set(*from, Some(self.reach(best)));
         }
         Ok(best)
     }
 
-    /// Makes a good move, and forgets what was marked of the OSDs on which its group then stands; or `Memory` (30).
-    fn go(&mut self, step: Move, marks: &mut Marks) -> Result<(), Memory>
+    /// Moves to an OSD that has become emptier may go further than was known.
+    fn widen(&self, emptier: u32, reaches: &mut Reaches)
+        requires { is_candidate self.now.frame.map.now.map self.now.frame.pool emptier ≡ true }
+        ensures { AreWidened self.now emptier reaches.old reaches.new }
+    {
+        for from in &self.frame.osds {
+            reaches.widen(*from, self.gap(*from, emptier));
+        }
+    }
+
+    /// Makes a good move, and forgets what was known of the OSDs on which its group then stands; or `Memory` (30).
+    fn go(&mut self, step: Move, marks: &mut Marks, reaches: &mut Reaches) -> Result<(), Memory>
         requires good { IsGood (after_moves self.old.frame.map.now.map self.old.frame.pool self.old.moves.items)
             self.old.frame.pool step }
         requires marks { IsMarked self.old.frame.map.now.map self.old.frame.pool self.old.groups.items marks.old }
+        requires reaches { AreBounds (reached self.old) self.old.frame.pool reaches.old }
         ensures moves { OnOk result (self.new.moves.items ≡ self.old.moves.items ++ step ∷ []) }
         ensures map { self.new.frame.map.now.map ≡ self.old.frame.map.now.map }
         ensures pool { self.new.frame.pool ≡ self.old.frame.pool }
         ensures marks { OnOk result
             (IsMarked self.new.frame.map.now.map self.new.frame.pool self.new.groups.items marks.new) }
+        ensures reaches { OnOk result (AreBounds (reached self.new) self.new.frame.pool reaches.new) }
     {
         self.make(step)?;
+        self.widen(step.from, reaches);
+        reaches.open(Some(step.to));
         if let Some(group) = self.groups.get(step.group as usize) {
             marks.forget(group.places.as_slice());
+            reaches.forget(group.places.as_slice());
         }
         Ok(())
     }
@@ -243,10 +298,11 @@ impl Board<'_> {
         ensures pool { self.new.frame.pool ≡ self.old.frame.pool }
     {
         let mut marks = Marks::new(alloc, self.frame.map.max_osd())?;
+        let mut reaches = Reaches::new(alloc, self.frame.map.max_osd())?;
         let mut order = self.listed(alloc)?;
         for _count in 0..limit {
-            match self.best(&mut marks, &mut order)? {
-                Some(step) => self.go(step, &mut marks)?,
+            match self.best(&mut marks, &mut reaches, &mut order)? {
+                Some(step) => self.go(step, &mut marks, &mut reaches)?,
                 None => return Ok(()),
             }
         }

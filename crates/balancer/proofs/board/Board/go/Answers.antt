@@ -1,8 +1,12 @@
-use Rattle.std.proofs.Common.{◌≡◌, ◌∙◌, ap, get_or}
+use Rattle.std.proofs.Common.{◌≡◌, ◌∙◌, [], ◌∷◌, ◌++◌, ap, sym, get_or, eq-eqb}
+use mathlib.Core.Bool.{false≢true}
 use Rattle.std.proofs.lemmas.List.{get_or-set_same}
 use Rattle.balancer.specs.declared.group.Group.{Group}
-use Rattle.balancer.specs.Boards.{gone}
+use Rattle.balancer.specs.Greedy.{after_moves}
+use Rattle.balancer.specs.Boards.{gone, group_at}
 use Rattle.balancer.proofs.Marking.{gone_marked}
+use Rattle.balancer.proofs.Searching.{good_ends, group_kept}
+use Rattle.balancer.proofs.Reaching.{bounds_moved}
 use Rattle.balancer.proofs.board.Board.go.Goals as goal
 
 pub returns-in-Some-clause-marks : goal.returns-in-Some-clause-marks
@@ -17,3 +21,29 @@ returns-in-Some-clause-marks c =
     rw (c.make.ensures.map, c.make.ensures.pool)
     (gone_marked b.frame.map.now.map b.frame.pool b.groups.items c.make.new.self.groups.items c.args.step made.0 c.args.marks.now c.forget.new.self made.2 made.3 made.1
     (λ f t known. let both = c.forget.ensures f t known in (both.0, rw places at both.1)) c.requires.marks)
+
+pub widen-requires : goal.widen-requires
+widen-requires c =
+    let b = c.args.self.now in
+    rw (c.make.ensures.map, c.make.ensures.pool) (good_ends b.frame.map.now.map b.frame.pool b.moves.items c.args.step c.requires.good).0
+
+pub returns-in-Some-clause-reaches : goal.returns-in-Some-clause-reaches
+returns-in-Some-clause-reaches c =
+    let b = c.args.self.now in
+    let m = b.frame.map.now.map in
+    let p = b.frame.pool in
+    let v = c.args.step in
+    let next = after_moves m p (b.moves.items ++ v ∷ []) in
+    let new = c.make.new.self in
+    let kept : c.in-Some.group.now ≡ group_at next p v.group =
+    c.in-Some.ensures.lookup.1 ∙ ap (λ gs. get_or gs v.group c.in-Some.group.now) c.deref.ensures.value
+    ∙ (rw (c.make.ensures.map, c.make.ensures.pool, c.in_ok-make.ensures.moves) at (group_kept new.frame.map.now.map new.frame.pool new.moves.items new.groups.items new.deviations.items new.board v.group c.in-Some.group.now (rw c.make.ensures.pool c.requires.good.there)))
+    in
+    let places : c.as_slice-in-Some.result.now ≡ (group_at next p v.group).places = c.as_slice-in-Some.ensures.value ∙ ap (λ (g : Group). g.places) kept in
+    rw (c.make.ensures.map, c.make.ensures.pool, c.in_ok-make.ensures.moves)
+    (bounds_moved m p b.moves.items v c.requires.good b.reached b.frame.pool_is c.args.reaches.now c.forget-in-Some.new.self c.requires.reaches
+    (λ f bound known.
+    let left = c.forget-in-Some.ensures f bound known in
+    let apart = c.open.ensures f bound left.0 in
+    let wide = c.widen.ensures f bound apart.0 in
+    (wide.0, rw (c.make.ensures.map, c.make.ensures.pool, c.in_ok-make.ensures.moves) at wide.1, λ e. absurd (false≢true (sym apart.1 ∙ eq-eqb v.to f (sym e))), rw places at left.1)))

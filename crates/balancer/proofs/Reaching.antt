@@ -1,0 +1,209 @@
+-- How far moves from an OSD go at most: what is known covers the moves from it, and what a move leaves of it.
+use Rattle.std.proofs.Common.{◌⊎◌, ◌≡◌, ◌≢◌, ◌∙◌, refl, sym, ap, ℕ, ◌<◌, Bool, true, false, ◌&&◌, eqb, ℤ, pos, List, [], ◌∷◌, ◌++◌, length, get_or, set, replicate, Option, Some, None, inl, inr, arith, eq-eqb}
+use mathlib.Core.Bool.{false≢true}
+use lib.Signed.{le_z}
+use Rattle.std.specs.Prelude.{◌||◌, ◌+ℤ◌, ◌-ℤ◌, int_lt, nat_lt, IfSome}
+use Rattle.std.specs.Ordering.{int_eq}
+use Rattle.std.specs.List.{Contains}
+use Rattle.std.proofs.lemmas.Bool.{cases_Bool, cases_lt, false_from_ne_true, eqb-true, ne_eqb}
+use Rattle.std.proofs.lemmas.Bool.Decides.{nat_tests}
+use Rattle.std.proofs.lemmas.Int.{ints}
+use Rattle.std.proofs.lemmas.List.{get_or-set_same, get_or-set_other, get_or_past, get_or-replicate, set_past, length-replicate}
+use Rattle.std.proofs.lemmas.List.Elements.{All-contains}
+use Rattle.stated.specs.Pools.{PoolFacts}
+use Rattle.stated.specs.Sets.{stands}
+use Rattle.osdmap.specs.Maps.{ClusterMap, pool_at}
+use Rattle.balancer.specs.declared.moves.Move.{Move}
+use Rattle.balancer.specs.Shares.{is_candidate, total_weight, deviation}
+use Rattle.balancer.specs.Moves.{move_of, moved}
+use Rattle.balancer.specs.Greedy.{gap, is_good, beats, after_moves}
+use Rattle.balancer.specs.Boards.{IsGood, IsReached, CoversPair, CoversFrom, group_at, may_go}
+use Rattle.balancer.specs.Reaches.{bound_of, IsBound, AreBounds, reach_of}
+use Rattle.balancer.proofs.Deviating.{pool_now, candidate_now, total_now, beside_now, goes_now}
+use Rattle.balancer.proofs.Allowing.{good_candidates, good_wide, good_goes, good_from}
+use Rattle.balancer.proofs.Marking.{stays_where_not}
+use Rattle.balancer.proofs.Stepping.{group_other}
+use Rattle.balancer.proofs.Shifting.{deviation_from, deviation_to, deviation_other}
+use Rattle.balancer.proofs.Evening.{after_more}
+
+-- ---- whole numbers
+
+-- what is at most one that is at most another
+pub z_most : (a b c : ℤ) → int_lt b a ≡ false → int_lt c b ≡ false → int_lt c a ≡ false
+z_most a b c p q = grind (arith, ints)
+
+-- a difference of a number that became no greater and one that became no less
+z_gap : (a b x y : ℤ) → int_lt a x ≡ false → int_lt y b ≡ false → int_lt (a -ℤ b) (x -ℤ y) ≡ false
+z_gap a b x y p q = grind (arith, ints)
+
+-- what is above a number is above what is at most that
+z_above : (t a b : ℤ) → int_lt t b ≡ true → int_lt a b ≡ false → int_lt t a ≡ true
+z_above t a b p q = grind (arith, ints)
+
+-- what is at most a number, by the test of the code
+pub z_within : (a b : ℤ) → le_z a b ≡ true → int_lt b a ≡ false
+z_within a b p = grind (arith, ints)
+
+z_same : (a : ℤ) → int_lt a a ≡ false
+z_same a = grind (arith, ints)
+
+z_less : (a : ℤ) (t : ℕ) → int_lt a (a -ℤ pos t) ≡ false
+z_less a t = grind (arith, ints)
+
+z_more : (a : ℤ) (t : ℕ) → int_lt (a +ℤ pos t) a ≡ false
+z_more a t = grind (arith, ints)
+
+-- ---- what is known covers the moves from an OSD
+
+module _ (m : ClusterMap) (p : PoolFacts) where
+  -- where no move is good so far, none from an OSD is, of which it is known that none goes far enough
+  pub passed_none : (osds : List ℕ) (from : ℕ) (bound : ℤ) → IsBound m p from bound → int_lt (pos (total_weight m p)) bound ≡ false → CoversFrom m p None from osds
+  passed_none osds from bound is low = λ k d inside. record {
+    each = λ g below. false_from_ne_true _ (λ yes.
+        absurd (false≢true (sym (z_most (gap m p from (get_or osds k d)) bound (pos (total_weight m p)) (is (get_or osds k d) g below yes) low) ∙ good_wide m p (move_of from (get_or osds k d) g) yes)));
+  }
+
+  -- the best move so far covers those from an OSD behind its own, of which it is known that none goes further
+  pub passed_some : (osds : List ℕ) (from : ℕ) (bound : ℤ) (v : Move) → IsBound m p from bound → v.from < from → int_lt (gap m p v.from v.to) bound ≡ false → CoversFrom m p (Some v) from osds
+  unfolding beats
+  passed_some osds from bound v is behind low = λ k d inside. record {
+    each = λ g below yes.
+        let to = get_or osds k d in
+        let no_less : nat_lt from v.from ≡ false = grind (arith, nat_tests) in
+        let apart : eqb from v.from ≡ false = ne_eqb from v.from (λ e. omega (arith, e, behind)) in
+        none_before (int_lt (gap m p v.from v.to) (gap m p from to)) (int_eq (gap m p from to) (gap m p v.from v.to)) (nat_lt from v.from) (eqb from v.from) _
+        (z_most (gap m p from to) bound (gap m p v.from v.to) (is to g below yes) low) no_less apart;
+  }
+    where
+      none_before : (a b c d e : Bool) → a ≡ false → c ≡ false → d ≡ false → (a || (b && (c || (d && e)))) ≡ false
+      none_before a true c d e x y z = rw (x, y, z) refl
+      none_before a false c d e x y z = rw x refl
+
+  -- what is not better goes no further
+  no_further : (u v : Move) → beats m p u v ≡ false → int_lt (gap m p v.from v.to) (gap m p u.from u.to) ≡ false
+  unfolding beats
+  no_further u v stays = first (int_lt (gap m p v.from v.to) (gap m p u.from u.to)) _ stays
+    where
+      first : (a b : Bool) → (a || b) ≡ false → a ≡ false
+      first true b e = absurd (false≢true (sym e))
+      first false b e = refl
+
+  -- how far the best move so far goes is known of an OSD from which it covers all
+  pub covered_bound : (osds : List ℕ) (from : ℕ) (best : Option Move) → ((to : ℕ) → is_candidate m p to ≡ true → Contains osds to) → CoversFrom m p best from osds → IsBound m p from (reach_of m p best)
+  covered_bound osds from best in_osds covers to g below good = by_best best (All-contains (λ x. CoversPair m p best from x) osds to covers (in_osds to (good_candidates m p (move_of from to g) good).1))
+    where
+      by_best : (b : Option Move) → CoversPair m p b from to → int_lt (reach_of m p b) (gap m p from to) ≡ false
+      by_best None pair = absurd (false≢true (sym (pair.each g below) ∙ good))
+      by_best (Some v) pair = no_further (move_of from to g) v (pair.each g below good)
+
+-- ---- what is known of each OSD
+
+-- nothing is known at the beginning
+pub none_bound : (m : ClusterMap) (p : PoolFacts) (n : ℕ) (bounds : List (Option ℤ)) → bounds ≡ replicate n None → AreBounds m p bounds
+none_bound m p n bounds is = λ from bound known. absurd (let some = sym (blank from) ∙ rw is at known in cc)
+  where
+    blank : (k : ℕ) → bound_of (replicate n None) k ≡ None
+    blank k = elim (cases_lt k n) [
+      | inl inside ↦ get_or-replicate n k None None inside
+      | inr past ↦ get_or_past (replicate n None) k None (omega (arith, length-replicate {A = Option ℤ} n None))
+    ]
+
+-- what is known once something is known of one OSD
+pub one_more : (bounds : List (Option ℤ)) (osd : ℕ) (b : Option ℤ) (from : ℕ) (bound : ℤ) → bound_of (set bounds osd b) from ≡ Some bound → ((from ≡ osd) × (b ≡ Some bound)) ⊎ (bound_of bounds from ≡ Some bound)
+one_more bounds osd b from bound known = elim (cases_Bool (eqb from osd)) [
+  | inr other ↦ inr (rw (get_or-set_other bounds osd from b None (λ e. absurd (false≢true (sym other ∙ eq-eqb from osd e)))) at known)
+  | inl here ↦ elim (cases_lt osd (length bounds)) [
+    | inr past ↦ inr (rw (set_past bounds osd b past) at known)
+    | inl inside ↦
+        let is = eqb-true from osd here in
+        inl (is, rw (is, get_or-set_same bounds osd b None inside) at known)
+  ]
+]
+
+-- what is known of an OSD is a bound of it
+pub known_bound : (m : ClusterMap) (p : PoolFacts) (bounds : List (Option ℤ)) (from : ℕ) (o : Option ℤ) → AreBounds m p bounds → o ≡ bound_of bounds from → IfSome o (λ b. IsBound m p from b)
+known_bound m p bounds from None are is = tt
+known_bound m p bounds from (Some b) are is = are from b (sym is)
+
+pub bounds_more : (m : ClusterMap) (p : PoolFacts) (bounds : List (Option ℤ)) (osd : ℕ) (b : ℤ) → IsBound m p osd b → AreBounds m p bounds → AreBounds m p (set bounds osd (Some b))
+bounds_more m p bounds osd b is are = λ from bound known. elim (one_more bounds osd (Some b) from bound known) [
+  | inr before ↦ are from bound before
+  | inl both ↦
+      let same : b ≡ bound = let e = both.1 in cc in
+      rw (both.0, sym same) is
+]
+
+-- ---- a move
+
+module _ (m : ClusterMap) (p : PoolFacts) (moves : List Move) (v : Move) (good : IsGood (after_moves m p moves) p v) (reached : IsReached m p moves) (there : pool_at m.pools p.id ≡ Some p) where
+  abbrev now : ClusterMap
+  now = after_moves m p moves
+
+  abbrev next : ClusterMap
+  next = after_moves m p (moves ++ v ∷ [])
+
+  abbrev there_now : pool_at now.pools p.id ≡ Some p
+  there_now = pool_now m p moves there
+
+  abbrev next_is : next ≡ moved now p v
+  next_is = after_more m p moves v good reached there
+
+  -- only the OSD to which the group went is fuller
+  no_fuller : (osd : ℕ) → osd ≢ v.to → int_lt (deviation now p osd) (deviation next p osd) ≡ false
+  no_fuller osd apart = elim (cases_Bool (eqb osd v.from)) [
+    | inl here ↦ rw (next_is, eqb-true osd v.from here, deviation_from now p v good reached.holds there_now) (z_less (deviation now p v.from) (total_weight now p))
+    | inr other ↦ rw (next_is, deviation_other now p v good reached.holds there_now osd (λ e. absurd (false≢true (sym other ∙ eq-eqb osd v.from e))) apart) (z_same (deviation now p osd))
+  ]
+
+  -- only the OSD that it left is emptier
+  no_emptier : (osd : ℕ) → osd ≢ v.from → int_lt (deviation next p osd) (deviation now p osd) ≡ false
+  no_emptier osd apart = elim (cases_Bool (eqb osd v.to)) [
+    | inl here ↦ rw (next_is, eqb-true osd v.to here, deviation_to now p v good reached.holds there_now) (z_more (deviation now p v.to) (total_weight now p))
+    | inr other ↦ rw (next_is, deviation_other now p v good reached.holds there_now osd apart (λ e. absurd (false≢true (sym other ∙ eq-eqb osd v.to e)))) (z_same (deviation now p osd))
+  ]
+
+  -- so between others a move goes no further than before
+  no_farther : (from to : ℕ) → from ≢ v.to → to ≢ v.from → int_lt (gap now p from to) (gap next p from to) ≡ false
+  no_farther from to not_to not_from = z_gap (deviation now p from) (deviation now p to) (deviation next p from) (deviation next p to) (no_fuller from not_to) (no_emptier to not_from)
+
+  -- and was good, where it is of another group
+  was_good : (from to g : ℕ) → g ≢ v.group → from ≢ v.to → to ≢ v.from → is_good next p (move_of from to g) ≡ true → is_good now p (move_of from to g) ≡ true
+  was_good from to g other not_to not_from is =
+      let w = move_of from to g in
+      let ends = good_candidates next p w is in
+      let goes = good_goes next p w is in
+      let group : group_at next p g ≡ group_at now p g = ap (λ n. group_at n p g) next_is ∙ group_other now p v good g other in
+      let total : total_weight next p ≡ total_weight now p = total_now m p (moves ++ v ∷ []) ∙ sym (total_now m p moves) in
+      good_from now p w
+      (candidate_now m p moves from ∙ sym (candidate_now m p (moves ++ v ∷ []) from) ∙ ends.0)
+      (candidate_now m p moves to ∙ sym (candidate_now m p (moves ++ v ∷ []) to) ∙ ends.1)
+      (beside_now m p moves from to ∙ sym (beside_now m p (moves ++ v ∷ []) from to) ∙ goes.0)
+      (goes_now m p moves from to (group_at now p g) ∙ sym (goes_now m p (moves ++ v ∷ []) from to (group_at now p g)) ∙ ap (may_go next p from to) (sym group) ∙ goes.1)
+      (z_above (pos (total_weight now p)) (gap now p from to) (gap next p from to) (rw (sym total) (good_wide next p w is)) (no_farther from to not_to not_from))
+
+  -- what is known of an OSD after a move: at least what was known before, and how far moves go to the OSD that is
+  -- emptier; nothing of those on which the group stands
+  pub bounds_moved : (before after : List (Option ℤ)) → AreBounds now p before
+      → ((from : ℕ) (bound : ℤ) → bound_of after from ≡ Some bound
+      → ((old : ℤ) × (bound_of before from ≡ Some old) × (int_lt bound old ≡ false))
+      × (is_candidate m p from ≡ true → int_lt bound (gap next p from v.from) ≡ false)
+      × (from ≢ v.to) × (stands from (group_at next p v.group).places ≡ false))
+      → AreBounds next p after
+  bounds_moved before after are kept = λ from bound known to g below yes.
+      let left = kept from bound known in
+      let from_is : is_candidate m p from ≡ true = sym (candidate_now m p (moves ++ v ∷ []) from) ∙ (good_candidates next p (move_of from to g) yes).0 in
+      elim (cases_Bool (eqb g v.group)) [
+        | inl here ↦
+            let g_is = eqb-true g v.group here in
+            let off : stands from (group_at next p g).places ≡ false = rw g_is left.3 in
+            absurd (false≢true (sym (stays_where_not next p from to (group_at next p g) off) ∙ (good_goes next p (move_of from to g) yes).1))
+        | inr other ↦ elim (cases_Bool (eqb to v.from)) [
+          | inl emptier ↦ rw (eqb-true to v.from emptier) (left.1 from_is)
+          | inr else ↦
+              let not_group : g ≢ v.group = λ e. absurd (false≢true (sym other ∙ eq-eqb g v.group e)) in
+              let not_from : to ≢ v.from = λ e. absurd (false≢true (sym else ∙ eq-eqb to v.from e)) in
+              let old = left.0 in
+              let was = are from old.0 old.1 to g below (was_good from to g not_group left.2 not_from yes) in
+              z_most (gap next p from to) (gap now p from to) bound (no_farther from to left.2 not_from) (z_most (gap now p from to) old.0 bound was old.2)
+        ]
+      ]

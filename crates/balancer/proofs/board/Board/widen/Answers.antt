@@ -1,0 +1,57 @@
+use Rattle.std.proofs.Common.{◌≡◌, ◌∙◌, ◌<◌, ◌≤◌, ap, sym, subst, length, get_or, ℕ, ℤ, false, List, Some, inl, inr, arith, rules}
+use mir.Syntax.{w128}
+use mir.Val.{SFits}
+use Rattle.std.proofs.lemmas.Int.{to_z-of_z}
+use Rattle.std.specs.Prelude.{int_lt}
+use Rattle.std.specs.List.{Contains}
+use Rattle.std.proofs.lemmas.Bool.{cases_lt}
+use Rattle.std.proofs.lemmas.List.{get_or_default}
+use Rattle.balancer.specs.Reaches.{bound_of}
+use Rattle.balancer.specs.Greedy.{after_moves, gap}
+use Rattle.balancer.proofs.Searching.{candidate_at}
+use Rattle.balancer.proofs.Choosing.{candidate_in}
+use Rattle.balancer.proofs.Reaching.{z_most}
+use Rattle.balancer.proofs.board.Board.widen.Goals as goal
+
+pub gap-requires-clause-from : goal.gap-requires-clause-from
+gap-requires-clause-from c =
+    let b = c.args.self.now in
+    let inside : c.loop-from.from-index < length b.frame.osds.items = rw c.deref-from-items.ensures.value at c.loop-from-test.true in
+    rw c.deref-from-items.ensures.value (candidate_at b.frame.map.now.map b.frame.pool b.frame.osds.items c.loop-from.from-index b.frame.osds_are inside)
+
+pub loop-from-preserved : goal.loop-from-preserved
+loop-from-preserved c =
+    let b = c.args.self.now in
+    let n = after_moves b.frame.map.now.map b.frame.pool b.moves.items in
+    let osds = b.frame.osds.items in
+    let i = c.loop-from.from-index in
+    let fits : SFits w128 c.gap.result = search rules in
+    let far : ℕ → ℤ = λ j. gap n b.frame.pool (get_or osds j 0) c.args.emptier in (
+      λ f bound known.
+          let one = c.widen.ensures f bound known in
+          let before = c.loop-from.invariant.0 f one.0.0 one.0.1 in
+          (before.0, before.1, z_most before.0 one.0.0 bound before.2 one.0.2),
+      λ j bound below known.
+          let one = c.widen.ensures (get_or osds j 0) bound known in
+          elim (cases_lt j i) [
+            | inl less ↦ z_most (far j) one.0.0 bound (c.loop-from.invariant.1 j one.0.0 less one.0.1) one.0.2
+            | inr over ↦
+                let same : j ≡ i = omega (arith, below, over) in
+                let here : get_or osds j 0 ≡ get_or c.deref-from-items.result.now i 0 = ap (λ k. get_or osds k 0) same ∙ ap (λ xs. get_or xs i 0) (sym c.deref-from-items.ensures.value) in
+                rw (here, ← c.gap.ensures) (rw (to_z-of_z w128 c.gap.result fits) at one.1 here)
+          ],
+    )
+
+pub returns : goal.returns
+returns c = λ f bound known. (
+  c.loop-from.invariant.0 f bound known,
+  λ is.
+      let b = c.args.self.now in
+      let n = after_moves b.frame.map.now.map b.frame.pool b.moves.items in
+      let osds = b.frame.osds.items in
+      let past : length osds ≤ c.loop-from.from-index = rw c.deref-from-items.ensures.value at c.loop-from-test.false in
+      let at = subst (λ (xs : List ℕ). Contains xs f) (sym b.frame.osds_are) (candidate_in b.frame.map.now.map b.frame.pool f is) in
+      let f_is : get_or osds at.0 0 ≡ f = get_or_default osds at.0 0 f at.1 ∙ at.2 in
+      subst (λ x. int_lt bound (gap n b.frame.pool x c.args.emptier) ≡ false) f_is
+      (c.loop-from.invariant.1 at.0 bound (omega (arith, past, at.1)) (subst (λ x. bound_of c.loop-from.reaches x ≡ Some bound) (sym f_is) known)),
+)

@@ -1,0 +1,8 @@
+use Rattle.std.proofs.Common.{◌≡◌, ℕ, ℤ, Some, false, take}
+use Rattle.stated.specs.Sets.{stands}
+use Rattle.balancer.specs.Reaches.{bound_of}
+use Rattle.balancer.proofs.reaches.Reaches.forget.Given as goal
+
+abbrev pub invariant-loop-place : goal.invariant-loop-place
+invariant-loop-place l =
+    (from : ℕ) (bound : ℤ) → bound_of l.self from ≡ Some bound → (bound_of l.initial.self from ≡ Some bound) × (stands from (take l.place-index l.places) ≡ false)

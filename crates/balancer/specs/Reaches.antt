@@ -1,0 +1,28 @@
+-- How far moves from an OSD go at most, as far as it is known: by how much the deviations of the two OSDs of a good move
+-- differ, for each OSD that a group would leave, by number.
+use Rattle.std.specs.Prelude.{◌≡◌, ℕ, ◌<◌, true, false, ℤ, pos, int_lt, List, Option, Some, None, slice_index_or}
+use Rattle.stated.specs.Pools.{PoolFacts}
+use Rattle.osdmap.specs.Maps.{ClusterMap}
+use Rattle.balancer.specs.declared.moves.Move.{Move}
+use Rattle.balancer.specs.Shares.{total_weight}
+use Rattle.balancer.specs.Moves.{move_of}
+use Rattle.balancer.specs.Greedy.{gap, is_good}
+
+-- what is known of an OSD
+abbrev pub bound_of : List (Option ℤ) → ℕ → Option ℤ
+bound_of bounds from = slice_index_or bounds from None
+
+-- no good move from an OSD goes further
+abbrev pub IsBound : ClusterMap → PoolFacts → ℕ → ℤ → Type 0
+IsBound m p from bound =
+    (to group : ℕ) → group < p.pg_num → is_good m p (move_of from to group) ≡ true
+    → int_lt bound (gap m p from to) ≡ false
+
+-- what is known is so
+abbrev pub AreBounds : ClusterMap → PoolFacts → List (Option ℤ) → Type 0
+AreBounds m p bounds = (from : ℕ) (bound : ℤ) → bound_of bounds from ≡ Some bound → IsBound m p from bound
+
+-- how far the best move so far goes; where there is none, how far a move may go that is not good
+abbrev pub reach_of : ClusterMap → PoolFacts → Option Move → ℤ
+reach_of m p None = pos (total_weight m p)
+reach_of m p (Some v) = gap m p v.from v.to
