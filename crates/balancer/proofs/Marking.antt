@@ -20,7 +20,7 @@ use Rattle.balancer.specs.declared.group.Group.{Group}
 use Rattle.balancer.specs.declared.moves.Move.{Move}
 use Rattle.balancer.specs.Moves.{last_level, levels_of, domain_of, is_in_way, has_way}
 use Rattle.balancer.specs.Boards.{may_go, gone}
-use Rattle.balancer.specs.Marks.{is_shut, shut_in, forgotten, NoneGoes, IsMarked}
+use Rattle.balancer.specs.Marks.{is_shut, shut_in, opened_in, NoneGoes, IsMarked, IsBlocked}
 use Rattle.balancer.proofs.Allowing.{once_stands}
 
 -- where no element is found, none passes
@@ -107,14 +107,14 @@ marked_more rows from to f t known = elim (cases_Bool (eqb f from)) [
 
 -- a mark more, where none goes, is so as well
 pub shut_marked : (m : ClusterMap) (p : PoolFacts) (gs : List Group) (rows : List (List Bool)) (from to : ℕ) → NoneGoes m p gs from to → IsMarked m p gs rows → IsMarked m p gs (shut_in rows from to)
-shut_marked m p gs rows from to none marked = λ f t known. elim (marked_more rows from to f t known) [
-  | inl before ↦ marked f t before
+shut_marked m p gs rows from to none marked = λ f t low known. elim (marked_more rows from to f t known) [
+  | inl before ↦ marked f t low before
   | inr both ↦ rw (both.0, both.1) none
 ]
 
 -- nothing is known at the beginning
 pub none_marked : (m : ClusterMap) (p : PoolFacts) (gs : List Group) (n : ℕ) (rows : List (List Bool)) → rows ≡ replicate n (replicate n false) → IsMarked m p gs rows
-none_marked m p gs n rows is = λ f t known. absurd (false≢true (sym (blank f t) ∙ rw is at known))
+none_marked m p gs n rows is = λ f t low known. absurd (false≢true (sym (blank f t) ∙ rw is at known))
   where
     plain : (k : ℕ) → get_or (replicate n false) k false ≡ false
     plain k = elim (cases_lt k n) [
@@ -128,31 +128,46 @@ none_marked m p gs n rows is = λ f t known. absurd (false≢true (sym (blank f 
       | inr past ↦ rw (get_or_past (replicate n (replicate n false)) f [] (omega (arith, length-replicate n (replicate n false)))) refl
     ]
 
--- what is known of an OSD is forgotten
-opened_row : (rows : List (List Bool)) (osd f t : ℕ) → is_shut (forgotten (Some osd) rows) f t ≡ true → (is_shut rows f t ≡ true) × (eqb osd f ≡ false)
-opened_row rows osd f t known = elim (cases_Bool (eqb osd f)) [
-  | inr other ↦ (rw (get_or-set_other rows osd f (replicate (length (get_or rows osd [])) false) [] (λ e. absurd (false≢true (sym other ∙ eq-eqb osd f (sym e))))) at known, other)
-  | inl here ↦ elim (cases_lt osd (length rows)) [
-    | inr past ↦
-        let none : get_or rows f [] ≡ [] = get_or_past rows f [] (rw (eqb-true osd f here) at past) in
-        let kept : is_shut rows f t ≡ true = rw (set_past rows osd (replicate (length (get_or rows osd [])) false) past) at known in
-        absurd (false≢true (rw none at kept))
-    | inl inside ↦
-        let row : get_or (replicate (length (get_or rows osd [])) false) t false ≡ true = rw (← eqb-true osd f here, get_or-set_same rows osd (replicate (length (get_or rows osd [])) false) [] inside) at known in
-        absurd (false≢true (sym (plain (length (get_or rows osd [])) t) ∙ row))
-  ]
+-- a mark less
+pub opened_marks : (rows : List (List Bool)) (from to f t : ℕ) → is_shut (opened_in rows from to) f t ≡ true → (is_shut rows f t ≡ true) × (f ≡ from → t ≢ to)
+opened_marks rows from to f t known = elim (cases_Bool (eqb f from)) [
+  | inr other ↦
+      let apart : f ≢ from = λ e. absurd (false≢true (sym other ∙ eq-eqb f from e)) in
+      (rw (get_or-set_other rows from f (set (get_or rows from []) to false) [] apart) at known, λ e. absurd (apart e))
+  | inl here ↦
+      let f_is = eqb-true f from here in
+      elim (cases_lt from (length rows)) [
+        | inr past ↦
+            let kept : is_shut rows f t ≡ true = rw (set_past rows from (set (get_or rows from []) to false) past) at known in
+            let none : get_or rows f [] ≡ [] = get_or_past rows f [] (rw f_is past) in
+            absurd (false≢true (rw none at kept))
+        | inl inside ↦
+            let row : get_or (set (get_or rows from []) to false) t false ≡ true = rw (f_is, get_or-set_same rows from (set (get_or rows from []) to false) [] inside) at known in
+            elim (cases_Bool (eqb t to)) [
+              | inl same ↦ absurd (false≢true (sym (cleared (get_or rows from []) to) ∙ rw (eqb-true t to same) at row))
+              | inr apart ↦
+                  let t_apart : t ≢ to = λ e. absurd (false≢true (sym apart ∙ eq-eqb t to e)) in
+                  (rw f_is (rw (get_or-set_other (get_or rows from []) to t false false t_apart) at row), λ e. t_apart)
+            ]
+      ]
 ]
   where
-    plain : (n k : ℕ) → get_or (replicate n false) k false ≡ false
-    plain n k = elim (cases_lt k n) [
-      | inl inside ↦ get_or-replicate n k false false inside
-      | inr past ↦ get_or_past (replicate n false) k false (omega (arith, length-replicate n false))
+    cleared : (row : List Bool) (k : ℕ) → get_or (set row k false) k false ≡ false
+    cleared row k = elim (cases_lt k (length row)) [
+      | inl inside ↦ get_or-set_same row k false false inside
+      | inr past ↦ get_or_past (set row k false) k false (omega (arith, length-set row k false, past))
     ]
 
--- what is still known once that of a place is forgotten was known, and is of another OSD
-pub opened_marks : (place : Option ℕ) (rows : List (List Bool)) (f t : ℕ) → is_shut (forgotten place rows) f t ≡ true → (is_shut rows f t ≡ true) × (is_of f place ≡ false)
-opened_marks None rows f t known = (known, refl)
-opened_marks (Some osd) rows f t known = opened_row rows osd f t known
+-- a group may not go to a failure domain that is blocked for it, nor where there is none
+pub blocked_stays : (m : ClusterMap) (p : PoolFacts) (from to : ℕ) (g : Group) (domain : Option ℤ) → domain_of m (last_level (levels_of (steps_of m p))) to ≡ domain → IsBlocked m p from g domain → may_go m p from to g ≡ false
+unfolding may_go has_way
+blocked_stays m p from to g None nowhere blocked = rw nowhere (no_way _)
+  where
+    no_way : (b : Bool) → (b && false) ≡ false
+    no_way true = refl
+    no_way false = refl
+blocked_stays m p from to g (Some d) here blocked = false_from_ne_true _ (λ goes.
+    absurd (false≢true (sym blocked.3 ∙ goes_too m p from blocked.0 to g blocked.1 (here ∙ sym blocked.2) goes)))
 
 -- ---- a move
 
@@ -168,13 +183,19 @@ stays_where_not m p from to g off = false_from_ne_true _ (λ yes.
     let c = and_parts (moves && once) (not (stands to g.places)) b.0 in
     absurd (false≢true (sym off ∙ once_stands (is_of from) g.places (and_parts moves once c.0).1)))
 
--- what is known after a move: that of the OSDs on which the group does not stand
+-- what is known after a move, once it was looked at again for the group
 pub gone_marked : (m : ClusterMap) (p : PoolFacts) (gs after : List Group) (v : Move) (g : Group) (rows left : List (List Bool)) → g ≡ get_or gs v.group g → after ≡ set gs v.group (gone g v) → v.group < length gs
-    → ((f t : ℕ) → is_shut left f t ≡ true → (is_shut rows f t ≡ true) × (stands f (gone g v).places ≡ false)) → IsMarked m p gs rows → IsMarked m p after left
-gone_marked m p gs after v g rows left at is inside forgets marked = λ f t known. rw is (λ k d below. one f t (forgets f t known).0 (forgets f t known).1 k d below)
+    → ((f t : ℕ) → t < length m.presences → is_shut left f t ≡ true → (is_shut rows f t ≡ true) × (stands f (gone g v).places ≡ true → may_go m p f t (gone g v) ≡ false)) → IsMarked m p gs rows → IsMarked m p after left
+gone_marked m p gs after v g rows left at is inside looked marked = λ f t low known. rw is (λ k d below. one f t low (looked f t low known).0 (looked f t low known).1 k d below)
   where
-    one : (f t : ℕ) → is_shut rows f t ≡ true → stands f (gone g v).places ≡ false → (k : ℕ) (d : Group) → k < length (set gs v.group (gone g v)) → may_go m p f t (get_or (set gs v.group (gone g v)) k d) ≡ false
-    one f t known off k d below = elim (cases_Bool (eqb k v.group)) [
-      | inl here ↦ rw (eqb-true k v.group here, get_or-set_same gs v.group (gone g v) d inside) (stays_where_not m p f t (gone g v) off)
-      | inr other ↦ rw (get_or-set_other gs v.group k (gone g v) d (λ e. absurd (false≢true (sym other ∙ eq-eqb k v.group e)))) (marked f t known k d (omega (arith, length-set gs v.group (gone g v), below)))
+    stays : (f t : ℕ) → (stands f (gone g v).places ≡ true → may_go m p f t (gone g v) ≡ false) → may_go m p f t (gone g v) ≡ false
+    stays f t on = elim (cases_Bool (stands f (gone g v).places)) [
+      | inl here ↦ on here
+      | inr off ↦ stays_where_not m p f t (gone g v) off
+    ]
+
+    one : (f t : ℕ) → t < length m.presences → is_shut rows f t ≡ true → (stands f (gone g v).places ≡ true → may_go m p f t (gone g v) ≡ false) → (k : ℕ) (d : Group) → k < length (set gs v.group (gone g v)) → may_go m p f t (get_or (set gs v.group (gone g v)) k d) ≡ false
+    one f t low known on k d below = elim (cases_Bool (eqb k v.group)) [
+      | inl here ↦ rw (eqb-true k v.group here, get_or-set_same gs v.group (gone g v) d inside) (stays f t on)
+      | inr other ↦ rw (get_or-set_other gs v.group k (gone g v) d (λ e. absurd (false≢true (sym other ∙ eq-eqb k v.group e)))) (marked f t low known k d (omega (arith, length-set gs v.group (gone g v), below)))
     ]

@@ -44,12 +44,15 @@ z_above t a b p q = grind (arith, ints)
 pub z_within : (a b : ℤ) → le_z a b ≡ true → int_lt b a ≡ false
 z_within a b p = grind (arith, ints)
 
+-- a number is not below itself
 z_same : (a : ℤ) → int_lt a a ≡ false
 z_same a = grind (arith, ints)
 
+-- nor below itself less some
 z_less : (a : ℤ) (t : ℕ) → int_lt a (a -ℤ pos t) ≡ false
 z_less a t = grind (arith, ints)
 
+-- nor above itself and some more
 z_more : (a : ℤ) (t : ℕ) → int_lt (a +ℤ pos t) a ≡ false
 z_more a t = grind (arith, ints)
 
@@ -125,6 +128,7 @@ pub known_bound : (m : ClusterMap) (p : PoolFacts) (bounds : List (Option ℤ)) 
 known_bound m p bounds from None are is = tt
 known_bound m p bounds from (Some b) are is = are from b (sym is)
 
+-- a bound more, where it is one
 pub bounds_more : (m : ClusterMap) (p : PoolFacts) (bounds : List (Option ℤ)) (osd : ℕ) (b : ℤ) → IsBound m p osd b → AreBounds m p bounds → AreBounds m p (set bounds osd (Some b))
 bounds_more m p bounds osd b is are = λ from bound known. elim (one_more bounds osd (Some b) from bound known) [
   | inr before ↦ are from bound before

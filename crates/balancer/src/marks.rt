@@ -1,8 +1,7 @@
 //! Between which OSDs no group may go, as far as it is known.
 
-ghost use Rattle.std.specs.Prelude.{◌≡◌, ℕ, true, false, length, replicate, slice_set, slice_index_or, IfOk, List};
-ghost use Rattle.stated.specs.Sets.{stands};
-ghost use Rattle.balancer.specs.Marks.{is_shut, shut_in, forgotten, NoneGoes, IsMarked};
+ghost use Rattle.std.specs.Prelude.{◌≡◌, ◌<◌, true, false, length, replicate, slice_set, slice_index_or, IfOk, List};
+ghost use Rattle.balancer.specs.Marks.{is_shut, shut_in, opened_in, NoneGoes, IsMarked};
 ghost use Rattle.osdmap.specs.Maps.{ClusterMap};
 ghost use Rattle.stated.specs.Pools.{PoolFacts};
 ghost use Rattle.balancer.specs.declared.group.Group.{Group};
@@ -55,11 +54,14 @@ impl Row {
         }
     }
 
-    /// Nothing is known any longer.
-    fn open(&mut self)
-        ensures { self.new ≡ replicate (length self.old) false }
+    /// It is not known any longer that no group may go to an OSD.
+    fn open(&mut self, to: u32)
+        ensures { self.new ≡ slice_set self.old to false }
     {
-        self.shut.fill(false);
+        let to = to as usize;
+        if to < self.shut.len() {
+            self.shut[to] = false;
+        }
     }
 }
 
@@ -93,7 +95,7 @@ impl Marks {
     pub fn is_shut(&self, from: u32, to: u32) -> bool
         ensures value { result ≡ is_shut self.now from to }
         ensures known { (m : ClusterMap) (p : PoolFacts) (groups : List Group) → IsMarked m p groups self.now
-            → result ≡ true → NoneGoes m p groups from to }
+            → to < length m.presences → result ≡ true → NoneGoes m p groups from to }
     {
         match self.rows.get(from as usize) {
             Some(row) => row.is_shut(to),
@@ -111,26 +113,13 @@ impl Marks {
         }
     }
 
-    /// Nothing is known any longer of groups that would leave the OSD of a place.
-    fn open(&mut self, place: Option<u32>)
-        ensures { self.new ≡ forgotten place self.old }
+    /// It is not known any longer that no group may go from one OSD to another.
+    pub fn open(&mut self, from: u32, to: u32)
+        ensures { self.new ≡ opened_in self.old from to }
     {
-        let Some(osd) = place else {
-            return;
-        };
-        let from = osd as usize;
+        let from = from as usize;
         if from < self.rows.len() {
-            self.rows[from].open();
-        }
-    }
-
-    /// Nothing is known any longer of groups that would leave the OSDs of a set.
-    pub fn forget(&mut self, places: &[Option<u32>])
-        ensures { (from to : ℕ) → is_shut self.new from to ≡ true
-            → (is_shut self.old from to ≡ true) × (stands from places.now ≡ false) }
-    {
-        for place in places {
-            self.open(*place);
+            self.rows[from].open(to);
         }
     }
 }

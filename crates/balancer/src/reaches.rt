@@ -8,8 +8,8 @@ use refusal::Memory;
 use std::alloc::Global;
 use std::marker::Model;
 
-/// For each OSD that a group would leave, by number: by how much the deviations of the two OSDs of a good move differ at
-/// most, where that is known.
+/// For each OSD that a group would leave, by number: by how much the deviations of the two OSDs of a good move differ
+/// at most, where that is known.
 #[derive(Drop)]
 pub(crate) struct Reaches {
     bounds: Vec<Option<i128>>,

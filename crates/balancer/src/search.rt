@@ -24,7 +24,8 @@ impl Board<'_> {
     ghost use Rattle.balancer.specs.Moves.{are_beside, last_level, levels_of};
     ghost use Rattle.balancer.specs.Greedy.{gap, beats, good_moves, greedy, after_moves};
     ghost use Rattle.balancer.specs.Reached.{reached, AreAll, AreMeasured, IsOrderOf, AreWidened};
-    ghost use Rattle.balancer.specs.Marks.{NoneGoes, IsMarked};
+    ghost use Rattle.balancer.specs.Marks.{is_shut, NoneGoes, IsMarked, IsLookedAt};
+    ghost use Rattle.stated.specs.Sets.{stands};
     ghost use Rattle.balancer.specs.Reaches.{bound_of, IsBound, AreBounds, reach_of};
     ghost use Rattle.balancer.specs.Boards.{may_go, is_wanted, IsGood, IsBest, IsBetter, CoversPair, CoversFrom};
 
@@ -263,7 +264,45 @@ impl Board<'_> {
         }
     }
 
-    /// Makes a good move, and forgets what was known of the OSDs on which its group then stands; or `Memory` (30).
+    /// Looks again at what is known to be shut from the OSD of a place, for a group on it: where that may go, it is
+    /// open.
+    fn look_again(&self, place: Option<u32>, group: &Group, marks: &mut Marks)
+        ensures { IsLookedAt self.now.frame.map.now.map self.now.frame.pool place group.now marks.old marks.new }
+    {
+        let Some(from) = place else {
+            return;
+        };
+        let mut blocked = None;
+        for to in 0..self.frame.map.max_osd() {
+            if !marks.is_shut(from, to) {
+                continue;
+            }
+            let domain = self.frame.domain(to);
+            if domain == blocked {
+                continue;
+            }
+            if to == from || self.frame.may_go(from, to, group) {
+                marks.open(from, to);
+                continue;
+            }
+            blocked = domain;
+        }
+    }
+
+    /// The same for each OSD on which the group stands.
+    fn look_again_at(&self, group: &Group, marks: &mut Marks)
+        ensures { (from to : ℕ) → to < length self.now.frame.map.now.map.presences → is_shut marks.new from to ≡ true
+            → (is_shut marks.old from to ≡ true)
+            × (stands from group.now.places ≡ true
+            → may_go self.now.frame.map.now.map self.now.frame.pool from to group.now ≡ false) }
+    {
+        for place in group.places.as_slice() {
+            self.look_again(*place, group, marks);
+        }
+    }
+
+    /// Makes a good move, and looks again at what was known of the OSDs on which its group then stands; or `Memory`
+    /// (30).
     fn go(&mut self, step: Move, marks: &mut Marks, reaches: &mut Reaches) -> Result<(), Memory>
         requires good { IsGood (after_moves self.old.frame.map.now.map self.old.frame.pool self.old.moves.items)
             self.old.frame.pool step }
@@ -280,7 +319,7 @@ impl Board<'_> {
         self.widen(step.from, reaches);
         reaches.open(Some(step.to));
         if let Some(group) = self.groups.get(step.group as usize) {
-            marks.forget(group.places.as_slice());
+            self.look_again_at(group, marks);
             reaches.forget(group.places.as_slice());
         }
         Ok(())

@@ -17,10 +17,9 @@ returns-in-Some-clause-marks c =
     c.in-Some.ensures.lookup.1 ∙ ap (λ gs. get_or gs c.args.step.group c.in-Some.group.now) (c.deref.ensures.value ∙ made.3)
     ∙ get_or-set_same b.groups.items c.args.step.group (gone made.0 c.args.step) c.in-Some.group.now made.1
     in
-    let places : c.as_slice.result.now ≡ (gone made.0 c.args.step).places = c.as_slice.ensures.value ∙ ap (λ (g : Group). g.places) there in
     rw (c.make.ensures.map, c.make.ensures.pool)
-    (gone_marked b.frame.map.now.map b.frame.pool b.groups.items c.make.new.self.groups.items c.args.step made.0 c.args.marks.now c.forget.new.self made.2 made.3 made.1
-    (λ f t known. let both = c.forget.ensures f t known in (both.0, rw places at both.1)) c.requires.marks)
+    (gone_marked b.frame.map.now.map b.frame.pool b.groups.items c.make.new.self.groups.items c.args.step made.0 c.args.marks.now c.look_again_at.new.marks made.2 made.3 made.1
+    (rw (c.make.ensures.map, c.make.ensures.pool, there) at c.look_again_at.ensures) c.requires.marks)
 
 pub widen-requires : goal.widen-requires
 widen-requires c =
@@ -39,11 +38,11 @@ returns-in-Some-clause-reaches c =
     c.in-Some.ensures.lookup.1 ∙ ap (λ gs. get_or gs v.group c.in-Some.group.now) c.deref.ensures.value
     ∙ (rw (c.make.ensures.map, c.make.ensures.pool, c.in_ok-make.ensures.moves) at (group_kept new.frame.map.now.map new.frame.pool new.moves.items new.groups.items new.deviations.items new.board v.group c.in-Some.group.now (rw c.make.ensures.pool c.requires.good.there)))
     in
-    let places : c.as_slice-in-Some.result.now ≡ (group_at next p v.group).places = c.as_slice-in-Some.ensures.value ∙ ap (λ (g : Group). g.places) kept in
+    let places : c.as_slice.result.now ≡ (group_at next p v.group).places = c.as_slice.ensures.value ∙ ap (λ (g : Group). g.places) kept in
     rw (c.make.ensures.map, c.make.ensures.pool, c.in_ok-make.ensures.moves)
-    (bounds_moved m p b.moves.items v c.requires.good b.reached b.frame.pool_is c.args.reaches.now c.forget-in-Some.new.self c.requires.reaches
+    (bounds_moved m p b.moves.items v c.requires.good b.reached b.frame.pool_is c.args.reaches.now c.forget.new.self c.requires.reaches
     (λ f bound known.
-    let left = c.forget-in-Some.ensures f bound known in
+    let left = c.forget.ensures f bound known in
     let apart = c.open.ensures f bound left.0 in
     let wide = c.widen.ensures f bound apart.0 in
     (wide.0, rw (c.make.ensures.map, c.make.ensures.pool, c.in_ok-make.ensures.moves) at wide.1, λ e. absurd (false≢true (sym apart.1 ∙ eq-eqb v.to f (sym e))), rw places at left.1)))
