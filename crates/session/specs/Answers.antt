@@ -59,7 +59,7 @@ Changes first most before now text r =
     (λ e. (r ≡ Err e) × (now ≡ before))
 
 -- what waiting for an epoch answers: one that is at least that, at the history that its member has seen then, which
--- goes on from the one before; or that the turns are spent, at a history whose epoch is below it; or that its seat has
+-- goes on from the one before; or that the looks are spent, at a history whose epoch is below it; or that its seat has
 -- made its draws
 abbrev pub Awaits : ClusterMap → ℕ → List Step → List Step → Result ℕ Refusal → Type 0
 Awaits first wanted before now r =

@@ -11,6 +11,13 @@ use std::time::Duration;
 /// How often `await` looks for the epoch.
 const MAX_LOOKS: u32 = 1_000_000;
 
+/// How many looks come first that let others run, where the epoch is near: while a few sessions hand changes on to one
+/// another, it is mostly there by then.
+const FIRST_LOOKS: u32 = 256;
+
+/// How many epochs before it an epoch is near.
+const NEAR: u64 = 4;
+
 /// How many looks follow one another before `await` sleeps.
 const LOOKS_AT_ONCE: u32 = 512;
 
@@ -35,8 +42,8 @@ fn look(monitor: &Monitor, wanted: u64, looks: Looks) -> Looks
     }
 }
 
-/// Looks until a monitor has reached an epoch, at most 1,000,000 times: at first it lets others run after each look,
-/// and then it sleeps after some.
+/// Looks until a monitor has reached an epoch, at most 1,000,000 times. Where the epoch is near it lets others run
+/// after each of the first looks; then it sleeps after some.
 pub(crate) fn watch<R: Wait>(rt: &R, monitor: &Monitor, wanted: u64) -> Looks
     ensures { HasWatched result }
 {
@@ -51,7 +58,7 @@ pub(crate) fn watch<R: Wait>(rt: &R, monitor: &Monitor, wanted: u64) -> Looks
         if looks.seen {
             break;
         }
-        if !backoff.is_completed() {
+        if looks.count < FIRST_LOOKS && monitor.has_reached(wanted.saturating_sub(NEAR)) {
             backoff.snooze();
         } else if looks.count % LOOKS_AT_ONCE == 0 {
             alarm.park_timeout(rt, 0, Duration::from_micros(SLEEP));
