@@ -11,19 +11,21 @@ use Rattle.std.proofs.lemmas.Int.{ints}
 use Rattle.std.proofs.lemmas.List.{get_or-set_same, get_or-set_other, get_or_past, get_or-replicate, set_past, length-replicate}
 use Rattle.std.proofs.lemmas.List.Elements.{All-contains}
 use Rattle.stated.specs.Pools.{PoolFacts}
-use Rattle.stated.specs.Sets.{stands}
+use Rattle.stated.specs.Sets.{is_of, stands}
 use Rattle.osdmap.specs.Maps.{ClusterMap, pool_at}
 use Rattle.balancer.specs.declared.moves.Move.{Move}
 use Rattle.balancer.specs.Shares.{is_candidate, total_weight, deviation}
-use Rattle.balancer.specs.Moves.{move_of, moved}
+use Rattle.balancer.specs.Moves.{move_of, moved, pair_of_move}
+use Rattle.std.specs.List.{count_by}
+use Rattle.osdmap.specs.Placement.{mapped_set}
 use Rattle.balancer.specs.Greedy.{gap, is_good, beats, after_moves}
 use Rattle.balancer.specs.Boards.{IsGood, IsReached, CoversPair, CoversFrom, group_at, may_go}
 use Rattle.balancer.specs.Reaches.{bound_of, IsBound, AreBounds, reach_of}
 use Rattle.balancer.proofs.Deviating.{pool_now, candidate_now, total_now, beside_now, goes_now}
-use Rattle.balancer.proofs.Allowing.{good_candidates, good_wide, good_goes, good_from}
+use Rattle.balancer.proofs.Allowing.{once_stands, good_candidates, good_wide, good_goes, good_from}
 use Rattle.balancer.proofs.Marking.{stays_where_not}
-use Rattle.balancer.proofs.Stepping.{group_other}
-use Rattle.balancer.proofs.Shifting.{deviation_from, deviation_to, deviation_other}
+use Rattle.balancer.proofs.Stepping.{group_other, stands_once, mapped_gone}
+use Rattle.balancer.proofs.Shifting.{replaced_to, deviation_from, deviation_to, deviation_other}
 use Rattle.balancer.proofs.Evening.{after_more}
 
 -- ---- whole numbers
@@ -185,21 +187,29 @@ module _ (m : ClusterMap) (p : PoolFacts) (moves : List Move) (v : Move) (good :
       (goes_now m p moves from to (group_at now p g) ∙ sym (goes_now m p (moves ++ v ∷ []) from to (group_at now p g)) ∙ ap (may_go next p from to) (sym group) ∙ goes.1)
       (z_above (pos (total_weight now p)) (gap now p from to) (gap next p from to) (rw (sym total) (good_wide next p w is)) (no_farther from to not_to not_from))
 
+  -- the group stands on the OSD to which it went
+  to_stands : stands v.to (group_at next p v.group).places ≡ true
+  unfolding group_at
+  to_stands =
+      let stood = once_stands (is_of v.from) (mapped_set now p v.group) (eq-eqb (count_by (is_of v.from) (mapped_set now p v.group)) 1 (stands_once now p v good)) in
+      rw (next_is, mapped_gone now p v good) (replaced_to (pair_of_move v) (mapped_set now p v.group) stood)
+
   -- what is known of an OSD after a move: at least what was known before, and how far moves go to the OSD that is
   -- emptier; nothing of those on which the group stands
   pub bounds_moved : (before after : List (Option ℤ)) → AreBounds now p before
       → ((from : ℕ) (bound : ℤ) → bound_of after from ≡ Some bound
       → ((old : ℤ) × (bound_of before from ≡ Some old) × (int_lt bound old ≡ false))
       × (is_candidate m p from ≡ true → int_lt bound (gap next p from v.from) ≡ false)
-      × (from ≢ v.to) × (stands from (group_at next p v.group).places ≡ false))
+      × (stands from (group_at next p v.group).places ≡ false))
       → AreBounds next p after
   bounds_moved before after are kept = λ from bound known to g below yes.
       let left = kept from bound known in
+      let not_to : from ≢ v.to = λ e. absurd (false≢true (sym left.2 ∙ rw e to_stands)) in
       let from_is : is_candidate m p from ≡ true = sym (candidate_now m p (moves ++ v ∷ []) from) ∙ (good_candidates next p (move_of from to g) yes).0 in
       elim (cases_Bool (eqb g v.group)) [
         | inl here ↦
             let g_is = eqb-true g v.group here in
-            let off : stands from (group_at next p g).places ≡ false = rw g_is left.3 in
+            let off : stands from (group_at next p g).places ≡ false = rw g_is left.2 in
             absurd (false≢true (sym (stays_where_not next p from to (group_at next p g) off) ∙ (good_goes next p (move_of from to g) yes).1))
         | inr other ↦ elim (cases_Bool (eqb to v.from)) [
           | inl emptier ↦ rw (eqb-true to v.from emptier) (left.1 from_is)
@@ -207,7 +217,7 @@ module _ (m : ClusterMap) (p : PoolFacts) (moves : List Move) (v : Move) (good :
               let not_group : g ≢ v.group = λ e. absurd (false≢true (sym other ∙ eq-eqb g v.group e)) in
               let not_from : to ≢ v.from = λ e. absurd (false≢true (sym else ∙ eq-eqb to v.from e)) in
               let old = left.0 in
-              let was = are from old.0 old.1 to g below (was_good from to g not_group left.2 not_from yes) in
-              z_most (gap next p from to) (gap now p from to) bound (no_farther from to left.2 not_from) (z_most (gap now p from to) old.0 bound was old.2)
+              let was = are from old.0 old.1 to g below (was_good from to g not_group not_to not_from yes) in
+              z_most (gap next p from to) (gap now p from to) bound (no_farther from to not_to not_from) (z_most (gap now p from to) old.0 bound was old.2)
         ]
       ]

@@ -46,7 +46,7 @@ replaced_other pair (x ∷ xs) o from to = elim (cases_Bool (is_of pair.from x))
 ]
 
 -- the one that comes stands there then
-replaced_to : (pair : Pair) (xs : List (Option ℕ)) → list_any (is_of pair.from) xs ≡ true → list_any (is_of pair.to) (replaced pair xs) ≡ true
+pub replaced_to : (pair : Pair) (xs : List (Option ℕ)) → list_any (is_of pair.from) xs ≡ true → list_any (is_of pair.to) (replaced pair xs) ≡ true
 unfolding replaced
 replaced_to pair [] there = absurd (false≢true there)
 replaced_to pair (x ∷ xs) there = elim (cases_Bool (is_of pair.from x)) [

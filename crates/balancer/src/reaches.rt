@@ -70,7 +70,7 @@ impl Reaches {
     }
 
     /// Nothing is known any longer of the OSD of a place.
-    pub fn open(&mut self, place: Option<u32>)
+    fn open(&mut self, place: Option<u32>)
         ensures { (from : ℕ) (bound : ℤ) → bound_of self.new from ≡ Some bound
             → (bound_of self.old from ≡ Some bound) × (is_of from place ≡ false) }
     {

@@ -317,7 +317,6 @@ impl Board<'_> {
     {
         self.make(step)?;
         self.widen(step.from, reaches);
-        reaches.open(Some(step.to));
         if let Some(group) = self.groups.get(step.group as usize) {
             self.look_again_at(group, marks);
             reaches.forget(group.places.as_slice());

@@ -1,5 +1,4 @@
-use Rattle.std.proofs.Common.{◌≡◌, ◌∙◌, [], ◌∷◌, ◌++◌, ap, sym, get_or, eq-eqb}
-use mathlib.Core.Bool.{false≢true}
+use Rattle.std.proofs.Common.{◌≡◌, ◌∙◌, [], ◌∷◌, ◌++◌, ap, get_or}
 use Rattle.std.proofs.lemmas.List.{get_or-set_same}
 use Rattle.balancer.specs.declared.group.Group.{Group}
 use Rattle.balancer.specs.Greedy.{after_moves}
@@ -43,6 +42,5 @@ returns-in-Some-clause-reaches c =
     (bounds_moved m p b.moves.items v c.requires.good b.reached b.frame.pool_is c.args.reaches.now c.forget.new.self c.requires.reaches
     (λ f bound known.
     let left = c.forget.ensures f bound known in
-    let apart = c.open.ensures f bound left.0 in
-    let wide = c.widen.ensures f bound apart.0 in
-    (wide.0, rw (c.make.ensures.map, c.make.ensures.pool, c.in_ok-make.ensures.moves) at wide.1, λ e. absurd (false≢true (sym apart.1 ∙ eq-eqb v.to f (sym e))), rw places at left.1)))
+    let wide = c.widen.ensures f bound left.0 in
+    (wide.0, rw (c.make.ensures.map, c.make.ensures.pool, c.in_ok-make.ensures.moves) at wide.1, rw places at left.1)))
