@@ -3,6 +3,7 @@ ghost use Rattle.std.specs.Prelude.{◌≡◌, ◌≢◌, ◌+◌, ◌++◌, ℕ
 ghost use Rattle.epochlog.specs.Epochs.{Begins};
 ghost use Rattle.monitor.specs.Members.{IsMemberOf, IsNewMemberOf, IsPassOf};
 ghost use Rattle.session.specs.Buffers.{buffered, is_short};
+ghost use Rattle.session.specs.Ends.{has_sink_failed};
 ghost use Rattle.osdmapd.specs.Pairs.{Pairs};
 ghost use Rattle.osdmapd.specs.Serving.{heading, seen_left, IsTextBy, IsLeftBy, AreLeftBy};
 ghost use Rattle.osdmapd.specs.Players.{IsStartedFor, Keeps};
@@ -94,6 +95,7 @@ fn play_live<R: Wait, B: Read, W: Sink>(
     ensures member { IsMemberOf desk.now.monitor.now member.new }
     ensures held { IfErr result (λ e. e ≢ SessionError.Held) }
     ensures out { OnOk result (W.holds_back out.new ≡ false) }
+    ensures failed { W.has_failed out.new ≡ has_sink_failed result }
     ensures ok { OnOk result ((read : List ℕ) × (text : List ℕ)
         × IfSome (B.remaining reader.old) (λ xs. xs ≡ read)
         × IsTextBy desk.now.monitor.now number read text member.new.pass.history
