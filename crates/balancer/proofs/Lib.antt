@@ -8,6 +8,7 @@ pub mod Ancestors
 pub mod Beating
 pub mod Allowing
 pub mod Marking
+pub mod Closed
 pub mod Searching
 pub mod Choosing
 pub mod Stepping

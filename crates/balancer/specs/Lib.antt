@@ -4,6 +4,7 @@ pub mod Moves
 pub mod Greedy
 pub mod Plans
 pub mod Boards
+pub mod Leaving
 pub mod Marks
 pub mod Reached
 pub mod Reaches

@@ -6,6 +6,7 @@ mod board;
 mod domains;
 mod frame;
 pub mod group;
+mod leaving;
 pub mod limits;
 mod marks;
 pub mod moves;

@@ -5,6 +5,7 @@ ghost use Rattle.balancer.specs.Greedy.{precedes};
 
 use crate::board::Board;
 use crate::group::Group;
+use crate::leaving::some_leaves;
 use crate::marks::Marks;
 use crate::moves::Move;
 use crate::reaches::Reaches;
@@ -24,6 +25,8 @@ impl Board<'_> {
     ghost use Rattle.balancer.specs.Moves.{are_beside, last_level, levels_of};
     ghost use Rattle.balancer.specs.Greedy.{gap, beats, good_moves, greedy, after_moves};
     ghost use Rattle.balancer.specs.Reached.{reached, AreAll, AreMeasured, IsOrderOf, AreWidened};
+    ghost use Rattle.std.specs.List.{list_any};
+    ghost use Rattle.balancer.specs.Leaving.{may_leave};
     ghost use Rattle.balancer.specs.Marks.{is_shut, NoneGoes, IsMarked, IsLookedAt};
     ghost use Rattle.stated.specs.Sets.{stands};
     ghost use Rattle.balancer.specs.Reaches.{bound_of, IsBound, AreBounds, reach_of};
@@ -96,7 +99,7 @@ impl Board<'_> {
     }
 
     /// No group may go from one OSD to another: nor to any candidate in that one's failure domain.
-    fn shut(&self, from: u32, to: u32, marks: &mut Marks)
+    fn shut_domain(&self, from: u32, to: u32, marks: &mut Marks)
         requires apart { (to == from) ≡ false }
         requires none { NoneGoes self.now.frame.map.now.map self.now.frame.pool self.now.groups.items from to }
         requires marks { IsMarked self.now.frame.map.now.map self.now.frame.pool self.now.groups.items marks.old }
@@ -107,6 +110,34 @@ impl Board<'_> {
             if self.frame.domain(*other) == domain {
                 marks.shut(from, *other);
             }
+        }
+    }
+
+    /// No group may leave an OSD: none goes from it to any candidate.
+    #[cold]
+    #[inline(never)]
+    fn shut_all(&self, from: u32, marks: &mut Marks)
+        requires none { list_any (may_leave self.now.frame.pool from) self.now.groups.items ≡ false }
+        requires marks { IsMarked self.now.frame.map.now.map self.now.frame.pool self.now.groups.items marks.old }
+        ensures { IsMarked self.now.frame.map.now.map self.now.frame.pool self.now.groups.items marks.new }
+    {
+        for other in &self.frame.osds {
+            marks.shut(from, *other);
+        }
+    }
+
+    /// No group may go from one OSD to another: nor to any candidate in that one's failure domain; and where none may
+    /// leave the first at all, to any candidate.
+    fn shut(&self, from: u32, to: u32, marks: &mut Marks)
+        requires apart { (to == from) ≡ false }
+        requires none { NoneGoes self.now.frame.map.now.map self.now.frame.pool self.now.groups.items from to }
+        requires marks { IsMarked self.now.frame.map.now.map self.now.frame.pool self.now.groups.items marks.old }
+        ensures { IsMarked self.now.frame.map.now.map self.now.frame.pool self.now.groups.items marks.new }
+    {
+        if some_leaves(&self.frame.pool, &self.groups, from) {
+            self.shut_domain(from, to, marks);
+        } else {
+            self.shut_all(from, marks);
         }
     }
 

@@ -1,7 +1,7 @@
 use Rattle.std.proofs.Common.{◌∙◌, sym}
 use Rattle.balancer.proofs.Marking.{domain_is, none_too, shut_marked}
-use Rattle.balancer.proofs.board.Board.shut.Goals as goal
-use Rattle.balancer.proofs.board.Board.shut.Goals.{then-eq, else-eq}
+use Rattle.balancer.proofs.board.Board.shut_domain.Goals as goal
+use Rattle.balancer.proofs.board.Board.shut_domain.Goals.{then-eq, else-eq}
 
 pub loop-other-preserved : goal.loop-other-preserved
 loop-other-preserved c =
