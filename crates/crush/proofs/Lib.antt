@@ -3,6 +3,8 @@ pub mod UniformDraws
 pub mod HashWords
 pub mod TreeWalks
 pub mod ListWinners
+pub mod Logarithms
+pub mod Straws
 pub mod Descents
 pub mod LeafTries
 pub mod ReplicaTries

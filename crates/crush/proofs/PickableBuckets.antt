@@ -12,7 +12,7 @@ use Rattle.std.proofs.lemmas.List.Folds.{find_at}
 use Rattle.std.proofs.lemmas.List.Sums.{get_or-le-sum_by}
 use Rattle.crush.specs.declared.bucket.Bucket.{Bucket}
 use Rattle.crush.specs.declared.bucket.BucketKind.{BucketKind}
-use Rattle.crush.specs.declared.bucket.BucketKind.TheVariants.{Uniform, List as InList, Tree}
+use Rattle.crush.specs.declared.bucket.BucketKind.TheVariants.{Uniform, List as InList, Tree, Straw2}
 use Rattle.crush.specs.declared.bucket.Item.{Item}
 use Rattle.crush.specs.Forest.{bucket_at, weight_of, IsPickable}
 use Rattle.crush.specs.WellFormed.{item_limits_ok, bucket_limits_ok, weights_ok, is_within, IsForest}
@@ -40,6 +40,7 @@ weighs_fit : (kind : BucketKind) (items : List Item) → weights_ok kind items �
 weighs_fit Uniform items ok = (and_parts _ _ ok).0
 weighs_fit InList items ok = ok
 weighs_fit Tree items ok = ok
+weighs_fit Straw2 items ok = ok
 
 -- an item within the limits weighs something
 item_weighs : (i : Item) → item_limits_ok i ≡ true → 0 < i.weight

@@ -4,7 +4,7 @@ use Rattle.std.specs.List.{range_with_len, list_any, fold}
 use Rattle.std.specs.Ordering.{int_eq}
 use Rattle.crush.specs.declared.bucket.Bucket.{Bucket}
 use Rattle.crush.specs.declared.bucket.BucketKind.{BucketKind}
-use Rattle.crush.specs.declared.bucket.BucketKind.TheVariants.{Uniform, List as InList, Tree as InTree}
+use Rattle.crush.specs.declared.bucket.BucketKind.TheVariants.{Uniform, List as InList, Tree as InTree, Straw2}
 use Rattle.crush.specs.declared.choose.Picked.{Picked}
 use Rattle.crush.specs.declared.choose.Position.{Position}
 use Rattle.crush.specs.declared.choose.Position.TheVariants.{Open, Hole, Filled}
@@ -18,6 +18,7 @@ abbrev pub stride_by : BucketKind → ℕ → ℕ → ℕ
 stride_by Uniform numrep size = if size % numrep == 0 then numrep + 1 else numrep
 stride_by InList numrep size = numrep
 stride_by InTree numrep size = numrep
+stride_by Straw2 numrep size = numrep
 
 -- the replica number of a round at a bucket, on top of `base`
 unfoldable pub replica_number : ℕ → ℕ → ℕ → Bucket → ℕ

@@ -9,6 +9,9 @@ pub mod Uniform
 pub mod Listed
 pub mod Tree
 pub mod Walks
+pub mod Logarithm
+pub mod Straw2
+pub mod Straws
 pub mod Pick
 pub mod World
 pub mod Remembered

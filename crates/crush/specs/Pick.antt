@@ -3,11 +3,12 @@
 use Rattle.std.specs.Prelude.{◌≡◌, ℕ, ◌<◌, ℤ, pos, List, length, slice_index_or}
 use Rattle.crush.specs.declared.bucket.Bucket.{Bucket}
 use Rattle.crush.specs.declared.bucket.BucketKind.{BucketKind}
-use Rattle.crush.specs.declared.bucket.BucketKind.TheVariants.{Uniform, List as InList, Tree as InTree}
+use Rattle.crush.specs.declared.bucket.BucketKind.TheVariants.{Uniform, List as InList, Tree as InTree, Straw2}
 use Rattle.crush.specs.Forest.{word}
 use Rattle.crush.specs.Items.{item_at}
 use Rattle.crush.specs.Uniform.{uniform_place}
 use Rattle.crush.specs.Listed.{list_place}
+use Rattle.crush.specs.Straw2.{straw2_place}
 use Rattle.crush.specs.Tree.{draw_at, tree_place, height_of}
 
 -- the place that a bucket picks, by its kind
@@ -15,6 +16,7 @@ unfoldable pub place_by : BucketKind → Bucket → ℕ → ℕ → ℕ
 place_by Uniform b x r = uniform_place x (word b.id) (length b.items) r
 place_by InList b x r = list_place x (word b.id) r b.items
 place_by InTree b x r = tree_place (draw_at x (word b.id) r) b.items (height_of (length b.items)) 0
+place_by Straw2 b x r = straw2_place x r b.items
 
 -- the place that a bucket picks
 abbrev pub place_picked : Bucket → ℕ → ℕ → ℕ

@@ -6,7 +6,7 @@ use Rattle.std.specs.List.{sum_by, list_all, AllPairs}
 use Rattle.crush.specs.declared.bucket.Item.{Item}
 use Rattle.crush.specs.declared.bucket.Bucket.{Bucket}
 use Rattle.crush.specs.declared.bucket.BucketKind.{BucketKind}
-use Rattle.crush.specs.declared.bucket.BucketKind.TheVariants.{Uniform, List as InList, Tree}
+use Rattle.crush.specs.declared.bucket.BucketKind.TheVariants.{Uniform, List as InList, Tree, Straw2}
 use Rattle.refusal.specs.declared.refused.Refusal.{Refusal}
 use Rattle.refusal.specs.declared.refused.Refusal.TheVariants.{BadLimit, BadForest}
 use Rattle.refusal.specs.Outcomes.{refused_unless}
@@ -75,6 +75,7 @@ abbrev pub weights_ok : BucketKind → List Item → Bool
 weights_ok Uniform items = nat_lt (weight_of items) (2 ^ 32) && is_even items
 weights_ok InList items = nat_lt (weight_of items) (2 ^ 32)
 weights_ok Tree items = nat_lt (weight_of items) (2 ^ 32)
+weights_ok Straw2 items = nat_lt (weight_of items) (2 ^ 32)
 
 -- a well-formed forest
 abbrev pub forest_ok : List Bucket → ℕ → Bool

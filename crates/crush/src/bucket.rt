@@ -20,6 +20,8 @@ pub enum BucketKind {
     List,
     /// By a walk down a binary tree.
     Tree,
+    /// By one straw for each item, of a length drawn by its weight: the longest is picked.
+    Straw2,
 }
 
 /// A bucket.

@@ -5,10 +5,13 @@ ghost use Rattle.crush.specs.Forest.{weight_of};
 
 use crate::bucket::{Bucket, BucketKind, Item};
 use list::list_pick;
+use straw2::straw2_pick;
 use tree::{tree_pick, tree_picks};
 use uniform::{uniform_pick, uniform_picks};
 
 mod list;
+mod logarithm;
+mod straw2;
 mod tree;
 mod uniform;
 
@@ -46,6 +49,7 @@ impl Bucket {
             BucketKind::Uniform => uniform_pick(items.len(), x, id, r),
             BucketKind::List => list_pick(items, x, id, r),
             BucketKind::Tree => tree_pick(items, x, id, r),
+            BucketKind::Straw2 => straw2_pick(items, x, r),
         }
     }
 
@@ -75,7 +79,7 @@ impl Bucket {
         let items: &[Item] = &self.items;
         match self.kind {
             BucketKind::Uniform => Some(uniform_picks(items.len(), x, id)),
-            BucketKind::List => None,
+            BucketKind::List | BucketKind::Straw2 => None,
             BucketKind::Tree => Some(tree_picks(items, x, id)),
         }
     }

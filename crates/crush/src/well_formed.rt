@@ -128,7 +128,7 @@ fn are_weights_lawful(kind: BucketKind, items: &[Item]) -> bool
     let fits = total_weight(items) <= u64::from(u32::MAX);
     match kind {
         BucketKind::Uniform => fits && is_even(items),
-        BucketKind::List | BucketKind::Tree => fits,
+        BucketKind::List | BucketKind::Tree | BucketKind::Straw2 => fits,
     }
 }
 

@@ -7,14 +7,16 @@ use Rattle.std.specs.Option.{option_and_then, option_map}
 use Rattle.crush.specs.declared.bucket.Item.{Item}
 use Rattle.crush.specs.declared.bucket.Bucket.{Bucket}
 use Rattle.crush.specs.declared.bucket.BucketKind.{BucketKind}
-use Rattle.crush.specs.declared.bucket.BucketKind.TheVariants.{Uniform, List as InList, Tree as InTree}
+use Rattle.crush.specs.declared.bucket.BucketKind.TheVariants.{Uniform, List as InList, Tree as InTree, Straw2}
 use Rattle.crush.specs.declared.choose.Picked.{Picked}
 use Rattle.crush.specs.Forest.{word, bucket_at, level_of, IsPickable}
 use Rattle.crush.specs.Items.{item_at}
 use Rattle.crush.specs.Pick.{place_by, place_picked, pick_of}
 use Rattle.crush.specs.World.{World, world_of, is_out}
 use Rattle.crush.specs.Descent.{descent, item_below, device_below, leaf_below}
+use Rattle.crush.specs.Straw2.{shortfall_at}
 use Rattle.crush.proofs.UniformDraws.{uniform_place_below}
+use Rattle.crush.proofs.Straws.{least_below}
 use Rattle.crush_laws.proofs.Picks.{list_picks_greatest_winner, tree_picks_weight}
 
 -- the same with other reweights
@@ -50,6 +52,7 @@ unfolding place_by
 within_by Uniform b x r e p = uniform_place_below x (word b.id) (length b.items) r p.some
 within_by InList b x r e p = subst (λ k. place_by k b x r < length b.items) e (list_picks_greatest_winner b x r e p).within
 within_by InTree b x r e p = subst (λ k. place_by k b x r < length b.items) e (weighs_within b.items _ (tree_picks_weight b x r e p))
+within_by Straw2 b x r e p = least_below (shortfall_at x r b.items) (length b.items) p.some
 
 -- what a bucket picks is one of its items
 picked_in : (R : ℤ → Type 0) (buckets : List Bucket) (b : Bucket) (x r : ℕ) → HasIn R buckets b → R (pick_of b x r)

@@ -3,6 +3,7 @@ pub mod LeafSearches
 pub mod FirstnSegments
 pub mod IndepPositions
 pub mod Picks
+pub mod LongestStraws
 pub mod DescentsWithin
 pub mod ChoicesWithin
 pub mod RunsWithin

@@ -1,14 +1,16 @@
 -- What the picks of each kind of bucket are (CRUSH paper, section 3.4).
-use Rattle.std.specs.Prelude.{◌<◌, ◌≡◌, ℕ, zero, suc, ◌+◌, ◌-◌, ◌*◌, ◌/◌, ◌^◌, if◌then◌else◌, map, [], ◌∷◌, true, false, List, length, slice_index}
+use Rattle.std.specs.Prelude.{◌<◌, ◌≤◌, ◌≡◌, ℕ, zero, suc, ◌+◌, ◌-◌, ◌*◌, ◌/◌, ◌^◌, if◌then◌else◌, map, [], ◌∷◌, true, false, List, length, slice_index}
 use Rattle.std.specs.List.{range_with_len}
 use Rattle.std.specs.List.Sorted.{IsPermutation}
 use Rattle.crush.specs.declared.bucket.Item.{Item}
 use Rattle.crush.specs.declared.bucket.Bucket.{Bucket}
-use Rattle.crush.specs.declared.bucket.BucketKind.TheVariants.{Uniform, List as InList, Tree as InTree}
+use Rattle.crush.specs.declared.bucket.BucketKind.TheVariants.{Uniform, List as InList, Tree as InTree, Straw2}
 use Rattle.crush.specs.Forest.{word, IsPickable}
 use Rattle.crush.specs.Items.{item_at}
 use Rattle.crush.specs.Uniform.{draw_order}
 use Rattle.crush.specs.Listed.{wins_at}
+use Rattle.crush.specs.Logarithm.{crush_ln}
+use Rattle.crush.specs.Straw2.{shortfall_at}
 use Rattle.crush.specs.Pick.{place_picked, pick_of}
 use Rattle.crush.specs.Tree.{weight_between, goes_left, height_of, tree_place}
 
@@ -36,6 +38,21 @@ ListPicksGreatestWinner = (b : Bucket) (x r : ℕ) → b.kind ≡ InList → IsP
 abbrev pub TreePicksWeight : Type 0
 TreePicksWeight = (b : Bucket) (x r : ℕ) → b.kind ≡ InTree → IsPickable b →
     0 < (item_at b.items (place_picked b x r)).weight
+
+-- the first of the places with the longest straw
+pub record IsFirstLongest (x r : ℕ) (items : List Item) (place : ℕ) : Type 0 where
+  pub within : place < length items
+  pub longest : (other : ℕ) → other < length items → shortfall_at x r items place ≤ shortfall_at x r items other
+  pub first : (earlier : ℕ) → earlier < place → shortfall_at x r items place < shortfall_at x r items earlier
+
+-- a straw2 bucket picks the first place with the longest straw
+abbrev pub Straw2PicksFirstLongest : Type 0
+Straw2PicksFirstLongest = (b : Bucket) (x r : ℕ) → b.kind ≡ Straw2 → IsPickable b →
+    IsFirstLongest x r b.items (place_picked b x r)
+
+-- no logarithm is above that of 1, so each straw falls short by the whole difference
+abbrev pub LogarithmsAreLow : Type 0
+LogarithmsAreLow = (u : ℕ) → u < 2 ^ 16 → crush_ln u ≤ 2 ^ 48
 
 -- the weight of the places under a node of height k
 abbrev pub weight_under : List Item → ℕ → ℕ → ℕ

@@ -4,7 +4,8 @@
 
 ghost use Rattle.crush_laws.specs.Forests.{BucketsLeadDown};
 ghost use Rattle.crush_laws.specs.Rules.{RulesAreBlocks};
-ghost use Rattle.crush_laws.specs.Picks.{DrawsEachPlaceOnce, UniformPicksEachOnce, ListPicksGreatestWinner, TreePicksWeight, TreesAreWalkedByNodes, TreesHaveShapes};
+ghost use Rattle.crush_laws.specs.Picks.{DrawsEachPlaceOnce, UniformPicksEachOnce, ListPicksGreatestWinner, TreePicksWeight, Straw2PicksFirstLongest, LogarithmsAreLow, TreesAreWalkedByNodes, TreesHaveShapes};
+ghost use Rattle.crush_laws.specs.WorkedStraws.{StrawsAreCephs};
 ghost use Rattle.crush_laws.specs.Descents.{DescentEnds};
 ghost use Rattle.crush_laws.specs.Choices.{FirstnIsSegment, IndepIsPositions, IndepKeepsPositions, IndepLooksBack};
 ghost use Rattle.crush_laws.specs.Runs.{RunsFit, RunPlacesDevices, RunPlacesReached, RunReadsReached};
@@ -37,6 +38,21 @@ pub fn list_picks_greatest_winner()
 /// A tree bucket picks an item that weighs something.
 pub fn tree_picks_weight()
     ensures { TreePicksWeight }
+{}
+
+/// A straw2 bucket picks the first place whose item draws the longest straw.
+pub fn straw2_picks_first_longest()
+    ensures { Straw2PicksFirstLongest }
+{}
+
+/// No logarithm of a draw is above that of 1.
+pub fn logarithms_are_low()
+    ensures { LogarithmsAreLow }
+{}
+
+/// Some logarithms, and some picks of straw2 buckets, as Ceph computes them.
+pub fn straws_are_cephs()
+    ensures { StrawsAreCephs }
 {}
 
 /// The walk down a tree is the one by the numbers of its nodes.

@@ -12,6 +12,7 @@ use mapjson::{read_change, read_map};
 use monitor::{Follower, Member, Monitor};
 use osdmap::Pg;
 use refusal::{Memory, Refusal};
+use stated::Profile;
 use std::alloc::Global;
 use std::sync::Wait;
 use std::thread::Threads;
@@ -43,7 +44,7 @@ fn manage<R: Wait + Print>(
 {
     let (epoch, set) = monitor.up(rt, member, Pg { pool: 1, number: 0 })?;
     let _ = println!(rt; "epoch {epoch}: group 1.0 is at {set}");
-    let (base, change) = read_change(alloc, CHANGE.as_bytes())?;
+    let (base, change) = read_change(alloc, CHANGE.as_bytes(), Profile::Plain)?;
     let (epoch, evals) = monitor.commit(rt, member, base, change)?;
     let _ = println!(rt; "epoch {epoch}: {evals} groups were placed anew");
     let (epoch, moves) = monitor.balance(rt, member, 1, 10)?;
@@ -80,7 +81,7 @@ fn follow_beside<R: Wait + Threads + Sync>(
 /// A monitor of the map, with one member, and what comes of it.
 fn run<R: Wait + Threads + Print + AllocGlobal + Sync>(rt: &R) -> Result<(), Refusal> {
     let alloc = rt.alloc();
-    let map = read_map(alloc, MAP.as_bytes())?;
+    let map = read_map(alloc, MAP.as_bytes(), Profile::Plain)?;
     let (monitor, mut members) = Monitor::open(alloc, map, 16, 1)?;
     let Some(mut member) = members.pop() else {
         unreachable!()

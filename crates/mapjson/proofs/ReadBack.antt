@@ -3,7 +3,7 @@ use Rattle.std.proofs.Common.{All, ◌≡◌, suc, ℤ, pos, negsuc, Bool, true,
 use Rattle.std.specs.Prelude.{⊤}
 use Rattle.serde_json.specs.Data.{Data, string}
 use Rattle.crush.specs.declared.bucket.BucketKind.{BucketKind}
-use Rattle.crush.specs.declared.bucket.BucketKind.TheVariants.{Uniform, List as Listed, Tree}
+use Rattle.crush.specs.declared.bucket.BucketKind.TheVariants.{Uniform, List as Listed, Tree, Straw2}
 use Rattle.crush.specs.declared.step.Mode.{Mode}
 use Rattle.crush.specs.declared.step.Mode.TheVariants.{Firstn, Indep}
 use Rattle.crush.specs.declared.step.RuleKind.{RuleKind}
@@ -47,6 +47,7 @@ kind_back : (k : BucketKind) → bucket_kind_of (string (kind_word k)) ≡ Some 
 kind_back Uniform = refl
 kind_back Listed = refl
 kind_back Tree = refl
+kind_back Straw2 = refl
 
 -- an item reads back as itself
 item_back : (i : ItemPart) → stated_item (item_data i) ≡ Some i

@@ -11,7 +11,7 @@ use Rattle.json.proofs.Printed.Utf8.{are_ascii}
 use Rattle.serde_json.specs.Data.{Data}
 use Rattle.serde_json.specs.View.{items_of}
 use Rattle.crush.specs.declared.bucket.BucketKind.{BucketKind}
-use Rattle.crush.specs.declared.bucket.BucketKind.TheVariants.{Uniform, List as Listed, Tree}
+use Rattle.crush.specs.declared.bucket.BucketKind.TheVariants.{Uniform, List as Listed, Tree, Straw2}
 use Rattle.crush.specs.declared.step.Mode.{Mode}
 use Rattle.crush.specs.declared.step.Mode.TheVariants.{Firstn, Indep}
 use Rattle.crush.specs.declared.step.RuleKind.{RuleKind}
@@ -69,6 +69,7 @@ kind_ascii : (k : BucketKind) → are_ascii (kind_word k) ≡ true
 kind_ascii Uniform = refl
 kind_ascii Listed = refl
 kind_ascii Tree = refl
+kind_ascii Straw2 = refl
 
 -- an item within its limits is readable
 item_readable : (i : ItemPart) → item_fits i ≡ true → IsReadable (item_data i)

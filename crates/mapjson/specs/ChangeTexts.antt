@@ -17,7 +17,8 @@ use Rattle.stated.specs.Parts.{has_enough_groups, is_between, has_between, is_os
 use Rattle.partjson.specs.declared.change.RawChange.{RawChange}
 use Rattle.partjson.specs.declared.change.RawReweight.{RawReweight}
 use Rattle.jsonstream.specs.Json.{stated_by}
-use Rattle.partjson.specs.StatedChanges.{stated_change}
+use Rattle.stated.specs.declared.profile.Profile.{Profile}
+use Rattle.partjson.specs.Profiles.{change_in}
 
 -- ---- limits
 
@@ -96,9 +97,9 @@ abbrev pub fault_of_stated_change : Result RawChange Refusal → Option Refusal
 fault_of_stated_change (Ok c) = raw_change_fault c
 fault_of_stated_change (Err refusal) = Some refusal
 
--- why a text is refused as a change
-abbrev pub change_text_fault : List ℕ → Option Refusal
-change_text_fault bytes = fault_of_stated_change (stated_by stated_change bytes)
+-- why a text is refused as a change, by the kinds of buckets that it may state
+abbrev pub change_text_fault : Profile → List ℕ → Option Refusal
+change_text_fault profile bytes = fault_of_stated_change (stated_by (change_in profile) bytes)
 
 -- the base is the one that a change states, and the parts are those that it states, in order
 pub record IsChangeStated (c : RawChange) (base : ℕ) (parts : ChangeParts) : Type 0 where
@@ -107,5 +108,6 @@ pub record IsChangeStated (c : RawChange) (base : ℕ) (parts : ChangeParts) : T
   pub ordered : IsOrdered (parts_within c parts.new_crush) parts
 
 -- so are those that a text states
-abbrev pub StatesChange : List ℕ → ℕ × ChangeParts → Type 0
-StatesChange bytes answer = IfOk (stated_by stated_change bytes) (λ c. IsChangeStated c answer.0 answer.1)
+abbrev pub StatesChange : Profile → List ℕ → ℕ × ChangeParts → Type 0
+StatesChange profile bytes answer =
+    IfOk (stated_by (change_in profile) bytes) (λ c. IsChangeStated c answer.0 answer.1)

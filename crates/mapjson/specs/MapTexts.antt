@@ -5,17 +5,18 @@ use Rattle.refusal.specs.declared.refused.Refusal.{Refusal}
 use Rattle.osdmap.specs.Maps.{ClusterMap}
 use Rattle.osdmap.specs.Stated.{map_fault, IsStated}
 use Rattle.jsonstream.specs.Json.{stated_by}
-use Rattle.partjson.specs.StatedMaps.{stated_map}
+use Rattle.stated.specs.declared.profile.Profile.{Profile}
+use Rattle.partjson.specs.Profiles.{map_in}
 
 -- a text that states no map, or a map with a fault
 abbrev pub fault_of_stated : Result MapParts Refusal → Option Refusal
 fault_of_stated (Ok parts) = map_fault parts
 fault_of_stated (Err refusal) = Some refusal
 
--- why a text is refused as a map
-abbrev pub map_text_fault : List ℕ → Option Refusal
-map_text_fault bytes = fault_of_stated (stated_by stated_map bytes)
+-- why a text is refused as a map, by the kinds of buckets that it may state
+abbrev pub map_text_fault : Profile → List ℕ → Option Refusal
+map_text_fault profile bytes = fault_of_stated (stated_by (map_in profile) bytes)
 
 -- the map is the one that a text states
-abbrev pub StatesMap : List ℕ → ClusterMap → Type 0
-StatesMap bytes m = IfOk (stated_by stated_map bytes) (λ parts. IsStated parts m)
+abbrev pub StatesMap : Profile → List ℕ → ClusterMap → Type 0
+StatesMap profile bytes m = IfOk (stated_by (map_in profile) bytes) (λ parts. IsStated parts m)

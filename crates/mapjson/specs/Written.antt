@@ -6,7 +6,7 @@ use Rattle.serde_json.specs.Find.{of_integer}
 use Rattle.serde_json.specs.View.{items_of}
 use Rattle.serde_json.specs.Written.{compact_text}
 use Rattle.crush.specs.declared.bucket.BucketKind.{BucketKind}
-use Rattle.crush.specs.declared.bucket.BucketKind.TheVariants.{Uniform, List as Listed, Tree}
+use Rattle.crush.specs.declared.bucket.BucketKind.TheVariants.{Uniform, List as Listed, Tree, Straw2}
 use Rattle.crush.specs.declared.step.Mode.{Mode}
 use Rattle.crush.specs.declared.step.Mode.TheVariants.{Firstn, Indep}
 use Rattle.crush.specs.declared.step.RuleKind.{RuleKind}
@@ -56,6 +56,7 @@ abbrev pub kind_word : BucketKind → List ℕ
 kind_word Uniform = codes "uniform"
 kind_word Listed = codes "list"
 kind_word Tree = codes "tree"
+kind_word Straw2 = codes "straw2"
 
 -- an item: [item, weight]
 abbrev pub item_data : ItemPart → Data

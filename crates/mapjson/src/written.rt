@@ -67,6 +67,7 @@ fn kind_word(kind: BucketKind) -> &'static str
         BucketKind::Uniform => "uniform",
         BucketKind::List => "list",
         BucketKind::Tree => "tree",
+        BucketKind::Straw2 => "straw2",
     }
 }
 

@@ -1,5 +1,5 @@
 -- What is written of a map is read as that map.
-use Rattle.std.proofs.Common.{◌≡◌, ◌⊎◌, inl, inr, ℕ, ◌≤◌, nat_abs, map, List, Bool, true, false, not, if◌then◌else◌, Some, None, Ok, Err, IfOk, refl, sym, ap, subst, ◌∙◌, arith}
+use Rattle.std.proofs.Common.{◌≡◌, ◌⊎◌, inl, inr, ℕ, ◌≤◌, nat_abs, map, List, Option, Result, Bool, true, false, not, if◌then◌else◌, Some, None, Ok, Err, IfOk, refl, sym, ap, subst, ◌∙◌, arith}
 use Rattle.std.specs.List.{list_all}
 use Rattle.std.specs.Option.{option_map_or}
 use Rattle.std.specs.Str.{IsUtf8}
@@ -16,8 +16,10 @@ use Rattle.stated.specs.Exceptions.{target, sides, is_set, are_pairs}
 use Rattle.stated.specs.Parts.{is_osd_id, pair_fits, osd_fits, pool_fits, exception_fits, exceptions_fit, parts_fit, pool_of, pair_of}
 use Rattle.osdmap.specs.Stated.{buckets_of, rules_ok, pools_ok, osds_ok, is_listed, exceptions_ok, explicit_of, all_exceptions_ok, map_fault, IsStated}
 use Rattle.osdmap.specs.PartsOf.{parts_of}
-use Rattle.jsonstream.specs.Json.{stated_by}
+use Rattle.jsonstream.specs.Json.{◌>>=◌, json_of, stated_by}
+use Rattle.stated.specs.declared.profile.Profile.TheVariants.{Stock}
 use Rattle.partjson.specs.StatedMaps.{in_its_version, stated_map}
+use Rattle.partjson.specs.Profiles.{map_allowed, map_in}
 use Rattle.mapjson.specs.Written.{AreNamed, map_data, written}
 use Rattle.jsonstream.proofs.Texts.{json_of_some}
 use Rattle.mapjson.proofs.Readable.{read-compact_text, IsUtf8-compact_text}
@@ -40,6 +42,26 @@ written_states m fits explicit items =
     let p = parts_of m in
     let readable = map_readable p fits in
     states_parts p (map_data p) _ explicit items (own_version m) refl (IsUtf8-compact_text (map_data p) readable) (read-compact_text (map_data p) readable)
+
+-- what is kept of what a value states
+abbrev kept_or : {X : Type 0} → Option X → Result X Refusal
+kept_or o = option_map_or (λ x. Ok x) o (Err BadField)
+
+kept_part : {X : Type 0} (keep : X → Option X) (o : Option X) (x : X) → kept_or o ≡ Ok x → kept_or (o >>= keep) ≡ kept_or (keep x)
+kept_part keep None x e = absurd (cc)
+kept_part keep (Some y) x e = let same : y ≡ x = cc in ap (λ z. kept_or (keep z)) same
+
+kept_value : {X : Type 0} (stated : Data → Option X) (keep : X → Option X) (o : Option Data) (x : X) → option_map_or (λ d. kept_or (stated d)) o (Err BadJson) ≡ Ok x → option_map_or (λ d. kept_or (stated d >>= keep)) o (Err BadJson) ≡ kept_or (keep x)
+kept_value stated keep None x e = absurd (cc)
+kept_value stated keep (Some d) x e = kept_part keep (stated d) x e
+
+-- of a text that states something
+kept_of : {X : Type 0} (stated : Data → Option X) (keep : X → Option X) (bytes : List ℕ) (x : X) → stated_by stated bytes ≡ Ok x → stated_by (λ d. stated d >>= keep) bytes ≡ kept_or (keep x)
+kept_of stated keep bytes x e = kept_value stated keep (json_of bytes) x e
+
+-- so it does where each kind of bucket is allowed
+written_states_in : (m : ClusterMap) → parts_fit (parts_of m) ≡ true → AreNamed (parts_of m).pg_upmap → AreNamed (parts_of m).pg_upmap_items → stated_by (map_in Stock) (written m) ≡ Ok (parts_of m)
+written_states_in m fits explicit items = kept_of stated_map (map_allowed Stock) (written m) (parts_of m) (written_states m fits explicit items)
 
 -- parts with no fault are within the limits, and their exceptions are of groups that are there
 lawful_fits : (p : MapParts) → map_fault p ≡ None → (parts_fit p ≡ true) × (all_exceptions_ok p ≡ true)
@@ -74,7 +96,7 @@ pub written_back : (m : ClusterMap) → map_fault (parts_of m) ≡ None → IsSt
 written_back m lawful is one =
     let ok = lawful_fits (parts_of m) lawful in
     let named = lawful_named (parts_of m) ok.0 ok.1 in
-    let states = written_states m ok.0 named.0 named.1 in
+    let states = written_states_in m ok.0 named.0 named.1 in
     record {
       faultless = ap fault_of_stated states ∙ lawful;
       states = subst (λ r. IfOk r (λ parts. IsStated parts m)) (sym states) is;
@@ -82,11 +104,11 @@ written_back m lawful is one =
     }
 
 -- who reads such a text has the map
-pub read_is : (text : List ℕ) (m : ClusterMap) (bytes : List ℕ) (n : ClusterMap) → IsTextOf text m → bytes ≡ text → StatesMap bytes n → n ≡ m
+pub read_is : (text : List ℕ) (m : ClusterMap) (bytes : List ℕ) (n : ClusterMap) → IsTextOf text m → bytes ≡ text → StatesMap Stock bytes n → n ≡ m
 read_is text m bytes n of is stated = of.alone n (rw is at stated)
 
 -- and where there is none memory was short
-pub only_memory : (text : List ℕ) (m : ClusterMap) (bytes : List ℕ) (e : Refusal) → IsTextOf text m → bytes ≡ text → (e ≡ OutOfMemory) ⊎ (map_text_fault bytes ≡ Some e) → e ≡ OutOfMemory
+pub only_memory : (text : List ℕ) (m : ClusterMap) (bytes : List ℕ) (e : Refusal) → IsTextOf text m → bytes ≡ text → (e ≡ OutOfMemory) ⊎ (map_text_fault Stock bytes ≡ Some e) → e ≡ OutOfMemory
 only_memory text m bytes e of is told = elim told [
   | inl short ↦ short
   | inr wrong ↦ let w : None ≡ Some e = sym of.faultless ∙ (rw is at wrong) in absurd (cc)

@@ -10,6 +10,7 @@ use mapjson::{read_map, write_map};
 use osdmap::OsdMap;
 use osdmap_laws::maps::{parts_state_one_map, states_itself};
 use refusal::{Memory, Refusal};
+use stated::Profile;
 use std::alloc::Global;
 
 /// The text of a map of an epoch of 1 to 2,147,483,648 is read back as that map: it has no fault, and states that map
@@ -28,7 +29,7 @@ pub fn there_and_back(alloc: Global, map: &OsdMap) -> Result<OsdMap, Memory>
 {
     written_map_is_read_back(map);
     let text = write_map(alloc, map)?;
-    match read_map(alloc, &text) {
+    match read_map(alloc, &text, Profile::Stock) {
         Ok(back) => Ok(back),
         Err(Refusal::Memory) => Err(Memory),
         Err(_) => unreachable!(),

@@ -9,22 +9,25 @@ use Rattle.ticketlock.specs.Callers.{IsNewAt}
 use Rattle.ticketlock.specs.Guards.{first_of_read, first_of_write}
 use Rattle.osdmap.specs.Maps.{ClusterMap}
 use Rattle.osdmap.specs.Changes.{IsLawful}
+use Rattle.stated.specs.declared.profile.Profile.{Profile}
 use Rattle.epochlog.specs.Epochs.{Line, Seen}
 use Rattle.state.specs.States.{Kept, opened}
 use Rattle.monitor.specs.declared.locked.Locked.{Locked}
 use Rattle.monitor.specs.declared.member.Member.{Member}
 
--- what callers see of a monitor: the first map, the row of epochs, the words of the lock from which its seats draw, and
--- the state that the lock was made with
+-- what callers see of a monitor: the first map, the row of epochs, the words of the lock from which its seats draw, the
+-- state that the lock was made with, and which kinds of buckets the texts of its changes may state
 pub record Monitored : Type 0 where
   pub first : ClusterMap
   pub row : Line
   pub words : Words
   pub made : Kept
+  pub profile : Profile
 
 -- a monitor by its parts
-abbrev pub monitored : ClusterMap → Line → Words → Kept → Monitored
-monitored first row words made = record { first = first; row = row; words = words; made = made }
+abbrev pub monitored : ClusterMap → Line → Words → Kept → Profile → Monitored
+monitored first row words made profile =
+    record { first = first; row = row; words = words; made = made; profile = profile }
 
 -- the state is one of this monitor: its first map is the monitor's, and its pass is of the monitor's row
 pub record IsStateOf (monitor : Monitored) (state : Kept) : Type 0 where

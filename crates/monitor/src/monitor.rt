@@ -6,17 +6,19 @@ use crate::locked::Locked;
 use epochlog::{Pass, Row};
 use osdmap::OsdMap;
 use refusal::Memory;
+use stated::Profile;
 use std::alloc::Global;
 use std::marker::Model;
 use ticketlock::Lock;
 
-/// A monitor: a state that its members share by a lock, and beside the lock the row of sealed epochs and the first map.
-/// Many threads may use it.
+/// A monitor: a state that its members share by a lock, and beside the lock the row of sealed epochs, the first map, and
+/// which kinds of buckets the texts of its changes may state. Many threads may use it.
 #[derive(Drop)]
 pub struct Monitor {
     pub(crate) lock: Lock<Locked>,
     pub(crate) row: Row,
     pub(crate) first: OsdMap,
+    pub(crate) profile: Profile,
 }
 
 impl Monitor {
@@ -31,6 +33,20 @@ impl Monitor {
         ensures last { self.now.first.epoch + length self.now.row.cells < epoch → result ≡ false }
     {
         self.row.is_sealed(epoch)
+    }
+
+    /// The same monitor, the texts of whose changes may state the kinds of buckets that this profile has.
+    pub fn with_profile(self, profile: Profile) -> Self
+        ensures { result ≡ record self { profile = profile } }
+    {
+        Monitor { profile, ..self }
+    }
+
+    /// Which kinds of buckets the texts of its changes may state.
+    pub fn profile(&self) -> Profile
+        ensures { result ≡ self.now.profile }
+    {
+        self.profile
     }
 
     /// A pass that has seen nothing, to join what members have seen. The one error is `Memory` (30).
@@ -48,7 +64,7 @@ impl Model for Monitor {
 
     ghost Value = { Monitored };
 
-    ghost view = { λ m. monitored m.first.map m.row m.lock.words (first_of m.lock).state.value };
+    ghost view = { λ m. monitored m.first.map m.row m.lock.words (first_of m.lock).state.value m.profile };
 
-    ghost invariant = { λ m. IsOpened (monitored m.first.map m.row m.lock.words (first_of m.lock).state.value) };
+    ghost invariant = { λ m. IsOpened (monitored m.first.map m.row m.lock.words (first_of m.lock).state.value m.profile) };
 }

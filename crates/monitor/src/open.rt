@@ -13,6 +13,7 @@ use epochlog::{MAX_CAPACITY, MAX_FIRST_EPOCH, Row};
 use osdmap::OsdMap;
 use refusal::{Memory, Refusal};
 use state::State;
+use stated::Profile;
 use std::alloc::Global;
 use ticketlock::limits::{MAX_DRAWS, MAX_SEATS};
 use ticketlock::{Lock, LockError, Seat};
@@ -107,7 +108,12 @@ impl Monitor {
         let first = map.copy(alloc)?;
         let state = State::new(alloc, map, &row)?;
         let (lock, seats) = locked(alloc, state, seats, draws)?;
-        let monitor = Monitor { lock, row, first };
+        let monitor = Monitor {
+            lock,
+            row,
+            first,
+            profile: Profile::Plain,
+        };
         let members = monitor.members(alloc, seats)?;
         Ok((monitor, members))
     }

@@ -9,7 +9,7 @@ use Rattle.std.proofs.lemmas.List.Sums.{get_or-le-sum_by, list_all-from_AllPass}
 use Rattle.crush.specs.declared.bucket.Item.{Item}
 use Rattle.crush.specs.declared.bucket.Bucket.{Bucket}
 use Rattle.crush.specs.declared.bucket.BucketKind.{BucketKind}
-use Rattle.crush.specs.declared.bucket.BucketKind.TheVariants.{Uniform, List as InList, Tree}
+use Rattle.crush.specs.declared.bucket.BucketKind.TheVariants.{Uniform, List as InList, Tree, Straw2}
 use Rattle.crush.specs.declared.step.Step.{Step}
 use Rattle.crush.specs.declared.step.Step.TheVariants as step
 use Rattle.crush.specs.Forest.{weight_of}
@@ -51,6 +51,7 @@ weights_light : (kind : BucketKind) (items : List Item) → weights_ok kind item
 weights_light Uniform items h = and_first (nat_lt (weight_of items) (2 ^ 32)) (is_even items) h
 weights_light InList items h = h
 weights_light Tree items h = h
+weights_light Straw2 items h = h
 
 -- an item for where there is none
 no_item : Item

@@ -9,7 +9,8 @@ use Rattle.osdmap.specs.Maps.{ClusterMap}
 use Rattle.osdmap.specs.Stated.{map_fault, IsStated}
 use Rattle.osdmap.proofs.Built.{parts_fit_each, fault_limit}
 use Rattle.jsonstream.specs.Json.{stated_by}
-use Rattle.partjson.specs.StatedMaps.{stated_map}
+use Rattle.stated.specs.declared.profile.Profile.{Profile}
+use Rattle.partjson.specs.Profiles.{map_in}
 use Rattle.mapjson.specs.MapTexts.{fault_of_stated, map_text_fault, StatesMap}
 use Rattle.monitor.specs.Opening.{can_open}
 
@@ -30,8 +31,8 @@ epoch_within m (Ok p) none is =
 epoch_within m (Err e) none is = let wrong : Some e ≡ None = none in absurd (cc)
 
 -- a map that a text states can be opened, with so many changes and seats
-pub can_open_stated : (bytes : List ℕ) (m : ClusterMap) (journal seats : ℕ) → map_text_fault bytes ≡ None → StatesMap bytes m → 1 ≤ journal
-    → journal ≤ 65536 → 1 ≤ seats → seats ≤ 1024 → can_open m.epoch journal seats (2 ^ 40) ≡ true
-can_open_stated bytes m journal seats none states least most some few =
-    let within = epoch_within m (stated_by stated_map bytes) none states in
+pub can_open_stated : (profile : Profile) (bytes : List ℕ) (m : ClusterMap) (journal seats : ℕ) → map_text_fault profile bytes ≡ None
+    → StatesMap profile bytes m → 1 ≤ journal → journal ≤ 65536 → 1 ≤ seats → seats ≤ 1024 → can_open m.epoch journal seats (2 ^ 40) ≡ true
+can_open_stated profile bytes m journal seats none states least most some few =
+    let within = epoch_within m (stated_by (map_in profile) bytes) none states in
     grind (arith, within.0, within.1)

@@ -5,6 +5,7 @@ use Rattle.std.specs.Result.{IsErrAnd}
 use Rattle.stated.specs.Incrementals.{Step}
 use Rattle.osdmap.specs.Maps.{ClusterMap}
 use Rattle.osdmap.specs.Changes.{IsLawful}
+use Rattle.stated.specs.declared.profile.Profile.{Profile}
 use Rattle.mapjson.specs.MapTexts.{map_text_fault, StatesMap}
 use Rattle.monitor.specs.Members.{Monitored}
 use Rattle.session.specs.declared.error.SessionError.{SessionError}
@@ -39,36 +40,37 @@ left_by monitor players parts lefts started kept =
     (λ number player part left begun keeps. left_for _ _ _ _ _ _ left begun.0 begun.1 begun.2 keeps)
     1 players parts lefts started kept
 
--- texts of a monitor with this first map and journal
-texts_from : (monitor : Monitored) (m : ClusterMap) (journal : ℕ) (all : List Step) (parts : List Part) (lefts : List Left)
-    → monitor.first ≡ m → length monitor.row.cells ≡ journal
-    → Pairs (λ number part left. IsLeftIn monitor.first (length monitor.row.cells) all number part (text_left left)) 1 parts lefts
-    → Pairs (IsLeftIn m journal all) 1 parts (map text_left lefts)
-texts_from monitor m journal all parts lefts first room paired =
-    subst (λ k. Pairs (IsLeftIn m k all) 1 parts (map text_left lefts)) room
-    (subst (λ f. Pairs (IsLeftIn f (length monitor.row.cells) all) 1 parts (map text_left lefts)) first
-    (pairs_made (IsLeftIn monitor.first (length monitor.row.cells) all) text_left 1 parts lefts paired))
+-- texts of a monitor with this first map, journal and profile
+texts_from : (monitor : Monitored) (m : ClusterMap) (journal : ℕ) (profile : Profile) (all : List Step) (parts : List Part) (lefts : List Left)
+    → monitor.first ≡ m → length monitor.row.cells ≡ journal → monitor.profile ≡ profile
+    → Pairs (λ number part left. IsLeftIn monitor.first (length monitor.row.cells) monitor.profile all number part (text_left left)) 1 parts lefts
+    → Pairs (IsLeftIn m journal profile all) 1 parts (map text_left lefts)
+texts_from monitor m journal profile all parts lefts first room kinds paired =
+    subst (λ p. Pairs (IsLeftIn m journal p all) 1 parts (map text_left lefts)) kinds
+    (subst (λ k. Pairs (IsLeftIn m k monitor.profile all) 1 parts (map text_left lefts)) room
+    (subst (λ f. Pairs (IsLeftIn f (length monitor.row.cells) monitor.profile all) 1 parts (map text_left lefts)) first
+    (pairs_made (IsLeftIn monitor.first (length monitor.row.cells) monitor.profile all) text_left 1 parts lefts paired)))
 
 -- the texts from the map that a text states
-pub texts_of : (monitor : Monitored) (m : ClusterMap) (journal : ℕ) (stated : List ℕ) (parts : List Part) (lefts : List Left)
-    → StatesMap stated m → monitor.first ≡ m → length monitor.row.cells ≡ journal
-    → AreLeftBy monitor parts lefts → AreTextsOf journal stated parts (map text_left lefts)
-texts_of monitor m journal stated parts lefts states first room (all, lawful, paired) =
-    (m, states, all, subst (λ f. IsLawful f all) first lawful, texts_from monitor m journal all parts lefts first room paired)
+pub texts_of : (monitor : Monitored) (m : ClusterMap) (journal : ℕ) (profile : Profile) (stated : List ℕ) (parts : List Part) (lefts : List Left)
+    → StatesMap profile stated m → monitor.first ≡ m → length monitor.row.cells ≡ journal → monitor.profile ≡ profile
+    → AreLeftBy monitor parts lefts → AreTextsOf journal profile stated parts (map text_left lefts)
+texts_of monitor m journal profile stated parts lefts states first room kinds (all, lawful, paired) =
+    (m, states, all, subst (λ f. IsLawful f all) first lawful, texts_from monitor m journal profile all parts lefts first room kinds paired)
 
 -- what is out where the output fails, at whatever error is told
-pub served_part : (r : Result Unit Fault) (journal : ℕ) (stated : List ℕ) (parts : List Part) (before after : List ℕ)
-    → IsErrAnd r (λ e. e ≡ Output) → map_text_fault stated ≡ None
-    → ((texts : List (List ℕ)) × (rest : List ℕ) × AreTextsOf journal stated parts texts × HasPut before (concat texts) rest after)
-    → Serves journal stated parts before after r
-served_part (Ok done) journal stated parts before after is accepted out = absurd is
-served_part (Err e) journal stated parts before after is accepted out = rw is (accepted, out)
+pub served_part : (r : Result Unit Fault) (journal : ℕ) (profile : Profile) (stated : List ℕ) (parts : List Part) (before after : List ℕ)
+    → IsErrAnd r (λ e. e ≡ Output) → map_text_fault profile stated ≡ None
+    → ((texts : List (List ℕ)) × (rest : List ℕ) × AreTextsOf journal profile stated parts texts × HasPut before (concat texts) rest after)
+    → Serves journal profile stated parts before after r
+served_part (Ok done) journal profile stated parts before after is accepted out = absurd is
+served_part (Err e) journal profile stated parts before after is accepted out = rw is (accepted, out)
 
 -- nothing is out where memory is short
-pub served_short : (r : Result Unit Fault) (journal : ℕ) (stated : List ℕ) (parts : List Part) (before : List ℕ)
-    → IsErrAnd r (λ e. e ≡ Memory) → Serves journal stated parts before before r
-served_short (Ok done) journal stated parts before is = absurd is
-served_short (Err e) journal stated parts before is = rw is refl
+pub served_short : (r : Result Unit Fault) (journal : ℕ) (profile : Profile) (stated : List ℕ) (parts : List Part) (before : List ℕ)
+    → IsErrAnd r (λ e. e ≡ Memory) → Serves journal profile stated parts before before r
+served_short (Ok done) journal profile stated parts before is = absurd is
+served_short (Err e) journal profile stated parts before is = rw is refl
 
 -- and the sink has not failed
 pub short_output : (r : Result Unit Fault) → IsErrAnd r (λ e. e ≡ Memory) → has_output_failed r ≡ false

@@ -16,16 +16,18 @@ use Rattle.clap.specs.Faults.{check_fault, defaults_fault, entered_fault, settle
 use Rattle.clap.specs.Kinds.{IsAmong, Kinds, or_else, range_kinds, values_kinds}
 use Rattle.clap.specs.Facts.{parser_of_value}
 use Rattle.clap.specs.Lexer.{usize_max}
-use Rattle.clap.specs.Simple.{Shape, built, entered}
+use Rattle.clap.specs.Simple.{Shape, built, entered, filled}
 use Rattle.clap.specs.ValueTests.{accepts}
-use Rattle.clap.specs.Walk.{Held, Row, Rule, Step, Text, Walk, all_of, arg_by_index, finished, first_of, nothing_held, one_of, positional, settled, to_positional, walk_from, walked, after_step}
+use Rattle.clap.specs.Walk.{Held, Row, Rule, Step, Text, Walk, used, all_of, arg_by_index, finished, first_of, nothing_held, one_of, positional, settled, to_positional, walk_from, walked, after_step}
 use Rattle.clap.proofs.OnLiterals.{clap_on_literals}
 use Rattle.clap.proofs.ValueTestLemmas.{Accepts-accepts}
 use Rattle.epochlog.specs.Epochs.{max_capacity}
 use Rattle.osdmapd.specs.declared.choices.Options.{Options}
 use Rattle.osdmapd.specs.declared.choices.LineError.{LineError}
 use Rattle.osdmapd.specs.declared.choices.LineError.TheVariants.{Help, Usage, TooMany, Unpaired, Memory}
-use Rattle.osdmapd.specs.CommandLine.{app, found_in, faults_of, is_plain, max_scripts, ArePlain, AreUsual, IsJournalIn, GivesOptions, ReadsLine, ReadsUsual}
+use Rattle.stated.specs.declared.profile.Profile.{Profile}
+use Rattle.stated.specs.declared.profile.Profile.TheVariants.{Plain, Stock}
+use Rattle.osdmapd.specs.CommandLine.{app, found_in, faults_of, is_plain, max_scripts, stock_rule, stock_word, ArePlain, AreUsual, IsJournalIn, GivesOptions, ReadsLine, ReadsUsual}
 use Rattle.osdmapd.proofs.PlainWords.{at, at_option, no_option, plain_argument, plain_given, plain_more, plain_option, plain_option_behind, plain_option_more, plain_value, plain_walked}
 
 -- the command as the parser builds it
@@ -122,7 +124,8 @@ settles rows [] some few = absurd (omega arith)
 settles rows (script ∷ more) some few = ap₂ or_else (enough (length (script ∷ more)) some few) (all_texts (script ∷ more))
 
 -- what the options are made of
-record Finds (words : List Text) (journal map_word : Text) (scripts : List Text) : Type 0 where
+record Finds (words : List Text) (profile : Profile) (journal map_word : Text) (scripts : List Text) : Type 0 where
+  profile_is : one_of (codes "stock") (found_in words) ≡ Some (stock_word profile)
   journal_is : one_of (codes "journal") (found_in words) ≡ Some journal
   map_is : first_of (codes "MAP") (found_in words) ≡ Some map_word
   scripts_are : all_of (codes "SCRIPT") (found_in words) ≡ Some scripts
@@ -135,58 +138,131 @@ else_at_end h kinds =
     or_else [] (or_else (entered_fault (built app) None) (or_else kinds
     (or_else (defaults_fault (settled rules h).rows rules) (check_fault top (finished rules h) false))))
 
--- ---- a map and scripts
+-- ---- a map and scripts, behind options that wait for nothing
 
-module _ (name map_word script : Text) (more : List Text) (m : is_plain map_word ≡ true) (s : is_plain script ≡ true) (plain : ArePlain more)
-    (few : length (script ∷ more) ≤ max_scripts) where
+-- what is held behind them
+abbrev held_with : List Row → Held
+held_with rows = record { rows = rows; pending = None; skip = 0 }
+
+module _ (rows : List Row) (map_word script : Text) (more : List Text) (m : is_plain map_word ≡ true) (s : is_plain script ≡ true)
+    (plain : ArePlain more) where
   abbrev second : Held
-  second = (with_map nothing_held map_word).held
+  second = (with_map (held_with rows) map_word).held
 
   abbrev map_rows : List Row
   map_rows = (settled rules second).rows
 
-  one_word : walked rules [] first map_word ≡ with_map nothing_held map_word
-  one_word = plain_walked rules nothing_held 1 map_word m
+  one_word : walked rules [] (at (held_with rows) 1) map_word ≡ with_map (held_with rows) map_word
+  one_word = plain_walked rules (held_with rows) 1 map_word m
 
-  one_script : walked rules [] (with_map nothing_held map_word) script ≡ at_scripts map_rows (script ∷ [])
+  one_script : walked rules [] (with_map (held_with rows) map_word) script ≡ at_scripts map_rows (script ∷ [])
   one_script = plain_walked rules second 2 script s
 
-  all_words : fold (walked rules []) first (map_word ∷ script ∷ more) ≡ at_scripts map_rows (script ∷ more)
+  all_words : fold (walked rules []) (at (held_with rows) 1) (map_word ∷ script ∷ more) ≡ at_scripts map_rows (script ∷ more)
   all_words =
       ap (λ w. fold (walked rules []) (walked rules [] w script) more) one_word ∙ ap (λ w. fold (walked rules []) w more) one_script
       ∙ all_scripts map_rows (script ∷ []) more plain
 
-  found_two : found_in (name ∷ map_word ∷ script ∷ more) ≡ finished rules (scripts_held map_rows (script ∷ more))
-  unfolding found_in
-  found_two = ap (λ (w : Walk). finished rules w.held) all_words
+  first_turn : turn_fault top [] (at (held_with rows) 1) map_word ≡ []
+  first_turn = rw (plain_value rules 1 map_word (held_with rows) m, plain_option top map_word (held_with rows) m) refl
 
-  first_turn : turn_fault top [] first map_word ≡ []
-  first_turn = rw (plain_value rules 1 map_word nothing_held m, plain_option top map_word nothing_held m) refl
-
-  second_turn : turn_fault top [] (at second 2) script ≡ []
-  second_turn = rw (plain_value rules 2 script second s, plain_option top script second s) refl
-
-  no_turn : walk_fault top [] first (map_word ∷ script ∷ more) ≡ []
-  no_turn =
-      no_fault first (at second 2) map_word (script ∷ more) first_turn one_word
+  no_turn : turn_fault top [] (at second 2) script ≡ [] → walk_fault top [] (at (held_with rows) 1) (map_word ∷ script ∷ more) ≡ []
+  no_turn second_turn =
+      no_fault (at (held_with rows) 1) (at second 2) map_word (script ∷ more) first_turn one_word
       (no_fault (at second 2) (at_scripts map_rows (script ∷ [])) script more second_turn one_script
       (all_turns map_rows (script ∷ []) more plain))
 
-  no_end : at_end (at_scripts map_rows (script ∷ more)) [] ≡ []
+-- ---- no option before them
+
+module _ (name map_word script : Text) (more : List Text) (m : is_plain map_word ≡ true) (s : is_plain script ≡ true) (plain : ArePlain more)
+    (few : length (script ∷ more) ≤ max_scripts) where
+  abbrev two_rows : List Row
+  two_rows = map_rows [] map_word script more m s plain
+
+  found_two : found_in (name ∷ map_word ∷ script ∷ more) ≡ finished rules (scripts_held two_rows (script ∷ more))
+  unfolding found_in
+  found_two = ap (λ (w : Walk). finished rules w.held) (all_words [] map_word script more m s plain)
+
+  abbrev two_held : Held
+  two_held = second [] map_word script more m s plain
+
+  second_turn : turn_fault top [] (at two_held 2) script ≡ []
+  second_turn = rw (plain_value rules 2 script two_held s, plain_option top script two_held s) refl
+
+  no_end : at_end (at_scripts two_rows (script ∷ more)) [] ≡ []
   unfolding defaults_fault
-  no_end = ap (else_at_end (scripts_held map_rows (script ∷ more))) (settles map_rows (script ∷ more) (omega arith) few)
+  no_end = ap (else_at_end (scripts_held two_rows (script ∷ more))) (settles two_rows (script ∷ more) (omega arith) few)
 
   passes_two : faults_of (name ∷ map_word ∷ script ∷ more) ≡ []
   unfolding faults_of
-  passes_two = ap₂ at_end all_words no_turn ∙ no_end
+  passes_two = ap₂ at_end (all_words [] map_word script more m s plain) (no_turn [] map_word script more m s plain second_turn) ∙ no_end
 
-  finds_two : Finds (name ∷ map_word ∷ script ∷ more) (codes "1024") map_word (script ∷ more)
+  finds_two : Finds (name ∷ map_word ∷ script ∷ more) Plain (codes "1024") map_word (script ∷ more)
   finds_two = record {
+    profile_is = ap (one_of (codes "stock")) found_two;
     journal_is = ap (one_of (codes "journal")) found_two;
     map_is = ap (first_of (codes "MAP")) found_two;
     scripts_are = ap (all_of (codes "SCRIPT")) found_two;
     answers_are = ap (all_of (codes "to")) found_two;
     passes = passes_two;
+  }
+
+-- ---- `--stock` before them
+
+-- what is found of it
+abbrev stock_rows : List Row
+stock_rows = used (filled stock_rule) [] []
+
+-- it waits for nothing
+flags : walked rules [] first (codes "--stock") ≡ at (held_with stock_rows) 1
+unfolding clap_on_literals
+flags = refl
+
+-- and the parser has nothing against it
+flags_turn : turn_fault top [] first (codes "--stock") ≡ []
+unfolding clap_on_literals
+flags_turn = refl
+
+module _ (name map_word script : Text) (more : List Text) (m : is_plain map_word ≡ true) (s : is_plain script ≡ true) (plain : ArePlain more)
+    (few : length (script ∷ more) ≤ max_scripts) where
+  abbrev three_rows : List Row
+  three_rows = map_rows stock_rows map_word script more m s plain
+
+  all_three : fold (walked rules []) first (codes "--stock" ∷ map_word ∷ script ∷ more) ≡ at_scripts three_rows (script ∷ more)
+  all_three =
+      ap (λ w. fold (walked rules []) w (map_word ∷ script ∷ more)) flags ∙ all_words stock_rows map_word script more m s plain
+
+  found_three : found_in (name ∷ codes "--stock" ∷ map_word ∷ script ∷ more) ≡ finished rules (scripts_held three_rows (script ∷ more))
+  unfolding found_in
+  found_three = ap (λ (w : Walk). finished rules w.held) all_three
+
+  abbrev three_held : Held
+  three_held = second stock_rows map_word script more m s plain
+
+  turn_three : turn_fault top [] (at three_held 2) script ≡ []
+  turn_three = rw (plain_value rules 2 script three_held s, plain_option top script three_held s) refl
+
+  no_turn_three : walk_fault top [] first (codes "--stock" ∷ map_word ∷ script ∷ more) ≡ []
+  no_turn_three =
+      no_fault first (at (held_with stock_rows) 1) (codes "--stock") (map_word ∷ script ∷ more) flags_turn flags
+      (no_turn stock_rows map_word script more m s plain turn_three)
+
+  no_end_three : at_end (at_scripts three_rows (script ∷ more)) [] ≡ []
+  unfolding defaults_fault
+  no_end_three = ap (else_at_end (scripts_held three_rows (script ∷ more))) (settles three_rows (script ∷ more) (omega arith) few)
+
+  passes_three : faults_of (name ∷ codes "--stock" ∷ map_word ∷ script ∷ more) ≡ []
+  unfolding faults_of
+  passes_three = ap₂ at_end all_three no_turn_three ∙ no_end_three
+
+  finds_three : Finds (name ∷ codes "--stock" ∷ map_word ∷ script ∷ more) Stock (codes "1024") map_word (script ∷ more)
+  finds_three = record {
+    profile_is = ap (one_of (codes "stock")) found_three;
+    journal_is = ap (one_of (codes "journal")) found_three;
+    map_is = ap (first_of (codes "MAP")) found_three;
+    scripts_are = ap (all_of (codes "SCRIPT")) found_three;
+    answers_are = ap (all_of (codes "to")) found_three;
+    passes = passes_three;
   }
 
 -- ---- a journal before them
@@ -263,8 +339,9 @@ module _ (name number map_word script : Text) (more : List Text) (j : is_plain n
   unfolding faults_of
   passes_four = ap₂ at_end all_four no_turn_four ∙ no_end_four
 
-  finds_four : Finds (name ∷ codes "--journal" ∷ number ∷ map_word ∷ script ∷ more) number map_word (script ∷ more)
+  finds_four : Finds (name ∷ codes "--journal" ∷ number ∷ map_word ∷ script ∷ more) Plain number map_word (script ∷ more)
   finds_four = record {
+    profile_is = ap (one_of (codes "stock")) found_four;
     journal_is = ap (one_of (codes "journal")) found_four ∙ ap (λ (o : Option Text). Some (unwrap_or o number)) (no_option number j).bare;
     map_is = ap (first_of (codes "MAP")) found_four;
     scripts_are = ap (all_of (codes "SCRIPT")) found_four;
@@ -325,40 +402,41 @@ no_answers (a ∷ more) none =
     cc
 
 -- the options that are read, from what is found
-gives_options : (words : List Text) (journal map_word : Text) (scripts : List Text) (n : ℕ) → Finds words journal map_word scripts
-    → length scripts ≤ max_scripts → digits_value 10 (without_leading_plus journal) ≡ n → (r : Result Options LineError) → ReadsLine words r
-    → GivesOptions r n map_word scripts
-gives_options words journal map_word scripts n finds few number (Ok o) (none, chosen) =
+gives_options : (words : List Text) (profile : Profile) (journal map_word : Text) (scripts : List Text) (n : ℕ)
+    → Finds words profile journal map_word scripts → length scripts ≤ max_scripts → digits_value 10 (without_leading_plus journal) ≡ n
+    → (r : Result Options LineError) → ReadsLine words r → GivesOptions r n profile map_word scripts
+gives_options words profile journal map_word scripts n finds few number (Ok o) (none, chosen) =
     let found = chosen.0 in
     let map_same : Some (string_bytes o.map) ≡ Some map_word = sym found.map_found ∙ finds.map_is in
     let script_same : Some (map string_bytes o.scripts.items) ≡ Some scripts = sym found.scripts_found ∙ finds.scripts_are in (
       journal_of (found_in words) o.journal journal finds.journal_is found.journal_found ∙ number,
+      found.profile_found profile finds.profile_is,
       cc,
       cc,
       no_answers o.answers.items (sym found.answers_found ∙ ap (λ (a : Option (List Text)). unwrap_or a []) finds.answers_are),
     )
-gives_options words journal map_word scripts n finds few number (Err (Help text)) (kind, among, is) =
+gives_options words profile journal map_word scripts n finds few number (Err (Help text)) (kind, among, is) =
     absurd (none_among kind (faults_of words) finds.passes among)
-gives_options words journal map_word scripts n finds few number (Err (Usage text)) (kind, among, is) =
+gives_options words profile journal map_word scripts n finds few number (Err (Usage text)) (kind, among, is) =
     absurd (none_among kind (faults_of words) finds.passes among)
-gives_options words journal map_word scripts n finds few number (Err TooMany) (none, (paths, found, many)) =
+gives_options words profile journal map_word scripts n finds few number (Err TooMany) (none, (paths, found, many)) =
     let one : Some paths ≡ Some scripts = sym found ∙ finds.scripts_are in
     let paths_are : paths ≡ scripts = cc in
     absurd (omega (arith, ap length paths_are))
-gives_options words journal map_word scripts n finds few number (Err Unpaired) (none, (paths, found, unpaired)) =
+gives_options words profile journal map_word scripts n finds few number (Err Unpaired) (none, (paths, found, unpaired)) =
     absurd (unpaired (λ some. absurd (some (ap (λ (a : Option (List Text)). length (unwrap_or a [])) finds.answers_are))))
-gives_options words journal map_word scripts n finds few number (Err Memory) reads = refl
+gives_options words profile journal map_word scripts n finds few number (Err Memory) reads = refl
 
 -- a line with a journal
 given_journal : (name number map_word script : Text) (more : List Text) (r : Result Options LineError)
     → ReadsLine (name ∷ codes "--journal" ∷ number ∷ map_word ∷ script ∷ more) r
-    → (n : ℕ) → number ≡ decimal n → 1 ≤ n → n ≤ max_capacity → AreUsual map_word (script ∷ more) → GivesOptions r n map_word (script ∷ more)
+    → (n : ℕ) → number ≡ decimal n → 1 ≤ n → n ≤ max_capacity → AreUsual map_word (script ∷ more) → GivesOptions r n Plain map_word (script ∷ more)
 given_journal name number map_word script more r reads n is least most usual =
     let written = decimal_is_IsNumeral n (omega arith) in
     let numeral : IsNumeral 10 number = rw is written.0 in
     let value : digits_value 10 number ≡ n = rw is written.1 in
     let b = begins number numeral in
-    gives_options (name ∷ codes "--journal" ∷ number ∷ map_word ∷ script ∷ more) number map_word (script ∷ more) n
+    gives_options (name ∷ codes "--journal" ∷ number ∷ map_word ∷ script ∷ more) Plain number map_word (script ∷ more) n
     (finds_four name number map_word script more b.plain usual.plain_map usual.plain_scripts.0 usual.plain_scripts.1 usual.few
     (numeral_accepted number n numeral value least most))
     usual.few (ap (digits_value 10) b.plus ∙ value) r reads
@@ -369,18 +447,26 @@ no_script map_word usual = omega (arith, usual.some)
 
 -- the usual lines, from what is made of all words
 pub usual_line : (words : List Text) (r : Result Options LineError) → ReadsLine words r → ReadsUsual words r
-usual_line words r reads = record { plain = plain_line; with_journal = journal_line }
+usual_line words r reads = record { plain = plain_line; with_journal = journal_line; with_stock = stock_line }
   where
     plain_line : (name map_word : Text) (scripts : List Text) → words ≡ name ∷ map_word ∷ scripts → AreUsual map_word scripts
-        → GivesOptions r 1024 map_word scripts
+        → GivesOptions r 1024 Plain map_word scripts
     plain_line name map_word [] is usual = absurd (no_script map_word usual)
     plain_line name map_word (script ∷ more) is usual =
-        gives_options (name ∷ map_word ∷ script ∷ more) (codes "1024") map_word (script ∷ more) 1024
+        gives_options (name ∷ map_word ∷ script ∷ more) Plain (codes "1024") map_word (script ∷ more) 1024
         (finds_two name map_word script more usual.plain_map usual.plain_scripts.0 usual.plain_scripts.1 usual.few) usual.few refl r
         (subst (λ w. ReadsLine w r) is reads)
 
     journal_line : (name map_word : Text) (n : ℕ) (scripts : List Text) → words ≡ name ∷ codes "--journal" ∷ decimal n ∷ map_word ∷ scripts
-        → 1 ≤ n → n ≤ max_capacity → AreUsual map_word scripts → GivesOptions r n map_word scripts
+        → 1 ≤ n → n ≤ max_capacity → AreUsual map_word scripts → GivesOptions r n Plain map_word scripts
     journal_line name map_word n [] is least most usual = absurd (no_script map_word usual)
     journal_line name map_word n (script ∷ more) is least most usual =
         given_journal name (decimal n) map_word script more r (subst (λ w. ReadsLine w r) is reads) n refl least most usual
+
+    stock_line : (name map_word : Text) (scripts : List Text) → words ≡ name ∷ codes "--stock" ∷ map_word ∷ scripts → AreUsual map_word scripts
+        → GivesOptions r 1024 Stock map_word scripts
+    stock_line name map_word [] is usual = absurd (no_script map_word usual)
+    stock_line name map_word (script ∷ more) is usual =
+        gives_options (name ∷ codes "--stock" ∷ map_word ∷ script ∷ more) Stock (codes "1024") map_word (script ∷ more) 1024
+        (finds_three name map_word script more usual.plain_map usual.plain_scripts.0 usual.plain_scripts.1 usual.few) usual.few refl r
+        (subst (λ w. ReadsLine w r) is reads)

@@ -5,7 +5,7 @@ use Rattle.std.specs.declared.alloc.Global.{Global}
 use Rattle.std.specs.Str.{bytes_eq}
 use Rattle.std.specs.Str.Parse.{IsNumeral, digits_value, without_leading_plus}
 use Rattle.clap.specs.declared.builder.arg.Arg.{Arg}
-use Rattle.clap.specs.declared.builder.action.ArgAction.TheVariants.{Set, Append}
+use Rattle.clap.specs.declared.builder.action.ArgAction.TheVariants.{Set, Append, SetTrue}
 use Rattle.clap.specs.declared.builder.value_parser.ValueParser.TheVariants.{Signed}
 use Rattle.clap.specs.declared.error.kind.ErrorKind.{ErrorKind}
 use Rattle.clap.specs.declared.error.kind.ErrorKind.TheVariants.{DisplayHelp, DisplayVersion, OutOfMemory}
@@ -15,6 +15,8 @@ use Rattle.clap.specs.Faults.{fault_of}
 use Rattle.clap.specs.Walk.{Row, Rule, Text, first_of, all_of, one_of, rule_of}
 use Rattle.clap.specs.Simple.{App, matches_of, new_app, new_rule, on_top, with_rule}
 use Rattle.epochlog.specs.Epochs.{max_capacity}
+use Rattle.stated.specs.declared.profile.Profile.{Profile}
+use Rattle.stated.specs.declared.profile.Profile.TheVariants.{Plain, Stock}
 use Rattle.osdmapd.specs.declared.choices.Options.{Options}
 use Rattle.osdmapd.specs.declared.choices.LineError.{LineError}
 use Rattle.osdmapd.specs.declared.choices.LineError.TheVariants.{Help, Usage, TooMany, Unpaired, Memory}
@@ -34,6 +36,10 @@ journal_rule = record (new_rule (codes "journal")) {
   defaults = codes "1024" ∷ [];
   parser = Some (Signed (pos 1) (pos max_capacity));
 }
+
+-- `--stock`
+abbrev pub stock_rule : Rule
+stock_rule = record (new_rule (codes "stock")) { long = Some (codes "stock"); action = Some SetTrue }
 
 -- `--to ANSWERS`, as often as one likes
 abbrev pub to_rule : Rule
@@ -61,9 +67,9 @@ program = on_top (λ s. record s { has_version = true }) (new_app (codes "osdmap
 
 -- with its options
 abbrev pub program_with_options : App
-program_with_options = with_rule (with_rule program journal_rule) to_rule
+program_with_options = with_rule (with_rule (with_rule program journal_rule) stock_rule) to_rule
 
--- `osdmapd [--journal N] [--to ANSWERS].. MAP SCRIPT..`
+-- `osdmapd [--journal N] [--stock] [--to ANSWERS].. MAP SCRIPT..`
 abbrev pub app : App
 app = with_rule (with_rule program_with_options map_rule) script_rule
 
@@ -91,6 +97,16 @@ IsJournalIn rows n = IsNumberOf (codes "journal") rows n
 abbrev pub HasNoJournal : List Row → Type 0
 HasNoJournal rows = (n : ℕ) → n < 2 ^ 32 → IsJournalIn rows n → ⊥
 
+-- what is found for `--stock` where it is given, and where it is not
+abbrev pub stock_word : Profile → Text
+stock_word Plain = codes "false"
+stock_word Stock = codes "true"
+
+-- the profile that was asked for by `--stock`
+abbrev pub IsProfileIn : List Row → Profile → Type 0
+IsProfileIn rows profile =
+    (asked : Profile) → one_of (codes "stock") rows ≡ Some (stock_word asked) → profile ≡ asked
+
 -- the map's path that was found
 abbrev pub map_path_in : List Row → Option Text
 map_path_in rows = first_of (codes "MAP") rows
@@ -111,9 +127,10 @@ ArePaired scripts answers = (answers ≢ 0) → answers ≡ scripts
 abbrev pub is_standard : String Global → Bool
 is_standard path = bytes_eq (string_bytes path) (codes "-")
 
--- the options are what was found for the journal, the map, the scripts and their answers
+-- the options are what was found for the journal, the profile, the map, the scripts and their answers
 pub record AreFound (rows : List Row) (o : Options) : Type 0 where
   pub journal_found : IsJournalIn rows o.journal
+  pub profile_found : IsProfileIn rows o.profile
   pub map_found : map_path_in rows ≡ Some (string_bytes o.map)
   pub scripts_found : script_paths_in rows ≡ Some (map string_bytes o.scripts.items)
   pub answers_found : answer_paths_in rows ≡ map string_bytes o.answers.items
@@ -172,19 +189,23 @@ pub record AreUsual (map_word : Text) (scripts : List Text) : Type 0 where
   pub few : length scripts ≤ max_scripts
 
 -- these options are read; only want of memory keeps them from it
-abbrev pub GivesOptions : Result Options LineError → ℕ → Text → List Text → Type 0
-GivesOptions r journal map_word scripts =
+abbrev pub GivesOptions : Result Options LineError → ℕ → Profile → Text → List Text → Type 0
+GivesOptions r journal profile map_word scripts =
     MatchResult r
-    (λ o. (o.journal ≡ journal) × (string_bytes o.map ≡ map_word) × (map string_bytes o.scripts.items ≡ scripts)
-    × (o.answers.items ≡ []))
+    (λ o. (o.journal ≡ journal) × (o.profile ≡ profile) × (string_bytes o.map ≡ map_word)
+    × (map string_bytes o.scripts.items ≡ scripts) × (o.answers.items ≡ []))
     (λ e. e ≡ Memory)
 
--- what `osdmapd MAP SCRIPT..` and `osdmapd --journal N MAP SCRIPT..` ask for, where none of the files is taken for an
--- option: this map, these scripts, no file of answers, and a journal of 1,024 or N
+-- what `osdmapd MAP SCRIPT..`, `osdmapd --journal N MAP SCRIPT..` and `osdmapd --stock MAP SCRIPT..` ask for, where none
+-- of the files is taken for an option: this map, these scripts, no file of answers, a journal of 1,024 or N, and the
+-- stock profile where it is asked for
 pub record ReadsUsual (words : List Text) (r : Result Options LineError) : Type 0 where
   pub plain : (name map_word : Text) (scripts : List Text) → words ≡ name ∷ map_word ∷ scripts →
       AreUsual map_word scripts
-      → GivesOptions r 1024 map_word scripts
+      → GivesOptions r 1024 Plain map_word scripts
   pub with_journal : (name map_word : Text) (n : ℕ) (scripts : List Text) →
       words ≡ name ∷ codes "--journal" ∷ decimal n ∷ map_word ∷ scripts
-      → 1 ≤ n → n ≤ max_capacity → AreUsual map_word scripts → GivesOptions r n map_word scripts
+      → 1 ≤ n → n ≤ max_capacity → AreUsual map_word scripts → GivesOptions r n Plain map_word scripts
+  pub with_stock : (name map_word : Text) (scripts : List Text) →
+      words ≡ name ∷ codes "--stock" ∷ map_word ∷ scripts → AreUsual map_word scripts
+      → GivesOptions r 1024 Stock map_word scripts

@@ -6,6 +6,7 @@ use Rattle.stated.specs.Incrementals.{Step}
 use Rattle.osdmap.specs.Maps.{ClusterMap}
 use Rattle.osdmap.specs.Changes.{IsLawful}
 use Rattle.epochlog.specs.Epochs.{Begins}
+use Rattle.stated.specs.declared.profile.Profile.{Profile}
 use Rattle.mapjson.specs.MapTexts.{map_text_fault, StatesMap}
 use Rattle.monitor.specs.Members.{Monitored, IsMemberOf}
 use Rattle.session.specs.Commands.{lines_in}
@@ -34,23 +35,25 @@ lets_all number passes = passes ≡ true
 abbrev pub unseen : Sight
 unseen = record { member = []; follower = [] }
 
--- the text of the session of a number: its heading, and the answers of its script, from this first map and with a
--- journal for so many changes; the last of them leaves its member with this history
-abbrev pub IsSessionText : ClusterMap → ℕ → ℕ → List ℕ → List ℕ → List Step → Type 0
-IsSessionText first journal number script text seen =
-    (answers : List ℕ) × (last : Sight) × IsTranscript (session_with first journal lets_all) 1 unseen
+-- the text of the session of a number: its heading, and the answers of its script, from this first map, with a
+-- journal for so many changes, whose texts may state these kinds of buckets; the last of them leaves its member with
+-- this history
+abbrev pub IsSessionText : ClusterMap → ℕ → Profile → ℕ → List ℕ → List ℕ → List Step → Type 0
+IsSessionText first journal profile number script text seen =
+    (answers : List ℕ) × (last : Sight) × IsTranscript (session_with first journal profile lets_all) 1 unseen
     (lines_in script) answers last
     × (last.member ≡ seen) × (text ≡ heading number ++ answers)
 
 -- the same of a session of this monitor
 abbrev pub IsTextBy : Monitored → ℕ → List ℕ → List ℕ → List Step → Type 0
 IsTextBy monitor number script text seen =
-    IsSessionText monitor.first (length monitor.row.cells) number script text seen
+    IsSessionText monitor.first (length monitor.row.cells) monitor.profile number script text seen
 
 -- what is left to put out of the session of a part, once it has ended: the text of a script; of a live session nothing
-abbrev pub IsLeftOf : ClusterMap → ℕ → ℕ → Part → List ℕ → List Step → Type 0
-IsLeftOf first journal number (Script script) text seen = IsSessionText first journal number script.items text seen
-IsLeftOf first journal number (Live source target) text seen = text ≡ []
+abbrev pub IsLeftOf : ClusterMap → ℕ → Profile → ℕ → Part → List ℕ → List Step → Type 0
+IsLeftOf first journal profile number (Script script) text seen =
+    IsSessionText first journal profile number script.items text seen
+IsLeftOf first journal profile number (Live source target) text seen = text ≡ []
 
 -- what is to be put out of what is left
 abbrev pub text_left : Left → List ℕ
@@ -64,48 +67,48 @@ seen_left left = left.member.pass.history
 abbrev pub IsLeftBy : Monitored → ℕ → Part → Left → Type 0
 IsLeftBy monitor number part left =
     IsMemberOf monitor left.member
-    × IsLeftOf monitor.first (length monitor.row.cells) number part (text_left left) (seen_left left)
+    × IsLeftOf monitor.first (length monitor.row.cells) monitor.profile number part (text_left left) (seen_left left)
 
 -- ---- all sessions
 
 -- what is left of a session whose last history begins this one
-abbrev pub IsLeftIn : ClusterMap → ℕ → List Step → ℕ → Part → List ℕ → Type 0
-IsLeftIn first journal all number part text =
-    (seen : List Step) × Begins seen all × IsLeftOf first journal number part text seen
+abbrev pub IsLeftIn : ClusterMap → ℕ → Profile → List Step → ℕ → Part → List ℕ → Type 0
+IsLeftIn first journal profile all number part text =
+    (seen : List Step) × Begins seen all × IsLeftOf first journal profile number part text seen
 
 -- what is left of the sessions of these parts, numbered from 1, at one monitor: the last history of each begins one
 -- that is lawful from the first map
 abbrev pub AreLeftBy : Monitored → List Part → List Left → Type 0
 AreLeftBy monitor parts lefts =
     (all : List Step) × IsLawful monitor.first all
-    × Pairs (λ number part left. IsLeftIn monitor.first (length monitor.row.cells) all number part (text_left left))
-    1 parts lefts
+    × Pairs (λ number part left.
+    IsLeftIn monitor.first (length monitor.row.cells) monitor.profile all number part (text_left left)) 1 parts lefts
 
 -- what is left of the sessions of these parts, numbered from 1, from the map that a text states: there is one history,
 -- lawful from that map, which the last history of each session begins
-abbrev pub AreTextsOf : ℕ → List ℕ → List Part → List (List ℕ) → Type 0
-AreTextsOf journal stated parts texts =
-    (m : ClusterMap) × StatesMap stated m × (all : List Step) × IsLawful m all
-    × Pairs (IsLeftIn m journal all) 1 parts texts
+abbrev pub AreTextsOf : ℕ → Profile → List ℕ → List Part → List (List ℕ) → Type 0
+AreTextsOf journal profile stated parts texts =
+    (m : ClusterMap) × StatesMap profile stated m × (all : List Step) × IsLawful m all
+    × Pairs (IsLeftIn m journal profile all) 1 parts texts
 
 -- the texts of a map that is not refused are out, one after the other
-abbrev pub IsServed : ℕ → List ℕ → List Part → List ℕ → List ℕ → Type 0
-IsServed journal stated parts before after =
-    (map_text_fault stated ≡ None)
-    × ((texts : List (List ℕ)) × AreTextsOf journal stated parts texts × (after ≡ before ++ concat texts))
+abbrev pub IsServed : ℕ → Profile → List ℕ → List Part → List ℕ → List ℕ → Type 0
+IsServed journal profile stated parts before after =
+    (map_text_fault profile stated ≡ None)
+    × ((texts : List (List ℕ)) × AreTextsOf journal profile stated parts texts × (after ≡ before ++ concat texts))
 
 -- what is out at the end: the texts, also where a live session has told that a file of it failed, or where the output
 -- fails a beginning of them; nothing where the map is refused or memory is short
-abbrev pub Serves : ℕ → List ℕ → List Part → List ℕ → List ℕ → Result Unit Fault → Type 0
-Serves journal stated parts before after (Ok done) = IsServed journal stated parts before after
-Serves journal stated parts before after (Err (Map refusal)) =
-    (map_text_fault stated ≡ Some refusal) × (after ≡ before)
-Serves journal stated parts before after (Err Output) =
-    (map_text_fault stated ≡ None)
-    × ((texts : List (List ℕ)) × (rest : List ℕ) × AreTextsOf journal stated parts texts
+abbrev pub Serves : ℕ → Profile → List ℕ → List Part → List ℕ → List ℕ → Result Unit Fault → Type 0
+Serves journal profile stated parts before after (Ok done) = IsServed journal profile stated parts before after
+Serves journal profile stated parts before after (Err (Map refusal)) =
+    (map_text_fault profile stated ≡ Some refusal) × (after ≡ before)
+Serves journal profile stated parts before after (Err Output) =
+    (map_text_fault profile stated ≡ None)
+    × ((texts : List (List ℕ)) × (rest : List ℕ) × AreTextsOf journal profile stated parts texts
     × HasPut before (concat texts) rest after)
-Serves journal stated parts before after (Err Told) = IsServed journal stated parts before after
-Serves journal stated parts before after (Err Memory) = after ≡ before
+Serves journal profile stated parts before after (Err Told) = IsServed journal profile stated parts before after
+Serves journal profile stated parts before after (Err Memory) = after ≡ before
 
 -- whether the sink has failed: where the output is told to have, and else not
 abbrev pub has_output_failed : Result Unit Fault → Bool

@@ -1,4 +1,5 @@
 //! What a command line asks for.
+use stated::Profile;
 use std::alloc::AllocError;
 use thiserror::Error;
 
@@ -7,6 +8,8 @@ use thiserror::Error;
 pub struct Options {
     /// How many changes the journal holds: 1 to 65,536.
     pub journal: u32,
+    /// Which maps and changes texts may state: those of stock clusters, or plain ones alone.
+    pub profile: Profile,
     /// The path of the map.
     pub map: String,
     /// The paths of the scripts.

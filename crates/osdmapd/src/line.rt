@@ -6,13 +6,14 @@ ghost use Rattle.clap.specs.Simple.{app_of};
 ghost use Rattle.clap.specs.Values.{kind_of};
 ghost use Rattle.clap.specs.Walk.{rows_of};
 ghost use Rattle.epochlog.specs.Epochs.{max_capacity};
-ghost use Rattle.osdmapd.specs.CommandLine.{journal_rule, map_rule, script_rule, to_rule, IsReadBy, program, program_with_options, app};
-ghost use Rattle.osdmapd.specs.CommandLine.{max_scripts, HasNoJournal, IsJournalIn, map_path_in, script_paths_in, answer_paths_in, Chooses, ArePaired, TellsOf, ReadsLine, ReadsUsual};
+ghost use Rattle.osdmapd.specs.CommandLine.{journal_rule, stock_rule, map_rule, script_rule, to_rule, IsReadBy, program, program_with_options, app};
+ghost use Rattle.osdmapd.specs.CommandLine.{max_scripts, HasNoJournal, IsJournalIn, IsProfileIn, map_path_in, script_paths_in, answer_paths_in, Chooses, ArePaired, TellsOf, ReadsLine, ReadsUsual};
 
 use crate::choices::{LineError, Options};
 use clap::error::ErrorKind;
 use clap::{Arg, ArgAction, ArgMatches, Command, Error, value_parser};
 use epochlog::MAX_CAPACITY;
+use stated::Profile;
 use std::alloc::{AllocError, Global};
 
 /// How many scripts can be run.
@@ -38,6 +39,16 @@ fn journal_option<'a>(alloc: Global) -> Arg<'a>
         .action(ArgAction::Set)
         .value_parser(value_parser!(u32).range(1..=i64::from(MAX_CAPACITY)))
         .default_value("1024")
+}
+
+/// `--stock`.
+fn stock_option<'a>(alloc: Global) -> Arg<'a>
+    ensures { IsReadBy stock_rule result }
+{
+    Arg::new(alloc, "stock")
+        .long("stock")
+        .help("Takes maps and changes of stock Ceph clusters: with straw2 buckets too")
+        .action(ArgAction::SetTrue)
 }
 
 /// `--to ANSWERS`.
@@ -91,6 +102,7 @@ fn program_with_options<'a>(alloc: Global) -> Result<Command<'a>, AllocError>
 {
     program(alloc)
         .arg(journal_option(alloc))?
+        .arg(stock_option(alloc))?
         .arg(to_option(alloc))
 }
 
@@ -138,6 +150,17 @@ fn journal_in(matches: &ArgMatches<'_>) -> Option<u32>
         (IsJournalIn (rows_of (found_of matches.now))) }
 {
     matches.get_one("journal")
+}
+
+/// The profile: stock where `--stock` was given.
+fn profile_in(matches: &ArgMatches<'_>) -> Profile
+    ensures { IsProfileIn (rows_of (found_of matches.now)) result }
+{
+    if matches.get_flag("stock") {
+        Profile::Stock
+    } else {
+        Profile::Plain
+    }
 }
 
 /// The word for the map.
@@ -197,18 +220,20 @@ fn taken(alloc: Global, matches: &ArgMatches<'_>) -> Result<Options, LineError>
     }
     Ok(Options {
         journal,
+        profile: profile_in(matches),
         map: String::from_str(alloc, map)?,
         scripts: copied(alloc, scripts)?,
         answers,
     })
 }
 
-/// What a command line asks for, the program's name first: `[--journal N] [--to ANSWERS].. MAP SCRIPT..`, N from 1 to
-/// 65,536 and 1,024 where it is not given, 1 to 64 scripts, and as many files of answers or none. The options are those
-/// that the parser finds in the words, exactly where it has nothing against them and the numbers are so; `Help` where
-/// help was asked for, `Usage` for what else the parser has against the words, `TooMany` where there are more scripts,
-/// `Unpaired` where there are files of answers but another number of them, else `Memory`. So where MAP and the scripts
-/// begin with no hyphen, they are the map and the scripts, there is no file of answers, and the journal is N or 1,024.
+/// What a command line asks for, the program's name first: `[--journal N] [--stock] [--to ANSWERS].. MAP SCRIPT..`, N
+/// from 1 to 65,536 and 1,024 where it is not given, 1 to 64 scripts, and as many files of answers or none. The options
+/// are those that the parser finds in the words, exactly where it has nothing against them and the numbers are so;
+/// `Help` where help was asked for, `Usage` for what else the parser has against the words, `TooMany` where there are
+/// more scripts, `Unpaired` where there are files of answers but another number of them, else `Memory`. So where MAP
+/// and the scripts begin with no hyphen, they are the map and the scripts, there is no file of answers, the journal is N
+/// or 1,024, and the profile is stock with `--stock` and else plain.
 pub fn options(alloc: Global, words: &[String]) -> Result<Options, LineError>
     ensures least { IfOk result (λ o. 1 ≤ o.journal) }
     ensures most { IfOk result (λ o. o.journal ≤ max_capacity) }

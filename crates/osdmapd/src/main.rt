@@ -1,5 +1,5 @@
-//! Answers scripts of commands over the map of a cluster: `osdmapd [--journal N] [--to ANSWERS].. MAP SCRIPT..`, where
-//! `-` for a script is standard input, and for a file of answers standard output.
+//! Answers scripts of commands over the map of a cluster: `osdmapd [--journal N] [--stock] [--to ANSWERS].. MAP
+//! SCRIPT..`, where `-` for a script is standard input, and for a file of answers standard output.
 #![tactic(auto)]
 
 ghost use Rattle.std.specs.Prelude.{◌≡◌, ◌≤◌, IfOk, IfErr, length, vec_len, nat_lt, count_by};
@@ -24,6 +24,7 @@ use ending::Ending;
 use fault::Fault;
 use part::{Part, Source, Target};
 use refusal::Memory;
+use serving::Terms;
 use session::Buffer;
 use std::alloc::AllocError;
 use std::process::ExitCode;
@@ -153,7 +154,11 @@ fn work<'a, R: Files + AllocGlobal + Print + Eprint + Threads + Wait + Sync>(
         live_parts(host, options).map_err(|_| Ending::Memory)?
     };
     let mut out = Buffer::new(rt.alloc());
-    match serving::serve((rt, host), options.journal, &map, &parts, &mut out) {
+    let terms = Terms {
+        journal: options.journal,
+        profile: options.profile,
+    };
+    match serving::serve((rt, host), terms, &map, &parts, &mut out) {
         Ok(()) => put_out(rt, out.bytes()),
         Err(Fault::Told) => {
             put_out(rt, out.bytes())?;

@@ -16,9 +16,19 @@ use monitor::{Member, Monitor};
 use osdmap::OsdMap;
 use refusal::{Memory, Refusal};
 use session::{Sink, WriteFailed, write_whole};
+use stated::Profile;
 use std::alloc::Global;
 use std::sync::Wait;
 use std::thread::Threads;
+
+/// By what sessions run.
+#[derive(Clone, Copy)]
+pub struct Terms {
+    /// How many changes may be committed: 1 to 65,536.
+    pub journal: u32,
+    /// Which maps and changes texts may state.
+    pub profile: Profile,
+}
 
 /// Puts the texts that are left to a sink, one after the other. At an `Err` the sink has failed, and has a beginning of
 /// them.
@@ -46,14 +56,15 @@ fn have_told(lefts: &[Left]) -> bool
 fn opened(
     alloc: Global,
     map: OsdMap,
-    journal: u32,
+    terms: Terms,
     seats: usize,
 ) -> Result<(Monitor, Vec<Member>), Memory>
-    requires { can_open map.map.epoch journal seats max_draws ≡ true }
-    ensures { IfOk result (λ r. IsOpening map.map journal seats max_draws r.0 r.1.items) }
+    requires { can_open map.map.epoch terms.journal seats max_draws ≡ true }
+    ensures opening { IfOk result (λ r. IsOpening map.map terms.journal seats max_draws r.0 r.1.items) }
+    ensures profile { IfOk result (λ r. r.0.profile ≡ terms.profile) }
 {
-    match Monitor::open(alloc, map, journal, seats as u32) {
-        Ok(made) => Ok(made),
+    match Monitor::open(alloc, map, terms.journal, seats as u32) {
+        Ok((monitor, members)) => Ok((monitor.with_profile(terms.profile), members)),
         Err(Refusal::Memory) => Err(Memory),
         Err(_) => unreachable!(),
     }
@@ -61,8 +72,7 @@ fn opened(
 
 /// Runs sessions over the map that a text states, each in a thread of its own, with a seat at one monitor; after all
 /// have ended it puts to a sink for each script in order the heading of its session and its answers, and nothing for a
-/// live session, whose answers are out. All threads are started before one is joined. `journal` is how many changes may
-/// be committed, 1 to 65,536; there are 1 to 64 parts.
+/// live session, whose answers are out. All threads are started before one is joined. There are 1 to 64 parts.
 ///
 /// Where the map is refused (10 to 17), nothing is put, nor at `Memory`: a growth was refused (30) before the sessions
 /// or for one of their texts, or a thread could not be made. `Told` comes after all is put, where a file of a live
@@ -71,25 +81,25 @@ fn opened(
 /// at every other end it has not failed.
 pub fn serve<R: AllocGlobal + Threads + Wait + Eprint + Sync, W: Sink>(
     system: (&R, &HostRuntime),
-    journal: u32,
+    terms: Terms,
     map: &[u8],
     parts: &[Part],
     out: &mut W,
 ) -> Result<(), Fault>
-    requires least { 1 ≤ journal }
-    requires most { journal ≤ max_capacity }
+    requires least { 1 ≤ terms.journal }
+    requires most { terms.journal ≤ max_capacity }
     requires some { 1 ≤ length parts.now }
     requires few { length parts.now ≤ max_scripts }
     requires unfailed { W.has_failed out.old ≡ false }
-    ensures served { Serves journal map.now parts.now (W.written out.old) (W.written out.new) result }
+    ensures served { Serves terms.journal terms.profile map.now parts.now (W.written out.old) (W.written out.new) result }
     ensures failed { W.has_failed out.new ≡ has_output_failed result }
 {
     let alloc = system.0.alloc();
-    let map = match read_map(alloc, map) {
+    let map = match read_map(alloc, map, terms.profile) {
         Ok(map) => map,
         Err(refusal) => return Err(Fault::of_refusal(refusal)),
     };
-    let Ok((monitor, members)) = opened(alloc, map, journal, parts.len()) else {
+    let Ok((monitor, members)) = opened(alloc, map, terms, parts.len()) else {
         return Err(Fault::Memory);
     };
     let lefts = lefts(system, monitor, members, parts)?;

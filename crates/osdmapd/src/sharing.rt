@@ -9,6 +9,7 @@ use monitor::{Member, Monitor};
 use osdmap::Pg;
 use refusal::Refusal;
 use session::{Buffer, Desk, Gate};
+use stated::Profile;
 use std::alloc::Global;
 use std::sync::Wait;
 use std::sync::atomic::{AtomicU64, Ordering};
@@ -111,7 +112,7 @@ fn a_gate_is_asked_once_for_a_line(rt: HostRuntime) -> Result<(), Fail> {
 
 /// How many members a monitor with so many seats has.
 fn seated(alloc: Global, seats: u32) -> Option<Result<usize, Refusal>> {
-    let map = read_map(alloc, FOUR_DEVICES.as_bytes()).ok()?;
+    let map = read_map(alloc, FOUR_DEVICES.as_bytes(), Profile::Plain).ok()?;
     match Monitor::open(alloc, map, 16, seats) {
         Ok((_, members)) => Some(Ok(members.len())),
         Err(refusal) => Some(Err(refusal)),
@@ -120,7 +121,7 @@ fn seated(alloc: Global, seats: u32) -> Option<Result<usize, Refusal>> {
 
 /// The same with a limit of draws.
 fn seated_for(alloc: Global, seats: u32, draws: u64) -> Option<Result<usize, Refusal>> {
-    let map = read_map(alloc, FOUR_DEVICES.as_bytes()).ok()?;
+    let map = read_map(alloc, FOUR_DEVICES.as_bytes(), Profile::Plain).ok()?;
     match Monitor::open_limited(alloc, map, 16, seats, draws) {
         Ok((_, members)) => Some(Ok(members.len())),
         Err(refusal) => Some(Err(refusal)),

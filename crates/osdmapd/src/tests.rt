@@ -12,6 +12,7 @@ use mapjson::{read_change, read_map};
 use monitor::{Look, Member, Monitor};
 use refusal::Refusal;
 use session::{Buffer, Desk, Gate, Open, SessionError, Sink, WriteFailed};
+use stated::Profile;
 use std::alloc::{AllocError, Global};
 use std::sync::Wait;
 use std::sync::atomic::{AtomicU64, Ordering};
@@ -44,7 +45,7 @@ fn two_of(monitor: &Monitor, members: Vec<Member>) -> Option<(Member, Member)>
 pub fn opened(alloc: Global, text: &str, draws: u64) -> Option<(Monitor, Member, Member)>
     ensures { IfSome result (λ r. IsNewMemberOf r.0 r.1 × IsNewMemberOf r.0 r.2) }
 {
-    let map = read_map(alloc, text.as_bytes()).ok()?;
+    let map = read_map(alloc, text.as_bytes(), Profile::Plain).ok()?;
     let (monitor, members) = Monitor::open_limited(alloc, map, 16, 2, draws).ok()?;
     let (one, other) = two_of(&monitor, members)?;
     Some((monitor, one, other))
@@ -412,7 +413,7 @@ pub fn commit_now<R: Wait>(
     ensures { IsMemberOf monitor.now member.new }
 {
     let base = monitor.epoch(rt, member)?;
-    let (_, change) = read_change(alloc, text.as_bytes())?;
+    let (_, change) = read_change(alloc, text.as_bytes(), Profile::Plain)?;
     monitor.commit(rt, member, base, change)?;
     Ok(())
 }

@@ -6,7 +6,7 @@ use Rattle.std.specs.Str.{bytes_eq}
 use Rattle.serde_json.specs.Data.{Data}
 use Rattle.serde_json.specs.Find.{as_bool, as_str}
 use Rattle.crush.specs.declared.bucket.BucketKind.{BucketKind}
-use Rattle.crush.specs.declared.bucket.BucketKind.TheVariants.{Uniform, List as Listed, Tree}
+use Rattle.crush.specs.declared.bucket.BucketKind.TheVariants.{Uniform, List as Listed, Tree, Straw2}
 use Rattle.crush.specs.declared.step.Mode.{Mode}
 use Rattle.crush.specs.declared.step.Mode.TheVariants.{Firstn, Indep}
 use Rattle.crush.specs.declared.step.RuleKind.{RuleKind}
@@ -33,6 +33,7 @@ bucket_kind word =
     if bytes_eq word (codes "uniform") then Some Uniform
     else if bytes_eq word (codes "list") then Some Listed
     else if bytes_eq word (codes "tree") then Some Tree
+    else if bytes_eq word (codes "straw2") then Some Straw2
     else None
 
 abbrev pub bucket_kind_of : Data → Option BucketKind

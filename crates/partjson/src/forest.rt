@@ -26,6 +26,7 @@ impl FromWord for BucketKind {
             "uniform" => Some(BucketKind::Uniform),
             "list" => Some(BucketKind::List),
             "tree" => Some(BucketKind::Tree),
+            "straw2" => Some(BucketKind::Straw2),
             _ => None,
         }
     }

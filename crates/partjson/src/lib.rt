@@ -3,8 +3,7 @@
 #![tactic(auto)]
 
 ghost use Rattle.jsonstream.specs.Json.{Answers, stated_by};
-ghost use Rattle.partjson.specs.StatedMaps.{stated_map};
-ghost use Rattle.partjson.specs.StatedChanges.{stated_change};
+ghost use Rattle.partjson.specs.Profiles.{map_in, change_in};
 
 mod change;
 mod exceptions;
@@ -13,6 +12,7 @@ mod lists;
 mod map;
 mod objects;
 mod pools;
+mod profile;
 mod rules;
 mod slots;
 mod values;
@@ -20,25 +20,33 @@ mod whole;
 mod words;
 
 pub use crate::change::{RawChange, RawReweight};
+use crate::profile::{change_allowed, map_allowed};
 use crate::whole::stated_by;
 use refusal::Refusal;
-use stated::MapParts;
+use stated::{MapParts, Profile};
 use std::alloc::Global;
 
 /// The parts of the map that a text states: `BadJson` (10) where the text is not UTF-8, is no JSON or nests
 /// deeper than 127; `BadField` (11) where it does not state a map: all keys but those of the exceptions must
-/// be there and no other may be, and in a map whose version is not 2 no rule sets tries. `Memory` (30).
-pub fn read_map_parts(alloc: Global, bytes: &[u8]) -> Result<MapParts, Refusal>
-    ensures { Answers result (stated_by stated_map bytes.now) }
+/// be there and no other may be, in a map whose version is not 2 no rule sets tries, and no bucket is of a kind
+/// that the profile has not. `Memory` (30).
+pub fn read_map_parts(alloc: Global, bytes: &[u8], profile: Profile) -> Result<MapParts, Refusal>
+    ensures { Answers result (stated_by (map_in profile) bytes.now) }
 {
-    stated_by(alloc, bytes)
+    let parts = stated_by(alloc, bytes)?;
+    map_allowed(profile, parts).ok_or(Refusal::BadField)
 }
 
 /// The parts of the change that a text states: `BadJson` (10) where the text is not UTF-8, is no JSON or
 /// nests deeper than 127; `BadField` (11) where it does not state a change: the base must be there, and no
-/// key but the twelve of a change may be. `Memory` (30).
-pub fn read_change_parts(alloc: Global, bytes: &[u8]) -> Result<RawChange, Refusal>
-    ensures { Answers result (stated_by stated_change bytes.now) }
+/// key but the twelve of a change may be, nor a bucket of a kind that the profile has not. `Memory` (30).
+pub fn read_change_parts(
+    alloc: Global,
+    bytes: &[u8],
+    profile: Profile,
+) -> Result<RawChange, Refusal>
+    ensures { Answers result (stated_by (change_in profile) bytes.now) }
 {
-    stated_by(alloc, bytes)
+    let parts = stated_by(alloc, bytes)?;
+    change_allowed(profile, parts).ok_or(Refusal::BadField)
 }

@@ -51,15 +51,15 @@ lefts k low =
     below_four _ refl refl refl refl)))
 
 -- the hash of three words, by its five mixes in one lane
-pub hash3_lane : (a b c : ℕ) {a' b' x y h : ℕ} {m1 m2 m3 m4 m5 : ℕ × ℕ × ℕ}
-    → h ≡ bit_xor (bit_xor (bit_xor seed a) b) c → a' ≡ a → b' ≡ b → m1 ≡ mixed a' b' h
+pub hash3_lane : (a b c : ℕ) {a' x y h : ℕ} {m1 m2 m3 m4 m5 : ℕ × ℕ × ℕ}
+    → h ≡ bit_xor (bit_xor (bit_xor seed a) b) c → a' ≡ a → m1 ≡ mixed a' b h
     → x ≡ 231232 → m2 ≡ mixed c x m1.2
     → y ≡ 1232 → m3 ≡ mixed y m1.0 m2.2
     → m4 ≡ mixed m1.1 m2.1 m3.2
     → m5 ≡ mixed m3.0 m2.0 m4.2
     → m5.2 ≡ hash3_of a b c
 unfolding hash3_of
-hash3_lane a b c eh ea eb e1 ex e2 ey e3 e4 e5 = rw (e5, e4, e3, ey, e2, ex, e1, eh, ea, eb) refl
+hash3_lane a b c eh ea e1 ex e2 ey e3 e4 e5 = rw (e5, e4, e3, ey, e2, ex, e1, eh, ea) refl
 
 -- the hash of four words, by its six mixes in one lane
 pub hash4_lane : (a b c d : ℕ) {a' d' x y h : ℕ} {m1 m2 m3 m4 m5 m6 : ℕ × ℕ × ℕ}

@@ -65,10 +65,11 @@ fn each(word: u32) -> u32x4
 
 /// What the hashes of three words begin from.
 #[inline(always)]
-fn start3(a: u32, b: u32, c: u32x4) -> u32x4
-    ensures { (j : ℕ) → j < 4 → slice_index result j ≡ bit_xor (bit_xor (bit_xor seed a) b) (slice_index c j) }
+fn start3(a: u32, b: u32x4, c: u32x4) -> u32x4
+    ensures { (j : ℕ) → j < 4 → slice_index result j
+        ≡ bit_xor (bit_xor (bit_xor seed a) (slice_index b j)) (slice_index c j) }
 {
-    u32x4::splat(SEED ^ a ^ b) ^ c
+    u32x4::splat(SEED ^ a) ^ b ^ c
 }
 
 /// What the hashes of four words begin from.
@@ -80,13 +81,13 @@ fn start4(a: u32, b: u32x4, c: u32x4, d: u32) -> u32x4
     u32x4::splat(SEED ^ a) ^ b ^ c ^ u32x4::splat(d)
 }
 
-/// The hashes of three words, the third of each lane its own.
+/// The hashes of three words, the second and the third of each lane its own.
 #[inline(always)]
-fn hashes3(a: u32, b: u32, c: u32x4) -> u32x4
-    ensures { (j : ℕ) → j < 4 → slice_index result j ≡ hash3_of a b (slice_index c j) }
+fn hashes3(a: u32, b: u32x4, c: u32x4) -> u32x4
+    ensures { (j : ℕ) → j < 4 → slice_index result j ≡ hash3_of a (slice_index b j) (slice_index c j) }
 {
     let h = start3(a, b, c);
-    let (a, b, h) = mix(each(a), each(b), h);
+    let (a, b, h) = mix(each(a), b, h);
     let (c, x, h) = mix(c, each(X), h);
     let (y, _, h) = mix(each(Y), a, h);
     let (_, _, h) = mix(b, x, h);
@@ -109,12 +110,12 @@ fn hashes4(a: u32, b: u32x4, c: u32x4, d: u32) -> u32x4
     h
 }
 
-/// The hashes of `a`, `b` and each word of `c`: for each what `hash3` answers.
+/// The hashes of `a`, each word of `b`, and the word of `c` at the same place: for each what `hash3` answers.
 #[inline(always)]
-pub fn hash3_each(a: u32, b: u32, c: [u32; 4]) -> [u32; 4]
-    ensures { (j : ℕ) → j < 4 → slice_index result j ≡ hash3_of a b (slice_index c j) }
+pub fn hash3_each(a: u32, b: [u32; 4], c: [u32; 4]) -> [u32; 4]
+    ensures { (j : ℕ) → j < 4 → slice_index result j ≡ hash3_of a (slice_index b j) (slice_index c j) }
 {
-    hashes3(a, b, u32x4::from_array(c)).to_array()
+    hashes3(a, u32x4::from_array(b), u32x4::from_array(c)).to_array()
 }
 
 /// The hashes of `a`, each word of `b`, the word of `c` at the same place, and `d`: for each what `hash4` answers.

@@ -129,8 +129,12 @@ mod tests {
     fn hashes_four_as_published(rt: HostRuntime) {
         let words = [2, 0, 0xffffffff, 0x80000000];
         assert_eq!(rt;
-            hash3_each(1, 2, words),
+            hash3_each(1, [2; 4], words),
             [2275394229, 3898035282, 679460915, 2191141394]
+        );
+        assert_eq!(rt;
+            hash3_each(1, words, [3, 3, 3, 5]),
+            [1935332395, 1377757821, 53104019, 2733581716]
         );
         assert_eq!(rt;
             hash4_each(1, words, [3, 3, 3, 5], 4),

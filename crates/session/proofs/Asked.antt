@@ -19,6 +19,7 @@ use Rattle.session.specs.Texts.{epoch_text, dump_text, refusal_text, line_of}
 use Rattle.session.specs.Replies.{reply_text}
 use Rattle.session.specs.Commands.{ask, command_in, question_in, task_in}
 use Rattle.session.specs.Transcripts.{TakesLine}
+use Rattle.stated.specs.declared.profile.Profile.{Profile}
 use Rattle.session.specs.Answers.{Asks, Sight, session_with}
 use Rattle.session.specs.Sessions.{seen_by}
 use Rattle.session.proofs.Histories.{goes_on_same}
@@ -82,12 +83,12 @@ some_line [] question e = absurd (none_some e)
 some_line (c ∷ cs) question e = omega arith
 
 -- and is taken so, where each line is let through
-pub takes_question : (first : ClusterMap) (most : ℕ) (lets : ℕ → Bool → Type 0) (number : ℕ) (before now : Sight) (line : List ℕ)
+pub takes_question : (first : ClusterMap) (most : ℕ) (profile : Profile) (lets : ℕ → Bool → Type 0) (number : ℕ) (before now : Sight) (line : List ℕ)
     (question : Question) (answer : List ℕ) → ((n : ℕ) → lets n true) → command_in line ≡ Some (ask question)
     → Asks first before.member now.member question answer → now.follower ≡ before.follower
-    → TakesLine (session_with first most lets) number before line answer now
-takes_question first most lets number before now line question answer passes is asked same =
-    takes_line (session_with first most lets) number before now line answer (some_line line question is) (passes number) (rw is (asked, same))
+    → TakesLine (session_with first most profile lets) number before line answer now
+takes_question first most profile lets number before now line question answer passes is asked same =
+    takes_line (session_with first most profile lets) number before now line answer (some_line line question is) (passes number) (rw is (asked, same))
 
 -- what is seen by a member and a follower is the same where these have seen the same
 pub same_sight : (one other : Member) (follower same : Option Followed) → one.pass ≡ other.pass → follower ≡ same

@@ -12,6 +12,7 @@ use Rattle.osdmap.specs.Maps.{ClusterMap}
 use Rattle.osdmap.specs.Placement.{group_fault}
 use Rattle.osdmap.specs.Changes.{after}
 use Rattle.pgtable.specs.Index.{up_at}
+use Rattle.stated.specs.declared.profile.Profile.{Profile}
 use Rattle.mapjson.specs.ChangeTexts.{change_text_fault, StatesChange}
 use Rattle.mapjson.specs.Written.{written}
 use Rattle.state.specs.Answers.{FindsUp, FindsCount, FindsGroups}
@@ -52,9 +53,9 @@ Asks first before now Dump answer =
 
 -- what a change answers, the new epoch and the evaluations: its text is read, where a growth may be refused in place of
 -- any answer; then what it states is committed; a text that is refused changes nothing, and nothing is looked at
-abbrev pub Changes : ClusterMap → ℕ → List Step → List Step → List ℕ → Result (ℕ × ℕ) Refusal → Type 0
-Changes first most before now text r =
-    (read : Result (ℕ × ChangeParts) Refusal) × Makes read (change_text_fault text) (StatesChange text)
+abbrev pub Changes : ClusterMap → ℕ → Profile → List Step → List Step → List ℕ → Result (ℕ × ℕ) Refusal → Type 0
+Changes first most profile before now text r =
+    (read : Result (ℕ × ChangeParts) Refusal) × Makes read (change_text_fault profile text) (StatesChange profile text)
     × MatchResult read (λ stated. AnswersCommit first most before now stated.0 stated.1 r)
     (λ e. (r ≡ Err e) × (now ≡ before))
 
@@ -85,28 +86,28 @@ Tells first before now task.Dump answer =
 
 -- ---- lines
 
--- what a command answers to a session of a monitor with this first map and a journal for so many changes, and what it
--- has seen then; none is a line that is no command
-abbrev pub Does : ClusterMap → ℕ → Sight → Option Command → List ℕ → Sight → Type 0
-Does first most before None answer now = (answer ≡ refusal_text BadCommand) × (now ≡ before)
-Does first most before (Some (ask question)) answer now =
+-- what a command answers to a session of a monitor with this first map, a journal for so many changes, and texts of
+-- changes that may state these kinds of buckets, and what it has seen then; none is a line that is no command
+abbrev pub Does : ClusterMap → ℕ → Profile → Sight → Option Command → List ℕ → Sight → Type 0
+Does first most profile before None answer now = (answer ≡ refusal_text BadCommand) × (now ≡ before)
+Does first most profile before (Some (ask question)) answer now =
     Asks first before.member now.member question answer × (now.follower ≡ before.follower)
-Does first most before (Some (change text)) answer now =
-    IsLineOf (Changes first most before.member now.member text) (λ ok. ok_text ok.0 ok.1) answer
+Does first most profile before (Some (change text)) answer now =
+    IsLineOf (Changes first most profile before.member now.member text) (λ ok. ok_text ok.0 ok.1) answer
     × (now.follower ≡ before.follower)
-Does first most before (Some (wait epoch)) answer now =
+Does first most profile before (Some (wait epoch)) answer now =
     IsLineOf (Awaits first epoch before.member now.member) (epoch_text (codes "epoch")) answer
     × (now.follower ≡ before.follower)
-Does first most before (Some (balance pool limit)) answer now =
+Does first most profile before (Some (balance pool limit)) answer now =
     IsLineOf (AnswersBalance first most before.member now.member pool limit) (λ ok. moved_text ok.1 ok.0) answer
     × (now.follower ≡ before.follower)
-Does first most before (Some (follower t)) answer now =
+Does first most profile before (Some (follower t)) answer now =
     Tells first before.follower now.follower t answer × (now.member ≡ before.member)
 
 -- what a line answers, and what the session has seen then
-abbrev pub IsAnswered : ClusterMap → ℕ → Sight → List ℕ → List ℕ → Sight → Type 0
-IsAnswered first most before line answer now = Does first most before (command_in line) answer now
+abbrev pub IsAnswered : ClusterMap → ℕ → Profile → Sight → List ℕ → List ℕ → Sight → Type 0
+IsAnswered first most profile before line answer now = Does first most profile before (command_in line) answer now
 
 -- how a session goes behind a gate
-abbrev pub session_with : ClusterMap → ℕ → (ℕ → Bool → Type 0) → Manner Sight
-session_with first most lets = record { answers = IsAnswered first most; lets = lets }
+abbrev pub session_with : ClusterMap → ℕ → Profile → (ℕ → Bool → Type 0) → Manner Sight
+session_with first most profile lets = record { answers = IsAnswered first most profile; lets = lets }

@@ -209,9 +209,9 @@ impl<'a, R: Wait, G> Desk<'a, R, G> {
         requires { IsMemberOf self.now.monitor.now member.old }
         ensures member { IsMemberOf self.now.monitor.now member.new }
         ensures changes { Changes self.now.monitor.now.first (length self.now.monitor.now.row.cells)
-            member.old.pass.history member.new.pass.history text.now result }
+            self.now.monitor.now.profile member.old.pass.history member.new.pass.history text.now result }
     {
-        let (base, change) = read_change(self.alloc, text)?;
+        let (base, change) = read_change(self.alloc, text, self.monitor.profile())?;
         self.monitor.commit(self.rt, member, base, change)
     }
 
@@ -254,7 +254,7 @@ impl<'a, R: Wait, G> Desk<'a, R, G> {
         ensures member { IsMemberOf self.now.monitor.now member.new }
         ensures follower { IsFollowerOf self.now.monitor.now follower.new }
         ensures does { Does self.now.monitor.now.first (length self.now.monitor.now.row.cells)
-            (seen_by member.old follower.old)
+            self.now.monitor.now.profile (seen_by member.old follower.old)
             (option_map shown command.entry) (line_of reply_text result) (seen_by member.new follower.new) }
     {
         match command {

@@ -8,5 +8,6 @@ pub mod Ordered
 pub mod Parts
 pub mod PgText
 pub mod Pools
+pub mod Profiles
 pub mod Sets
 pub mod Shorts

@@ -17,6 +17,7 @@ pub mod parts;
 pub mod pg;
 pub mod pg_text;
 pub mod pool;
+pub mod profile;
 pub mod rules;
 pub mod short;
 mod steps;
@@ -35,5 +36,6 @@ pub use parts::{
 pub use pg::Pg;
 pub use pg_text::PgParts;
 pub use pool::Pool;
+pub use profile::Profile;
 pub use rules::NumberedRule;
 pub use short::{Blank, Short};

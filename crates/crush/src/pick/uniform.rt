@@ -20,7 +20,7 @@ const PLACES: [u8; MAX_ITEMS] = [
 fn first_hashes(x: u32, id: u32) -> [u32; 4]
     ensures { (p : ℕ) → p < 4 → slice_index result p ≡ hash3_of x id p }
 {
-    hash3_each(x, id, [0, 1, 2, 3])
+    hash3_each(x, [id; 4], [0, 1, 2, 3])
 }
 
 /// The hash of a draw: of the first draws, or its own.

@@ -19,7 +19,7 @@ returns-in-Err-clause-ok g c =
     let line = c.args.first.0.now in
     let answer = refusal_text c.in-Err.refusal in
     let asked = asks_refused monitor.first before.member now.member c.args.first.1 c.in-Err.refusal c.share.ensures.goes_on c.in-Err.ensures.spent.0 in
-    let taken = takes_question monitor.first (length monitor.row.cells) lets number before now line c.args.first.1 answer c.requires.open c.requires.asks asked refl in
+    let taken = takes_question monitor.first (length monitor.row.cells) monitor.profile lets number before now line c.args.first.1 answer c.requires.open c.requires.asks asked refl in
     (answer, passes_line (session_of monitor lets) number before now line c.args.first.2.now answer c.requires.line taken, c.in_ok-put_answer-in-Err.ensures.out)
 
 pub returns-in_err-put_answer-in-Err-clause-err : goal.returns-in_err-put_answer-in-Err-clause-err
@@ -55,7 +55,7 @@ returns-clause-ok g c =
     let others = c.args.first.2.now in
     let answer = line_of reply_text c.answer_of-answer.result in
     let asked = asks_from monitor.first before.member now.member c.args.first.1 answer c.share.ensures.goes_on c.answer_of-answer.ensures in
-    let taken = takes_question monitor.first (length monitor.row.cells) lets number before now line c.args.first.1 answer c.requires.open c.requires.asks asked refl in
+    let taken = takes_question monitor.first (length monitor.row.cells) monitor.profile lets number before now line c.args.first.1 answer c.requires.open c.requires.asks asked refl in
     elim c.match-put_answer.branch [
       | in-Ok-put_answer w ↦
           let same = same_sight c.give_back.new.member c.share.new.member w.answer_shared-done.new.room.follower c.args.room.now.follower
@@ -79,7 +79,7 @@ returns-clause-err g c =
     let others = c.args.first.2.now in
     let answer = line_of reply_text c.answer_of-answer.result in
     let asked = asks_from monitor.first before.member now.member c.args.first.1 answer c.share.ensures.goes_on c.answer_of-answer.ensures in
-    let taken = takes_question monitor.first (length monitor.row.cells) lets number before now line c.args.first.1 answer c.requires.open c.requires.asks asked refl in
+    let taken = takes_question monitor.first (length monitor.row.cells) monitor.profile lets number before now line c.args.first.1 answer c.requires.open c.requires.asks asked refl in
     let put = g.W.Sink.written c.args.sink.now in
     let mid = g.W.Sink.written c.put_answer-2.new.sink in
     elim c.match-put_answer.branch [

@@ -37,7 +37,7 @@ loop-left-preserved g c =
     let (line, part, is, asks) = c.in-Some.ensures in
     let others = c.in-Some.others.now in
     let answer = line_of reply_text c.answer_of-answer.result in
-    let taken = takes_question c.args.self.now.monitor.now.first (length c.args.self.now.monitor.now.row.cells) (g.G.Gate.lets c.args.self.now.gate.now)
+    let taken = takes_question c.args.self.now.monitor.now.first (length c.args.self.now.monitor.now.row.cells) c.args.self.now.monitor.now.profile (g.G.Gate.lets c.args.self.now.gate.now)
     next sight sight line c.in-Some.question answer c.requires.open asks c.answer_of-answer.ensures refl in
     let here : Passes m next sight c.loop-left.rest.now answer (next + 1) sight others =
     subst (λ t. Passes m next sight t answer (next + 1) sight others) (sym is) (passes_line m next sight sight line others answer part taken) in

@@ -1,0 +1,31 @@
+//! What texts state, where their profile has it.
+
+ghost use Rattle.std.specs.Prelude.{◌≡◌};
+ghost use Rattle.partjson.specs.Profiles.{brings_kinds, map_allowed, change_allowed};
+
+use crate::change::RawChange;
+use stated::{CrushParts, MapParts, Profile};
+
+/// Whether a profile has the kinds of all buckets of a CRUSH map, where there is one.
+fn brings_kinds(profile: Profile, crush: &Option<CrushParts>) -> bool
+    ensures { result ≡ brings_kinds profile crush.now }
+{
+    match crush {
+        Some(crush) => profile.has_kinds(&crush.buckets),
+        None => true,
+    }
+}
+
+/// The parts of a map, where they have no kind of bucket but those of the profile.
+pub(crate) fn map_allowed(profile: Profile, parts: MapParts) -> Option<MapParts>
+    ensures { result ≡ map_allowed profile parts }
+{
+    profile.has_kinds(&parts.buckets).then_some(parts)
+}
+
+/// The parts of a change, where they bring no kind of bucket but those of the profile.
+pub(crate) fn change_allowed(profile: Profile, parts: RawChange) -> Option<RawChange>
+    ensures { result ≡ change_allowed profile parts }
+{
+    brings_kinds(profile, &parts.new_crush).then_some(parts)
+}

@@ -1,0 +1,24 @@
+-- Profiles: which kinds of buckets (Ceph, crush.h) the texts of maps and changes may state.
+use Rattle.std.specs.Prelude.{Bool, true, false, List}
+use Rattle.std.specs.List.{list_all}
+use Rattle.crush.specs.declared.bucket.BucketKind.{BucketKind}
+use Rattle.crush.specs.declared.bucket.BucketKind.TheVariants.{Uniform, List as Listed, Tree, Straw2}
+use Rattle.stated.specs.declared.parts.BucketPart.{BucketPart}
+use Rattle.stated.specs.declared.profile.Profile.{Profile}
+use Rattle.stated.specs.declared.profile.Profile.TheVariants.{Plain, Stock}
+
+-- whether each profile has buckets of this kind
+abbrev pub is_plain_kind : BucketKind → Bool
+is_plain_kind Uniform = true
+is_plain_kind Listed = true
+is_plain_kind Tree = true
+is_plain_kind Straw2 = false
+
+-- whether each profile has the kinds of all these buckets
+abbrev pub are_plain_kinds : List BucketPart → Bool
+are_plain_kinds buckets = list_all (λ b. is_plain_kind b.kind) buckets
+
+-- whether a profile has the kinds of all these buckets
+abbrev pub has_kinds : Profile → List BucketPart → Bool
+has_kinds Plain buckets = are_plain_kinds buckets
+has_kinds Stock buckets = true

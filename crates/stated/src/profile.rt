@@ -1,0 +1,49 @@
+//! Which maps and changes texts may state.
+
+ghost use Rattle.std.specs.Prelude.{◌≡◌};
+ghost use Rattle.std.specs.List.{list_all};
+ghost use Rattle.stated.specs.Profiles.{is_plain_kind, are_plain_kinds};
+
+use crate::parts::BucketPart;
+use crush::BucketKind;
+
+/// Which maps and changes texts may state.
+#[derive(Clone, Copy, Debug, PartialEq, Eq)]
+pub enum Profile {
+    /// Those with uniform, list and tree buckets.
+    Plain,
+    /// Those of stock Ceph clusters: straw2 buckets too.
+    Stock,
+}
+
+/// Whether each profile has buckets of this kind.
+fn is_plain_kind(kind: BucketKind) -> bool
+    ensures { result ≡ is_plain_kind kind }
+{
+    match kind {
+        BucketKind::Uniform | BucketKind::List | BucketKind::Tree => true,
+        BucketKind::Straw2 => false,
+    }
+}
+
+/// Whether each profile has the kinds of all these buckets.
+fn are_plain_kinds(buckets: &[BucketPart]) -> bool
+    ensures { result ≡ are_plain_kinds buckets.now }
+{
+    buckets.iter().all(|bucket| is_plain_kind(bucket.kind))
+}
+
+impl Profile {
+    ghost use Rattle.std.specs.Prelude.{◌≡◌};
+    ghost use Rattle.stated.specs.Profiles.{has_kinds};
+
+    /// Whether the profile has the kinds of all these buckets.
+    pub fn has_kinds(self, buckets: &[BucketPart]) -> bool
+        ensures { result ≡ has_kinds self buckets.now }
+    {
+        match self {
+            Profile::Plain => are_plain_kinds(buckets),
+            Profile::Stock => true,
+        }
+    }
+}
