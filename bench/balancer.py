@@ -8,7 +8,7 @@ commit. The greatest deviation is how many groups an OSD has more or fewer than 
 part of the gate.
 """
 
-from maps import KINDS, few_hosts, levels
+from maps import PLAIN, few_hosts, levels
 from running import found, heading, in_folder, judged, output, program, seconds, table
 
 MOVES, GROUPS = 1024, 4096
@@ -47,7 +47,7 @@ EVEN = (("64 OSDs in 8 hosts", few_hosts, 50), ("1,024 OSDs in 256 hosts in 16 r
 def rows(runs):
     """A row for each map."""
     for name, shape, goal in EVEN:
-        for kind in KINDS:
+        for kind in PLAIN:
             cells = found(planned, runs, shape(kind, GROUPS))
             if isinstance(cells, str):
                 yield [f"{GROUPS:,} groups over {name}, {kind}", "", cells, *judged(cells, goal)]

@@ -11,7 +11,7 @@ import os
 import sys
 
 from balancer import EVEN, GROUPS, MOVES
-from maps import KINDS, levels
+from maps import PLAIN, levels
 from running import Folder, heading, in_folder, once, program, program_at, row, table
 
 LINES, FIRST = 200_000, 100_000
@@ -38,13 +38,13 @@ def opened(folders, kind):
 def rows(folders):
     """Each thing with what it takes by both."""
     changes = "".join(f'change {{"base":{FIRST + at},"{"up" if at % 2 else "down"}":[5]}}\n' for at in range(LINES // 10))
-    for kind in KINDS:
+    for kind in PLAIN:
         yield row(f"opening 32 pools of {GROUPS:,} groups over 1,024 OSDs, {kind}", opened, folders, kind)
     for name, script in ((f"{LINES:,} lines `up`", "".join(f"up 1.{line % GROUPS:x}\n" for line in range(LINES))),
                          (f"{LINES:,} lines `epoch`", "epoch\n" * LINES), (f"{LINES // 10:,} changes, one OSD down or up", changes)):
         yield row(name, compared, folders, levels("uniform", GROUPS), script)
     for name, shape, _ in EVEN:
-        for kind in KINDS:
+        for kind in PLAIN:
             yield row(f"a plan for {GROUPS:,} groups over {name}, {kind}", compared, folders, shape(kind, GROUPS), f"balance 1 {MOVES}\n")
 
 

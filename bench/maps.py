@@ -1,6 +1,8 @@
 """The maps that the benches run over."""
 
-KINDS = ("uniform", "list", "tree")
+# The kinds that every map may have, and all: straw2 the program takes where it is told to.
+PLAIN = ("uniform", "list", "tree")
+KINDS = (*PLAIN, "straw2")
 
 
 def osds(count):

@@ -23,7 +23,7 @@ from running import HAS_VALGRIND, LIMIT, found, heading, in_folder, instructions
 
 FEW, MANY = 1024, 4096
 MAPPED = "*Placing::mapped*"
-GOALS = {"uniform": [0.75, 0.75, 0.75], "list": [0.6, 0.5, 0.4], "tree": [0.95, 0.95, 0.95]}
+GOALS = {"uniform": [0.75, 0.75, 0.75], "list": [0.6, 0.5, 0.4], "tree": [0.95, 0.95, 0.95], "straw2": [0.45, 0.42, 0.4]}
 OWN_PART = 350
 HERE = os.path.dirname(os.path.abspath(__file__))
 
@@ -104,7 +104,7 @@ def cells(runs, shape, kind, goal):
 
 
 def rows(runs):
-    """A row for each of the nine maps."""
+    """A row for each of the twelve maps."""
     for place, (name, shape) in enumerate(SHAPES):
         for kind in KINDS:
             measured = found(lambda: list(cells(runs, shape, kind, GOALS[kind][place])))

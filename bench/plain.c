@@ -4,16 +4,17 @@
        plain MAP FIRST COUNT [print]
 
    MAP is a text of numbers: the count of devices; the count of buckets; for each bucket its id, type, kind (0 uniform, 1 list,
-   2 tree), count of items, and each item's id and weight; the type sought (0: devices, else a leaf below each); the size. All
+   2 tree, 3 straw2), count of items, and each item's id and weight; the type sought (0: devices, else a leaf below each); the size. All
    devices are in. Groups FIRST to FIRST + COUNT - 1 of pool 1 are placed; without `print` only a sum is written. */
 #include <stdint.h>
 #include <stdio.h>
 #include <stdlib.h>
 #include <string.h>
+#include "logarithm.h"
 
 typedef uint32_t u32;
 
-enum { UNIFORM, LIST, TREE, MOST_ITEMS = 64, MOST_BUCKETS = 512, MOST_DEVICES = 1024, MOST = 10, TRIES = 51 };
+enum { UNIFORM, LIST, TREE, STRAW2, MOST_ITEMS = 64, MOST_BUCKETS = 512, MOST_DEVICES = 1024, MOST = 10, TRIES = 51 };
 
 struct bucket { int id, type, kind, count; int items[MOST_ITEMS]; u32 weights[MOST_ITEMS]; };
 
@@ -91,8 +92,40 @@ static int tree(const struct bucket *b, u32 x, u32 r) {
     return b->items[from];
 }
 
+/* the logarithm to the base 2 of u + 1, times 2^44, by Ceph's tables; u has 16 bits */
+static int64_t logarithm(u32 u) {
+    u32 x = u + 1;
+    int exponent = 15;
+    if (!(x & 0x18000)) {
+        int bits = __builtin_clz(x) - 16;
+        x <<= bits;
+        exponent -= bits;
+    }
+    int at = x >> 8 << 1;
+    uint64_t between = (uint64_t)x * rh_lh[at - 256] >> 48;
+    return ((int64_t)exponent << 44) + ((rh_lh[at + 1 - 256] + ll[between & 0xff]) >> 4);
+}
+
+static int straw2(const struct bucket *b, u32 x, u32 r) {
+    int high = 0;
+    int64_t longest = 0;
+    for (int i = 0; i < b->count; i++) {
+        int64_t draw = (logarithm(hash3(x, b->items[i], r) & 0xffff) - 0x1000000000000) / b->weights[i];
+        if (i == 0 || draw > longest) {
+            high = i;
+            longest = draw;
+        }
+    }
+    return b->items[high];
+}
+
 static int pick(const struct bucket *b, u32 x, u32 r) {
-    return b->kind == UNIFORM ? uniform(b, x, r) : b->kind == LIST ? list(b, x, r) : tree(b, x, r);
+    switch (b->kind) {
+    case UNIFORM: return uniform(b, x, r);
+    case LIST: return list(b, x, r);
+    case TREE: return tree(b, x, r);
+    default: return straw2(b, x, r);
+    }
 }
 
 static const struct bucket *bucket_of(int id) { return id < 0 ? &buckets[-1 - id] : 0; }

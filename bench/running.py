@@ -31,7 +31,7 @@ class Folder:
     """The files of some runs of the program."""
 
     def __init__(self, program, folder):
-        self.program, self.folder, self.count = os.path.abspath(program), folder, 0
+        self.program, self.folder, self.count, self.stock = os.path.abspath(program), folder, 0, set()
 
     def file(self, text):
         """A new file with a text."""
@@ -43,11 +43,15 @@ class Folder:
 
     def map(self, stated):
         """A file with a map."""
-        return self.file(json.dumps(stated, separators=(",", ":")))
+        path = self.file(json.dumps(stated, separators=(",", ":")))
+        if any(bucket["kind"] == "straw2" for bucket in stated["buckets"]):
+            self.stock.add(path)
+        return path
 
     def words(self, stated, *scripts):
         """The words of a run over a map, by its file, with some scripts' texts and room for all changes."""
-        return [self.program, "--journal", "65536", stated] + [self.file(script) for script in scripts]
+        taken = ["--stock"] if stated in self.stock else []
+        return [self.program, *taken, "--journal", "65536", stated] + [self.file(script) for script in scripts]
 
     def compiled(self, source, name):
         """The program of a C source, by its path, at the compiler's usual speed."""

@@ -13,7 +13,7 @@ of the gate.
 import functools
 import sys
 
-from maps import KINDS, flat, levels
+from maps import PLAIN, flat, levels
 from running import found, heading, held, in_folder, judged, output, peak, program, seconds, table
 
 POOLS, GROUPS, FEW = 32, 4096, 1024
@@ -115,7 +115,7 @@ ROWS = (("opening, ms", None, lambda of: of.opened * 1e3),
 
 def rows(runs):
     """A row for each thing that is measured, over each kind of buckets."""
-    kinds = [Measured(runs, kind) for kind in KINDS]
+    kinds = [Measured(runs, kind) for kind in PLAIN]
     for name, goal, measure in ROWS:
         cells = [found(measure, of) for of in kinds]
         yield [name, *cells, *judged(cells, goal)]
@@ -124,7 +124,7 @@ def rows(runs):
 def main():
     path = program(__doc__)
     heading("The table: 32 pools of 4,096 groups of size 3 over 1,024 OSDs in 511 buckets")
-    in_folder(path, lambda runs: table(["what"] + [f"{kind} buckets" for kind in KINDS] + ["goal", ""], rows(runs)))
+    in_folder(path, lambda runs: table(["what"] + [f"{kind} buckets" for kind in PLAIN] + ["goal", ""], rows(runs)))
 
 
 if __name__ == "__main__":

@@ -16,7 +16,7 @@ import time
 
 import ceph
 from dumps import crush_dump, osd_dump
-from maps import KINDS, few_hosts, levels
+from maps import PLAIN, few_hosts, levels
 from running import GOALS, LIMIT, found, goal_row, heading, in_folder, judged, output, program, several, table
 
 TOOLS = os.path.join(os.path.dirname(os.path.dirname(os.path.abspath(__file__))), "tools", "rekhuso")
@@ -106,7 +106,7 @@ CLUSTERS = (("64 OSDs in 8 hosts", few_hosts, ()), ("64 OSDs in 8 hosts, within 
 def judged_rows(runs):
     """A row for the plan of each cluster."""
     for name, shape, given in CLUSTERS:
-        for kind in KINDS:
+        for kind in PLAIN:
             cells = found(judged_plan, runs, shape(kind, GROUPS), given)
             about = f"{GROUPS:,} groups over {name}, {kind}"
             yield [about, "", cells] if isinstance(cells, str) else [about, *cells, *judged(cells[1:], 0)]

@@ -4,7 +4,8 @@
 
 Each history is a small random map and a dozen random changes of all parts. After each change a script asks for every group's up set and for the
 count and the groups of every OSD, and writes the map. A second run opens the map that was written, whose table is built anew, and asks the same:
-the answers must be the same. So what a patch made is compared with what the map alone defines.
+the answers must be the same. So what a patch made is compared with what the map alone defines. Under `--stock` the buckets of a history may be
+straw2 too, whose items weigh as they like, and all answers must be those of model.py as well.
 """
 
 import json
@@ -15,14 +16,24 @@ import sys
 import tempfile
 
 import given
+import model
 
 SEED = 20261123
 HISTORIES = 30
 CHANGES = 12
 KINDS = ("uniform", "list", "tree")
+# Of the kinds under `--stock` half are straw2, so that most changes of the forest bring or take such buckets.
+STOCK = (*KINDS, *["straw2"] * 3)
 
 
-def random_forest(rng, osds):
+def loosened(rng, bucket):
+    """A bucket; where it is a straw2 bucket, with weights that differ."""
+    if bucket["kind"] == "straw2":
+        bucket["items"] = [[item, rng.choice([1, 65536, 65537, rng.randint(1, 2 ** 30)])] for item, _ in bucket["items"]]
+    return bucket
+
+
+def random_forest(rng, osds, kinds):
     """Hosts of two or three OSDs under one root, and rules of both kinds over hosts and over OSDs."""
     hosts, buckets = [], []
     free = rng.sample(range(osds), osds)
@@ -30,9 +41,9 @@ def random_forest(rng, osds):
         took = [free.pop() for _ in range(min(len(free), rng.randint(2, 3)))]
         weight = 65536 * rng.randint(1, 2)
         items = [[osd, weight] for osd in sorted(took)]
-        buckets.append({"id": -2 - len(hosts), "items": items, "kind": rng.choice(KINDS), "type": 1})
+        buckets.append(loosened(rng, {"id": -2 - len(hosts), "items": items, "kind": rng.choice(kinds), "type": 1}))
         hosts.append(-2 - len(hosts))
-    root = {"id": -1, "items": [[host, 65536] for host in hosts], "kind": rng.choice(KINDS), "type": 10}
+    root = loosened(rng, {"id": -1, "items": [[host, 65536] for host in hosts], "kind": rng.choice(kinds), "type": 10})
     rules = [{"id": 0, "kind": "replicated", "steps": [["take", -1], ["chooseleaf_firstn", 0, 1], ["emit"]]},
              {"id": 1, "kind": "erasure", "steps": [["take", -1], ["chooseleaf_indep", 0, 1], ["emit"]]},
              {"id": 2, "kind": "replicated", "steps": [["take", rng.choice(hosts)], ["choose_firstn", 0, 0], ["emit"]]}]
@@ -46,9 +57,9 @@ def random_pool(rng, number):
             "rule": rule, "size": rng.randint(1, 4)}
 
 
-def random_map(rng):
+def random_map(rng, kinds):
     osds = rng.randint(4, 12)
-    buckets, rules = random_forest(rng, osds)
+    buckets, rules = random_forest(rng, osds, kinds)
     pools = [random_pool(rng, number) for number in rng.sample(range(1, 9), rng.randint(1, 3))]
     states = [{"exists": True, "id": osd, "up": rng.random() < 0.8, "weight": rng.choice([65536, 65536, 32768, 0])} for osd in range(osds)]
     return {"buckets": buckets, "epoch": 1, "max_osd": osds, "osds": states, "pools": sorted(pools, key=lambda p: p["id"]),
@@ -64,7 +75,7 @@ def groups_of(pools):
     return [(pool, number) for pool in pools for number in range(pools[pool]["pg_num"])]
 
 
-def random_change(rng, osds, pools):
+def random_change(rng, osds, pools, kinds):
     """A change that is not refused, of one to three parts; the pools are then those after it."""
     change = {}
     for part in rng.sample(["down", "up", "weight", "pools", "grow", "crush", "upmap", "items", "clear"], rng.randint(1, 3)):
@@ -91,7 +102,7 @@ def random_change(rng, osds, pools):
             pools[pool["id"]] = pool
             change["grow_pool"] = [[pool["id"], pool["pg_num"], pool["pgp_num"]]]
         elif part == "crush":
-            buckets, rules = random_forest(rng, osds)
+            buckets, rules = random_forest(rng, osds, kinds)
             change["new_crush"] = {"buckets": buckets, "rules": rules}
     exceptions(rng, osds, pools, change)
     return change
@@ -114,43 +125,57 @@ def questions(osds, pools):
     return lines + [f"{word} {osd}" for word in ("count", "groups") for osd in range(osds)] + ["dump"]
 
 
-def answers(program, folder, text, lines):
-    """What a run answers to these lines."""
-    (folder / "map").write_text(text)
-    (folder / "script").write_text("".join(line + "\n" for line in lines))
-    done = subprocess.run([program, str(folder / "map"), str(folder / "script")], capture_output=True, text=True, check=True, timeout=60)
-    return done.stdout.splitlines()[1:]
+class History:
+    """The first map of a seed, and the lines of a script: changes, each with the questions that follow it."""
+
+    def __init__(self, seed, kinds):
+        rng = random.Random(seed)
+        self.name, self.words, self.first = f"history {seed}", ["--stock"] * ("straw2" in kinds), random_map(rng, kinds)
+        osds, pools = self.first["max_osd"], {pool["id"]: pool for pool in self.first["pools"]}
+        self.lines, self.asked = [], []
+        for epoch in range(1, CHANGES + 1):
+            change = random_change(rng, osds, pools, kinds)
+            self.lines.append("change " + json.dumps(dict(change, base=epoch)))
+            self.asked.append((len(self.lines), questions(osds, pools)))
+            self.lines += self.asked[-1][1]
+
+    def answers(self, program, folder, text, lines):
+        """What a run answers to these lines."""
+        (folder / "map").write_text(text)
+        (folder / "script").write_text("".join(line + "\n" for line in lines))
+        words = [program, *self.words, str(folder / "map"), str(folder / "script")]
+        return subprocess.run(words, capture_output=True, text=True, check=True, timeout=60).stdout.splitlines()[1:]
+
+    def faults(self, program, folder):
+        """What differs of the history, in words; none is the empty list."""
+        patched, wrong = self.answers(program, folder, json.dumps(self.first), self.lines), []
+        for epoch, (at, wanted) in enumerate(self.asked, 2):
+            if not patched[at - 1].startswith(f"ok {epoch} "):
+                return [f"{self.name}, epoch {epoch}: {self.lines[at - 1]}: {patched[at - 1]}"]
+            mine = patched[at:at + len(wanted)]
+            anew = self.answers(program, folder, mine[-1].removeprefix("dump "), wanted)
+            wrong += [f"{self.name}, epoch {epoch}: {line}: {one}, built anew {other}"
+                      for line, one, other in zip(wanted, mine, anew, strict=True) if one != other]
+        return wrong + (self.unlike_model(patched) if self.words else [])
+
+    def unlike_model(self, patched):
+        """What the model answers otherwise."""
+        return [f"{self.name}: {line}: {one}, the model {other}"
+                for line, one, other in zip(self.lines, patched, model.answers(self.first, self.lines), strict=True) if one != other]
 
 
-def history(program, folder, seed):
+def history(program, folder, seed, kinds=KINDS):
     """What differs of one history, in words; none is the empty list."""
-    rng = random.Random(seed)
-    first = random_map(rng)
-    osds, pools = first["max_osd"], {pool["id"]: pool for pool in first["pools"]}
-    lines, asked = [], []
-    for epoch in range(1, CHANGES + 1):
-        change = random_change(rng, osds, pools)
-        lines.append("change " + json.dumps(dict(change, base=epoch)))
-        asked.append((len(lines), questions(osds, pools)))
-        lines += asked[-1][1]
-    patched = answers(program, folder, json.dumps(first), lines)
-    wrong = []
-    for epoch, (at, wanted) in enumerate(asked, 2):
-        if not patched[at - 1].startswith(f"ok {epoch} "):
-            return [f"history {seed}, epoch {epoch}: {lines[at - 1]}: {patched[at - 1]}"]
-        mine = patched[at:at + len(wanted)]
-        anew = answers(program, folder, mine[-1].removeprefix("dump "), wanted)
-        wrong += [f"history {seed}, epoch {epoch}: {line}: {one}, built anew {other}"
-                  for line, one, other in zip(wanted, mine, anew) if one != other]
-    return wrong
+    return History(seed, kinds).faults(program, folder)
 
 
 def main():
     command, wrong = given.program(__doc__), []
-    for seed in range(SEED, SEED + HISTORIES):
-        with tempfile.TemporaryDirectory() as folder:
-            wrong += history(command, pathlib.Path(folder), seed)
-    print("\n".join(wrong[:10] + [f"{HISTORIES * CHANGES} tables that patches led to beside tables built anew: {len(wrong)} answers differ"]))
+    for kinds in (KINDS, STOCK):
+        for seed in range(SEED, SEED + HISTORIES):
+            with tempfile.TemporaryDirectory() as folder:
+                wrong += history(command, pathlib.Path(folder), seed, kinds)
+    print("\n".join(wrong[:10] + [f"{2 * HISTORIES * CHANGES} tables that patches led to beside tables built anew: {len(wrong)} answers differ"]))
     sys.exit(1 if wrong else 0)
 
 

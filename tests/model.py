@@ -3,12 +3,14 @@
 
     tests/model.py MAP SCRIPT
 
-answers the lines `up`, `count`, `groups`, `epoch`, `dump`, `balance`, and `change` with the parts down, up, weight and new_items, as far as
-nothing in them is refused. The answers of examples/balance and of the larger map of balanced.py come from here; `run.py` also
-holds it against the placements that Ceph's own tools gave.
+answers the lines `up`, `count`, `groups`, `epoch`, `dump`, `balance` and `change`, as far as nothing in them is refused. The answers of
+examples/balance and of the larger map of balanced.py come from here; `run.py` also holds it against the placements that Ceph's own tools gave.
+It knows no rule that sets tries.
 """
 
+import functools
 import json
+import pathlib
 import sys
 
 WORD = 0xFFFFFFFF
@@ -30,6 +32,7 @@ def mix(a, b, c):
     return a, b, c
 
 
+@functools.lru_cache(maxsize=1 << 17)
 def mixed(words, order):
     """The hash of words: the places of an order name the words, x, y, and the hash itself."""
     values = dict(zip("abcd", (word & WORD for word in words)), x=231232, y=1232, h=1315423911)
@@ -85,7 +88,29 @@ def tree_pick(bucket, x, r):
     return bucket["items"][first][0]
 
 
-PICKS = {"uniform": uniform_pick, "list": list_pick, "tree": tree_pick}
+# The tables of the logarithm: entries in pairs, a reciprocal and a logarithm; and the logarithms between two of them.
+TABLES = json.loads((pathlib.Path(__file__).resolve().parent / "logarithm.json").read_text())
+
+
+def logarithm(number):
+    """Ceph's logarithm to the base 2 of a number of 16 bits and one more, times 2 ^ 44 (mapper.c, crush_ln)."""
+    shift = max(0, 16 - (number + 1).bit_length())
+    x = number + 1 << shift
+    place = 2 * ((x >> 8) - 128)
+    reciprocal, whole = TABLES["RH_LH"][place:place + 2]
+    return (15 - shift << 44) + (whole + TABLES["LL"][(x * reciprocal >> 48) % 256] >> 4)
+
+
+def shortfall(item, weight, x, r):
+    """How far the straw of an item falls short of the longest that there may be. Ceph's straws are the negatives of these."""
+    return (2 ** 48 - logarithm(hash3(x, item, r) % 65536)) // weight
+
+
+def straw2_pick(bucket, x, r):
+    return min(bucket["items"], key=lambda item: shortfall(*item, x, r))[0]
+
+
+PICKS = {"uniform": uniform_pick, "list": list_pick, "tree": tree_pick, "straw2": straw2_pick}
 
 
 class Cluster:
@@ -93,15 +118,21 @@ class Cluster:
 
     def __init__(self, value):
         self.value, self.epoch = value, value["epoch"]
-        self.buckets = {bucket["id"]: bucket for bucket in value["buckets"]}
-        self.parent = {item: bucket["id"] for bucket in value["buckets"] for item, _ in bucket["items"]}
-        self.weight = {item: weight for bucket in value["buckets"] for item, weight in bucket["items"]}
-        self.rules = {rule["id"]: rule["steps"] for rule in value["rules"]}
+        self.take_crush(value)
         self.pools = {pool["id"]: pool for pool in value["pools"]}
         self.osds = {osd["id"]: dict(osd) for osd in value["osds"]}
         self.explicit = {group_of(text): places for text, places in value.get("pg_upmap", [])}
         self.items = {group_of(text): pairs for text, pairs in value.get("pg_upmap_items", [])}
         self.raws = {}
+
+    def take_crush(self, value):
+        """Puts other buckets and rules in the place of those that were."""
+        buckets, rules = sorted(value["buckets"], key=lambda bucket: -bucket["id"]), sorted(value["rules"], key=lambda rule: rule["id"])
+        self.crush = {"buckets": buckets, "rules": rules}
+        self.buckets = {bucket["id"]: bucket for bucket in value["buckets"]}
+        self.parent = {item: bucket["id"] for bucket in value["buckets"] for item, _ in bucket["items"]}
+        self.weight = {item: weight for bucket in value["buckets"] for item, weight in bucket["items"]}
+        self.rules = {rule["id"]: rule["steps"] for rule in value["rules"]}
 
     def reweight(self, osd):
         return self.osds[osd]["weight"] if osd in self.osds else 0
@@ -189,7 +220,7 @@ class Cluster:
     # Groups
 
     def raw(self, group):
-        """What the rule gives, as long as no reweight changes."""
+        """What the rule gives, as long as nothing changes that it goes by."""
         if group not in self.raws:
             pool = self.pools[group[0]]
             mask = (1 << (pool["pgp_num"] - 1).bit_length()) - 1
@@ -233,26 +264,60 @@ class Cluster:
         named = set(self.explicit.get(group, [])) | {osd for pair in self.items.get(group, []) for osd in pair}
         return bool(osds & named) or bool(osds & self.reached(self.pools[group[0]]["rule"]))
 
-    def change(self, change):
-        """The number of evaluations of a change that nothing refuses, which is then made."""
-        named = {group_of(text) for text, _ in change.get("new_items", [])}
-        for osd in change.get("down", []):
-            self.osds[osd]["up"] = False
-        for osd in change.get("up", []):
-            self.osds[osd]["up"] = True
+    def take_pools(self, change):
+        """Lets pools go with their exceptions, come, and grow."""
+        for number in change.get("old_pools", []):
+            del self.pools[number]
+            for entries in (self.explicit, self.items):
+                for group in [group for group in entries if group[0] == number]:
+                    del entries[group]
+        for pool in change.get("new_pools", []):
+            self.pools[pool["id"]] = pool
+        for number, groups, placed_by in change.get("grow_pool", []):
+            self.pools[number] = dict(self.pools[number], pg_num=groups, pgp_num=placed_by)
+
+    def take_states(self, change):
+        """Puts OSDs down and up, and gives them other reweights."""
+        for key, is_up in (("down", False), ("up", True)):
+            for osd in change.get(key, []):
+                self.osds[osd]["up"] = is_up
         for osd, weight in change.get("weight", []):
             self.osds[osd]["weight"] = weight
+
+    def take_exceptions(self, change):
+        """Lets explicit sets and pairs go and come."""
+        for old, new, entries in (("old_upmap", "new_upmap", self.explicit), ("old_items", "new_items", self.items)):
+            for text in change.get(old, []):
+                entries.pop(group_of(text), None)
+            entries.update((group_of(text), own) for text, own in change.get(new, []))
+
+    def change(self, change):
+        """The number of evaluations of a change that nothing refuses, which is then made."""
+        self.take_pools(change)
+        if "new_crush" in change:
+            self.take_crush(change["new_crush"])
+        self.take_states(change)
+        self.take_exceptions(change)
+        if not {"old_pools", "new_crush", "new_pools", "grow_pool", "weight"}.isdisjoint(change):
             self.raws = {}
-        for text, pairs in change.get("new_items", []):
-            self.items[group_of(text)] = pairs
-        osds = {osd for osd, _ in change.get("weight", [])}
         self.epoch += 1
-        return sum(group in named or bool(osds) and self.concerns(group, osds) for group in self.groups())
+        return sum(self.is_new(group, change) for group in self.groups())
+
+    def is_new(self, group, change):
+        """Whether a change may place a group otherwise."""
+        named = {group_of(text) for key in ("old_upmap", "old_items") for text in change.get(key, [])}
+        named |= {group_of(text) for key in ("new_upmap", "new_items") for text, _ in change.get(key, [])}
+        pools = {pool["id"] for pool in change.get("new_pools", [])} | {pool for pool, *_ in change.get("grow_pool", [])}
+        osds = {osd for osd, _ in change.get("weight", [])}
+        return "new_crush" in change or group in named or group[0] in pools or bool(osds) and self.concerns(group, osds)
 
     def written(self):
-        """The map as text; that of the first map had its lists in order."""
-        items = [[group_text(group), pairs] for group, pairs in sorted(self.items.items())]
-        after = {**self.value, "epoch": self.epoch, "osds": list(self.osds.values()), "pg_upmap_items": items}
+        """The map as text."""
+        osds = [osd for _, osd in sorted(self.osds.items()) if osd["exists"] or osd["weight"]]
+        exceptions = {key: [[group_text(group), own] for group, own in sorted(entries.items())]
+                      for key, entries in (("pg_upmap", self.explicit), ("pg_upmap_items", self.items))}
+        pools = [pool for _, pool in sorted(self.pools.items())]
+        after = {**self.value, **self.crush, **exceptions, "epoch": self.epoch, "osds": osds, "pools": pools}
         return json.dumps(after, sort_keys=True, separators=(",", ":"))
 
     # Balancing

@@ -27,6 +27,7 @@ import itertools
 import json
 import os
 import pathlib
+import re
 import shlex
 import shutil
 import subprocess
@@ -511,8 +512,16 @@ def modelled(row):
             if (found := model.placed(cluster, group)) != places]
 
 
+def tables_apart(_):
+    """What the tables of the logarithm for C have otherwise than those for Python."""
+    header = re.sub(r"/\*.*?\*/", "", (HERE.parent / "bench" / "logarithm.h").read_text(), flags=re.S)
+    found = {name: [int(entry) for entry in re.findall(r"(\d+)ll", entries)] for name, entries in re.findall(r"(\w+)\[.*?\] = {(.*?)};", header, re.S)}
+    return [name for name in ("RH_LH", "LL") if found.get(name.lower()) != model.TABLES[name]]
+
+
 def apart():
-    """The model against placements, among them those of Ceph's tools, and against the example that is answered by it; the kept picture."""
+    """The model against placements, among them those of Ceph's tools, and against the example that is answered by it; the kept picture; the
+    tables for C."""
     def answered(_):
         value, script = json.loads((folder / "map.json").read_text()), (folder / "script.txt").read_text().splitlines()
         return [] if model.answers(value, script) == (folder / "answers.txt").read_text().splitlines()[1:] else ["answered otherwise"]
@@ -532,6 +541,7 @@ def apart():
         if "sets" in row and "set_choose" not in map_text(row.get("map", "one device")):
             yield Check(f"the model: {row['name']}", lambda _, row=row: modelled(row))
     yield Check("the model: the example of balancing", answered)
+    yield Check("the tables of the logarithm, for C and for Python", tables_apart)
     yield Check("the picture of the example", drawn)
 
 
