@@ -7,8 +7,9 @@ A run with a growth refused ends with status 4, `memory` and nothing put out; or
 does, of a script in which the line that answers `err 30 Memory` is left out. The last run is the first without a refusal.
 In a second round each line that may find no memory stands twice, so that after a refusal the same line has its exact answer. In a
 third the script is a live session, whose answers before the refusal are out; in a fourth its session's answers go to a file, which
-is standard output. Then 63 sessions await what one changes that says each change twice, so that it comes whatever is refused. At the
-end `groups` answers an OSD that stands in 131,072 groups, with each growth refused that this line asks for.
+is standard output. A map of straw2 buckets and a change that brings others are run in the first two ways under `--stock`. Then 63
+sessions await what one changes that says each change twice, so that it comes whatever is refused. At the end `groups` answers an OSD
+that stands in 131,072 groups, with each growth refused that this line asks for.
 """
 
 import json
@@ -22,6 +23,7 @@ import tempfile
 from concurrent.futures import ThreadPoolExecutor
 
 import given
+import model
 
 HERE = pathlib.Path(__file__).resolve().parent
 EXAMPLES = HERE.parent / "examples"
@@ -43,6 +45,8 @@ def refuser(folder):
 class Example:
     """An example, and what a run of it may put out."""
 
+    OPTIONS = ()
+
     def __init__(self, command, library, example, folder, way):
         self.command, self.library, self.example, self.folder = command, library, example, pathlib.Path(folder)
         self.typed, self.live, twice = way == "typed", way in ("typed", "to a file"), way == "lines twice"
@@ -59,7 +63,7 @@ class Example:
         mark = self.folder / f"refused-{refused}"
         if refused is not None:
             environment.update(LD_PRELOAD=str(self.library), REFUSE_NTH=str(refused), REFUSED=str(mark))
-        words = [self.command, self.example / "map.json", "-" if self.typed else script] + ["--to", "-"] * (self.live and not self.typed)
+        words = [self.command, *self.OPTIONS, self.example / "map.json", "-" if self.typed else script] + ["--to", "-"] * (self.live and not self.typed)
         with open(script if self.typed else os.devnull, "rb") as typed:
             done = subprocess.run(words, env=environment, timeout=SECONDS, stdin=typed, capture_output=True)
         came = mark.exists()
@@ -86,6 +90,32 @@ class Example:
         if came and REFUSED in answers and got == (0, self.without[answers.index(REFUSED) - 1], b""):
             return None, came
         return f"status {got[0]}, output {got[1][:200]}, error {got[2][:200]}", came
+
+
+def straw2_forest(weights):
+    """Six OSDs of some weights in three straw2 hosts under a straw2 root, and a rule."""
+    hosts = [[[osd, weights[osd]] for osd in (2 * host, 2 * host + 1)] for host in range(3)]
+    root = [[-2 - host, sum(weight for _, weight in items)] for host, items in enumerate(hosts)]
+    buckets = [{"id": -1, "items": root, "kind": "straw2", "type": 10}]
+    buckets += [{"id": -2 - host, "items": items, "kind": "straw2", "type": 1} for host, items in enumerate(hosts)]
+    return {"buckets": buckets, "rules": [{"id": 0, "kind": "replicated", "steps": [["take", -1], ["chooseleaf_firstn", 0, 1], ["emit"]]}]}
+
+
+class Stock(Example):
+    """A map of straw2 buckets, and a change that brings others, answered as by the model."""
+
+    OPTIONS = ("--stock",)
+
+    def __init__(self, command, library, folder, way):
+        stated = {**straw2_forest([65536, 65536, 131072, 131072, 65536, 262144]), "version": 1, "epoch": 1, "max_osd": 6, "pg_upmap": [], "pg_upmap_items": [],
+                  "osds": [{"exists": True, "id": osd, "up": True, "weight": 65536} for osd in range(6)],
+                  "pools": [{"id": 1, "kind": "replicated", "pg_num": 8, "pgp_num": 8, "rule": 0, "size": 2}]}
+        brought = {"base": 1, "new_crush": straw2_forest([1, 65536, 65537, 65536, 70000, 65536]), "weight": [[3, 30000]]}
+        lines = ["up 1.0", "groups 2", f"change {json.dumps(brought)}", "up 1.0", "balance 1 2", "groups 2", "dump"]
+        (folder / "map.json").write_text(json.dumps(stated))
+        (folder / "script.txt").write_text("".join(f"{line}\n" for line in lines))
+        (folder / "answers.txt").write_text("".join(f"{line}\n" for line in ["session 1", *model.answers(stated, lines)]))
+        super().__init__(command, library, folder, folder, way)
 
 
 class Everywhere(Example):
@@ -151,20 +181,16 @@ class Awaited:
 
 def sweeps(command, library, folder):
     """What makes the example of each sweep, by its name."""
-    def made(script, way):
-        own = pathlib.Path(folder) / f"{script.parent.name}, {way}"
-        own.mkdir()
-        return Example(command, library, script.parent, own, way)
+    def own(name):
+        path = pathlib.Path(folder) / name
+        path.mkdir()
+        return path
 
-    makers = {f"{script.parent.name}, {way}": lambda script=script, way=way: made(script, way)
+    makers = {f"{script.parent.name}, {way}": lambda script=script, way=way: Example(command, library, script.parent, own(f"{script.parent.name}, {way}"), way)
               for script in sorted(EXAMPLES.rglob("script.txt")) for way in WAYS}
-    return makers | {"63 sessions that await": lambda: Awaited(command, library, folder), "groups of all": lambda: everywhere(command, library, folder)}
-
-
-def everywhere(command, library, folder):
-    own = pathlib.Path(folder) / "groups of all"
-    own.mkdir()
-    return Everywhere(command, library, own)
+    makers |= {f"straw2, {way}": lambda way=way: Stock(command, library, own(f"straw2, {way}"), way) for way in WAYS[:2]}
+    return makers | {"63 sessions that await": lambda: Awaited(command, library, folder),
+                     "groups of all": lambda: Everywhere(command, library, own("groups of all"))}
 
 
 def sweep(make, pool):

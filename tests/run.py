@@ -9,12 +9,14 @@ put at paths (`values`) and texts replaced (`texts`); or an object (`is`); or a 
 a text, or a change as an object. Where a row stands for many runs, or for many lines, a key says so: `each_values`,
 `each_text`, `each_kind` (at each of `paths`), `each_without`, `beginnings_of_map`; `lines` (each with its answer),
 `each_line` (one answer to all), `sets` (groups and what they are placed on), `beginnings_of_change`. A row with
-`sessions` has a script and the answers of each, and runs them at once. A row with
-`arguments` says all itself: files, standard output, standard error, status. Entries repeated in a list are written as
+`sessions` has a script and the answers of each, and runs them at once. A row with `stock` is run under `--stock`. A row
+with `arguments` says all itself: files, standard output, standard error, status. Entries repeated in a list are written as
 `filled` below reads them, and texts as `text_of` does. The greatest runs are made by this file (`maxima`); the examples
 have their answers beside them. `plans` and `balanced` are plans of a balancer reckoned apart (plans.py, balanced.py), `soak`
 many sessions whose answers must be those of one history (soak.py), `patched` tables that random changes led to beside tables
-built anew (anew.py), and `apart` holds what reckons apart against Ceph's placements and the kept answers, and the kept picture.
+built anew (anew.py), `stocked` rows of other tables that answer the same under `--stock`, `straws` picks that each entry of a
+logarithm's tables decides (straws.py), and `apart` holds what reckons apart against Ceph's placements and the kept answers, and
+the kept picture.
 `clusters` are the tools over clusters of Ceph's (clusters.py), what `import` has against others (brought.py), plans
 (moves.py), what the tools tell (told.py), their edges (edges.py) and their package (packaged.py), `live` sessions that are
 answered as they are typed (live.py), and `pages` what the pages say of the repository (pages.py). At the end each growth of
@@ -50,12 +52,13 @@ import moves
 import packaged
 import pages
 import soak
+import straws
 import told
 from plans import cases as plan_cases
 
 HERE = pathlib.Path(__file__).resolve().parent
 TABLES = ["worked", "placements", "changes", "growth", "limits", "texts", "sessions", "balance", "plans", "balanced", "soak", "program", "examples",
-          "apart", "maxima", "patched", "clusters", "races", "live", "pages"]
+          "apart", "maxima", "patched", "stock", "stocked", "straws", "clusters", "races", "live", "pages"]
 SECONDS = 300
 
 
@@ -178,7 +181,8 @@ class Run:
         self.wanted = {"status": status, "output": output, "error": error}
         # Sessions that wait for one another, and those that wait in vain, are run one by one: beside others they would wait for a
         # processor too.
-        self.alone = len(self.arguments) > 2 or "AwaitSpent" in (output if isinstance(output, str) else "")
+        files = [word for word in self.arguments if word != "--stock"]
+        self.alone = len(files) > 2 or "AwaitSpent" in (output if isinstance(output, str) else "")
 
 
 class Check:
@@ -254,16 +258,20 @@ def differences(run, command):
     return found or (differences(run.follow(got["output"]), command) if run.follow else [])
 
 
+def options_of(row):
+    """The options that the runs of a row begin with."""
+    return ["--stock"] * row.get("stock", False) + (["--journal", row["journal"]] if "journal" in row else [])
+
+
 def one_run(row, name, about):
     """The run of a row over one map."""
     script = row.get("script", ["epoch"])
     files = {"map": map_text(about), "script": script if isinstance(script, str) else lines_text(script)}
-    journal = ["--journal", row["journal"]] if "journal" in row else []
     if "refused" in row:
         wanted = {"error": f"map: {row['refused']}\n", "status": 2}
     else:
         wanted = {"output": "session 1\n" + lines_text(row["answers"])}
-    return Run(name, files, arguments=journal + ["map", "script"], **wanted)
+    return Run(name, files, arguments=options_of(row) + ["map", "script"], **wanted)
 
 
 def run_of_sessions(row):
@@ -273,9 +281,8 @@ def run_of_sessions(row):
     for number, (script, answers) in enumerate(sessions, 1):
         files[f"script-{number}"] = lines_text(script)
         output += f"session {number}\n" + lines_text(answers)
-    journal = ["--journal", row["journal"]] if "journal" in row else []
     scripts = [f"script-{number}" for number in range(1, len(sessions) + 1)]
-    return Run(row["name"], files, output, arguments=journal + ["map"] + scripts)
+    return Run(row["name"], files, output, arguments=options_of(row) + ["map"] + scripts)
 
 
 def runs_of(row):
@@ -491,18 +498,19 @@ def balanced_case():
 
 
 def soaks():
-    """8 sessions of 200 lines at once, from several seeds."""
-    def work_of(seed):
+    """8 sessions of 200 lines at once, from several seeds; and once under `--stock`."""
+    def work_of(seed, is_stock=False):
         def work(command):
-            value, scripts = soak.scripts(seed, 8, 200, 6, 16)
+            value, scripts = soak.scripts(seed, 8, 200, 6, 16, is_stock)
             with tempfile.TemporaryDirectory() as folder:
-                words, play = soak.run(command, pathlib.Path(folder), scripts, value)
+                words, play = soak.run(command, pathlib.Path(folder), scripts, value, is_stock)
                 output = subprocess.run(words, capture_output=True, text=True, timeout=SECONDS, check=True).stdout
                 wrong, made, compared = soak.faults(scripts, output, play)
             return wrong if wrong or (made >= 100 and compared >= 1400) else [f"only {made} changes made, {compared} answers compared"]
         return work
 
-    return (Check(f"8 sessions at once, seed {seed}", work_of(seed), alone=True) for seed in range(1, 5))
+    yield from (Check(f"8 sessions at once, seed {seed}", work_of(seed), alone=True) for seed in range(1, 5))
+    yield Check("8 sessions at once under --stock", work_of(6, is_stock=True), alone=True)
 
 
 def modelled(row):
@@ -536,24 +544,49 @@ def apart():
         kept = (HERE.parent / "docs" / "balance.svg").read_text()
         return [] if saved[0] == 0 and found == (0, kept, "") else ["docs/balance.svg is not what picture draws"]
 
-    folder = HERE.parent / "examples" / "balance"
-    for row in json.loads((HERE / "placements.json").read_text())["runs"]:
+    def worked(_):
+        return [f"{number}: wanted {wanted}, the model {found}" for number, wanted in stock["logarithms"] if (found := model.logarithm(number)) != wanted]
+
+    folder, stock = HERE.parent / "examples" / "balance", json.loads((HERE / "stock.json").read_text())
+    for row in json.loads((HERE / "placements.json").read_text())["runs"] + stock["runs"]:
         if "sets" in row and "set_choose" not in map_text(row.get("map", "one device")):
             yield Check(f"the model: {row['name']}", lambda _, row=row: modelled(row))
+    yield Check("the model: worked logarithms", worked)
     yield Check("the model: the example of balancing", answered)
     yield Check("the tables of the logarithm, for C and for Python", tables_apart)
     yield Check("the picture of the example", drawn)
 
 
 def patched():
-    """Tables that random changes led to, beside tables built anew of the maps then written."""
-    def work_of(seed):
+    """Tables that random changes led to, beside tables built anew of the maps then written; under `--stock` beside the model too."""
+    def work_of(seed, kinds):
         def work(command):
             with tempfile.TemporaryDirectory() as folder:
-                return anew.history(command, pathlib.Path(folder), seed)
+                return anew.history(command, pathlib.Path(folder), seed, kinds)
         return work
 
-    return (Check(f"{anew.CHANGES} tables that patches led to, seed {seed}", work_of(seed)) for seed in range(anew.SEED, anew.SEED + anew.HISTORIES))
+    for way, kinds in (("", anew.KINDS), (" under --stock", anew.STOCK)):
+        for seed in range(anew.SEED, anew.SEED + anew.HISTORIES):
+            yield Check(f"{anew.CHANGES} tables that patches led to{way}, seed {seed}", work_of(seed, kinds))
+
+
+def straw_picks():
+    """Picks that turn where an entry of the logarithm's tables is another."""
+    for is_more, side in ((True, "more"), (False, "less")):
+        for number, value in enumerate(straws.maps(is_more), 1):
+            lines, answers = straws.answers(value)
+            yield Run(f"picks that turn where a logarithm is one {side}, map {number}", {"map": written(value), "script": "\n".join(lines) + "\n"},
+                      "\n".join(["session 1"] + answers) + "\n", arguments=["--stock", "map", "script"])
+
+
+def stocked():
+    """Rows of one session, once more under `--stock`, which says nothing of maps and changes that bring no straw2 buckets."""
+    for name in ("worked", "changes", "texts", "balance"):
+        for run in table_of(name):
+            is_plain = run.arguments == ["map", "script"] and "straw2" not in run.files["map"] + run.files["script"]
+            if is_plain and "proper beginning" not in run.name:
+                run.name, run.arguments = f"--stock: {run.name}", ["--stock", "map", "script"]
+                yield run
 
 
 def of_clusters():
@@ -586,7 +619,7 @@ def races():
 
 def typed():
     """Every row of one session, as a live one; and what only a live session shows."""
-    for name in ("worked", "changes", "growth", "texts", "sessions", "balance", "limits", "examples"):
+    for name in ("worked", "changes", "growth", "texts", "sessions", "balance", "limits", "examples", "stock"):
         for run in table_of(name):
             scripts = [word for word in run.arguments if word in ("script", "script.txt")]
             if len(scripts) == 1 and run.wanted["status"] == 0 and run.sink == "pipe":
@@ -602,7 +635,7 @@ def of_pages():
     return (Check(name, lambda _, test=test: test() or []) for name, test in pages.tests())
 
 
-MADE = {"pages": of_pages, "live": typed, "races": races, "clusters": of_clusters, "patched": patched, "plans": plans, "examples": examples, "maxima": maxima, "balanced": balanced_case, "soak": soaks, "apart": apart}
+MADE = {"pages": of_pages, "stocked": stocked, "straws": straw_picks, "live": typed, "races": races, "clusters": of_clusters, "patched": patched, "plans": plans, "examples": examples, "maxima": maxima, "balanced": balanced_case, "soak": soaks, "apart": apart}
 
 
 def table_of(name):

@@ -16,6 +16,8 @@ import sys
 
 FIRST, OSDS, HOSTS = 1, 24, 8
 CLASSES, STRETCH = 2, 10
+# The kinds of the hosts; the root has the first.
+KINDS, STOCK = ("list", "tree", "uniform"), ("straw2", "list", "straw2", "tree")
 SPARE_POOL = 77
 SECONDS = 300
 SPAN = re.compile(r"^(?:up|fup|count|groups|epoch|ok|follow) (\d+)|^moved \d+ epoch (\d+)|^err 20 StaleEpoch (\d+)|^f?dump .*?\"epoch\":(\d+)")
@@ -28,24 +30,29 @@ def pool(number, groups):
     return {"id": number, "kind": kind, "pg_num": groups, "pgp_num": groups, "rule": int(kind == "erasure"), "size": size}
 
 
-def a_map(pools, groups):
-    """OSDs in hosts of three kinds under one root, and pools of copies and of coded parts."""
+def forest(kinds):
+    """OSDs in hosts of some kinds under one root of the first, and a rule for copies and one for coded parts."""
     each = OSDS // HOSTS
-    buckets = [{"id": -1, "items": [[-2 - h, 65536 * each] for h in range(HOSTS)], "kind": "list", "type": 10}]
-    buckets += [{"id": -2 - h, "items": [[each * h + i, 65536] for i in range(each)], "kind": ("list", "tree", "uniform")[h % 3], "type": 1}
+    buckets = [{"id": -1, "items": [[-2 - h, 65536 * each] for h in range(HOSTS)], "kind": kinds[0], "type": 10}]
+    buckets += [{"id": -2 - h, "items": [[each * h + i, 65536] for i in range(each)], "kind": kinds[h % len(kinds)], "type": 1}
                 for h in range(HOSTS)]
     rules = [{"id": number, "kind": kind, "steps": [["take", -1], [step, 0, 1], ["emit"]]}
              for number, (kind, step) in enumerate((("replicated", "chooseleaf_firstn"), ("erasure", "chooseleaf_indep")))]
+    return {"buckets": buckets, "rules": rules}
+
+
+def a_map(pools, groups, kinds=KINDS):
+    """OSDs in hosts under one root, and pools of copies and of coded parts."""
     osds = [{"exists": True, "id": osd, "up": True, "weight": 65536} for osd in range(OSDS)]
-    return {"buckets": buckets, "epoch": FIRST, "max_osd": OSDS + 1, "osds": osds, "version": 1, "rules": rules,
+    return {**forest(kinds), "epoch": FIRST, "max_osd": OSDS + 1, "osds": osds, "version": 1,
             "pools": [pool(number, groups) for number in range(1, pools + 1)]}
 
 
 class Writer:
     """What writes the scripts of a run."""
 
-    def __init__(self, seed, pools, groups):
-        self.rng, self.pools, self.groups = random.Random(seed), pools, groups
+    def __init__(self, seed, pools, groups, is_stock=False):
+        self.rng, self.pools, self.groups, self.is_stock = random.Random(seed), pools, groups, is_stock
 
     def group(self):
         rng = self.rng
@@ -90,8 +97,14 @@ class Writer:
         return self.rng.choice([{"new_pools": [pool(SPARE_POOL, groups)]}, {"old_pools": [SPARE_POOL]},
                                 {"grow_pool": [[SPARE_POOL, self.groups, groups]]}])
 
+    def forest_part(self):
+        """A part that brings straw2 buckets or takes them."""
+        return {"new_crush": forest(self.rng.choice([KINDS, STOCK, STOCK[::-1], ("straw2",)]))}
+
     def change(self, base, is_safe):
         kind = self.rng.random()
+        if self.is_stock and self.rng.random() < 0.1:
+            return "change " + json.dumps({"base": base, **self.forest_part()}, separators=(",", ":"))
         part = self.state() if is_safe or kind < 0.4 else self.exceptions() if kind < 0.85 else self.pools_part()
         return "change " + json.dumps({"base": base, **part}, separators=(",", ":"))
 
@@ -106,11 +119,12 @@ class Writer:
         return script + [self.look() for _ in range(lines - len(script))]
 
 
-def scripts(seed, sessions, lines, pools, groups):
-    """A map and a script for each session; a quarter of a script's lines or so try to change the map."""
-    writer = Writer(seed, pools, groups)
+def scripts(seed, sessions, lines, pools, groups, is_stock=False):
+    """A map and a script for each session; a quarter of a script's lines or so try to change the map. Under `--stock` some hosts are straw2
+    buckets, and a change in ten brings other hosts."""
+    writer = Writer(seed, pools, groups, is_stock)
     bases = CLASSES * (lines // 4 // STRETCH) * STRETCH
-    return a_map(pools, groups), [writer.script(place, lines, bases) for place in range(sessions)]
+    return a_map(pools, groups, STOCK if is_stock else KINDS), [writer.script(place, lines, bases) for place in range(sessions)]
 
 
 # What the answers say
@@ -257,19 +271,21 @@ def faults(all_scripts, output, play):
     return wrong + differences(history, lines, answers), len(history.made), len(history.asked)
 
 
-def run(command, folder, all_scripts, value):
+def run(command, folder, all_scripts, value, is_stock=False):
     """A run of scripts at once over a map: its words, and what plays one session over that map."""
+    options = ["--stock"] * is_stock + ["--journal", "65536"]
+
     def file(name, text):
         (folder / name).write_text(text, encoding="utf-8")
         return str(folder / name)
 
     def play(lines):
-        words = [command, "--journal", "65536", stated, file("one", "".join(line + "\n" for line in lines))]
+        words = [command, *options, stated, file("one", "".join(line + "\n" for line in lines))]
         return sessions_of(subprocess.run(words, stdout=subprocess.PIPE, text=True, check=True, timeout=SECONDS).stdout)[0]
 
     stated = file("map", json.dumps(value))
     names = [file(f"script-{number}", "\n".join(script) + "\n") for number, script in enumerate(all_scripts, 1)]
-    return [str(command), "--journal", "65536", stated] + names, play
+    return [str(command), *options, stated] + names, play
 
 
 if __name__ == "__main__":
