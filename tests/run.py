@@ -17,8 +17,9 @@ many sessions whose answers must be those of one history (soak.py), `patched` ta
 built anew (anew.py), `stocked` rows of other tables that answer the same under `--stock`, `straws` picks that each entry of a
 logarithm's tables decides (straws.py), and `apart` holds what reckons apart against Ceph's placements and the kept answers, and
 the kept picture.
-`clusters` are the tools over clusters of Ceph's (clusters.py), what `import` has against others (brought.py), plans
-(moves.py), what the tools tell (told.py), their edges (edges.py) and their package (packaged.py), `live` sessions that are
+`clusters` are the tools over clusters of Ceph's (clusters.py) and stock ones (stock.py, whole.py, stock_edges.py), what `import`
+has against others (brought.py), plans (moves.py), what the tools tell (told.py), their edges (edges.py) and their package
+(packaged.py), `live` sessions that are
 answered as they are typed (live.py), and `pages` what the pages say of the repository (pages.py). At the end each growth of
 the examples' runs is refused in turn (memory.py). What is being run is told on standard error meanwhile. Each run, and
 whatever waits in a check, has a limit of time; past it the row has failed, and the others go on.
@@ -52,8 +53,11 @@ import moves
 import packaged
 import pages
 import soak
+import stock
+import stock_edges
 import straws
 import told
+import whole
 from plans import cases as plan_cases
 
 HERE = pathlib.Path(__file__).resolve().parent
@@ -593,7 +597,8 @@ def of_clusters():
     """The tools over clusters as Ceph's tools dump them."""
     yield Check("the places at fault that tools tell, beside the refusals of all tables", lambda _: faulty.faults(
         run for name in ("worked", "changes", "growth", "limits", "texts") for run in table_of(name)))
-    for name, test in [*clusters.tests(), *brought.tests(), *moves.tests(), *told.tests(), *edges.tests()]:
+    for name, test in [*clusters.tests(), *brought.tests(), *moves.tests(), *told.tests(), *edges.tests(), *stock.tests(),
+                       *whole.tests(), *stock_edges.tests()]:
         yield Check(name, lambda command, test=test: clusters.faults(command, test))
     for name, test in packaged.tests():
         yield Check(name, lambda command, test=test: test(command) or [])

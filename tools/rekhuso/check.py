@@ -12,7 +12,7 @@ from typing import Any
 
 from .faults import Fault, Refused
 from .forms import NAMES, Place
-from .monitor import answers_of, raw_answers
+from .monitor import answers_of, has_straw2, raw_answers
 from .places import change_places, map_places
 from .shares import with_names
 from .texts import names_in, text_of
@@ -61,7 +61,7 @@ def check_map(path: str, program: Any, names: dict[str, Any]) -> str:
         answers_of(program, text, ["epoch"])
     except Refused as refused:
         value = parsed(text)
-        places = [] if refused.name == "BadJson" else map_places(value)
+        places = [] if refused.name == "BadJson" else map_places(value, has_straw2(text))
         raise refusal(refused.name, NUMBERS[refused.name], [told(value, place, names) for place in places], path) from None
     return text
 
@@ -77,7 +77,7 @@ def work(options: Any) -> None:
     answer = raw_answers(options.program, text, [f"change {change}"])[0]
     if answer.startswith("err "):
         number, name = answer.split(" ")[1:3]
-        found = [] if number == "10" else change_places(json.loads(text), parsed(change))
+        found = [] if number == "10" else change_places(json.loads(text), parsed(change), has_straw2(text))
         raise refusal(name, int(number), [told(None, place, names) for place in found], options.change)
     print(f"{options.change}: lawful: {answer}")
 

@@ -1,9 +1,12 @@
-"""A cluster as Ceph's tools dump it: which of it a map can hold, and what is left out."""
+"""A cluster as Ceph's tools dump it: which of it a map can hold, what is stated otherwise there, and what is left out."""
+
+from __future__ import annotations
 
 from functools import cached_property
-from typing import Any
+from typing import Any, Callable
 
 from .forms import GROUP, TRIES
+from .shapes import WEIGHT_SET, misfits
 
 HASHPSPOOL = 1
 KINDS = {1: "replicated", 3: "erasure"}
@@ -15,6 +18,17 @@ def listed(words: list[str]) -> str:
     return words[0] if len(words) == 1 else ", ".join(words[:-1]) + " and " + words[-1]
 
 
+def compat_weight_set(crush_dump: dict[str, Any]) -> dict[int, list[int]]:
+    """The weights, in units of 1/65,536, that a compat weight set gives the items of each bucket: the one that is in force for all pools
+    and all places of a set. None where weight sets are of another form."""
+    found: dict[int, list[int]] = {}
+    entries = crush_dump.get("choose_args", {})
+    for entry in entries["-1"] if list(entries) == ["-1"] and isinstance(entries["-1"], list) else []:
+        if not misfits(entry, WEIGHT_SET, "") and len(entry.get("weight_set", [])) == 1 and not entry.get("ids"):
+            found[entry["bucket_id"]] = [round(weight * 65536) for weight in entry["weight_set"][0]]
+    return found
+
+
 def some(words: list[str], most: int = 8) -> str:
     """The same, but of many the first only."""
     return listed(words) if len(words) <= most else ", ".join(words[:most]) + f" and {len(words) - most} more"
@@ -23,9 +37,11 @@ def some(words: list[str], most: int = 8) -> str:
 class Cluster:
     """What two dumps say, with the rules that pools use and the buckets below what these take."""
 
-    def __init__(self, osd_dump: dict[str, Any], crush_dump: dict[str, Any], torn: frozenset[str] = frozenset()) -> None:
-        """Of dumps whose entries are all of the right form; `torn` names the keys of which some entries were not, and are gone."""
-        self.osd_dump, self.crush, self.torn = osd_dump, crush_dump, torn
+    def __init__(self, osd_dump: dict[str, Any], crush_dump: dict[str, Any], torn: frozenset[str] = frozenset(),
+                 gone: dict[int, int] | None = None) -> None:
+        """Of dumps whose entries are all of the right form; `torn` names the keys of which some entries were not, and are gone. `gone`
+        has the reweights, in units of 1/65,536, that OSDs have kept which do not exist any more."""
+        self.osd_dump, self.crush, self.torn, self.gone = osd_dump, crush_dump, torn, gone or {}
         self.epoch = osd_dump["epoch"]
         self.pools = osd_dump["pools"]
         self.osds = {osd["osd"]: osd for osd in osd_dump["osds"]}
@@ -34,7 +50,11 @@ class Cluster:
         self.sizes = {pool["pool"]: pool["pg_num"] for pool in self.pools}
         used = {pool["crush_rule"] for pool in self.pools}
         self.rules = [rule for rule in crush_dump["rules"] if rule["rule_id"] in used or not self.pools and "pools" not in torn]
-        below = {number for rule in self.rules for root in self.takes(rule) for number in self.below(root)}
+        self.weight_sets = compat_weight_set(crush_dump)
+        self.held = {number: self.held_by(bucket) for number, bucket in self.buckets.items()}
+        self.stands = {number for rule in self.rules for root in self.takes(rule) for number in self.reached(root, self.listed_in)}
+        self.is_stock = any(bucket["alg"] == "straw2" for bucket in crush_dump["buckets"])
+        below = {number for rule in self.rules for number in self.below_rule(rule)}
         self.kept = sorted((number for number in below if number in self.buckets), reverse=True)
         self.devices = sorted(number for number in below if number >= 0)
         self.max_osd = max([min(osd_dump["max_osd"], GREATEST["osds"]), 1] + [device + 1 for device in self.devices])
@@ -50,24 +70,89 @@ class Cluster:
         """All that the rules take, each once, from -1 downwards."""
         return sorted({root for rule in self.rules for root in self.takes(rule)}, reverse=True)
 
-    def step_of(self, step: dict[str, Any]) -> list[Any]:
-        """A step of a rule in the map's form; its type must be one of the CRUSH dump's."""
+    def sizes_of(self, rule: dict[str, Any]) -> list[int]:
+        """The sizes of the pools that use a rule."""
+        return sorted({pool["size"] for pool in self.pools if pool["crush_rule"] == rule["rule_id"]})
+
+    def step_of(self, step: dict[str, Any], size: int = 0) -> list[Any]:
+        """A step of a rule in the map's form, for pools of a size; its type must be one of the CRUSH dump's. In a stock cluster a
+        negative count becomes the size less it, and chooseleaf of OSDs becomes choose, as both are the same to Ceph."""
         op = step["op"]
         if op == "take":
             return ["take", step["item"]]
         if op in TRIES:
             return [op, step["num"]]
-        return ["emit"] if op == "emit" else [op, step["num"], self.types[step["type"]]]
+        if op == "emit":
+            return ["emit"]
+        count, kind = step["num"], self.types[step["type"]]
+        if self.is_stock and op == "chooseleaf_firstn" and kind == 0:
+            op = "choose_firstn"
+        return [op, count + size if self.is_stock and count < 0 else count, kind]
 
-    def below(self, root: int) -> set[int]:
-        """An item with all that stands below it."""
+    def steps_of(self, rule: dict[str, Any]) -> list[list[Any]]:
+        """The steps of a rule in the map's form. A block that chooses as many as the size less as many or more gives nothing: only the
+        tries that it sets stay, since they hold for the blocks behind it."""
+        steps: list[list[Any]] = []
+        block: list[list[Any]] = []
+        size, is_idle = (self.sizes_of(rule) or [0])[0], False
+        for step in rule["steps"]:
+            own = self.step_of(step, size)
+            block.append(own)
+            is_idle = is_idle or own[0].startswith("choose") and step["num"] < 0 and own[1] <= 0 and self.is_stock
+            if step["op"] == "emit":
+                steps += [own for own in block if own[0] in TRIES] if is_idle else block
+                block, is_idle = [], False
+        steps += block
+        while self.is_stock and steps and steps[-1][0] in TRIES:
+            steps.pop()
+        return steps
+
+    # Buckets and what they hold
+
+    def weights(self, bucket: dict[str, Any]) -> list[int]:
+        """The weights by which a bucket picks: its own, or those of a weight set in force, which straw2 buckets alone look at."""
+        own = self.weight_sets.get(bucket["id"], []) if bucket["alg"] == "straw2" else []
+        return own if len(own) == len(bucket["items"]) else [self.weight(item) for item in bucket["items"]]
+
+    def held_by(self, bucket: dict[str, Any]) -> list[tuple[int, int]]:
+        """The items of a bucket that a map holds, each with its weight. An item of weight 0 draws the least number in a straw2 bucket, so it
+        is never picked where another weighs more; where all weigh 0 the first one always is, and it stays at the least weight."""
+        items = list(zip((item["id"] for item in bucket["items"]), self.weights(bucket)))
+        if bucket["alg"] != "straw2":
+            return items
+        return [entry for entry in items if entry[1]] or [(item, 1) for item, _ in items[:1]]
+
+    def holds(self, number: int) -> list[int]:
+        """The items of a bucket that a map holds; none of a device."""
+        return [item for item, _ in self.held.get(number, [])]
+
+    def listed_in(self, number: int) -> list[int]:
+        """All items of a bucket; none of a device."""
+        return [item["id"] for item in self.buckets.get(number, {"items": []})["items"]]
+
+    @staticmethod
+    def reached(root: int, items_of: Callable[[int], list[int]]) -> set[int]:
+        """An item with all that stands below it, where a function tells the items of each."""
         found, left = set(), [root]
         while left:
             number = left.pop()
             if number not in found:
                 found.add(number)
-                left += [item["id"] for item in self.buckets.get(number, {"items": []})["items"]]
+                left += items_of(number)
         return found
+
+    def below(self, root: int) -> set[int]:
+        """An item with all below it that a map holds."""
+        return self.reached(root, self.holds)
+
+    def below_rule(self, rule: dict[str, Any]) -> set[int]:
+        """What a rule takes, with all below it that a map holds."""
+        return {number for root in self.takes(rule) for number in self.below(root)}
+
+    @cached_property
+    def has_weight_set(self) -> bool:
+        """Whether a weight set is in force that has other weights than the buckets themselves."""
+        return any(self.weights(self.buckets[number]) != list(map(self.weight, self.buckets[number]["items"])) for number in self.kept)
 
     @staticmethod
     def weight(item: dict[str, Any]) -> int:
@@ -90,6 +175,29 @@ class Cluster:
                 "pools": {str(pool["pool"]): pool["pool_name"] for pool in self.pools},
                 "rules": {str(rule["rule_id"]): rule["rule_name"] for rule in self.rules},
                 "types": {str(number): name for name, number in self.types.items()}}
+
+    def all_names(self) -> dict[str, Any]:
+        """The same with the names of buckets that no map has."""
+        return dict(self.names(), buckets={str(number): bucket["name"] for number, bucket in self.buckets.items()})
+
+    def shown(self) -> list[dict[str, Any]]:
+        """The buckets of the cluster's tree in the map's form: from its roots, without shadow buckets, each item where it first stands and
+        with its own weight, and no bucket below one of its own type or a lower one, as a dump may have it where no rule comes."""
+        types = {number: own["type_id"] for number, own in self.buckets.items() if "~" not in own["name"] and 0 < own["type_id"] < 16}
+        inside = {item for number in types for item in self.listed_in(number)}
+        found: list[dict[str, Any]] = []
+        seen: set[int] = set()
+        left = sorted(types.keys() - inside)
+        while left:
+            number = left.pop()
+            items: list[list[int]] = []
+            for entry in self.buckets[number]["items"]:
+                if (entry["id"] >= 0 or types.get(entry["id"], 16) < types[number]) and entry["id"] not in seen:
+                    seen.add(entry["id"])
+                    items.append([entry["id"], self.weight(entry)])
+            left += [item for item, _ in reversed(items) if item < 0]
+            found.append({"id": number, "items": items, "kind": self.buckets[number]["alg"], "type": types[number]})
+        return found
 
     # Exceptions: those that can do nothing are left out
 
@@ -139,4 +247,48 @@ class Cluster:
             found.append(f"primary affinity of {some(other)}: the primary may differ")
         explicit, items = self.exceptions
         idle = len(self.osd_dump.get("pg_upmap", [])) - len(explicit) + len(self.osd_dump.get("pg_upmap_items", [])) - len(items)
-        return found + ([f"{idle} exceptions that cannot act"] if idle else [])
+        return found + ([f"{idle} exceptions that cannot act"] if idle else []) + self.weightless()
+
+    def weightless(self) -> list[str]:
+        """What gets no groups, as it weighs 0 or holds nothing: OSDs and buckets, a line a kind."""
+        lost = self.stands - set(self.kept) - set(self.devices)
+        osds = [f"osd.{number}" for number in sorted(lost) if number >= 0]
+        names = [self.bucket_name(number) for number in sorted(lost & self.buckets.keys(), reverse=True)]
+        least = [self.bucket_name(number) for number in self.kept
+                 if len(self.listed_in(number)) > 1 and not any(self.weights(self.buckets[number]))]
+        found = [f"{len(osds)} OSD{'s' * (len(osds) > 1)} of weight 0, which get no groups: {some(osds)}"] if osds else []
+        if names:
+            found.append(f"{len(names)} bucket{'s' * (len(names) > 1)} that weigh 0 or hold nothing: {some(names)}")
+        if least:
+            found.append(f"all but the first item of {some(least)}, as all their items weigh 0 and Ceph takes the first")
+        return found
+
+    # Pools that one map holds
+
+    def of_pools(self, chosen: set[int]) -> Cluster:
+        """The cluster with some of its pools alone, and their exceptions."""
+        others = {str(pool) for pool in self.sizes.keys() - chosen}
+        parts: dict[str, Any] = {key: [entry for entry in self.osd_dump[key] if entry["pgid"].split(".")[0] not in others]
+                                 for key in ("pg_upmap", "pg_upmap_items") if key in self.osd_dump}
+        parts["pools"] = [pool for pool in self.pools if pool["pool"] in chosen]
+        return Cluster(dict(self.osd_dump, **parts), self.crush, self.torn, self.gone)
+
+    def holders(self, rule: dict[str, Any]) -> dict[int, int]:
+        """In which bucket each item stands that a rule may reach."""
+        return {item: number for number in self.below_rule(rule) for item in self.holds(number)}
+
+    def parts(self) -> list[set[int]]:
+        """The pools of each map that the cluster takes: a map holds an item once, so two rules that reach an item in different buckets
+        are in two maps. The rule that fewest maps are left for comes first, so that two maps are found wherever two suffice."""
+        own = {rule["rule_id"]: self.holders(rule) for rule in self.rules}
+        apart = {rule: {other for other in own if any(own[other].get(item, holder) != holder for item, holder in own[rule].items())}
+                 for rule in own}
+        place: dict[int, int] = {}
+        while len(place) < len(own):
+            taken = {rule: {place[other] for other in apart[rule] if other in place} for rule in own if rule not in place}
+            rule = max(taken, key=lambda number: (len(taken[number]), len(apart[number]), -number))
+            place[rule] = next(at for at in range(len(own)) if at not in taken[rule])
+        found: dict[int, set[int]] = {}
+        for pool in self.pools:
+            found.setdefault(place.get(pool["crush_rule"], 0), set()).add(pool["pool"])
+        return sorted(found.values(), key=lambda pools: min(pools)) or [set()]

@@ -14,11 +14,11 @@ import pathlib
 import sys
 from typing import IO, NoReturn
 
-from . import __version__, bring, check, explain, net, picture, plan, report, shares, shell, unlike, whatif
+from . import __version__, bring, check, df, explain, net, picture, plan, report, shell, unlike, whatif
 from .faults import Fault, Misuse
 from .monitor import built
 
-COMMANDS = [bring, check, plan, net, shares, unlike, whatif, explain, picture, report, shell]
+COMMANDS = [bring, check, plan, net, df, unlike, whatif, explain, picture, report, shell]
 
 
 class Parser(argparse.ArgumentParser):

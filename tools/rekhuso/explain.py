@@ -7,10 +7,10 @@ from collections.abc import Iterable
 from typing import Any
 
 from .forms import GROUP
-from .monitor import map_in, up_sets
+from .monitor import up_sets
 from .net import raised
 from .shares import named
-from .texts import names_in
+from .whole import FILES, Files, add_names, whole_of
 
 
 def group_word(word: str) -> str:
@@ -119,15 +119,15 @@ class Group:
 
 def work(options: Any) -> None:
     """Tells a group's story."""
-    value = map_in(options.map, options.program)
-    names = names_in(options.names)
-    print("\n".join(Group(value, options.group, options.program).lines(names)))
+    whole = whole_of(options.files, options)
+    value = whole.map_of(int(options.group.split(".")[0]))
+    print("\n".join(Group(value, options.group, options.program).lines(whole.names)))
 
 
 def add_to(commands: Any) -> None:
     """The subcommand."""
     own = commands.add_parser("explain", help="why a group is where it is", description=__doc__)
-    own.add_argument("map", metavar="MAP")
+    own.add_argument("files", metavar=FILES, nargs="+", action=Files)
     own.add_argument("group", metavar="PG", type=group_word)
-    own.add_argument("--names", metavar="FILE", help="names, as `import --names` wrote them")
+    add_names(own)
     own.set_defaults(work=work)

@@ -136,8 +136,14 @@ def item_id(value: Any, path: str) -> Places:
     yield from number(-65536, 1023)(value, path)
 
 
-BUCKET = keyed({"id": number(-65536, -1), "type": number(1, 15), "kind": word("uniform", "list", "tree"),
-                "items": listed(tupled(item_id, number(1, 2 ** 32 - 1)), 1, 64)})
+def buckets(is_stock: bool) -> Form:
+    """The buckets of a map; under `--stock` of kind straw2 too."""
+    kinds = ("uniform", "list", "tree", "straw2") if is_stock else ("uniform", "list", "tree")
+    bucket = keyed({"id": number(-65536, -1), "type": number(1, 15), "kind": word(*kinds),
+                    "items": listed(tupled(item_id, number(1, 2 ** 32 - 1)), 1, 64)})
+    return listed(bucket, 1, 512)
+
+
 POOL = keyed({"id": number(1, 65535), "kind": word(*KINDS), "pg_num": number(1, 4096), "pgp_num": number(1, 4096), "rule": number(0, 255),
               "size": number(1, 10)})
 OSD = keyed({"id": number(0, 1023), "exists": flag, "up": flag, "weight": number(0, 65536)})
@@ -152,16 +158,18 @@ def rules(has_tries: bool) -> Form:
     return listed(keyed({"id": number(0, 255), "kind": word(*KINDS), "steps": listed(step(has_tries), 1, 16)}), 1, 32)
 
 
-def map_form(has_tries: bool) -> Form:
+def map_form(has_tries: bool, is_stock: bool) -> Form:
     """A map."""
-    return keyed({"version": number(1, 2), "epoch": number(1, 2 ** 31), "max_osd": number(1, 1024), "buckets": listed(BUCKET, 1, 512),
+    return keyed({"version": number(1, 2), "epoch": number(1, 2 ** 31), "max_osd": number(1, 1024), "buckets": buckets(is_stock),
                   "rules": rules(has_tries), "pools": listed(POOL, 0, 32), "osds": listed(OSD, 0, 2 ** 63)},
                  {"pg_upmap": listed(EXPLICIT, 0, MOST), "pg_upmap_items": listed(PAIRS, 0, MOST)})
 
 
-CRUSH = keyed({"buckets": listed(BUCKET, 1, 512), "rules": rules(True)})
-CHANGE = keyed({"base": number(0, 2 ** 64 - 1)}, {
-    "old_pools": listed(number(1, 65535), 0, MOST), "new_crush": CRUSH, "new_pools": listed(POOL, 0, MOST),
-    "grow_pool": listed(tupled(number(1, 65535), number(1, 4096), number(1, 4096)), 0, MOST), "down": listed(OSD_ID, 0, MOST),
-    "up": listed(OSD_ID, 0, MOST), "weight": listed(tupled(OSD_ID, number(0, 2 ** 32 - 1)), 0, MOST), "old_upmap": listed(group, 0, MOST),
-    "old_items": listed(group, 0, MOST), "new_upmap": listed(EXPLICIT, 0, MOST), "new_items": listed(PAIRS, 0, MOST)})
+def change_form(is_stock: bool) -> Form:
+    """A change."""
+    crush = keyed({"buckets": buckets(is_stock), "rules": rules(True)})
+    return keyed({"base": number(0, 2 ** 64 - 1)}, {
+        "old_pools": listed(number(1, 65535), 0, MOST), "new_crush": crush, "new_pools": listed(POOL, 0, MOST),
+        "grow_pool": listed(tupled(number(1, 65535), number(1, 4096), number(1, 4096)), 0, MOST), "down": listed(OSD_ID, 0, MOST),
+        "up": listed(OSD_ID, 0, MOST), "weight": listed(tupled(OSD_ID, number(0, 2 ** 32 - 1)), 0, MOST), "old_upmap": listed(group, 0, MOST),
+        "old_items": listed(group, 0, MOST), "new_upmap": listed(EXPLICIT, 0, MOST), "new_items": listed(PAIRS, 0, MOST)})

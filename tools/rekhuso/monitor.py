@@ -9,6 +9,11 @@
     with Monitor(value, timeout=60) as monitor:
         monitor.balance(1)
 
+    with Monitor(value, stock=True) as monitor:
+        monitor.change(new_crush=crush)
+
+A map with a straw2 bucket is read under `--stock`, and any other without it unless `stock` says so.
+
 The program runs until the monitor is closed, or until it lets a question wait for longer than `timeout` seconds. Each question is put
 to it as a line, and its answer is there before the next is asked; many lines at once go by `raw`, `ask` and `ups`. Sessions may
 be used by several threads at once, each of them by one; they are all at one monitor, and what one changes the others see.
@@ -40,6 +45,19 @@ def built() -> pathlib.Path:
     """The program where none is named: that of this repository, else `osdmapd` on the path."""
     found = None if BUILT.exists() else shutil.which("osdmapd")
     return pathlib.Path(found) if found else BUILT
+
+
+def has_straw2(value: Any) -> bool:
+    """Whether a map has a straw2 bucket, so that the program reads it under `--stock` alone; a value, or a text that may be none."""
+    if isinstance(value, str):
+        if "straw2" not in value and "\\" not in value:
+            return False
+        try:
+            value = json.loads(value)
+        except (ValueError, RecursionError):
+            return False
+    buckets = value.get("buckets") if isinstance(value, dict) else None
+    return isinstance(buckets, list) and any(isinstance(own, dict) and own.get("kind") == "straw2" for own in buckets)
 
 
 class Up(NamedTuple):
@@ -218,10 +236,11 @@ class Session:
 
 class Monitor(Session):
     """A run of the program over a map: a value as JSON has it, or its text; itself the first of its sessions. It is closed by
-    `with`, or by `close`. Where a timeout is given, a start, a question or an end that takes more seconds ends the program."""
+    `with`, or by `close`. Where a timeout is given, a start, a question or an end that takes more seconds ends the program. Under
+    `stock` the map and its changes may have straw2 buckets; where nothing is said, the map tells it."""
 
     def __init__(self, value: Any, program: str | os.PathLike[str] | None = None, journal: int = 65536, sessions: int = 1,
-                 timeout: float | None = None) -> None:
+                 timeout: float | None = None, stock: bool | None = None) -> None:
         """Starts the program (that of the repository, or of the path, where none is given) with 1 to 64 sessions and a journal
         of so many changes, 1 to 65,536. ValueError for another number of sessions; a fault where there is no program or it does
         not start, and `Refused` where it refuses the map."""
@@ -230,6 +249,7 @@ class Monitor(Session):
         self.program = pathlib.Path(program or built()).resolve()
         if not self.program.is_file() or not os.access(self.program, os.X_OK):
             raise Fault(f"{program or self.program}: no program; `make run` proves and builds it, or --program names another")
+        self.is_stock = has_straw2(value) if stock is None else stock
         self.errors = tempfile.TemporaryFile()
         self.folder = tempfile.TemporaryDirectory()
         self.sessions: list[Session] = []
@@ -253,10 +273,10 @@ class Monitor(Session):
         for name in (name for pair in names for name in pair):
             os.mkfifo(os.path.join(self.folder.name, name))
         words = [lines for lines, _ in names] + [word for _, answers in names for word in ("--to", answers)]
-        end = subprocess.DEVNULL if names else subprocess.PIPE
+        end, option = subprocess.DEVNULL if names else subprocess.PIPE, ["--stock"] if self.is_stock else []
         try:
-            return subprocess.Popen([str(self.program), "--journal", str(journal), "map.json", *(words or ["-"])], stdin=end, stdout=end,
-                                    stderr=self.errors, cwd=self.folder.name, start_new_session=True)
+            return subprocess.Popen([str(self.program), *option, "--journal", str(journal), "map.json", *(words or ["-"])], stdin=end,
+                                    stdout=end, stderr=self.errors, cwd=self.folder.name, start_new_session=True)
         except OSError as fault:
             self.errors.close()
             self.folder.cleanup()
@@ -351,9 +371,9 @@ def unblocked(pipe: int) -> int:
 
 # One session for some lines
 
-def raw_answers(program: pathlib.Path, value: Any, lines: list[str]) -> list[str]:
+def raw_answers(program: pathlib.Path, value: Any, lines: list[str], stock: bool | None = None) -> list[str]:
     """The answer of each line over a map, refusals among them."""
-    with Monitor(value, program) as monitor:
+    with Monitor(value, program, stock=stock) as monitor:
         return monitor.raw(lines)
 
 

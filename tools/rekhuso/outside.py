@@ -1,4 +1,4 @@
-"""What keeps a cluster from being a map: every reason, each in one line and in the cluster's own names."""
+"""What keeps a cluster from being a map, or several: every reason, each in one line and in the cluster's own names."""
 
 from __future__ import annotations
 
@@ -8,6 +8,7 @@ from typing import Any, Iterable, NamedTuple
 
 from .cluster import GREATEST, HASHPSPOOL, KINDS, Cluster, listed, some
 from .places import block_fault
+from .shapes import WEIGHT_SET, misfits
 
 TUNABLES = {"choose_local_tries": 0, "choose_local_fallback_tries": 0, "choose_total_tries": 50, "chooseleaf_descend_once": 1,
             "chooseleaf_vary_r": 1, "chooseleaf_stable": 1}
@@ -38,14 +39,10 @@ def doubles(numbers: Iterable[int]) -> list[int]:
 # Buckets
 
 def kind_reasons(cluster: Cluster) -> list[str]:
-    """How many buckets are of the kinds of a stock cluster, which no map has."""
-    found = []
-    for kind in ("straw", "straw2"):
-        count = sum(cluster.buckets[number]["alg"] == kind for number in cluster.kept)
-        if count:
-            found.append(f"{count} {kind} buckets, as a stock cluster has them" if count > 1
-                         else f"1 {kind} bucket, as a stock cluster has it")
-    return found
+    """How many buckets are straw buckets, as stock clusters had them before straw2, which no map has."""
+    count = sum(cluster.buckets[number]["alg"] == "straw" for number in cluster.kept)
+    told = f"{count} straw buckets, as a stock cluster has them" if count > 1 else "1 straw bucket, as a stock cluster has it"
+    return [told] if count else []
 
 
 def bucket_reasons(cluster: Cluster) -> list[str]:
@@ -58,22 +55,30 @@ def bucket_reasons(cluster: Cluster) -> list[str]:
         if bucket.get("hash", "rjenkins1") != "rjenkins1":
             found.append(f"bucket {name} hashes by {bucket['hash']}, not by rjenkins1")
         if not bucket["items"]:
-            found.append(f"bucket {name} is empty")
+            found.append(empty_reason(cluster, number))
         found += range_reason(f"bucket {name} has the id {number}", number, -65536, -1)
         found += range_reason(f"bucket {name} has the type {bucket['type_id']}", bucket["type_id"], 1, 15)
-        found += range_reason(f"bucket {name} has {len(bucket['items'])} items", len(bucket["items"]), 0, GREATEST["items"])
+        found += range_reason(f"bucket {name} has {len(cluster.held[number])} items", len(cluster.held[number]), 0, GREATEST["items"])
         found += weight_reasons(cluster, number) + item_reasons(cluster, number)
     found += [f"bucket {cluster.bucket_name(number)} is listed twice in the CRUSH dump"
               for number in doubles(bucket["id"] for bucket in cluster.crush["buckets"]) if number in cluster.kept]
     return found + range_reason(f"{len(cluster.kept)} buckets that pools use", len(cluster.kept), 0, GREATEST["buckets"])
 
 
+def empty_reason(cluster: Cluster, number: int) -> str:
+    """What an empty bucket is told as; in a stock cluster, where others are left out, with the rules that can still pick it."""
+    rules = [rule["rule_name"] for rule in cluster.rules if number in cluster.below_rule(rule)]
+    if not cluster.is_stock or not rules:
+        return f"bucket {cluster.bucket_name(number)} is empty"
+    return f"rule{'s' * (len(rules) > 1)} {listed(rules)} can pick the empty bucket {cluster.bucket_name(number)}"
+
+
 def weight_reasons(cluster: Cluster, number: int) -> list[str]:
     """What is wrong with the weights in a bucket: one that is 0 or no number of 32 bits, their sum, unequal ones in a uniform bucket."""
     bucket, name = cluster.buckets[number], cluster.bucket_name(number)
-    weights = [cluster.weight(item) for item in bucket["items"]]
-    found = [f"bucket {name}: the weight of {cluster.bucket_name(item['id'])} is {weight}{', no number of 32 bits' if weight else ''}"
-             for item, weight in zip(bucket["items"], weights) if not 0 < weight < 2 ** 32]
+    weights = [weight for _, weight in cluster.held[number]]
+    found = [f"bucket {name}: the weight of {cluster.bucket_name(item)} is {weight}{', no number of 32 bits' if weight else ''}"
+             for item, weight in cluster.held[number] if not 0 < weight < 2 ** 32]
     if not found and sum(weights) >= 2 ** 32:
         found.append(f"bucket {name}: the weights come to {sum(weights)}, more than {2 ** 32 - 1}")
     if not found and bucket["alg"] == "uniform" and len(set(weights)) > 1:
@@ -84,7 +89,7 @@ def weight_reasons(cluster: Cluster, number: int) -> list[str]:
 def item_reasons(cluster: Cluster, number: int) -> list[str]:
     """Items of a bucket that are no bucket, or not of a type below its own."""
     bucket, name, found = cluster.buckets[number], cluster.bucket_name(number), []
-    for item in (entry["id"] for entry in bucket["items"]):
+    for item in cluster.holds(number):
         own = cluster.buckets.get(item)
         if item < 0 and own is None and "buckets" not in cluster.torn:
             found.append(f"bucket {name} holds {item}, which is no bucket")
@@ -100,15 +105,17 @@ def users(cluster: Cluster, root: int) -> list[int]:
     return [pool["pool"] for pool in cluster.pools if pool["crush_rule"] in rules]
 
 
-def root_reasons(cluster: Cluster) -> list[str]:
-    """OSDs that pools take from two buckets, neither of which stands below the other."""
+def root_reasons(cluster: Cluster, is_one: bool) -> list[str]:
+    """OSDs that pools take from two buckets, neither of which stands below the other: where `is_one` asks for one map, all of them, else
+    those alone that one rule takes so."""
     found = []
     for root, other in combinations(cluster.roots(), 2):
         first, second = cluster.below(root), cluster.below(other)
         shared = sorted(number for number in first & second if number >= 0)
-        if shared and root not in second and other not in first:
+        in_one_rule = any({root, other} <= set(cluster.takes(rule)) for rule in cluster.rules)
+        if shared and root not in second and other not in first and (is_one or in_one_rule or not cluster.pools):
             pools = [str(pool) for pool in sorted(set(users(cluster, root) + users(cluster, other)))]
-            which = f"the pools {listed(pools)} take" if len(pools) > 1 else f"pool {''.join(pools)} takes"
+            which = f"the pools {listed(pools)} take" if len(pools) > 1 else f"pool {pools[0]} takes" if pools else "its rules take"
             names = sorted(map(cluster.bucket_name, (root, other)))
             found.append(f"{which} {some([f'osd.{osd}' for osd in shared])} from two buckets: {listed(names)}")
     return found
@@ -121,8 +128,8 @@ def twice_reasons(cluster: Cluster) -> list[str]:
     for root in cluster.roots():
         holders: dict[int, list[int]] = {}
         for number in sorted(cluster.below(root), reverse=True):
-            for item in cluster.buckets.get(number, {"items": []})["items"]:
-                holders.setdefault(item["id"], []).append(number)
+            for item in cluster.holds(number):
+                holders.setdefault(item, []).append(number)
         for item, holding in sorted(holders.items()):
             if (item, *holding) in seen:
                 continue
@@ -146,8 +153,33 @@ def tunable_reasons(cluster: Cluster) -> list[str]:
             found.append(f"no tunable {name}: is it a dump of an older release?")
         elif own.get(name, wanted) != wanted:
             found.append(f"tunable {name} is {own[name]}, not {wanted}")
-    if cluster.crush.get("choose_args"):
-        found.append(f"choose_args (weight sets of {len(cluster.crush['choose_args'])})")
+    return found + weight_set_reasons(cluster)
+
+
+def weight_set_reasons(cluster: Cluster) -> list[str]:
+    """Weight sets that no map can take the place of: those for single pools, and a compat one that is by position, has ids of its own, or
+    does not fit a bucket that pools use."""
+    own = cluster.crush.get("choose_args")
+    if not own:
+        return []
+    if not cluster.is_stock:
+        return [f"choose_args (weight sets of {len(own)})"]
+    if list(own) != ["-1"]:
+        names = {str(pool["pool"]): pool["pool_name"] for pool in cluster.pools}
+        return [f"choose_args (weight sets of {len(own)}): of pools {some([names.get(key, key) for key in own if key != '-1'])}"]
+    entries = own["-1"] if isinstance(own["-1"], list) else [None]
+    if any(misfits(entry, WEIGHT_SET, "") for entry in entries):
+        return ["choose_args: the compat weight set is of another form"]
+    used = [entry for entry in entries if entry["bucket_id"] in cluster.kept and cluster.buckets[entry["bucket_id"]]["alg"] == "straw2"]
+    found = []
+    for entry in used:
+        name, rows = cluster.bucket_name(entry["bucket_id"]), entry.get("weight_set", [])
+        if entry.get("ids"):
+            found.append(f"choose_args: the compat weight set gives the items of {name} other ids")
+        if len(rows) > 1:
+            found.append(f"choose_args: the compat weight set of {name} is by position")
+        elif rows and len(rows[0]) != len(cluster.listed_in(entry["bucket_id"])):
+            found.append(f"choose_args: the compat weight set of {name} does not fit its items")
     return found
 
 
@@ -161,12 +193,22 @@ def step_reasons(cluster: Cluster, rule: dict[str, Any]) -> list[str]:
         elif step["op"] == "take" and step["item"] not in cluster.buckets and "buckets" not in cluster.torn:
             found.append(f"{name} takes {step.get('item_name', step['item'])}, which is no bucket")
         elif "num" in step and number < 0:
-            found.append(f"{name} has the negative count {number} in a step {step['op']}")
+            found += negative_reasons(cluster, rule, step)
         elif "num" in step:
             found += range_reason(f"{name} has the number {number} in a step {step['op']}", number, most == 200, most)
         if "type" in step and step["op"] in OPS:
             found += type_reasons(cluster, name, step["type"])
     return found
+
+
+def negative_reasons(cluster: Cluster, rule: dict[str, Any], step: dict[str, Any]) -> list[str]:
+    """A negative count in a step; in a stock cluster one that is no count for all pools of the rule alike, or for none."""
+    told, sizes = f"rule {rule['rule_name']} has the negative count {step['num']} in a step {step['op']}", cluster.sizes_of(rule)
+    if not cluster.is_stock or not step["op"].startswith("choose"):
+        return [told]
+    if len(sizes) == 1:
+        return []
+    return [f"{told}, and its pools have the sizes {listed(list(map(str, sizes)))}" if sizes else told]
 
 
 def type_reasons(cluster: Cluster, name: str, kind: str) -> list[str]:
@@ -187,7 +229,8 @@ def rule_reasons(cluster: Cluster) -> list[str]:
         if rule["type"] not in KINDS:
             found.append(f"{name} is of the unknown type {rule['type']}")
         elif all(step["op"] in OPS and step.get("type", "osd") in cluster.types for step in rule["steps"]):
-            fault = block_fault([cluster.step_of(step) for step in rule["steps"]], KINDS[rule["type"]])
+            steps = cluster.steps_of(rule)
+            fault = block_fault(steps, KINDS[rule["type"]]) if steps or not rule["steps"] else "all its counts come to nothing"
             found += [f"{name}: its steps are not in the grammar: {fault}"] if fault else []
     found += [f"rule {number} is listed twice" for number in doubles(rule["rule_id"] for rule in cluster.rules)]
     return found + range_reason(f"{len(cluster.rules)} rules that pools use", len(cluster.rules), 0, GREATEST["rules"])
@@ -234,7 +277,11 @@ def osd_reasons(cluster: Cluster) -> list[str]:
     """The epoch, OSDs from 1,024 on or listed twice, and reweights that are no part of 1."""
     found = range_reason(f"the epoch is {cluster.epoch}", cluster.epoch, 1, 2 ** 31)
     numbers, most = sorted(set(cluster.osds) | set(cluster.devices)), cluster.osd_dump["max_osd"]
-    found += [f"osd.{osd} is at or above osd.{GREATEST['osds']}" for osd in numbers if osd >= GREATEST["osds"]]
+    high = [f"osd.{osd}" for osd in numbers if osd >= GREATEST["osds"]]
+    if cluster.is_stock and len(high) > FEW:
+        found.append(f"{len(high)} OSDs are at or above osd.{GREATEST['osds']}: {some(high)}")
+    else:
+        found += [f"{osd} is at or above osd.{GREATEST['osds']}" for osd in high]
     if "max_osd" not in cluster.torn:
         found += [f"osd.{osd} is not below max_osd, {most}" for osd in sorted(cluster.osds) if most <= osd < GREATEST["osds"]]
     found += [f"osd.{osd} is listed twice in the OSD dump" for osd in doubles(own["osd"] for own in cluster.osd_dump["osds"])]
@@ -243,7 +290,7 @@ def osd_reasons(cluster: Cluster) -> list[str]:
             found.append(f"osd.{osd} has a number below 0")
         if "exists" not in own.get("state", ["exists"]) and own["state"]:
             found.append(f"osd.{osd} is listed in the OSD dump, but does not exist")
-        if not 0 <= own["weight"] <= 1:
+        if own["weight"] < 0 or own["weight"] > 1 and not cluster.is_stock:
             found.append(f"osd.{osd} has reweight {own['weight']}, {'above 1' if own['weight'] > 1 else 'below 0'}")
     return found
 
@@ -289,13 +336,21 @@ def absent_reasons(cluster: Cluster, is_high: bool) -> list[str]:
     many = one.replace("which is", "which are")
     for key, word, verb in (SETS, PAIRS):
         named = [(entry["pgid"], osd) for entry in cluster.osd_dump.get(key, []) if cluster.is_group(entry["pgid"])
-                 for osd in dict.fromkeys(targets(entry)) if osd not in cluster.osds and (osd >= most) == is_high]
+                 for osd in dict.fromkeys(targets(entry)) if osd not in cluster.osds.keys() | cluster.gone.keys() and (osd >= most) == is_high]
         if len(named) > FEW:
             osds = [f"osd.{osd}" for osd in sorted({osd for _, osd in named})]
             found.append(f"{len(named)} {word.removesuffix('s')}s name OSDs {many}: {some(osds)}")
         else:
             found += [f"the {word} of {group} {verb} osd.{osd}, {one}" for group, osd in named]
     return found
+
+
+def kept_reasons(cluster: Cluster) -> list[str]:
+    """Exceptions that lead to an OSD which does not exist and has kept a reweight above 0: Ceph takes them and drops the OSD at look-up."""
+    kept = {osd for osd, weight in cluster.gone.items() if weight}
+    return [f"the {word} of {entry['pgid']} {verb} osd.{osd}, which does not exist and has kept the reweight {cluster.gone[osd] / 65536:.5f}"
+            for key, word, verb in (SETS, PAIRS) for entry in cluster.osd_dump.get(key, []) if cluster.is_group(entry["pgid"])
+            for osd in dict.fromkeys(targets(entry)) if osd in kept]
 
 
 # Whether both dumps are of one cluster
@@ -320,7 +375,8 @@ class Unmatched(NamedTuple):
 
 def unlisted_devices(cluster: Cluster) -> list[Unmatched]:
     """Devices that a pool's rule reaches and that the OSD dump does not list; many of them in one line."""
-    gone = [device for device in cluster.devices if device not in cluster.osds] if cluster.pools else []
+    there = cluster.osds.keys() | cluster.gone.keys()
+    gone = [device for device in cluster.devices if device not in there] if cluster.pools else []
     roots = listed([cluster.bucket_name(root) for root in cluster.roots() if cluster.below(root) & set(gone)] or [""])
     names = [f"osd.{device}" for device in gone]
     if len(gone) > FEW:
@@ -348,10 +404,11 @@ def unmatched(cluster: Cluster) -> list[Unmatched]:
     return found
 
 
-def reasons(cluster: Cluster, is_unmatched: bool) -> list[str]:
-    """All that keeps a cluster from being a map, each in one line; what only one dump has is none where `is_unmatched` says so."""
-    found: list[str] = []
-    for part in (bucket_reasons, root_reasons, twice_reasons, tunable_reasons, rule_reasons, pool_reasons, osd_reasons, exception_reasons):
+def reasons(cluster: Cluster, is_unmatched: bool, is_one: bool = True) -> list[str]:
+    """All that keeps a cluster from being a map, or where `is_one` is false several maps, each in one line; what only one dump has is
+    none where `is_unmatched` says so."""
+    found = bucket_reasons(cluster) + root_reasons(cluster, is_one)
+    for part in (twice_reasons, tunable_reasons, rule_reasons, pool_reasons, osd_reasons, exception_reasons, kept_reasons):
         found += part(cluster)
     if not {"osds", "max_osd"} & cluster.torn:
         found += absent_reasons(cluster, True)

@@ -1,4 +1,4 @@
-"""`picture`: the OSDs of a map by host and rack, the share of each as its colour, as SVG; of two maps, side by side.
+"""`picture`: the OSDs of a map, or of two dumps, by host and rack, the share of each as its colour, as SVG; of two maps, side by side.
 
 Grey is an OSD's share, red more, blue less; in each square stands the number of its groups; a cross marks one that is out, a bar
 one that is down.
@@ -9,9 +9,8 @@ from __future__ import annotations
 import html
 from typing import Any
 
-from .monitor import groups_of, map_in, up_sets
 from .shares import Shares, named
-from .texts import names_in
+from .whole import add_names, is_crush_dump, whole_with_sets
 
 # Squares keep their colours in the dark, and so what stands in them.
 STYLE = ("text{font:11px sans-serif;fill:#333}.r{font-weight:bold}.n{font-size:8px;text-anchor:middle;fill:#222}.g{fill:#fff}.c{stroke:#999;stroke-width:.5}"
@@ -97,21 +96,17 @@ def picture(maps: list[Shares], names: dict[str, Any], titles: list[str]) -> str
             f'<text x="136" y="{height + 17}">no groups .. the share .. twice as many; in a square its groups; cross: out; bar: down</text></svg>\n')
 
 
-def shares_of(path: str, program: Any) -> Shares:
-    """The shares of a map in a file."""
-    value = map_in(path, program)
-    return Shares(value, up_sets(program, value, groups_of(value)))
-
-
 def work(options: Any) -> None:
     """Writes the picture on standard output."""
-    names = names_in(options.names)
-    print(picture([shares_of(path, options.program) for path in options.maps], names, options.maps), end="")
+    files: list[str] = options.files
+    parts = [files] if len(files) == 2 and is_crush_dump(files[1]) else [[path] for path in files]
+    wholes = [whole_with_sets(part, options) for part in parts]
+    print(picture([whole.shares(sets) for whole, sets in wholes], wholes[0][0].names, [part[0] for part in parts]), end="")
 
 
 def add_to(commands: Any) -> None:
     """The subcommand."""
     own = commands.add_parser("picture", help="the OSDs and their shares as SVG", description=__doc__)
-    own.add_argument("maps", metavar="MAP", nargs="+")
-    own.add_argument("--names", metavar="FILE", help="names, as `import --names` wrote them")
+    own.add_argument("files", metavar="OSD_DUMP CRUSH_DUMP | MAP", nargs="+")
+    add_names(own)
     own.set_defaults(work=work)

@@ -5,7 +5,7 @@ from __future__ import annotations
 from collections import Counter
 from typing import Any, Iterable
 
-from .forms import CHANGE, TRIES, Place, Places, map_form
+from .forms import TRIES, Place, Places, change_form, map_form
 from .unlike import place_of
 
 
@@ -127,10 +127,10 @@ def map_exceptions(value: dict[str, Any]) -> Places:
                 yield Place(17, f"{key}[{at}][1]", f"osd.{osd} does not exist")
 
 
-def map_places(value: Any) -> list[Place]:
-    """All places of a map that are at fault: those of form and limits, or where these hold all others."""
+def map_places(value: Any, is_stock: bool = False) -> list[Place]:
+    """All places of a map that are at fault, under `--stock` or without it: those of form and limits, or where these hold all others."""
     has_tries = isinstance(value, dict) and value.get("version") == 2
-    found = list(map_form(has_tries)(value, ""))
+    found = list(map_form(has_tries, is_stock)(value, ""))
     if found:
         return found
     for places in (forest_places(value, value["max_osd"]), rule_places(value), twice((pool["id"] for pool in value["pools"]), "pools[{}].id", 15, "pool"),
@@ -217,9 +217,9 @@ class After:
                 yield Place(27, f"{left} and {right}", f"{key} stands in both")
 
 
-def change_places(value: dict[str, Any], change: Any) -> list[Place]:
-    """All places of a change to a lawful map that are at fault."""
-    found = list(CHANGE(change, ""))
+def change_places(value: dict[str, Any], change: Any, is_stock: bool = False) -> list[Place]:
+    """All places of a change to a lawful map that are at fault, under `--stock` or without it."""
+    found = list(change_form(is_stock)(change, ""))
     if found:
         return found
     if "new_crush" in change:

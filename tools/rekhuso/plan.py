@@ -14,14 +14,15 @@ from collections import Counter
 from fractions import Fraction
 from typing import Any, NamedTuple
 
-from .bring import UNMATCHED, monitor_of, stated
-from .faults import Fault
+from .bring import brought, monitor_of
+from .faults import Fault, Misuse
 from .greedy import Deviations, Pairs, moves_within
 from .monitor import Monitor, Session, Up, groups_of
 from .net import settled
 from .shares import Shares, named
 from .texts import names_in, text_of
 from .unlike import commands, place_of
+from .whole import NO_PLAN, add_files, has_other_weights, tree_in
 
 MOST = 1024
 
@@ -44,16 +45,34 @@ class Plan(NamedTuple):
     whole: int | None = None
 
 
-def opened(options: Any) -> tuple[Monitor, Cluster]:
-    """A session over the map of one file, or of two dumps. A fault where there is none."""
-    names = names_in(options.names) if options.names else {}
-    if len(options.files) == 1:
-        text = text_of(options.files[0])
-        monitor = Monitor(text, options.program)
+def plan_of_map(options: Any) -> list[str]:
+    """The commands of the plans of a map in a file."""
+    if options.tree is not None or options.pools is not None:
+        raise Misuse("--tree and --pools go with two dumps alone")
+    names, text = names_in(options.names), text_of(options.files[0])
+    with Monitor(text, options.program) as monitor:
         value = json.loads(text)
-        return monitor, Cluster(value, value, names)
-    cluster, value = stated(options.files[0], options.files[1], options.unmatched)
-    return monitor_of(value, options.program), Cluster(value, cluster.kept_exceptions(), names or cluster.names())
+        if has_other_weights(value, tree_in(options.names)):
+            raise Fault(NO_PLAN)
+        cluster = Cluster(value, value, names)
+        return planned(monitor, cluster, chosen(options.pool or [], cluster), options)
+
+
+def plan_of_dumps(options: Any) -> list[str]:
+    """The commands of the plans of two dumps, map by map where the cluster takes several. A fault where a weight set is in force."""
+    names = names_in(options.names) if options.names else {}
+    found = brought(options.files[0], options.files[1], options)
+    if found.cluster.has_weight_set:
+        raise Fault(NO_PLAN)
+    every = {"pools": [pool for value in found.maps for pool in value["pools"]]}
+    wanted = chosen(options.pool or [], Cluster(every, every, names or found.cluster.names()))
+    lines: list[str] = []
+    for part, value in zip(found.parts, found.maps):
+        pools = [pool for pool in value["pools"] if pool in wanted]
+        if pools or not wanted:
+            with monitor_of(value, options.program) as monitor:
+                lines += planned(monitor, Cluster(value, part.kept_exceptions(), names or part.names()), pools, options)
+    return sorted(lines, key=lambda line: place_of(line.split(" ")[3]))
 
 
 def chosen(words: list[str], cluster: Cluster) -> list[dict[str, Any]]:
@@ -152,9 +171,8 @@ def told(pool: dict[str, Any], plan: Plan, before: Shares, after: dict[str, Up],
     return f"{plan.moves} moves of {groups} groups{length(plan, options)}; before {was}; after {spread(weights, counts)}"
 
 
-def planned(session: Session, cluster: Cluster, options: Any) -> list[str]:
-    """The commands of the plans; tells on standard error what they are."""
-    pools = chosen(options.pool or [], cluster)
+def planned(session: Session, cluster: Cluster, pools: list[dict[str, Any]], options: Any) -> list[str]:
+    """The commands of the plans of some pools; tells on standard error what they are."""
     part = dict(cluster.value, pools=pools)
     before = Shares(part, session.ups(groups_of(part)))
     if options.deviation is None:
@@ -175,25 +193,12 @@ def planned(session: Session, cluster: Cluster, options: Any) -> list[str]:
 
 
 def work(options: Any) -> None:
-    """Asks the program for its plans, in one session, and tells them."""
-    monitor, cluster = opened(options)
-    with monitor:
-        lines = planned(monitor, cluster, options)
-    for line in lines:
+    """Asks the program for its plans, in one session a map, and tells them."""
+    for line in plan_of_map(options) if len(options.files) == 1 else plan_of_dumps(options):
         print(line)
 
 
 # The command line
-
-class Files(argparse.Action):
-    """One file or two; an error of use where there are more."""
-
-    def __call__(self, parser: argparse.ArgumentParser, namespace: argparse.Namespace, values: Any, option: str | None = None) -> None:
-        """Keeps the words, or ends the command with status 2."""
-        if len(values) > 2:
-            parser.error("plan takes one map, or two dumps")
-        setattr(namespace, self.dest, values)
-
 
 def limit(word: str) -> int:
     """A number of moves; an error of use where it is none."""
@@ -217,10 +222,8 @@ def distance(word: str) -> Fraction:
 def add_to(commands_of: Any) -> None:
     """The subcommand."""
     own = commands_of.add_parser("plan", help="a balancer's plan as Ceph's commands", description=__doc__)
-    own.add_argument("files", metavar="OSD_DUMP CRUSH_DUMP | MAP", nargs="+", action=Files)
+    add_files(own)
     own.add_argument("--pool", metavar="ID|NAME", action="append", help="only this pool; as often as there are pools")
     own.add_argument("--max", metavar="N", type=limit, default=MOST, help="at most N moves a pool, 1 to 1024")
     own.add_argument("--deviation", metavar="D", type=distance, help="only as many moves as bring each OSD within D groups of its share")
-    own.add_argument("--names", metavar="FILE", help="names, as `import --names` wrote them")
-    own.add_argument("--unmatched", action="store_true", help=UNMATCHED)
     own.set_defaults(work=work)

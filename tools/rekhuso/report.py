@@ -1,15 +1,15 @@
-"""`report`: one HTML page of a map, without outside parts: OSDs, pools, exceptions and the plan."""
+"""`report`: one HTML page of a map, or of two dumps, without outside parts: OSDs, pools, exceptions and the plan."""
 
 import html
 import json
 from typing import Any
 
-from .monitor import Monitor, groups_of, map_in, up_sets
+from .monitor import Monitor, Up, up_sets
 from .net import raised, settled
 from .picture import picture
 from .shares import Shares, named, spread, table_row, with_names
-from .texts import names_in
 from .unlike import commands, place_of
+from .whole import NO_PLAN, Whole, add_files, whole_with_sets
 
 COLUMNS = ["weight", "reweight", "state", "groups", "share", "deviation"]
 STYLE = """:root{color-scheme:light dark}body{font:15px/1.45 system-ui,sans-serif;margin:1rem auto;max-width:86rem;padding:0 1rem}
@@ -75,32 +75,38 @@ def heading(value: dict[str, Any], shares: Shares, title: str) -> str:
             f"An OSD has {even['least']} to {even['greatest']} groups; the standard deviation from the shares is {even['deviation']}.</p>")
 
 
-def page(value: dict[str, Any], names: dict[str, Any], program: Any, title: str) -> str:
-    """The page of a lawful map, as HTML."""
-    shares = Shares(value, up_sets(program, value, groups_of(value)))
+def plan_parts(whole: Whole, program: Any) -> str:
+    """The plans of all maps, or that there is none where a weight set is in force."""
+    if whole.has_weight_set:
+        return f"<p>{html.escape(NO_PLAN)}</p>"
+    return "".join(plan_part(value, whole.names, program) for value in whole.maps)
+
+
+def page(whole: Whole, sets: dict[str, Up], program: Any, title: str) -> str:
+    """The page of a lawful map or of a cluster, as HTML."""
+    names, value, shares = whole.names, whole.tree, whole.shares(sets)
     osds = [[named(names, "osds", osd), *table_row(shares.osd_row(osd), "")[1:-1]] for osd in sorted(shares.osds)]
     pools = [[named(names, "pools", pool["id"]), pool["groups"], pool["size"], named(names, "rules", pool["rule"]), pool["places"],
               pool["short"]] for pool in shares.pools()]
-    excepted = exception_rows(value, program)
+    excepted = [row for own in whole.maps for row in exception_rows(own, program)]
     parts = [heading(value, shares, title), '<h2>Where the groups are</h2><div class="pair"><figure>', picture([shares], names, [title]),
              '</figure><div class="tree">', table(["tree", *COLUMNS], tree_rows(shares, names), "sums"), "</div></div><h2>OSDs</h2>",
              table(["OSD", *COLUMNS], osds), "<h2>Pools</h2>",
              table(["pool", "groups", "size", "rule", "places", "groups short"], pools), "<h2>Exceptions</h2>",
              table(["group", "without", "with", ""], excepted) if excepted else "<p>None.</p>", "<h2>The plan</h2>",
-             plan_part(value, names, program)]
+             plan_parts(whole, program)]
     return ('<!doctype html><html lang="en"><meta charset="utf-8"><meta name="viewport" content="width=device-width,initial-scale=1">'
             f"<title>{html.escape(title)}</title><style>{STYLE}</style>{''.join(parts)}<script>{SCRIPT}</script></html>\n")
 
 
 def work(options: Any) -> None:
     """Writes the page on standard output."""
-    value = map_in(options.map, options.program)
-    print(page(value, names_in(options.names), options.program, options.map), end="")
+    whole, sets = whole_with_sets(options.files, options)
+    print(page(whole, sets, options.program, options.files[0]), end="")
 
 
 def add_to(commands_of: Any) -> None:
     """The subcommand."""
     own = commands_of.add_parser("report", help="one HTML page of a map", description=__doc__)
-    own.add_argument("map", metavar="MAP")
-    own.add_argument("--names", metavar="FILE", help="names, as `import --names` wrote them")
+    add_files(own)
     own.set_defaults(work=work)

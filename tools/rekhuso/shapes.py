@@ -22,6 +22,10 @@ CRUSH_DUMP = {
                  "?chooseleaf_descend_once": int, "?chooseleaf_vary_r": int, "?chooseleaf_stable": int},
     "?choose_args": {},
 }
+# What a weight set has for a bucket.
+WEIGHT_SET = {"bucket_id": int, "?weight_set": [[float]], "?ids": [int]}
+# What `ceph osd tree -f json` tells of OSDs, those that do not exist among them.
+TREE = {"nodes": [{"id": int, "?exists": int, "?reweight": float}]}
 # What a step must have beside its word.
 STEPS = {"take": ("item",), "choose_firstn": ("num", "type"), "choose_indep": ("num", "type"), "chooseleaf_firstn": ("num", "type"),
          "chooseleaf_indep": ("num", "type"), "set_choose_tries": ("num",), "set_chooseleaf_tries": ("num",)}

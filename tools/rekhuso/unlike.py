@@ -5,7 +5,7 @@ from __future__ import annotations
 from typing import Any
 
 from .faults import Refused
-from .monitor import Up, groups_of, map_in, raw_answers, up_sets
+from .monitor import Up, groups_of, has_straw2, map_in, raw_answers, up_sets
 from .shares import with_names
 from .texts import names_in, written
 
@@ -115,7 +115,7 @@ def work(options: Any) -> None:
     for line in unsaid:
         print(f"no change says: {with_names(line, names)}")
     if not unsaid:
-        answer = raw_answers(options.program, old, [f"change {written(change)}"])[0]
+        answer = raw_answers(options.program, old, [f"change {written(change)}"], has_straw2(old) or has_straw2(new))[0]
         if not answer.startswith("ok "):
             raise Refused(answer.split(" ")[2], int(answer.split(" ")[1]))
     told = moved(before, after)

@@ -1,7 +1,7 @@
 """`whatif`: what moves if a change is made: two runs over all groups, and their difference.
 
 The change is a line of a script (`change {..}`, or its JSON alone), or is put together from options. An OSD is named by
-its number, several by the bucket that they stand below (its id, or its name where --names knows it).
+its number, several by the bucket that they stand below (its id, or its name where --names knows it, or the dumps do).
 """
 
 from __future__ import annotations
@@ -9,15 +9,18 @@ from __future__ import annotations
 import argparse
 import json
 import math
+import os
 import re
-from typing import Any
+from typing import Any, NamedTuple
 
 from .faults import Fault, Misuse
 from .flows import picture
-from .monitor import Up, answers_of, groups_of, map_in, raw_answers, up_of
+from .forms import change_form
+from .monitor import Up, answers_of, groups_of, raw_answers, up_of
 from .shares import named
-from .texts import names_in, put, written
+from .texts import put, written
 from .unlike import place_of
+from .whole import FILES, Whole, add_names, whole_of
 
 
 def change_in(text: str) -> dict[str, Any]:
@@ -129,9 +132,17 @@ def compared(before: dict[str, Up], after: dict[str, Up], sizes: dict[int, int])
             "flows": [[*pair, count] for pair, count in sorted(flows(before, after).items(), key=lambda flow: (-flow[1], flow[0]))]}
 
 
-def result(value: dict[str, Any], change: dict[str, Any] | None, options: Any, grown: dict[str, Any] | None = None) -> dict[str, Any]:
-    """What a change moves, or what another map does that has a host more, by the program; and which pools it could not balance, each
-    with why, where plans are asked for. A fault where the change is refused."""
+class Answered(NamedTuple):
+    """The sets of a map's groups before a change and after it, and the pools that could not be balanced, each with why."""
+
+    before: dict[str, Up]
+    after: dict[str, Up]
+    refused: list[list[Any]]
+
+
+def answered(value: dict[str, Any], change: dict[str, Any], options: Any, grown: dict[str, Any] | None = None) -> Answered:
+    """What the program answers over a map and a change, or another map that has a host more; with plans where they are asked for. A
+    fault where the change is refused."""
     groups = groups_of(value)
     asked = [f"up {group}" for group in groups]
     plans = [f"balance {pool['id']} 1024" for pool in value["pools"]] if options.balance else []
@@ -146,7 +157,41 @@ def result(value: dict[str, Any], change: dict[str, Any] | None, options: Any, g
     before = dict(zip(groups, map(up_of, answers[:len(groups)])))
     after = {group: up_of(answer) for group, answer in zip(groups, last) if answer.startswith("up ")}
     refused = [[pool["id"], answer.removeprefix("err ")] for pool, answer in zip(value["pools"], planned) if answer.startswith("err ")]
-    return dict(compared(before, after, {pool["id"]: pool["size"] for pool in value["pools"]}), unbalanced=refused)
+    return Answered(before, after, refused)
+
+
+def result(whole: Whole, change: dict[str, Any], options: Any, grown: dict[str, Any] | None = None) -> dict[str, Any]:
+    """What a change moves over all maps, or what another map does that has a host more, and which pools could not be balanced."""
+    parts = [answered(value, change_for(value, change, whole.maps), options, grown) for value in whole.maps]
+    before = {group: up for part in parts for group, up in part.before.items()}
+    after = {group: up for part in parts for group, up in part.after.items()}
+    found = compared(before, after, {pool["id"]: pool["size"] for pool in whole.pools})
+    return dict(found, unbalanced=[refused for part in parts for refused in part.refused])
+
+
+def change_for(value: dict[str, Any], change: dict[str, Any], maps: list[dict[str, Any]]) -> dict[str, Any]:
+    """What of a change concerns one map of several: what it says of OSDs, and of pools and groups of this map; what it says of pools that
+    are in none goes to the first, whose refusal tells it. A fault for a part that no cluster of several maps can be given."""
+    if len(maps) == 1 or list(change_form(True)(change, "")):
+        return change
+    whole = [key for key in ("new_crush", "new_pools") if key in change]
+    if whole:
+        raise Fault(f"{whole[0]}: the cluster takes {len(maps)} maps: import one by --pools, and ask of that")
+    own = {pool["id"] for pool in value["pools"]}
+    others = {pool["id"] for each in maps for pool in each["pools"]} - own
+    found = dict(change)
+    for key in ("old_pools", "grow_pool", "old_upmap", "old_items", "new_upmap", "new_items"):
+        if key in change:
+            mine = [entry for entry in change[key] if (number := pool_in(entry)) in own or number not in others and value is maps[0]]
+            found.pop(key)
+            found.update({key: mine} if mine else {})
+    return found
+
+
+def pool_in(entry: Any) -> int:
+    """The pool that an entry of a change names, by its id or by a group."""
+    key = entry[0] if isinstance(entry, list) else entry
+    return key if isinstance(key, int) else int(key.split(".")[0])
 
 
 def below_which(value: dict[str, Any], names: dict[str, Any], name: str, under: str | None) -> tuple[int, dict[str, Any]]:
@@ -212,13 +257,14 @@ def level_of(value: dict[str, Any], names: dict[str, Any], word: str) -> int:
     return level
 
 
-def drill(value: dict[str, Any], names: dict[str, Any], options: Any) -> None:
+def drill(whole: Whole, options: Any) -> None:
     """Tells what each bucket of a type would move if it went out, one after the other: a line each, or a list as JSON."""
+    value, names = whole.tree, whole.names
     level, there = level_of(value, names, options.each), {osd["id"] for osd in value["osds"] if osd["exists"]}
     rows = []
     for bucket in (own for own in value["buckets"] if own["type"] == level):
         weights = [[osd, 0] for osd in sorted(osds_below(value, bucket["id"])) if osd in there]
-        found = result(value, {"base": value["epoch"], "weight": weights}, options)
+        found = result(whole, {"base": value["epoch"], "weight": weights}, options)
         name = named(names, "buckets", bucket["id"])
         rows.append({"id": bucket["id"], "name": name, **found})
         if not options.json:
@@ -242,27 +288,42 @@ def check_together(options: Any) -> None:
         raise Misuse("--under goes with --add-host alone")
 
 
+def files_and_change(words: list[str]) -> tuple[list[str], dict[str, Any] | None]:
+    """The files that words name, and the change behind them if there is one: a last word that is no file. An error of use where it is no
+    change either, or where there are more words."""
+    is_change = len(words) > 1 and words[-1] != "-" and not os.path.exists(words[-1])
+    files = words[:-1] if is_change else words
+    if len(files) > 2:
+        raise Misuse("whatif takes one map, or two dumps, and a change")
+    try:
+        return files, change_in(words[-1]) if is_change else None
+    except argparse.ArgumentTypeError as fault:
+        raise Misuse(f"argument CHANGE: {fault}") from None
+
+
 def work(options: Any) -> None:
     """Tells what moves."""
+    options.files, options.change = files_and_change(options.words)
     check_together(options)
-    value, names, grown = map_in(options.map, options.program), names_in(options.names), None
+    whole, grown = whole_of(options.files, options), None
     if options.each is not None:
-        drill(value, names, options)
+        drill(whole, options)
         return
     if options.add_host:
         name, weights = options.add_host
-        grown = with_host(value, names, name, weights_in(weights), options.under)
-    found = result(value, change_of(options, value, names), options, grown)
+        if len(whole.maps) > 1:
+            raise Fault(f"{name}: the cluster takes {len(whole.maps)} maps: import one by --pools, and ask of that")
+        grown = with_host(whole.maps[0], whole.names, name, weights_in(weights), options.under)
+    found = result(whole, change_of(options, whole.named_tree(), whole.names), options, grown)
     if options.picture is not None:
-        put(options.picture, picture(grown or value, found, names))
+        put(options.picture, picture(grown or whole.tree, found, whole.names))
     print(json.dumps(found, indent=1) if options.json else "\n".join(lines(found)))
 
 
 def add_to(commands: Any) -> None:
     """The subcommand."""
     own = commands.add_parser("whatif", help="what moves if a change is made", description=__doc__)
-    own.add_argument("map", metavar="MAP")
-    own.add_argument("change", metavar="CHANGE", nargs="?", type=change_in, help="a change as JSON, without its base or with it")
+    own.add_argument("words", metavar=f"{FILES} [CHANGE]", nargs="+", help="a change is JSON, without its base or with it")
     for word, about in (("out", "takes no groups"), ("in", "takes its whole share again"), ("down", "is down")):
         own.add_argument(f"--{word}", metavar="OSD|BUCKET", action="append", default=[], help=f"it {about}; as often as wanted")
     own.add_argument("--reweight", metavar=("OSD|BUCKET", "W"), nargs=2, action="append", default=[], help="its reweight, 0 to 1")
@@ -270,7 +331,7 @@ def add_to(commands: Any) -> None:
     own.add_argument("--under", metavar="BUCKET", help="the bucket below which it comes")
     own.add_argument("--each", metavar="TYPE", help="instead: each bucket of this type out, in turn")
     own.add_argument("--balance", action="store_true", help="each pool is balanced after the change")
-    own.add_argument("--names", metavar="FILE", help="names, as `import --names` wrote them")
+    add_names(own)
     own.add_argument("--json", action="store_true", help="as JSON")
     own.add_argument("--picture", metavar="FILE", help="writes beside it which host gives to which, as SVG")
     own.set_defaults(work=work)

@@ -1,0 +1,173 @@
+#!/usr/bin/env python3
+"""`import` over stock clusters at their edges: weights that do not add up, dumps that are none, and what no map holds.
+
+    tests/stock_edges.py PROGRAM [PART OF A NAME]
+
+The clusters of loose.json.gz were made at random: hosts of which all weigh 0, buckets whose parents give another weight than the sum,
+negative counts, OSDs that were removed. Their up sets are those of a reference in C that goes by the dump as it is, weights of 0 and
+negative counts with it, in the way of Ceph's mapper.c.
+"""
+
+import gzip
+import json
+import sys
+import time
+
+import clusters
+import stock
+from stock import STOCK, copied, dumps, ran
+
+LOOSE = json.loads(gzip.decompress((clusters.HERE / "loose.json.gz").read_bytes()))
+DRAINED = "011-drained"
+
+
+def refused(tools, own, *words):
+    """The lines that a changed cluster is refused with, once nothing was put out."""
+    output, error = ran(tools, "import", *dumps(tools, "changed", own), *words, status=1)
+    assert output == "" and "Traceback" not in error, error[-600:]
+    return error.splitlines()
+
+
+def bucket_of(own, name):
+    """A bucket of a cluster by its name."""
+    return next(bucket for bucket in own["crush_dump"]["buckets"] if bucket["name"] == name)
+
+
+def item_of(own, name, item):
+    """An item of a bucket by the bucket's name and the item's."""
+    number = bucket_of(own, item)["id"] if not item.startswith("osd.") else int(item[4:])
+    return next(entry for entry in bucket_of(own, name)["items"] if entry["id"] == number)
+
+
+def test_loose_weights(tools):
+    """Every up set of a cluster whose weights are loose is that of the reference, by the map that import makes of it."""
+    total = 0
+    for name, own in LOOSE.items():
+        output, _ = ran(tools, "import", *dumps(tools, name, own), "--tree", tools.put("tree", own["tree"]))
+        found = stock.sets(tools, json.loads(output))
+        unlike = [(group, own["up"][group], found.get(group)) for group in own["up"] if found.get(group) != own["up"][group]]
+        assert not unlike and len(found) == len(own["up"]), (name, len(unlike), unlike[:3])
+        total += len(found)
+    assert total > 2000 and len(LOOSE) > 40, total
+
+
+def test_empty_buckets(tools):
+    """An empty bucket to which a weight leads is refused, with the rules that can pick it; one that weighs 0 is left out."""
+    own = copied(DRAINED)
+    item_of(own, "default", "host6")["weight"] = 65536
+    assert refused(tools, own) == ["rules replicated_rule and ec can pick the empty bucket host6: `ceph osd crush rm` takes it away, or "
+                                   "`ceph osd crush reweight-all` gives it the weight 0"]
+    own = copied(DRAINED)
+    bucket_of(own, "default")["items"] = []
+    assert [line.split(": ")[0] for line in refused(tools, own)] == ["rules replicated_rule and ec can pick the empty bucket default"]
+
+
+def test_first_of_zeros(tools):
+    """Of a host of zeros to which a weight leads the first OSD alone stays, at the least weight, and that is told."""
+    own = copied(DRAINED)
+    item_of(own, "default", "host0")["weight"] = 65536
+    output, error = ran(tools, "import", *dumps(tools, "zeros", own))
+    host = next(bucket for bucket in json.loads(output)["buckets"] if bucket["id"] == bucket_of(own, "host0")["id"])
+    assert host["items"] == [[0, 1]], host
+    assert "left out: all but the first item of host0, as all their items weigh 0 and Ceph takes the first" in error.splitlines(), error
+
+
+def test_counts_and_words_of_rules(tools):
+    """Negative counts need pools of one size; chooseleaf of OSDs is choose for copies; a reweight above 1 is one of 1."""
+    own = copied("018-hybrid")
+    pools = own["osd_dump"]["pools"]
+    pools.append(dict(pools[1], pool=3, pool_name="other", size=2))
+    lines = refused(tools, own, "--pools", "2,3")
+    assert lines == ["rule hybrid has the negative count -1 in a step chooseleaf_firstn, and its pools have the sizes 2 and 3: "
+                     "--pools takes pools of one size at a time"], lines
+    for pool, count in (("2", 2), ("3", 1)):
+        output, _ = ran(tools, "import", *dumps(tools, "sizes", own), "--pools", pool)
+        assert json.loads(output)["rules"][0]["steps"][4] == ["chooseleaf_firstn", count, 1], (pool, output[-400:])
+    pools[2]["size"] = 1
+    output, _ = ran(tools, "import", *dumps(tools, "sizes", own), "--pools", "3")
+    assert [step[0] for step in json.loads(output)["rules"][0]["steps"]] == ["take", "chooseleaf_firstn", "emit"], output[-400:]
+    own = copied("001-three-hosts")
+    own["crush_dump"]["rules"][0]["steps"][1]["type"] = "osd"
+    own["osd_dump"]["osds"][3]["weight"] = 1.5
+    value = json.loads(ran(tools, "import", *dumps(tools, "words", own))[0])
+    assert value["rules"][0]["steps"][1] == ["choose_firstn", 0, 0] and value["osds"][3]["weight"] == 65536, value["rules"]
+    own = copied("015-ec-osd-domain")
+    step = next(step for step in own["crush_dump"]["rules"][1]["steps"] if step["op"] == "choose_indep")
+    step["op"] = "chooseleaf_indep"
+    assert all(line.startswith("rule cold: its steps are not in the grammar: ") for line in refused(tools, own))
+
+
+def test_missing_keys(tools):
+    """A dump without a key that is read ends in lines that name it, and with nothing put out."""
+    for dump, keys in (("osd_dump", ("epoch", "max_osd", "pools", "osds")), ("crush_dump", ("devices", "types", "buckets", "rules", "tunables"))):
+        for key in keys:
+            for make in (lambda part, key: part.pop(key), lambda part, key: part.update({key: None}), lambda part, key: part.update({key: "x"})):
+                own = copied("001-three-hosts")
+                make(own[dump], key)
+                assert f": {key}: " in refused(tools, own)[0], (key, refused(tools, own))
+    for place, key in (("buckets", "items"), ("buckets", "alg"), ("rules", "steps"), ("devices", "id")):
+        own = copied("001-three-hosts")
+        del own["crush_dump"][place][0][key]
+        assert any(f"{place}[0].{key}: missing: no monitor dumps it so: take both dumps again" in line for line in refused(tools, own)), (place, key)
+
+
+def test_loops(tools):
+    """A tree that comes back to itself is refused where a rule reaches it, and does no harm where none does."""
+    for name, item, told in (("default", "default", "bucket default of type root holds default of type root, which is not below it"),
+                             ("host1", "default", "bucket host1 of type host holds default of type root, which is not below it"),
+                             ("host1", "host2", "bucket host1 of type host holds host2 of type host, which is not below it")):
+        own = copied(DRAINED)
+        bucket_of(own, name)["items"].append({"id": bucket_of(own, item)["id"], "weight": 65536, "pos": 9})
+        assert refused(tools, own)[0].startswith(told), (name, item)
+    own = copied(DRAINED)
+    spare = bucket_of(own, "rack-new")
+    spare["items"] = [{"id": spare["id"], "weight": 1, "pos": 0}, {"id": bucket_of(own, "default")["id"], "weight": 1, "pos": 1}]
+    assert ran(tools, "df", *dumps(tools, "loop", own))[0] != ""
+
+
+def test_other_kinds_of_values(tools):
+    """Values that no monitor dumps end in lines and status 1."""
+    for name, key, value in (("items", "weight", "1"), ("items", "weight", 1.5), ("items", "weight", True), ("items", "weight", -2 ** 40),
+                             ("items", "weight", 2 ** 40), ("items", "id", None), ("items", "id", -9999), ("items", "id", 5000)):
+        own = copied("001-three-hosts")
+        bucket_of(own, "default")[name][0][key] = value
+        assert refused(tools, own), (key, value)
+    for change in ({"alg": "straw"}, {"alg": "straw3"}, {"hash": "md5"}, {"type_id": 99}, {"items": {}}):
+        own = copied("001-three-hosts")
+        bucket_of(own, "default").update(change)
+        assert refused(tools, own), change
+    for text in ("", "{", "[]", "null", "5", '"x"', "[" * 100_000, "\ud800".encode("utf-8", "surrogatepass").decode("latin-1")):
+        osd, crush = dumps(tools, "001-three-hosts")
+        for files in ((tools.put("x", text), crush), (osd, tools.put("x", text))):
+            _, error = ran(tools, "import", *files, status=1)
+            assert len(error.splitlines()) == 1 and "Traceback" not in error, (text[:20], error[-300:])
+
+
+def test_many_items(tools):
+    """A bucket of a million items is refused in few lines, and in time."""
+    own = copied("001-three-hosts")
+    bucket_of(own, "default")["items"] += [{"id": 20 + at, "weight": 65536, "pos": at} for at in range(1_000_000)]
+    begin = time.monotonic()
+    lines = refused(tools, own)
+    assert len(lines) <= 4 and any("has 1000003 items, more than 64" in line for line in lines), [line[:200] for line in lines]
+    assert any("OSDs are at or above osd.1024" in line for line in lines) and max(map(len, lines)) < 500, [line[:200] for line in lines]
+    assert time.monotonic() - begin < 100
+
+
+def test_weights_that_do_not_add_up(tools):
+    """A host whose parent gives another weight than the sum comes in as it is: Ceph picks by what the parent gives."""
+    own = copied("001-three-hosts")
+    entry = bucket_of(own, "default")["items"][0]
+    entry["weight"] += 3
+    value = json.loads(ran(tools, "import", *dumps(tools, "sums", own))[0])
+    assert [entry["id"], entry["weight"]] in next(bucket for bucket in value["buckets"] if bucket["id"] == -1)["items"]
+    assert {bucket["kind"] for bucket in value["buckets"]} == {"straw2"} and len(STOCK["001-three-hosts"]["up"]) == 129
+
+
+def tests():
+    """Each test with its name."""
+    return clusters.tests(globals())
+
+
+if __name__ == "__main__":
+    sys.exit(clusters.main(globals(), __doc__))

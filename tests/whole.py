@@ -1,0 +1,169 @@
+#!/usr/bin/env python3
+"""Runs the commands of tools/rekhuso over the two dumps of stock clusters, which may take several maps and are told as one.
+
+    tests/whole.py PROGRAM [PART OF A NAME]
+
+What a command tells of groups is compared with Ceph's up sets (stock.py).
+"""
+
+import json
+import sys
+import xml.etree.ElementTree
+
+import clusters
+import stock
+from clusters import ceph_set
+from stock import STOCK, copied, dumps, maps_of, ran
+
+SEVERAL, DRAINED, SET = "005-openstack-mixed", "011-drained", "017-crush-compat"
+
+
+def counts(name):
+    """In how many groups' up sets each OSD stands, by Ceph."""
+    found = {}
+    for places, _ in STOCK[name]["up"].values():
+        for osd in set(places) - {None, 2147483647}:
+            found[osd] = found.get(osd, 0) + 1
+    return found
+
+
+def own_tree(name):
+    """The buckets of a cluster that are no shadows, each with its items, and the weight of each item as a part of 1."""
+    own = [bucket for bucket in STOCK[name]["crush_dump"]["buckets"] if "~" not in bucket["name"]]
+    return {bucket["id"]: [item["id"] for item in bucket["items"]] for bucket in own}, {
+        item["id"]: item["weight"] / 65536 for bucket in own for item in bucket["items"]}
+
+
+def test_tree(tools):
+    """`df` over dumps shows the cluster's own tree, each OSD once, with Ceph's groups of all pools, and what weighs 0 where it stands."""
+    for name in (SEVERAL, DRAINED, "006-class-rules-only", SET):
+        told, (buckets, weights), groups = json.loads(ran(tools, "df", *dumps(tools, name), "--json")[0]), own_tree(name), counts(name)
+        rows = told["tree"]
+        assert sorted(row["id"] for row in rows) == sorted({*buckets, *weights}) and told["stray"] == [], name
+        for row in rows:
+            if row["id"] >= 0:
+                assert row["groups"] == groups.get(row["id"], 0) and row["weight"] == weights[row["id"]], (name, row)
+                assert row["weight"] or (row["groups"], row["share"]) == (0, 0), (name, row)
+        above = {}
+        for row in rows:
+            above[row["depth"]] = row["id"]
+            assert row["depth"] == 0 or row["id"] in buckets[above[row["depth"] - 1]], (name, row)
+        assert told["total"]["groups"] == sum(groups.values()) and abs(told["total"]["share"] - told["total"]["groups"]) < 1, name
+        assert [pool["id"] for pool in told["pools"]] == [pool["pool"] for pool in STOCK[name]["osd_dump"]["pools"]]
+        lines = ran(tools, "df", *dumps(tools, name))[0].splitlines()
+        assert len(lines) == 1 + len(rows) + 1 + len(told["pools"]) + 1, (name, lines)
+
+
+def test_shares_under_a_weight_set(tools):
+    """Under a weight set the shares go by the weights themselves, no plan is made, and it is told what to do."""
+    told, weights = json.loads(ran(tools, "df", *dumps(tools, SET), "--json")[0]), own_tree(SET)[1]
+    osds = {row["id"]: row["share"] for row in told["tree"] if row["id"] >= 0}
+    total, whole = sum(weights[osd] for osd in osds), sum(counts(SET).values())
+    assert all(abs(share - whole * weights[osd] / total) < 0.02 for osd, share in osds.items()), osds
+    output, error = ran(tools, "plan", *dumps(tools, SET), status=1)
+    assert output == "" and len(error.splitlines()) == 1 and "`ceph osd crush weight-set rm-compat`" in error, error
+    assert "no plan: a compat weight set" in ran(tools, "report", *dumps(tools, SET))[0]
+    own = copied(SET)
+    for entry in own["crush_dump"]["choose_args"]["-1"]:
+        bucket = next(own for own in own["crush_dump"]["buckets"] if own["id"] == entry["bucket_id"])
+        entry["weight_set"] = [[item["weight"] / 65536 for item in bucket["items"]]]
+    assert ran(tools, "plan", *dumps(tools, "equal", own))[0] != ""
+
+
+def test_trees_in_names(tools):
+    """The names that `import` writes keep the cluster's tree where the map has not all of it, so that `df` of the map tells what it does
+    of the dumps, and no plan is made of a map with the weights of a set."""
+    for name, has_set in ((DRAINED, False), ("012-arriving", False), (SET, True)):
+        path = tools.put("m", ran(tools, "import", *dumps(tools, name), "--names", "names")[0])
+        for form in ((), ("--json",)):
+            assert ran(tools, "df", path, "--names", "names", *form)[0] == ran(tools, "df", *dumps(tools, name), *form)[0], name
+        _, error = ran(tools, "plan", path, "--names", "names", status=int(has_set))
+        assert error.startswith("no plan: ") == has_set and ("no plan: " in ran(tools, "report", path, "--names", "names")[0]) == has_set, error
+    ran(tools, "import", *dumps(tools, "001-three-hosts"), "--names", "names")
+    assert "tree" not in json.loads((tools.folder / "names").read_text())
+    for tree in ({}, 5, [5], [{"id": -1}], [{"id": -1, "type": 11, "kind": "straw2", "items": [[-1, 1]]}],
+                 [{"id": -1, "type": 11, "kind": "straw2", "items": [[0, 1], [0, 1]]}], [{"id": 3, "type": 11, "kind": "straw2", "items": []}]):
+        output, error = ran(tools, "df", path, "--names", tools.put("names", {"tree": tree}), status=1)
+        assert output == "" and error.startswith(f"{tools.folder / 'names'}: tree") and len(error.splitlines()) == 1, (tree, error)
+
+
+def test_stories_and_pictures(tools):
+    """A group's story ends with Ceph's set, whichever map has it, by the cluster's names; a page and a picture have each OSD once."""
+    for group in ("1.0", "2.1", "3.ff", "4.7f"):
+        lines = ran(tools, "explain", *dumps(tools, SEVERAL), group)[0].splitlines()
+        assert lines[-1].startswith(f"its up set is {ceph_set(STOCK[SEVERAL]['up'][group]).split(' ')[0]}, "), lines
+    assert lines[1].startswith("its rule ssd: take default~ssd; chooseleaf as many as the pool's size of type host (firstn)"), lines
+    for word in ("picture", "report"):
+        page = ran(tools, word, *dumps(tools, SEVERAL))[0]
+        assert page.count('class="c"') == 64 and "ceph-07" in page and "~" not in page, word
+    xml.etree.ElementTree.fromstring(ran(tools, "picture", *dumps(tools, SEVERAL))[0])
+    _, error = ran(tools, "explain", *dumps(tools, SEVERAL), "9.0", status=1)
+    assert error == "refused: 23 UnknownPool\n", error
+
+
+def test_whatif(tools):
+    """What moves is what moves over all maps; a host stands for its OSDs of every class, and a change's parts go where they belong."""
+    maps, (buckets, _) = maps_of(tools, SEVERAL).values(), own_tree(SEVERAL)
+    host = next(bucket for bucket in STOCK[SEVERAL]["crush_dump"]["buckets"] if bucket["name"] == "ceph-03")
+    osds = set(buckets[host["id"]])
+    was = stock.sets(tools, *maps)
+    now = stock.sets(tools, *(dict(value, osds=[dict(osd, weight=0) if osd["id"] in osds else osd for osd in value["osds"]]) for value in maps))
+    moved = sum(was[group] != now[group] for group in was)
+    files = dumps(tools, SEVERAL)
+    for words in (["--out", "ceph-03"], ["--out", str(host["id"])], [json.dumps({"weight": [[osd, 0] for osd in osds]})]):
+        found = json.loads(ran(tools, "whatif", *files, *words, "--json")[0])
+        assert found["groups"] == moved > 100 and {flow[0] for flow in found["flows"]} >= osds, (words, found["groups"], moved)
+    line = next(line for line in ran(tools, "whatif", *files, "--each", "host")[0].splitlines() if line.startswith("ceph-03: "))
+    assert line.startswith(f"ceph-03: {moved} groups and "), line
+    # Pair by pair, a group of each map: both are there before and act.
+    pairs = {group: json.loads(was[group].split(" ")[0])[0] for group in ("1.0", "4.0")}
+    spare = {group: next(osd for osd in range(64) if str(osd) not in was[group]) for group in pairs}
+    change = {"new_items": [[group, [[pairs[group], spare[group]]]] for group in pairs]}
+    assert ran(tools, "whatif", *files, json.dumps(change))[0].startswith("2 groups and 2 places move"), change
+    for words, status, told in ((['{"new_pools":[]}'], 1, "new_pools: the cluster takes 2 maps"), (['{"new_items":[["9.0",[[1,2]]]]}'], 1, "23 UnknownPool"),
+                                (["--add-host", "new", "1,1"], 1, "new: the cluster takes 2 maps"), (["{", "5"], 2, "error: "), (["5"], 2, "error: ")):
+        _, error = ran(tools, "whatif", *files, *words, status=status)
+        assert told in error and len(error.splitlines()) == 1, (words, error)
+
+
+def test_plans(tools):
+    """The plans of a cluster of several maps are those of its pools, and leave nothing to move in any map."""
+    files = dumps(tools, SEVERAL)
+    output, error = ran(tools, "plan", *files)
+    groups = [tuple(int(part, 16 if at else 10) for at, part in enumerate(line.split(" ")[3].split("."))) for line in output.splitlines()]
+    assert groups == sorted(groups) and {pool for pool, _ in groups} == {2, 3, 4}, groups
+    assert [line.split(":")[0] for line in error.splitlines()] == [f"pool {pool}" for pool in (1, 2, 3, 4)], error
+    for value in maps_of(tools, SEVERAL).values():
+        own = {str(pool["id"]) for pool in value["pools"]}
+        after = clusters.with_commands(value, [line for line in output.splitlines() if line.split(" ")[3].split(".")[0] in own])
+        for pool in sorted(own):
+            assert stock.answers(tools, after, [f"balance {pool} 1024"], "--stock")[0].startswith("moved 0 "), pool
+    part, _ = ran(tools, "plan", *files, "--pool", "4")
+    moves = [line for line in output.splitlines() if " 4." in line]
+    assert moves and [line for line in part.splitlines() if " 4." in line] == moves, part
+    short, error = ran(tools, "plan", *files, "--pools", "4", "--deviation", "1")
+    assert 0 < len(short.splitlines()) <= len(moves) and error.startswith("pool 4: "), (short, error)
+    for words in (["--pool", "7"], ["--pools", "nobody"]):
+        _, error = ran(tools, "plan", *files, *words, status=1)
+        assert error.startswith("no pool "), error
+
+
+def test_options_that_do_not_go_together(tools):
+    """Options for dumps beside a map are an error of use, and so are three files."""
+    path = tools.put("m", stock.brought(tools, "001-three-hosts")[0])
+    for words in (["df", path, "--pools", "1"], ["explain", path, "1.0", "--tree", "x"], ["whatif", path, "--out", "3", "--unmatched"],
+                  ["picture", path, "--pools", "1"], ["plan", path, "--tree", "x"], ["report", path, path, path], ["df", path, path, path]):
+        _, error = ran(tools, *words, status=2)
+        assert "error: " in error and len(error.splitlines()) == 1, (words, error)
+    for words in (["df"], ["report"], ["explain", "1.0"], ["plan"], ["whatif", "--out", "3"]):
+        _, error = ran(tools, words[0], *dumps(tools, "021-flat-root"), *words[1:], status=1)
+        assert error.startswith("bucket default has 97 items, more than 64: ") and len(error.splitlines()) == 1, (words, error)
+
+
+def tests():
+    """Each test with its name."""
+    return clusters.tests(globals())
+
+
+if __name__ == "__main__":
+    sys.exit(clusters.main(globals(), __doc__))

@@ -1,0 +1,72 @@
+"""What an operator does about each reason that keeps a cluster out; and of many reasons of one kind, one line."""
+
+from __future__ import annotations
+
+import re
+from typing import NamedTuple
+
+from .cluster import some
+from .outside import FEW
+
+
+class Advice(NamedTuple):
+    """A kind of reason, by a pattern whose first group is what it is told of; what is done about it; and how many of it are told as
+    one, if they are."""
+
+    pattern: str
+    done: str
+    many: str = ""
+
+
+POOLS, AGAIN = "--pools takes the other pools", "no monitor dumps it so: take both dumps again"
+KINDS = (
+    Advice(r"^bucket (.+) has \d+ items, more than", "no map holds so many; --pools takes pools whose rules do not reach it",
+           "{count} buckets have more than 64 items: {names}"),
+    Advice(r"^bucket (.+): the weight of .+ is 0$", "no map holds it; `ceph osd crush reweight` gives it a weight",
+           "{count} items of buckets that are not straw2 have the weight 0: in {names}"),
+    Advice(r"^pool (\d+) has (?:\d+ groups|size \d+), more than", f"no map holds it; {POOLS}"),
+    Advice(r"^\d+ (?:pools|buckets that pools use|rules that pools use), more than", "no map holds so many; --pools takes some pools at a time"),
+    Advice(r"straw buckets?, as ", "`ceph osd crush set-all-straw-buckets-to-straw2` makes them straw2 (Nautilus or later)"),
+    Advice(r"^tunable ", "`ceph osd crush tunables jewel` sets all of them, and moves data once"),
+    Advice(r"^no tunable ", "take the dump by Ceph 10.2 or later"),
+    Advice(r"^pool (\d+) is without hashpspool", f"`ceph osd pool set POOL hashpspool true` sets it, and moves its data once; {POOLS}"),
+    Advice(r"^choose_args.*: of pools", "`ceph osd crush weight-set rm POOL` takes each away, once the balancer is off"),
+    Advice(r"^choose_args", "`ceph osd crush weight-set rm-compat` takes it away, once the balancer is off"),
+    Advice(r"can pick the empty bucket (.+)$", "`ceph osd crush rm` takes it away, or `ceph osd crush reweight-all` gives it the weight 0"),
+    Advice(r"(?:is|OSDs are) at or above", "no map holds an OSD of such a number"),
+    Advice(r"the OSD dump does not list", "take both dumps at one time; where the OSD was removed, --tree tells its reweight (`ceph osd tree -f "
+           "json`), and --unmatched takes it as out, which is right where it was"),
+    Advice(r"the CRUSH dump does not list", "take both dumps at one time; --unmatched takes it as out of reach of every rule"),
+    Advice(r"^pg_upmap_primaries", "`ceph osd rm-pg-upmap-primary PG` takes each away"),
+    Advice(r"has the negative count .*, and its pools", "--pools takes pools of one size at a time"),
+    Advice(r"not in the grammar|from two buckets|is of the unknown type", "--pools takes the pools of other rules"),
+    Advice(r"^pool (\d+) is of type", POOLS),
+    Advice(r"^(.+) stands (?:below .+ buckets of|in .+ twice)", "`ceph osd crush unlink` takes it out of one of them",
+           "{count} items stand below a root more than once: {names}"),
+    Advice(r"^the (?:explicit set|pairs) of (\S+) ", "`ceph osd rm-pg-upmap` and `ceph osd rm-pg-upmap-items` take it away"),
+    Advice(r"is listed twice|is listed in the OSD dump, but|no whole number$|: no [a-z]+$|: missing$|which is no bucket$|which is not below it$|"
+           r"of the unknown kind|chooses the unknown type|no number of 32 bits$|is not below max_osd", AGAIN),
+)
+
+
+def kind_of(reason: str) -> Advice | None:
+    """The kind of a reason; None where nothing is advised."""
+    return next((kind for kind in KINDS if re.search(kind.pattern, reason)), None)
+
+
+def advised(reasons: list[str]) -> list[str]:
+    """Each reason with what is done about it, and of those kinds that are told as one, more than a few in one line."""
+    kinds = [kind_of(reason) for reason in reasons]
+    found: list[str] = []
+    told: set[Advice] = set()
+    for reason, kind in zip(reasons, kinds):
+        if kind is None or kind in told:
+            found += [reason] if kind is None else []
+            continue
+        same = [other for other, own in zip(reasons, kinds) if own == kind]
+        if kind.many and len(same) > FEW:
+            told.add(kind)
+            names = [match[1] for match in (re.search(kind.pattern, other) for other in same) if match]
+            reason = kind.many.format(count=len(same), names=some(list(dict.fromkeys(names))))
+        found.append(f"{reason}{'' if reason.endswith('?') else ':'} {kind.done}")
+    return found

@@ -1,0 +1,189 @@
+"""What a command works on: the map of a file, or a cluster of two dumps, which may take several maps and is told as one."""
+
+from __future__ import annotations
+
+import argparse
+import json
+from typing import Any
+
+from .bring import Brought, add_options, bucket_of, brought, monitor_of
+from .cluster import Cluster
+from .faults import Fault, Misuse
+from .forms import keyed, listed, number, tupled, word
+from .monitor import Up, groups_of, map_in, map_with_sets
+from .shares import Shares
+from .texts import json_of, names_in, text_of
+
+FILES = "OSD_DUMP CRUSH_DUMP | MAP"
+NO_PLAN = ("no plan: a compat weight set (choose_args) is in force, so a plan by its weights would undo what it was tuned for, and one by the "
+           "weights themselves would start from sets that are not there. Turn Ceph's balancer off, take the set away by "
+           "`ceph osd crush weight-set rm-compat`, which moves data, and dump again")
+
+
+class Files(argparse.Action):
+    """One file or two; an error of use where there are more."""
+
+    def __call__(self, parser: argparse.ArgumentParser, namespace: argparse.Namespace, values: Any, option: str | None = None) -> None:
+        """Keeps the words, or ends the command with status 2."""
+        if len(values) > 2:
+            parser.error(f"{parser.prog.split(' ')[-1]} takes one map, or two dumps")
+        setattr(namespace, self.dest, values)
+
+
+def add_files(own: Any) -> None:
+    """The files of a command over a map or two dumps, and the options for dumps and names."""
+    own.add_argument("files", metavar=FILES, nargs="+", action=Files)
+    add_names(own)
+
+
+def add_names(own: Any) -> None:
+    """The options for names and for dumps."""
+    own.add_argument("--names", metavar="FILE", help="names, as `import --names` wrote them")
+    add_options(own)
+
+
+class Whole:
+    """The maps of a cluster, or one map; the tree that is shown of it; its names; and the maps as its shares are reckoned, whose weights
+    are the buckets' own also where a weight set is in force."""
+
+    def __init__(self, maps: list[dict[str, Any]], names: dict[str, Any], found: Brought | None = None) -> None:
+        """Of one map, or of a cluster's maps."""
+        self.maps, self.names, self.found = maps, names, found
+        self.pools: list[dict[str, Any]] = sorted((pool for value in maps for pool in value["pools"]), key=lambda pool: int(pool["id"]))
+        self.tree, self.is_cluster = self.tree_of(found.cluster) if found else maps[0], found is not None
+        self.weighed = [own_weights(part, value) for part, value in zip(found.parts, maps)] if found else maps
+
+    def tree_of(self, cluster: Cluster) -> dict[str, Any]:
+        """The cluster as one value: the buckets that are no shadows of device classes, each item once and with its own weight, also those
+        of weight 0; all OSDs, pools and rules."""
+        osds = {osd["id"]: osd for value in self.maps for osd in value["osds"]}
+        rules = {rule["id"]: rule for value in self.maps for rule in value["rules"]}
+        return {"buckets": cluster.shown(), "epoch": cluster.epoch, "osds": list(osds.values()), "pools": self.pools,
+                "rules": [rules[number] for number in sorted(rules)], "max_osd": max(value["max_osd"] for value in self.maps)}
+
+    def named_tree(self) -> dict[str, Any]:
+        """The tree with every bucket of the maps beside it, in which words are looked up."""
+        there = {bucket["id"] for bucket in self.tree["buckets"]}
+        more = {bucket["id"]: bucket for value in self.maps for bucket in value["buckets"] if bucket["id"] not in there}
+        return dict(self.tree, buckets=[*self.tree["buckets"], *more.values()])
+
+    def map_of(self, pool: int) -> dict[str, Any]:
+        """The map that has a pool; where none has it, the first."""
+        return next((value for value in self.maps if any(own["id"] == pool for own in value["pools"])), self.maps[0])
+
+    @property
+    def has_weight_set(self) -> bool:
+        """Whether a weight set is in force, so that no plan is made."""
+        if self.found is not None:
+            return self.found.cluster.has_weight_set
+        return self.is_cluster and has_other_weights(self.maps[0], self.tree["buckets"])
+
+    def shares(self, ups: dict[str, Up]) -> Shares:
+        """The shares of the whole."""
+        return ClusterShares(self.tree, self.weighed, ups) if self.is_cluster else Shares(self.tree, ups)
+
+
+class ClusterShares(Shares):
+    """The shares of a cluster that may take several maps: each pool's by its own map, over one tree."""
+
+    def __init__(self, tree: dict[str, Any], maps: list[dict[str, Any]], ups: dict[str, Up]) -> None:
+        """Takes the tree, the maps as shares are reckoned, and the up set of each group."""
+        self.of_pool = {pool["id"]: Shares(dict(value, pools=[]), {}) for value in maps for pool in value["pools"]}
+        super().__init__(tree, ups)
+
+    def weights_for(self, pool: dict[str, Any]) -> dict[int, int]:
+        """The weights of the OSDs that may have groups of the pool, by the map that has it."""
+        return {osd: weight for osd, weight in self.of_pool[pool["id"]].weights_for(pool).items() if weight}
+
+
+def own_weights(part: Cluster, value: dict[str, Any]) -> dict[str, Any]:
+    """A map with the buckets' own weights."""
+    return dict(value, buckets=[bucket_of(part, number, True) for number in part.kept])
+
+
+def tree_in(path: str | None) -> list[dict[str, Any]] | None:
+    """The cluster's tree in a file of names, where `import` has put one; a fault where it has another form. None of standard input, which
+    was read for the names."""
+    tree = None if path in (None, "-") else json_of(str(path)).get("tree")
+    if tree is None:
+        return None
+    form = listed(keyed({"id": number(-2 ** 31, -1), "type": number(1, 15), "kind": word("uniform", "list", "tree", "straw", "straw2"),
+                         "items": listed(tupled(number(-2 ** 31, 2 ** 31), number(0, 2 ** 32 - 1)), 0, 2 ** 20)}), 0, 2 ** 20)
+    faults = list(form(tree, "tree"))
+    if faults:
+        raise Fault(f"{path}: {faults[0].path}: {faults[0].why}")
+    types = {bucket["id"]: bucket["type"] for bucket in tree}
+    items = [(item, bucket["type"]) for bucket in tree for item, _ in bucket["items"]]
+    if len(types) < len(tree) or len(dict(items)) < len(items) or any(item < 0 and types.get(item, 16) >= above for item, above in items):
+        raise Fault(f"{path}: tree: its buckets are no forest")
+    found: list[dict[str, Any]] = tree
+    return found
+
+
+def below_tree(value: dict[str, Any], tree: list[dict[str, Any]]) -> dict[int, int] | None:
+    """The weights of the OSDs of a tree; None where a map has an OSD in its buckets that the tree has not."""
+    weights = {item: weight for bucket in tree for item, weight in bucket["items"] if item >= 0}
+    own = {item for bucket in value["buckets"] for item, _ in bucket["items"] if item >= 0}
+    return weights if own <= weights.keys() else None
+
+
+def has_other_weights(value: dict[str, Any], tree: list[dict[str, Any]] | None) -> bool:
+    """Whether a map has another weight for an OSD than the tree of its cluster, in which it weighs something: that of a weight set."""
+    weights = {item: weight for bucket in tree or [] for item, weight in bucket["items"] if item >= 0}
+    return any(weights.get(item, weight) not in (0, weight) for bucket in value["buckets"] for item, weight in bucket["items"])
+
+
+def under_tree(value: dict[str, Any], names: dict[str, Any], tree: list[dict[str, Any]] | None) -> Whole:
+    """A map under the tree of the cluster from which it comes, where that is known and has all its OSDs: what weighs 0 stands there, and
+    shares go by the weights that it has."""
+    weights = below_tree(value, tree) if tree is not None else None
+    if tree is None or weights is None:
+        return Whole([value], names)
+    buckets = [dict(bucket, items=[[item, weights.get(item, weight)] for item, weight in bucket["items"]]) for bucket in value["buckets"]]
+    whole = Whole([value], names)
+    whole.tree, whole.weighed, whole.is_cluster = dict(value, buckets=tree), [dict(value, buckets=buckets)], True
+    return whole
+
+
+def whole_of(files: list[str], options: Any) -> Whole:
+    """What the files of a command are: one map, or the maps of a cluster. A fault where a map is not lawful, or the cluster stays out."""
+    if len(files) == 2:
+        return cluster_of(files, options)
+    check_options(options)
+    return under_tree(map_in(files[0], options.program), names_in(options.names), tree_in(options.names))
+
+
+def whole_with_sets(files: list[str], options: Any) -> tuple[Whole, dict[str, Up]]:
+    """The same with the up set of each group, by one session for each map."""
+    if len(files) == 1:
+        check_options(options)
+        value, sets = map_with_sets(files[0], options.program)
+        return under_tree(value, names_in(options.names), tree_in(options.names)), sets
+    whole, sets = cluster_of(files, options), {}
+    for value in whole.maps:
+        with monitor_of(value, options.program) as monitor:
+            sets.update(monitor.ups(groups_of(value)))
+    return whole, sets
+
+
+def check_options(options: Any) -> None:
+    """An error of use where options for dumps stand beside a map."""
+    if options.unmatched or options.tree is not None or options.pools is not None:
+        raise Misuse("--unmatched, --tree and --pools go with two dumps alone")
+
+
+def cluster_of(files: list[str], options: Any) -> Whole:
+    """The cluster of two dumps, by its own names where no others are given. A fault where it stays out."""
+    found = brought(files[0], files[1], options)
+    return Whole(found.maps, names_in(options.names) if options.names else found.cluster.all_names(), found)
+
+
+def is_crush_dump(path: str) -> bool:
+    """Whether a file is a CRUSH dump, and so no map."""
+    if path == "-":
+        return False
+    try:
+        value = json.loads(text_of(path))
+    except (ValueError, RecursionError):
+        return False
+    return isinstance(value, dict) and {"devices", "tunables"} <= value.keys()
