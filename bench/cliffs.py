@@ -1,16 +1,17 @@
 #!/usr/bin/env python3
-"""What lawful input costs that is not ordinary: unequal racks, rules that try in vain, many exceptions, long journals and answers.
+"""What lawful input costs that is not ordinary: unequal racks, rules that try in vain, clusters of a thousand disks, many
+exceptions, long journals and answers.
 
     cliffs.py PROGRAM
 
-Times are those of a run less a run without what is measured; a run that does not end in time says so. Memory is the greatest
+Times are those of a run less a run without what is measured, the best of some; a run that does not end in time says so. Memory is the greatest
 resident size, less that of the run beside it. It is no part of the gate.
 """
 
 import json
 
-from maps import a_map, flat, osds, paired, pool
-from running import GOALS, LIMIT, found, goal_row, greatest, heading, in_folder, once, output, program, seconds, table
+from maps import a_map, flat, osds, paired, pool, stock
+from running import GOALS, LIMIT, found, goal_row, greatest, heading, in_folder, output, program, seconds, table
 
 GROUPS, POOLS = 4096, 32
 # So many lines are timed: of changes, of those that move half of a full list, of those that are kept, of questions. Opening a map with
@@ -47,26 +48,26 @@ def one_heavy():
     return a_map(buckets, 64, [["chooseleaf_firstn", 0, 1]], 1, GROUPS)
 
 
-def in_vain(is_coded=False):
-    """One group under four blocks with 200 and 200 tries, over fifteen lists of 64 items of which the heavy one stands first; all
+def in_vain(kind="list", is_coded=False):
+    """One group under four blocks with 200 and 200 tries, over fifteen buckets of 64 items of which the heavy one stands first; all
     OSDs are out."""
     buckets, device = [], 0
     for level in range(15, 0, -1):
         heavy = [[-(17 - level), 2**31]] if level > 1 else []
         light = range(device, device + 64 - len(heavy))
-        buckets.append({"id": -(16 - level), "items": heavy + [[d, 1] for d in light], "kind": "list", "type": level})
+        buckets.append({"id": -(16 - level), "items": heavy + [[d, 1] for d in light], "kind": kind, "type": level})
         device += len(light)
-    kind, step = ("erasure", "chooseleaf_indep") if is_coded else ("replicated", "chooseleaf_firstn")
+    placing, step = ("erasure", "chooseleaf_indep") if is_coded else ("replicated", "chooseleaf_firstn")
     block = [["take", -1], [step, 0, 14], ["emit"]]
-    rule = {"id": 0, "kind": kind, "steps": [["set_choose_tries", 200], ["set_chooseleaf_tries", 200]] + block * 4}
+    rule = {"id": 0, "kind": placing, "steps": [["set_choose_tries", 200], ["set_chooseleaf_tries", 200]] + block * 4}
     return {"buckets": buckets, "epoch": 1, "max_osd": device, "osds": [{"exists": True, "id": i, "up": True, "weight": 0} for i in range(device)],
-            "pools": [dict(pool(1, 1, 10), kind=kind)], "rules": [rule], "version": 2}
+            "pools": [dict(pool(1, 1, 10), kind=placing)], "rules": [rule], "version": 2}
 
 
-def one_host():
+def one_host(kind="list"):
     """256 groups of ten under three blocks with 200 tries, which seek hosts, of which there is one, fourteen buckets deep."""
-    buckets = [{"id": level - 16, "items": [[level - 17, 64 * 65536]], "kind": "list", "type": level} for level in range(15, 1, -1)]
-    buckets.append({"id": -15, "items": [[i, 65536] for i in range(64)], "kind": "list", "type": 1})
+    buckets = [{"id": level - 16, "items": [[level - 17, 64 * 65536]], "kind": kind, "type": level} for level in range(15, 1, -1)]
+    buckets.append({"id": -15, "items": [[i, 65536] for i in range(64)], "kind": kind, "type": 1})
     block = [["take", -1], ["chooseleaf_firstn", 0, 1], ["emit"]]
     rule = {"id": 0, "kind": "replicated", "steps": [["set_choose_tries", 200]] + block * 3}
     return {"buckets": buckets, "epoch": 1, "max_osd": 64, "osds": osds(64), "pools": [pool(1, 256, 10)], "rules": [rule], "version": 2}
@@ -109,25 +110,43 @@ def beyond(runs, stated, line, without="epoch\n"):
     return (greatest(words) - greatest(runs.words(stated, without))) / sum(len(answer) + 1 for answer in output(words))
 
 
+def planned(runs, stated):
+    """The milliseconds of a plan of 1,024 moves at most."""
+    return (seconds(runs.words(stated, "balance 1 1024\n"), 3) - seconds(runs.words(stated, ""), 3)) * 1e3
+
+
 def plans(runs):
     """Plans over maps that cannot be made even, or hardly."""
-    def spent(stated):
-        return (once(runs.words(stated, "balance 1 1024\n")) - once(runs.words(stated, ""))) * 1e3
-
     for name, value, goal in (("3 racks of 2, 2, 4 hosts of 8", racks((2, 2, 4)), 50), ("3 racks of 8, 8, 16 hosts", racks((8, 8, 16)), 200),
                               ("3 racks of 32, 32, 64 hosts", racks((32, 32, 64)), 300),
                               ("10 racks of 1 to 10 hosts, groups of 10", racks(range(1, 11), 10), None),
                               ("64 OSDs in 8 hosts, one of a thousandfold weight", one_heavy(), None)):
         stated = runs.map(value)
-        yield goal_row(f"`balance` over {name}", lambda: spent(stated), "ms", goal)
+        yield goal_row(f"`balance` over {name}", lambda: planned(runs, stated), "ms", goal)
+
+
+def opened(runs, value):
+    """The milliseconds of opening a map."""
+    return seconds(runs.words(runs.map(value), ""), 3) * 1e3
 
 
 def in_vain_rows(runs):
-    """Rules that seek in vain."""
-    for name, value, goal in (("one group that 200 and 200 tries seek in vain", in_vain(), 300),
-                              ("the same for positions, in an erasure pool", in_vain(is_coded=True), 300),
-                              ("256 groups that seek hosts where there is one", one_host(), 50)):
-        yield goal_row(name, lambda: once(runs.words(runs.map(value), "")) * 1e3, "ms", goal)
+    """Rules that seek in vain, over lists and, within the same bounds, over straw2 buckets."""
+    for name, kind in (("", "list"), (", straw2", "straw2")):
+        for row, value, goal in (("one group that 200 and 200 tries seek in vain", in_vain(kind), 300),
+                                 ("the same for positions, in an erasure pool", in_vain(kind, is_coded=True), 300),
+                                 ("256 groups that seek hosts where there is one", one_host(kind), 50)):
+            yield goal_row(row + name, lambda: opened(runs, value), "ms", goal)
+
+
+def cluster_rows(runs):
+    """Stock clusters of a thousand disks: opened in 15 and 23 ms where they were first measured, and before anybody waits for it."""
+    disks = [596_108] * 10 + [457_847] * 2
+    for name, value in (("1,008 OSDs in 7 racks of 6 hosts of 24 equal disks, 2,049 groups",
+                         stock(7, 6, [1_072_883] * 24, [(1, 3, 0), (1024, 3, 1), (1024, 6, 2)])),
+                        ("960 OSDs in 8 racks of 10 hosts of 12 disks of two sizes, 1,793 groups",
+                         stock(8, 10, disks, [(1, 3, 0), (256, 3, 1), (1024, 8, 2), (512, 3, 1)]))):
+        yield goal_row(f"opening {name}, straw2", lambda: opened(runs, value), "ms", 100)
 
 
 def exceptions(runs):
@@ -153,7 +172,7 @@ def memory(runs):
 
 def rows(runs):
     """All rows, one after another."""
-    for part in (plans, in_vain_rows, exceptions, memory):
+    for part in (plans, in_vain_rows, cluster_rows, exceptions, memory):
         yield from part(runs)
 
 

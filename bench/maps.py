@@ -56,4 +56,21 @@ def paired(pools, without=(), explicit=False):
     return stated
 
 
+def stock(racks, hosts, disks, pools):
+    """A cluster as stock Ceph lays it out: straw2 racks of so many straw2 hosts of disks of these weights, and pools of so many groups and places,
+    copies over hosts or racks or coded parts over racks."""
+    each, count = len(disks), racks * hosts * len(disks)
+    below = [[[osd, disks[osd % each]] for osd in range(host * each, (host + 1) * each)] for host in range(racks * hosts)]
+    buckets = [{"id": -1, "items": [[-2 - r, hosts * sum(disks)] for r in range(racks)], "kind": "straw2", "type": 11}]
+    buckets += [{"id": -2 - r, "items": [[-2 - racks - h, sum(disks)] for h in range(r * hosts, (r + 1) * hosts)], "kind": "straw2", "type": 3}
+                for r in range(racks)]
+    buckets += [{"id": -2 - racks - h, "items": items, "kind": "straw2", "type": 1} for h, items in enumerate(below)]
+    tries = [["set_chooseleaf_tries", 5], ["set_choose_tries", 100]]
+    steps = [[["take", -1], ["chooseleaf_firstn", 0, 1]], [["take", -1], ["chooseleaf_firstn", 0, 3]], [*tries, ["take", -1], ["chooseleaf_indep", 0, 3]]]
+    kinds = ["replicated", "replicated", "erasure"]
+    return {"buckets": buckets, "epoch": 100_000, "max_osd": count, "osds": osds(count), "version": 2,
+            "pools": [dict(pool(number, groups, size), kind=kinds[rule], rule=rule) for number, (groups, size, rule) in enumerate(pools, 1)],
+            "rules": [{"id": number, "kind": kinds[number], "steps": [*own, ["emit"]]} for number, own in enumerate(steps)]}
+
+
 SHAPES = (("64 OSDs in 8 hosts", few_hosts), ("1,024 OSDs, 511 buckets, 3 levels", levels), ("64 OSDs in one bucket", flat))
