@@ -1,6 +1,6 @@
 #!/usr/bin/env python3
-"""What lawful input costs that is not ordinary: unequal racks, rules that try in vain, clusters of a thousand disks, many
-exceptions, long journals and answers.
+"""What lawful input costs that is not ordinary: unequal racks, plans that find little to move, rules that try in vain, clusters of a thousand
+disks, many exceptions, long journals and answers.
 
     cliffs.py PROGRAM
 
@@ -9,9 +9,15 @@ resident size, less that of the run beside it. It is no part of the gate.
 """
 
 import json
+import os
+import subprocess
+import sys
+import threading
+import time
 
+import stuck
 from maps import a_map, flat, osds, paired, pool, stock
-from running import GOALS, LIMIT, found, goal_row, greatest, heading, in_folder, output, program, seconds, table
+from running import GOALS, LIMIT, found, goal_row, greatest, heading, in_folder, output, program, seconds, several, table
 
 GROUPS, POOLS = 4096, 32
 # So many lines are timed: of changes, of those that move half of a full list, of those that are kept, of questions. Opening a map with
@@ -125,6 +131,46 @@ def plans(runs):
         yield goal_row(f"`balance` over {name}", lambda: planned(runs, stated), "ms", goal)
 
 
+def moved(runs, stated, moves):
+    """What a plan answers, which must have so many moves where a number is given."""
+    answer = found(lambda: output(runs.words(stated, "balance 1 1024\n"))[0])
+    if moves is not None and answer.startswith("moved ") and not answer.startswith(f"moved {moves} "):
+        sys.exit(f"a plan of {moves} moves was wanted: {answer}")
+    return answer.split(" epoch")[0]
+
+
+def stuck_rows(runs):
+    """Plans that find little to move among many pairs of OSDs, and how long another session waits behind one. The lock is held meanwhile, so
+    the goal of each is a wait that a person hardly notices; they took 75 to 110 ms where they were first measured."""
+    for name, value, moves in stuck.CASES:
+        stated = runs.map(value())
+        yield goal_row(f"`balance` over 1,024 OSDs, {name}: {moved(runs, stated, moves)}", lambda: planned(runs, stated), "ms", 300)
+    stated = runs.map(stuck.closed())
+    yield goal_row("the longest look-up of another session beside the plan where all groups are closed",
+                   lambda: several(lambda: longest_look(runs, stated), 3), "ms", 300)
+
+
+def longest_look(runs, stated):
+    """The milliseconds of the longest look-up of a live session while another plans, which awaits that session's change to begin."""
+    words, times = runs.words(stated, "await 100001\nbalance 1 1024\n") + ["-"], []
+    with subprocess.Popen(words, stdin=subprocess.PIPE, stdout=subprocess.PIPE) as live:
+        late = threading.Timer(LIMIT, live.kill)
+        late.start()
+        live.stdout.readline()
+        line = b'change {"base":100000}\n'
+        while line == b"up 1.0\n" and len(os.listdir(f"/proc/{live.pid}/task")) > 2 or not times:
+            begin = time.perf_counter()
+            live.stdin.write(line)
+            live.stdin.flush()
+            answer, line = live.stdout.readline(), b"up 1.0\n"
+            times.append((time.perf_counter() - begin) * 1e3)
+        live.communicate()
+        late.cancel()
+    if live.returncode != 0 or not answer:
+        raise subprocess.TimeoutExpired(words, LIMIT)
+    return max(times)
+
+
 def opened(runs, value):
     """The milliseconds of opening a map."""
     return seconds(runs.words(runs.map(value), ""), 3) * 1e3
@@ -172,7 +218,7 @@ def memory(runs):
 
 def rows(runs):
     """All rows, one after another."""
-    for part in (plans, in_vain_rows, cluster_rows, exceptions, memory):
+    for part in (plans, stuck_rows, in_vain_rows, cluster_rows, exceptions, memory):
         yield from part(runs)
 
 
