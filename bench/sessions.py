@@ -176,10 +176,10 @@ def change_rows(runs, stated):
             yield [name, str(sessions), *cells[1:]] + ([ratio(cells[-1], alone)] if len(cells) > 2 else [])
 
 
-def soaked(runs, seed):
+def soaked(runs, seed, is_stock=False):
     """One soak, and what one history answers otherwise."""
-    value, scripts = soak.scripts(seed, 64, 1000, 32, 128)
-    words, play = soak.run(runs.program, pathlib.Path(runs.folder), scripts, value)
+    value, scripts = soak.scripts(seed, 64, 1000, 32, 128, is_stock)
+    words, play = soak.run(runs.program, pathlib.Path(runs.folder), scripts, value, is_stock)
     said, most = watched(words)
     wrong, made, compared = soak.faults(scripts, said, play)
     for fault in wrong[:10]:
@@ -206,7 +206,7 @@ def main():
         table(["form", "sessions", "made", "refused as stale", "made a second", "to one session"], change_rows(runs, stated))
         heading("Soak: 64 sessions of 1,000 lines over 32 pools")
         table(["seed", "lines", "changes made", "refused as stale", "answers compared", "differences", "goal", "", "peak memory, MiB"],
-              (row(str(seed), soaked, runs, seed) for seed in range(1, SEEDS + 1)))
+              [*(row(str(seed), soaked, runs, seed) for seed in range(1, SEEDS + 1)), row("1, `--stock`", soaked, runs, 1, True)])
 
     in_folder(path, work)
 

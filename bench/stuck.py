@@ -45,6 +45,14 @@ def nine_in_a_rack():
     return forest([["choose_firstn", 2, 1], ["choose_firstn", 9, 0]])
 
 
+def apart():
+    """Each group stands nine times in one of eight racks and once in another, and the other eight racks, which members may not come to, are empty."""
+    stated = nine_in_a_rack()
+    stated["pg_upmap"] = [[f"1.{group:x}", [BUCKET * (group % 8) + (group // 8 * 9 + place) % BUCKET for place in range(9)]
+                           + [BUCKET * ((group + 1) % 8) + group // 8 % BUCKET]] for group in range(GROUPS)]
+    return stated
+
+
 def thousandfold():
     """Every eighth OSD weighs a thousand times as much as the others."""
     return forest([["chooseleaf_firstn", 0, 1]], lambda osd: 4096 if osd % 8 else 4096 * 1000)
@@ -58,4 +66,5 @@ def opening():
 # What is hard of each map, the map, and how many moves its plan has where that is told by how the map is made.
 CASES = (("all groups with as many pairs as they may have", closed, 0), ("64 of them with one pair less", lambda: closed(64), 64),
          ("all pairs of OSDs shut by racks", shut, 0), ("nine places of a group in one rack", nine_in_a_rack, None),
+         ("the same, and half of the racks out of reach", apart, 0),
          ("weights that differ a thousandfold", thousandfold, None), ("each move opens others", opening, None))
