@@ -4,8 +4,8 @@
 
 The first of two items is picked where its quotient is not above the other's. Where its weight divides how far it falls short, the quotient
 is one less as soon as the logarithm is one more; the other's weight makes up a quotient that lies between the two. So an entry by which a
-logarithm would be another turns a pick. Each map has up to 32 pools of one group, each over a bucket of its own; together they read each entry of the tables that 100
-of the 65,536 numbers or more read, once for each side.
+logarithm would be another turns a pick. Each map has up to 32 pools of one group, each over a bucket of its own; together they read each
+entry of the tables that 100 of the 65,536 numbers or more read, once for each side.
 """
 
 import collections
