@@ -73,13 +73,15 @@ def test_first_of_zeros(tools):
 
 
 def test_counts_and_words_of_rules(tools):
-    """Negative counts need pools of one size; chooseleaf of OSDs is choose for copies; a reweight above 1 is one of 1."""
+    """Negative counts take a map for each size of pools; chooseleaf of OSDs is choose for copies; a reweight above 1 is one of 1."""
     own = copied("018-hybrid")
     pools = own["osd_dump"]["pools"]
     pools.append(dict(pools[1], pool=3, pool_name="other", size=2))
     lines = refused(tools, own, "--pools", "2,3")
-    assert lines == ["rule hybrid has the negative count -1 in a step chooseleaf_firstn, and its pools have the sizes 2 and 3: "
-                     "--pools takes pools of one size at a time"], lines
+    assert lines == ["rule hybrid has the negative count -1 in a step chooseleaf_firstn, and its pools have the sizes 2 and 3; it takes 2 maps: "
+                     "--out FOLDER writes all, --pools 2 and --pools 3 one each"], lines
+    output, _ = ran(tools, "import", *dumps(tools, "sizes", own), "--out", "sizes")
+    assert sorted(line.split("/")[-1] for line in output.splitlines()) == ["pools-1.json", "pools-2.json", "pools-3.json"], output
     for pool, count in (("2", 2), ("3", 1)):
         output, _ = ran(tools, "import", *dumps(tools, "sizes", own), "--pools", pool)
         assert json.loads(output)["rules"][0]["steps"][4] == ["chooseleaf_firstn", count, 1], (pool, output[-400:])
@@ -91,6 +93,11 @@ def test_counts_and_words_of_rules(tools):
     own["osd_dump"]["osds"][3]["weight"] = 1.5
     value = json.loads(ran(tools, "import", *dumps(tools, "words", own))[0])
     assert value["rules"][0]["steps"][1] == ["choose_firstn", 0, 0] and value["osds"][3]["weight"] == 65536, value["rules"]
+    for step, told in (({"op": "choose_msr"}, "rule replicated_rule has a step choose_msr, which is not in the grammar: "),
+                       ({"op": "chooseleaf_firstn"}, "rules[0].steps[1].num: missing")):
+        own = copied("001-three-hosts")
+        own["crush_dump"]["rules"][0]["steps"][1] = step
+        assert told in refused(tools, own)[0], (step, refused(tools, own))
     own = copied("015-ec-osd-domain")
     step = next(step for step in own["crush_dump"]["rules"][1]["steps"] if step["op"] == "choose_indep")
     step["op"] = "chooseleaf_indep"

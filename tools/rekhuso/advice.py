@@ -38,7 +38,6 @@ KINDS = (
            "json`), and --unmatched takes it as out, which is right where it was"),
     Advice(r"the CRUSH dump does not list", "take both dumps at one time; --unmatched takes it as out of reach of every rule"),
     Advice(r"^pg_upmap_primaries", "`ceph osd rm-pg-upmap-primary PG` takes each away"),
-    Advice(r"has the negative count .*, and its pools", "--pools takes pools of one size at a time"),
     Advice(r"not in the grammar|from two buckets|is of the unknown type", "--pools takes the pools of other rules"),
     Advice(r"^pool (\d+) is of type", POOLS),
     Advice(r"^(.+) stands (?:below .+ buckets of|in .+ twice)", "`ceph osd crush unlink` takes it out of one of them",

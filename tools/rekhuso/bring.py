@@ -17,7 +17,7 @@ from .cluster import KINDS, Cluster, listed
 from .faults import Fault, Refused
 from .forms import TRIES
 from .monitor import Monitor, has_straw2
-from .outside import reasons, root_reasons, unmatched
+from .outside import reasons, root_reasons, size_reasons, unmatched
 from .places import map_places
 from .shapes import CRUSH_DUMP, OSD_DUMP, TREE, fitting, misfits
 from .texts import json_of, put, written
@@ -140,7 +140,7 @@ def parts_of(cluster: Cluster) -> list[Cluster]:
 def against(cluster: Cluster, faults: list[str], is_unmatched: bool, is_one: bool) -> list[str]:
     """All that is told against a cluster; where one map is asked for, what it takes several for too."""
     found = faults + reasons(cluster, is_unmatched, False)
-    apart = [line for line in root_reasons(cluster, True) if line not in found] if is_one else []
+    apart = [line for line in root_reasons(cluster, True) + size_reasons(cluster) if line not in found] if is_one else []
     if cluster.is_stock:
         found = advised(found)
     if apart:

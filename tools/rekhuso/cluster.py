@@ -277,18 +277,26 @@ class Cluster:
         """In which bucket each item stands that a rule may reach."""
         return {item: number for number in self.below_rule(rule) for item in self.holds(number)}
 
+    def counted_rules(self) -> dict[int, list[dict[str, Any]]]:
+        """The rules with negative counts, each with the steps that have them, by which pools of other sizes go by other steps."""
+        found = {rule["rule_id"]: [step for step in rule["steps"] if step["op"].startswith("choose") and step.get("num", 0) < 0] for rule in self.rules}
+        return {number: steps for number, steps in found.items() if steps and self.is_stock}
+
     def parts(self) -> list[set[int]]:
-        """The pools of each map that the cluster takes: a map holds an item once, so two rules that reach an item in different buckets
-        are in two maps. The rule that fewest maps are left for comes first, so that two maps are found wherever two suffice."""
-        own = {rule["rule_id"]: self.holders(rule) for rule in self.rules}
-        apart = {rule: {other for other in own if any(own[other].get(item, holder) != holder for item, holder in own[rule].items())}
-                 for rule in own}
-        place: dict[int, int] = {}
+        """The pools of each map that the cluster takes. A map holds an item once and a rule for one size, so pools whose rules reach an item in
+        different buckets are in two maps, and so are pools of two sizes whose rule has a negative count. What fewest maps are left for
+        comes first, so that two maps are found wherever two suffice."""
+        counted, rules = self.counted_rules(), {rule["rule_id"]: self.holders(rule) for rule in self.rules}
+        keys = {pool["pool"]: (pool["crush_rule"], pool["size"] if pool["crush_rule"] in counted else 0) for pool in self.pools}
+        own = {key: rules.get(key[0], {}) for key in sorted(set(keys.values()))}
+        apart = {key: {other for other in own if key[0] == other[0] and key != other or any(
+            own[other].get(item, holder) != holder for item, holder in own[key].items())} for key in own}
+        place: dict[tuple[int, int], int] = {}
         while len(place) < len(own):
-            taken = {rule: {place[other] for other in apart[rule] if other in place} for rule in own if rule not in place}
-            rule = max(taken, key=lambda number: (len(taken[number]), len(apart[number]), -number))
-            place[rule] = next(at for at in range(len(own)) if at not in taken[rule])
+            taken = {key: {place[other] for other in apart[key] if other in place} for key in own if key not in place}
+            first = max(taken, key=lambda key: (len(taken[key]), len(apart[key]), -key[0], -key[1]))
+            place[first] = next(at for at in range(len(own)) if at not in taken[first])
         found: dict[int, set[int]] = {}
-        for pool in self.pools:
-            found.setdefault(place.get(pool["crush_rule"], 0), set()).add(pool["pool"])
+        for pool, key in keys.items():
+            found.setdefault(place[key], set()).add(pool)
         return sorted(found.values(), key=lambda pools: min(pools)) or [set()]

@@ -202,13 +202,17 @@ def step_reasons(cluster: Cluster, rule: dict[str, Any]) -> list[str]:
 
 
 def negative_reasons(cluster: Cluster, rule: dict[str, Any], step: dict[str, Any]) -> list[str]:
-    """A negative count in a step; in a stock cluster one that is no count for all pools of the rule alike, or for none."""
-    told, sizes = f"rule {rule['rule_name']} has the negative count {step['num']} in a step {step['op']}", cluster.sizes_of(rule)
-    if not cluster.is_stock or not step["op"].startswith("choose"):
-        return [told]
-    if len(sizes) == 1:
-        return []
-    return [f"{told}, and its pools have the sizes {listed(list(map(str, sizes)))}" if sizes else told]
+    """A negative count in a step; in a stock cluster one that is no count, or for no pool."""
+    is_stated = cluster.is_stock and step["op"].startswith("choose") and cluster.sizes_of(rule)
+    return [] if is_stated else [f"rule {rule['rule_name']} has the negative count {step['num']} in a step {step['op']}"]
+
+
+def size_reasons(cluster: Cluster) -> list[str]:
+    """Negative counts in rules whose pools have several sizes, each of which takes a map of its own."""
+    rules = {rule["rule_id"]: rule for rule in cluster.rules}
+    sizes = {number: [str(size) for size in cluster.sizes_of(rules[number])] for number in cluster.counted_rules()}
+    return [f"rule {rules[number]['rule_name']} has the negative count {steps[0]['num']} in a step {steps[0]['op']}, and its pools have the sizes "
+            f"{listed(sizes[number])}" for number, steps in cluster.counted_rules().items() if len(sizes[number]) > 1]
 
 
 def type_reasons(cluster: Cluster, name: str, kind: str) -> list[str]:
