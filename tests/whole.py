@@ -152,7 +152,8 @@ def test_options_that_do_not_go_together(tools):
     """Options for dumps beside a map are an error of use, and so are three files."""
     path = tools.put("m", stock.brought(tools, "001-three-hosts")[0])
     for words in (["df", path, "--pools", "1"], ["explain", path, "1.0", "--tree", "x"], ["whatif", path, "--out", "3", "--unmatched"],
-                  ["picture", path, "--pools", "1"], ["plan", path, "--tree", "x"], ["report", path, path, path], ["df", path, path, path]):
+                  ["picture", path, "--pools", "1"], ["plan", path, "--tree", "x"], ["import", path, path, "--check", "--out", "maps"],
+                  ["import", path, path, "--check", "--names", "names"], ["report", path, path, path], ["df", path, path, path]):
         _, error = ran(tools, *words, status=2)
         assert "error: " in error and len(error.splitlines()) == 1, (words, error)
     for words in (["df"], ["report"], ["explain", "1.0"], ["plan"], ["whatif", "--out", "3"]):

@@ -14,7 +14,7 @@ from typing import Any, NamedTuple
 
 from .advice import advised
 from .cluster import KINDS, Cluster, listed
-from .faults import Fault, Refused
+from .faults import Fault, Misuse, Refused
 from .forms import TRIES
 from .monitor import Monitor, has_straw2
 from .outside import reasons, root_reasons, size_reasons, unmatched
@@ -165,7 +165,10 @@ def brought(osd_dump: str, crush_dump: str, options: Any, is_one: bool = False) 
 # The command
 
 def judged(options: Any) -> None:
-    """Tells whether a cluster comes in. A fault where it does not: each reason, and what is done about it."""
+    """Tells whether a cluster comes in. A fault where it does not: each reason, and what is done about it. An error of use where files are
+    to be written too."""
+    if options.out is not None or options.names is not None:
+        raise Misuse("--check writes no files: --out and --names do not go with it")
     cluster, faults = both_dumps(options.osd_dump, options.crush_dump, options.tree)
     cluster = with_pools(cluster, options.pools)
     found = advised(faults + reasons(cluster, options.unmatched, False))
