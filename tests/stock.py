@@ -96,7 +96,7 @@ def test_weights_of_zero(tools):
                              "left out: 2 buckets that weigh 0 or hold nothing: host0 and host6"],
              "012-arriving": ["left out: 13 OSDs of weight 0, which get no groups: osd.24, osd.25, osd.26, osd.27, osd.28, osd.29, osd.30, osd.31 "
                               "and 5 more", "left out: 5 buckets that weigh 0 or hold nothing: n4~hdd, n4~ssd, n5~hdd, n5~ssd and n6~ssd"],
-             "023-thousand": ["left out: 1 OSD of weight 0, which get no groups: osd.751"]}
+             "023-thousand": ["left out: 1 OSD of weight 0, which gets no groups: osd.751"]}
     for name, wanted in lines.items():
         output, error = ran(tools, "import", *dumps(tools, name), "--names", "names")
         assert error.splitlines() == ["left out: classes of devices", *wanted], (name, error)

@@ -256,9 +256,11 @@ class Cluster:
         names = [self.bucket_name(number) for number in sorted(lost & self.buckets.keys(), reverse=True)]
         least = [self.bucket_name(number) for number in self.kept
                  if len(self.listed_in(number)) > 1 and not any(self.weights(self.buckets[number]))]
-        found = [f"{len(osds)} OSD{'s' * (len(osds) > 1)} of weight 0, which get no groups: {some(osds)}"] if osds else []
+        count = "1 OSD of weight 0, which gets" if len(osds) == 1 else f"{len(osds)} OSDs of weight 0, which get"
+        found = [f"{count} no groups: {some(osds)}"] if osds else []
         if names:
-            found.append(f"{len(names)} bucket{'s' * (len(names) > 1)} that weigh 0 or hold nothing: {some(names)}")
+            what = "1 bucket that weighs 0 or holds nothing" if len(names) == 1 else f"{len(names)} buckets that weigh 0 or hold nothing"
+            found.append(f"{what}: {some(names)}")
         if least:
             found.append(f"all but the first item of {some(least)}, as all their items weigh 0 and Ceph takes the first")
         return found
