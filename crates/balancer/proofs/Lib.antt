@@ -9,6 +9,8 @@ pub mod Beating
 pub mod Allowing
 pub mod Marking
 pub mod Closed
+pub mod Listing
+pub mod Lowest
 pub mod Searching
 pub mod Choosing
 pub mod Stepping

@@ -5,6 +5,7 @@ pub mod Greedy
 pub mod Plans
 pub mod Boards
 pub mod Leaving
+pub mod Standing
 pub mod Marks
 pub mod Reached
 pub mod Reaches

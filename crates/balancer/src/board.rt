@@ -10,11 +10,13 @@ ghost use Rattle.balancer.specs.Shares.{places as places_in};
 ghost use Rattle.balancer.specs.Boards.{deviations_of, IsBoardOf, IsReached};
 ghost use Rattle.balancer.specs.Greedy.{after_moves};
 ghost use Rattle.balancer.specs.Plans.{is_moved};
+ghost use Rattle.balancer.specs.Standing.{AreRowsOf};
 
 use crate::frame::Frame;
 use crate::group::{Group, gone, groups};
 use crate::moves::Move;
 use crate::shares::{count, places, weight_of};
+use crate::standing::Standing;
 use osdmap::{Exception, Items, OsdMap, Pg, Pool};
 use pgtable::PgTable;
 use refusal::Memory;
@@ -79,6 +81,8 @@ pub(crate) struct Board<'a> {
     pub frame: Frame<'a>,
     /// What is kept of the pool's groups, by number.
     pub groups: Vec<Group>,
+    /// Which of these stand on each OSD.
+    pub standing: Standing,
     /// The deviations of all OSDs, by number.
     pub deviations: Vec<i128>,
     /// The moves so far.
@@ -86,6 +90,8 @@ pub(crate) struct Board<'a> {
     ghost reached: { IsReached frame.map.now.map frame.pool moves.items },
     ghost board: { IsBoardOf (after_moves frame.map.now.map frame.pool moves.items) frame.pool
         groups.items deviations.items },
+    ghost stand: { AreRowsOf groups.items standing },
+    ghost wide: { length standing ≡ length frame.map.now.map.presences },
 }
 
 impl<'a> Board<'a> {
@@ -104,11 +110,14 @@ impl<'a> Board<'a> {
     {
         frame.map.holds_together();
         let groups = groups(alloc, frame.map, &frame.pool)?;
+        frame.pool.is_within_limits();
+        let standing = Standing::new(alloc, &groups, frame.map.max_osd())?;
         let deviations = deviations(alloc, &frame, table)?;
         let moves = Vec::new(alloc);
         Ok(Board {
             frame,
             groups,
+            standing,
             deviations,
             moves,
         })
@@ -125,8 +134,10 @@ impl<'a> Board<'a> {
     {
         let weight = i128::from(self.frame.weight);
         let at = step.group as usize;
+        let group = gone(self.groups[at], step);
+        self.standing.add(step.group, group.places.as_slice())?;
         self.moves.push(step)?;
-        self.groups[at] = gone(self.groups[at], step);
+        self.groups[at] = group;
         self.deviations[step.from as usize] -= weight;
         self.deviations[step.to as usize] += weight;
         Ok(())

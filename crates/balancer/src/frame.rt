@@ -158,12 +158,4 @@ impl Frame<'_> {
             && group.pairs.as_slice().len() < usize::from(self.pool.size())
             && has_way(self.map, self.last_level(), from, to, places)
     }
-
-    /// The first of some groups that may go from one candidate to another beside it.
-    pub fn first_group(&self, groups: &[Group], from: u32, to: u32) -> Option<usize>
-        ensures first { result ≡ position (may_go self.now.map.now.map self.now.pool from to) groups.now }
-        ensures inside { IfSome result (λ at. at < length groups.now) }
-    {
-        groups.iter().position(|group| self.may_go(from, to, group))
-    }
 }

@@ -14,6 +14,7 @@ mod plans;
 mod reaches;
 mod search;
 mod shares;
+mod standing;
 
 pub use moves::Move;
 pub use plans::plan;

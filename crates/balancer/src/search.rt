@@ -2,10 +2,11 @@
 
 ghost use Rattle.std.specs.Prelude.{◌≡◌};
 ghost use Rattle.balancer.specs.Greedy.{precedes};
+ghost use Rattle.balancer.specs.Standing.{is_lower};
 
 use crate::board::Board;
 use crate::group::Group;
-use crate::leaving::some_leaves;
+use crate::leaving::may_leave;
 use crate::marks::Marks;
 use crate::moves::Move;
 use crate::reaches::Reaches;
@@ -19,14 +20,26 @@ fn precedes(u: Move, v: Move) -> bool
     u.from < v.from || (u.from == v.from && (u.to < v.to || (u.to == v.to && u.group < v.group)))
 }
 
+/// Whether a number is lower than the lowest so far.
+fn is_lower(number: u32, lowest: Option<u32>) -> bool
+    ensures { result ≡ is_lower number lowest }
+{
+    match lowest {
+        Some(lowest) => number < lowest,
+        None => true,
+    }
+}
+
 impl Board<'_> {
-    ghost use Rattle.std.specs.Prelude.{◌≡◌, ◌<◌, ℕ, pos, neg_ℤ, int_lt, ◌<ℤ◌, ◌^◌, ◌==◌, [], ◌∷◌, ◌++◌, length, position, true, false, Some, IfSome, IfOk, MatchOption, OnOk};
+    ghost use Rattle.std.specs.Prelude.{◌≡◌, ◌<◌, ℕ, pos, neg_ℤ, int_lt, ◌<ℤ◌, ◌^◌, ◌==◌, [], ◌∷◌, ◌++◌, length, slice_index_or, position, true, false, Some, IfSome, IfOk, MatchOption, OnOk};
     ghost use Rattle.balancer.specs.Shares.{is_candidate, total_weight, deviation};
     ghost use Rattle.balancer.specs.Moves.{are_beside, last_level, levels_of};
     ghost use Rattle.balancer.specs.Greedy.{gap, beats, good_moves, greedy, after_moves};
     ghost use Rattle.balancer.specs.Reached.{reached, AreAll, AreMeasured, IsOrderOf, AreWidened};
     ghost use Rattle.std.specs.List.{list_any};
     ghost use Rattle.balancer.specs.Leaving.{may_leave};
+    ghost use Rattle.balancer.specs.Standing.{sooner};
+    ghost use Rattle.balancer.specs.declared.group.Group.{Group};
     ghost use Rattle.balancer.specs.Marks.{is_shut, NoneGoes, IsMarked, IsLookedAt};
     ghost use Rattle.stated.specs.Sets.{stands};
     ghost use Rattle.balancer.specs.Reaches.{bound_of, IsBound, AreBounds, reach_of};
@@ -88,14 +101,43 @@ impl Board<'_> {
         }
     }
 
+    /// The lowest group so far, or a lower one that may go from one candidate to another beside it.
+    fn sooner(&self, from: u32, to: u32, number: u32, lowest: Option<u32>) -> Option<u32>
+        requires { number < length self.now.groups.items }
+        ensures { (g : Group) → slice_index_or self.now.groups.items number g ≡ g
+            → result ≡ sooner (may_go self.now.frame.map.now.map self.now.frame.pool from to g) number lowest }
+    {
+        if is_lower(number, lowest) && self.frame.may_go(from, to, &self.groups[number as usize]) {
+            Some(number)
+        } else {
+            lowest
+        }
+    }
+
     /// The first group that may go from one candidate to another beside it.
     fn first_group(&self, from: u32, to: u32) -> Option<u32>
+        requires { is_candidate self.now.frame.map.now.map self.now.frame.pool from ≡ true }
         ensures { result ≡ position (may_go self.now.frame.map.now.map self.now.frame.pool from to)
             self.now.groups.items }
     {
-        self.frame.pool.is_within_limits();
-        let group = self.frame.first_group(&self.groups, from, to)?;
-        Some(group as u32)
+        let mut lowest = None;
+        for number in self.standing.at(from) {
+            lowest = self.sooner(from, to, *number, lowest);
+        }
+        lowest
+    }
+
+    /// Whether some group may leave an OSD.
+    fn some_leaves(&self, from: u32) -> bool
+        requires { is_candidate self.now.frame.map.now.map self.now.frame.pool from ≡ true }
+        ensures { result ≡ list_any (may_leave self.now.frame.pool from) self.now.groups.items }
+    {
+        for number in self.standing.at(from) {
+            if may_leave(&self.frame.pool, from, &self.groups[*number as usize]) {
+                return true;
+            }
+        }
+        false
     }
 
     /// No group may go from one OSD to another: nor to any candidate in that one's failure domain.
@@ -129,12 +171,13 @@ impl Board<'_> {
     /// No group may go from one OSD to another: nor to any candidate in that one's failure domain; and where none may
     /// leave the first at all, to any candidate.
     fn shut(&self, from: u32, to: u32, marks: &mut Marks)
+        requires from { is_candidate self.now.frame.map.now.map self.now.frame.pool from ≡ true }
         requires apart { (to == from) ≡ false }
         requires none { NoneGoes self.now.frame.map.now.map self.now.frame.pool self.now.groups.items from to }
         requires marks { IsMarked self.now.frame.map.now.map self.now.frame.pool self.now.groups.items marks.old }
         ensures { IsMarked self.now.frame.map.now.map self.now.frame.pool self.now.groups.items marks.new }
     {
-        if some_leaves(&self.frame.pool, &self.groups, from) {
+        if self.some_leaves(from) {
             self.shut_domain(from, to, marks);
         } else {
             self.shut_all(from, marks);

@@ -1,10 +1,20 @@
-use Rattle.std.proofs.Common.{arith}
-use Rattle.balancer.specs.Greedy.{after_moves}
-use Rattle.balancer.proofs.Searching.{long_groups}
+use Rattle.std.proofs.Common.{sym, arith, ap, length}
+use Rattle.balancer.specs.Boards.{may_go}
+use Rattle.balancer.proofs.Deviating.{candidate_below}
+use Rattle.balancer.proofs.Lowest.{lowest_next, lowest_of_all, goer_stands}
 use Rattle.balancer.proofs.board.Board.first_group.Goals as goal
 
-pub overflow_cast-result : goal.overflow_cast-result
-overflow_cast-result c =
+pub loop-number-preserved : goal.loop-number-preserved
+loop-number-preserved c =
     let b = c.args.self.now in
-    let long = long_groups (after_moves b.frame.map.now.map b.frame.pool b.moves.items) b.frame.pool b.groups.items b.deviations.items b.board in
-    omega (arith, c.deref.ensures.value, c.in_ok-group.ensures.inside, c.is_within_limits.ensures.groups_most, long)
+    let row = c.at-number-items.ensures in
+    lowest_next (may_go b.frame.map.now.map b.frame.pool c.args.from c.args.to) b.groups.items b.standing c.args.from c.loop-number.number-index c.loop-number.lowest
+    c.sooner-lowest.result b.stand c.loop-number.invariant (rw row at c.loop-number-test.true) (rw row at c.sooner-lowest.ensures)
+
+pub returns : goal.returns
+returns c =
+    let b = c.args.self.now in
+    let below = candidate_below b.frame.map.now.map b.frame.pool c.args.from c.requires in
+    lowest_of_all (may_go b.frame.map.now.map b.frame.pool c.args.from c.args.to) b.groups.items b.standing c.args.from c.loop-number.number-index c.loop-number.lowest
+    b.stand (omega (arith, below, b.wide)) (goer_stands b.frame.map.now.map b.frame.pool c.args.from c.args.to) c.loop-number.invariant
+    (omega (arith, ap length c.at-number-items.ensures, c.loop-number-test.false))

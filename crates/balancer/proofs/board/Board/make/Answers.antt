@@ -1,9 +1,10 @@
-use Rattle.std.proofs.Common.{refl, pos, arith, rules}
+use Rattle.std.proofs.Common.{◌∙◌, refl, pos, arith, rules}
 use Rattle.std.specs.Prelude.{◌+ℤ◌, ◌-ℤ◌}
 use mir.Syntax.{w128}
 use mir.Val.{SFits}
 use Rattle.std.proofs.lemmas.Int.{to_z-of_z}
 use Rattle.balancer.proofs.Evening.{reached_more}
+use Rattle.balancer.proofs.Listing.{rows_kept, rows_moved}
 use Rattle.balancer.proofs.Made.{read_less, read_more, group_inside, group_room, from_inside, to_inside, from_fits, to_fits, board_made}
 use Rattle.balancer.proofs.board.Board.make.Goals as goal
 
@@ -13,8 +14,8 @@ index-requires c =
     let inside = group_inside b.frame.map.now.map b.frame.pool b.moves.items c.args.step b.groups.items b.deviations.items c.requires b.reached b.board b.frame.pool_is b.frame.weight b.frame.weight_is b.frame.weight_small in
     omega (arith, inside, b.groups.ok.0)
 
-pub gone-requires : goal.gone-requires
-gone-requires c =
+pub gone-group-requires : goal.gone-group-requires
+gone-group-requires c =
     let b = c.args.self.now in
     group_room b.frame.map.now.map b.frame.pool b.moves.items c.args.step b.groups.items b.deviations.items c.requires b.reached b.board b.frame.pool_is b.frame.weight b.frame.weight_is b.frame.weight_small c.index.result.now c.index.ensures
 
@@ -59,13 +60,14 @@ invariant_of-self-2 c =
     let y_fits : SFits w128 c.index_mut-3.result.now = search rules in
     let w_fits : SFits w128 c.from-weight.result = search rules in
     let less_fits = from_fits b.frame.map.now.map b.frame.pool b.moves.items c.args.step b.groups.items b.deviations.items c.requires b.reached b.board b.frame.pool_is b.frame.weight b.frame.weight_is b.frame.weight_small c.index_mut-2.result.now c.index_mut-2.ensures.value in
+    let inside = group_inside b.frame.map.now.map b.frame.pool b.moves.items c.args.step b.groups.items b.deviations.items c.requires b.reached b.board b.frame.pool_is b.frame.weight b.frame.weight_is b.frame.weight_small in
     let more_fits = to_fits b.frame.map.now.map b.frame.pool b.moves.items c.args.step b.groups.items b.deviations.items c.requires b.reached b.board b.frame.pool_is b.frame.weight b.frame.weight_is b.frame.weight_small c.index_mut-3.result.now _ c.index_mut-3.ensures.value in
     record {
       reached = rw c.in_ok-push.ensures.items (reached_more b.frame.map.now.map b.frame.pool b.moves.items c.args.step c.requires b.reached b.frame.pool_is);
       board =
           rw (
             c.in_ok-push.ensures.items,
-            c.gone.ensures,
+            c.gone-group.ensures,
             read_less c.index_mut-2.result.now c.from-weight.result x_fits w_fits,
             read_more c.index_mut-3.result.now c.from-weight.result y_fits w_fits,
             c.from-weight.ensures,
@@ -74,10 +76,36 @@ invariant_of-self-2 c =
           )
           (board_made b.frame.map.now.map b.frame.pool b.moves.items c.args.step b.groups.items b.deviations.items c.requires b.reached b.board b.frame.pool_is b.frame.weight b.frame.weight_is b.frame.weight_small
           c.index.result.now c.index_mut-2.result.now c.index_mut-3.result.now _ c.index.ensures c.index_mut-2.ensures.value c.index_mut-3.ensures.value);
+      stand =
+          rows_moved b.groups.items c.args.step.group c.gone-group.result b.standing c.add.new.self b.stand inside c.in_ok-add.ensures.longer
+          (rw c.as_slice.ensures.value at c.in_ok-add.ensures.known);
+      wide = c.in_ok-add.ensures.longer.many ∙ b.wide;
+    }
+
+pub invariant_of-self : goal.invariant_of-self
+invariant_of-self c =
+    let b = c.args.self.now in
+    let inside = group_inside b.frame.map.now.map b.frame.pool b.moves.items c.args.step b.groups.items b.deviations.items c.requires b.reached b.board b.frame.pool_is b.frame.weight b.frame.weight_is b.frame.weight_small in
+    record {
+      reached = b.reached;
+      board = b.board;
+      stand = rows_kept b.groups.items c.args.step.group b.standing c.add.new.self b.stand inside c.add.ensures.longer;
+      wide = c.add.ensures.longer.many ∙ b.wide;
+    }
+
+pub invariant_of-self-in-Break-branch-2 : goal.invariant_of-self-in-Break-branch-2
+invariant_of-self-in-Break-branch-2 c =
+    let b = c.args.self.now in
+    let inside = group_inside b.frame.map.now.map b.frame.pool b.moves.items c.args.step b.groups.items b.deviations.items c.requires b.reached b.board b.frame.pool_is b.frame.weight b.frame.weight_is b.frame.weight_small in
+    record {
+      reached = rw c.in_err-push.ensures.items b.reached;
+      board = rw c.in_err-push.ensures.items b.board;
+      stand = rows_kept b.groups.items c.args.step.group b.standing c.add.new.self b.stand inside c.add.ensures.longer;
+      wide = c.add.ensures.longer.many ∙ b.wide;
     }
 
 pub returns-clause-groups : goal.returns-clause-groups
 returns-clause-groups c =
     let b = c.args.self.now in
     let inside = group_inside b.frame.map.now.map b.frame.pool b.moves.items c.args.step b.groups.items b.deviations.items c.requires b.reached b.board b.frame.pool_is b.frame.weight b.frame.weight_is b.frame.weight_small in
-    (c.index.result.now, inside, c.index.ensures, rw c.gone.ensures refl)
+    (c.index.result.now, inside, c.index.ensures, rw c.gone-group.ensures refl)
