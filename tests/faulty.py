@@ -15,6 +15,8 @@ from rekhuso.places import change_places, map_places  # noqa: E402
 
 # Texts of more bytes are passed over, since they take long and their places are those of shorter ones.
 MOST = 100_000
+# So many runs of one script over a map there are at least in the tables.
+LEAST = 1_000
 # A text that is none has no places; memory, the journal and commands are not the text's.
 ELSEWHERE = ("10", "28", "29", "30", "31", "32", "33", "34")
 
@@ -59,12 +61,13 @@ def change_faults(run):
 
 
 def faults(runs):
-    """What is wrong over all runs of one script over a map."""
-    found = []
+    """What is wrong over all runs of one script over a map, of which there are many."""
+    found, compared = [], 0
     for run in runs:
         if all(isinstance(run.files.get(name), str) for name in ("map", "script")) and isinstance(run.wanted["output"], str):
             found += [fault for fault in [map_fault(run)] if fault] + change_faults(run)
-    return found
+            compared += 1
+    return found + [f"only {compared} runs were compared"] * (compared < LEAST)
 
 
 if __name__ == "__main__":

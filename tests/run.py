@@ -32,7 +32,6 @@ import os
 import pathlib
 import re
 import shlex
-import shutil
 import subprocess
 import sys
 import tempfile
@@ -604,6 +603,11 @@ def of_clusters():
         yield Check(name, lambda command, test=test: test(command) or [])
 
 
+def on_one_processor():
+    """Has this process run on the first processor that it may run on, and on no other."""
+    os.sched_setaffinity(0, {min(os.sched_getaffinity(0))})
+
+
 def races():
     """Two sessions that change beside eight that look, a thousand times; and 64 sessions on one processor."""
     def raced(command):
@@ -614,8 +618,7 @@ def races():
         value, scripts = soak.scripts(5, 64, 100, 6, 16)
         with tempfile.TemporaryDirectory() as folder:
             words, play = soak.run(command, pathlib.Path(folder), scripts, value)
-            words = (["taskset", "-c", "0"] if shutil.which("taskset") else []) + words
-            output = subprocess.run(words, capture_output=True, text=True, timeout=SECONDS, check=True).stdout
+            output = subprocess.run(words, capture_output=True, text=True, timeout=SECONDS, check=True, preexec_fn=on_one_processor).stdout
             return soak.faults(scripts, output, play)[0]
 
     yield Check(f"two sessions put another OSD down beside eight that look, {crowds.RUNS:,} times", raced, alone=True)
@@ -721,8 +724,8 @@ def run_sweeps(options, command, shown):
     with tempfile.TemporaryDirectory() as folder, ThreadPoolExecutor(4) as pool:
         library = memory.refuser(folder)
         if library is None:
-            shown.print("memory: NOT RUN, since there is no gcc to build tests/refuse_nth.c")
-            return total, wrong
+            shown.print("FAILED: memory: NOT RUN, since there is no gcc to build tests/refuse_nth.c")
+            return total + 1, wrong + 1
         for name, make in memory.sweeps(command, library, folder).items():
             count, failed = shown.during(f"memory, {name}", memory.sweep, make, pool)
             shown.print(*memory.shown(options.program, name, failed[:options.show]),
