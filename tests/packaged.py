@@ -82,6 +82,16 @@ def test_types(program):
         assert status == 0, told[-600:]
 
 
+def test_what_is_not_run(program):
+    """What is not run for want of a tool is told in the summary of all tables."""
+    with tempfile.TemporaryDirectory() as folder:
+        words = [sys.executable, HERE / "run.py", "--table", "clusters", "--only", "no such run", program]
+        status, told = ran(["env", f"PATH={folder}", *words])
+    equal((status, told.splitlines()[0]), (0, "clusters: 0 of 0 runs passed"))
+    equal([line for line in told.splitlines() if "no mypy" in line],
+          [f"clusters: NOT RUN, since there is no mypy: {test_types.__doc__}"])
+
+
 # What a test asks for beside Python: without it the test is not run.
 NEEDED = {test_installed: ("pip", lambda: importlib.util.find_spec("pip") is not None),
           test_types: ("mypy", lambda: shutil.which("mypy") is not None)}
@@ -93,6 +103,11 @@ def lacking(test):
     return None if is_there() else what
 
 
+def not_run():
+    """A line for each test that cannot be run here, which says what it lacks."""
+    return [f"NOT RUN, since there is no {lacking(test)}: {test.__doc__}" for test in NEEDED if lacking(test)]
+
+
 def tests():
     """Each test that can be run here with its name."""
     own = [test for name, test in globals().items() if name.startswith("test_")]
@@ -101,9 +116,7 @@ def tests():
 
 def main():
     program, failed = given.program(__doc__), 0
-    for test in NEEDED:
-        if lacking(test):
-            print(f"NOT RUN, since there is no {lacking(test)}: {test.__doc__}")
+    print(*not_run(), sep="\n", end="\n" * bool(not_run()))
     for name, test in tests():
         try:
             test(program)

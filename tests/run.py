@@ -644,6 +644,8 @@ def of_pages():
 
 
 MADE = {"pages": of_pages, "stocked": stocked, "straws": straw_picks, "live": typed, "races": races, "clusters": of_clusters, "patched": patched, "plans": plans, "examples": examples, "maxima": maxima, "balanced": balanced_case, "soak": soaks, "apart": apart}
+# What tells of a table's tests that cannot be run here.
+NOT_RUN = {"clusters": packaged.not_run}
 
 
 def table_of(name):
@@ -713,7 +715,8 @@ def run_tables(options, command, shown):
             for run, found in failed[:options.show]:
                 again = f"again: tests/run.py --table {name} --only {shlex.quote(run.name)} {options.program}"
                 shown.print("\n    ".join([f"FAILED: {run.name}", *found, again]))
-            shown.print(f"{name}: {len(runs) - len(failed)} of {len(runs)} runs passed")
+            shown.print(f"{name}: {len(runs) - len(failed)} of {len(runs)} runs passed",
+                        *(f"{name}: {line}" for line in NOT_RUN.get(name, list)()))
             total, wrong = total + len(runs), wrong + len(failed)
     return total, wrong
 

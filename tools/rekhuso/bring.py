@@ -95,7 +95,8 @@ def gone_in(tree: dict[str, Any], osd_dump: dict[str, Any]) -> dict[int, int]:
 def both_dumps(osd_dump: str, crush_dump: str, tree: str | None = None) -> tuple[Cluster, list[str]]:
     """The cluster of two dumps, or of three, as far as these are of their forms, and each place that is not; a fault that tells of each
     file that is no JSON object."""
-    found, unread, files = [], [], [(osd_dump, OSD_DUMP), (crush_dump, CRUSH_DUMP)]
+    found, unread = [], []
+    files: list[tuple[str, dict[str, Any]]] = [(osd_dump, OSD_DUMP), (crush_dump, CRUSH_DUMP)]
     for path, shape in files if tree is None else [*files, (tree, TREE)]:
         try:
             found.append(dumped(path, shape))
