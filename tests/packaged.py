@@ -5,19 +5,30 @@
 """
 
 import ast
-import importlib.util
+import functools
+import json
 import os
 import pathlib
 import shutil
 import subprocess
 import sys
+import tarfile
 import tempfile
+import zipfile
 
+import clusters
 import given
 
 HERE = pathlib.Path(__file__).resolve().parent
 TOOLS, EXAMPLE = HERE.parent / "tools", HERE.parent / "examples" / "map.json"
 SECONDS = 120
+# A moment that is given as the time of what is built.
+EPOCH = 1700000000
+# Puts out the names of all commands.
+NAMES = """
+from rekhuso.command_line import parser
+print(*parser()._subparsers._group_actions[0].choices)
+"""
 # What is brought in must change neither the path of modules nor what the plain names of modules mean.
 BROUGHT = """
 import importlib, pathlib, sys
@@ -31,9 +42,10 @@ print(len(names) > 10, sys.path == path, sorted(set(names) & set(sys.modules)))
 
 def ran(words, path=""):
     """The status and the output of a command; PATH is where Python looks for modules beside its own places."""
-    words, environment = list(map(str, words)), os.environ | {"PYTHONPATH": str(path), "PYTHONDONTWRITEBYTECODE": "1"}
-    done = subprocess.run(words, env=environment, cwd="/", capture_output=True, text=True, timeout=SECONDS, check=False)
-    return done.returncode, done.stdout + done.stderr
+    words, variables = list(map(str, words)), os.environ | {"PYTHONPATH": str(path), "PYTHONDONTWRITEBYTECODE": "1"}
+    ended = subprocess.run(words, env=variables, cwd="/", stdin=subprocess.DEVNULL, capture_output=True, text=True, timeout=SECONDS,
+                           check=False)
+    return ended.returncode, ended.stdout + ended.stderr
 
 
 def equal(found, wanted):
@@ -54,22 +66,123 @@ def test_modules_of_a_package(program):
     equal(ran([sys.executable, "-c", BROUGHT, TOOLS / "rekhuso"], TOOLS), (0, "True True []\n"))
 
 
-def test_installed(program):
-    """The package that pip installs has the command and the version, and finds the program on the path."""
+def has_modules(python, *names):
+    """Whether a Python has modules of these names."""
+    return ran([python, "-c", f"import {', '.join(names)}"])[0] == 0
+
+
+@functools.lru_cache(None)
+def builder():
+    """A Python with pip, virtual environments and the backend of the package, as Debian's is with python3-pip and python3-venv; or None."""
+    found = [path for path in (sys.executable, "/usr/bin/python3") if has_modules(path, "setuptools", "wheel", "pip", "ensurepip", "venv")]
+    return found[0] if found else None
+
+
+def copied(folder, name="tools"):
+    """A copy of the tools in a folder, since a build leaves its own files in the place in which it is done."""
+    return shutil.copytree(TOOLS, folder / name, ignore=shutil.ignore_patterns("__pycache__", "build", "*.egg-info"))
+
+
+def done(words, path="", **more):
+    """The output of a command that ends with status 0."""
+    status, told = ran(["env", *(f"{key}={value}" for key, value in more.items()), *words], path)
+    assert status == 0, (words[:6], told[-900:])
+    return told
+
+
+def wheel_of(source, out):
+    """The wheel that pip builds of a folder or of a source archive, without an index; its times are those of a moment that is given."""
+    done([builder(), "-m", "pip", "wheel", "--no-build-isolation", "--no-index", "--no-deps", "-w", out, source], SOURCE_DATE_EPOCH=EPOCH)
+    return next(out.glob("*.whl"))
+
+
+def archive_of(source, out):
+    """The source archive that the backend builds of a folder."""
+    out.mkdir()
+    hook = f"import os; os.chdir({str(source)!r}); from setuptools import build_meta; build_meta.build_sdist({str(out)!r})"
+    done([builder(), "-c", hook], SOURCE_DATE_EPOCH=EPOCH)
+    return next(out.glob("*.tar.gz"))
+
+
+def environment(folder, *options):
+    """The Python of a fresh virtual environment."""
+    done([builder(), "-m", "venv", *options, folder])
+    return folder / "bin" / "python"
+
+
+def files_in(archive):
+    """The files of a source archive, each with what it holds."""
+    with tarfile.open(archive) as tar:
+        return {member.name: tar.extractfile(member).read() for member in tar if member.isfile()}
+
+
+def test_wheel(program):
+    """Two builds of the wheel are the same bytes, also from the source archive; it has the licence, the README, the types and one version."""
     with tempfile.TemporaryDirectory() as folder:
         place = pathlib.Path(folder)
-        status, told = ran([sys.executable, "-m", "pip", "install", "--no-build-isolation", "--no-index", "--target", place, TOOLS])
-        assert status == 0, told[-600:]
+        first, second = copied(place, "first"), copied(place, "second")
+        archives = [archive_of(first, place / "a"), archive_of(second, place / "b")]
+        wheels = [wheel_of(source, place / name) for source, name in ((first, "c"), (second, "d"), (archives[0], "e"))]
+        equal(files_in(archives[0]), files_in(archives[1]))
+        equal(len({wheel.read_bytes() for wheel in wheels}), 1)
         version = ran([program, "--version"])[1].split(" ")[1].strip()
-        equal(sorted(path.name for path in place.glob("*.dist-info")), [f"rekhuso-{version}.dist-info"])
+        equal((wheels[0].name, archives[0].name), (f"rekhuso-{version}-py3-none-any.whl", f"rekhuso-{version}.tar.gz"))
+        with zipfile.ZipFile(wheels[0]) as wheel:
+            names, metadata = wheel.namelist(), wheel.read(f"rekhuso-{version}.dist-info/METADATA").decode()
+            licence = wheel.read(f"rekhuso-{version}.dist-info/LICENSE").decode()
+    modules = {f"rekhuso/{path.name}" for path in (TOOLS / "rekhuso").iterdir() if path.is_file()}
+    equal({name for name in names if not name.startswith("rekhuso-")}, modules)
+    assert "rekhuso/py.typed" in modules and "License :: OSI Approved :: MIT License" in metadata, metadata
+    assert metadata.endswith((TOOLS / "README.md").read_text()), metadata
+    equal(licence, (HERE.parent / "LICENSE").read_text())
+
+
+def commands_over(place):
+    """Each command with its words, over files that are put into a folder: a map, another, and the dumps of a cluster."""
+    own = clusters.CLUSTERS["002-built"]
+    value = json.loads(EXAMPLE.read_text())
+    for name, what in (("osd", own["osd_dump"]), ("crush", own["crush_dump"]),
+                       ("other", dict(value, osds=[dict(osd, up=osd["id"] != 2) for osd in value["osds"]]))):
+        (place / name).write_text(json.dumps(what))
+    dumps, other = [place / "osd", place / "crush"], place / "other"
+    return [["--version"], ["import", *dumps], ["import", "--check", *dumps], ["check", EXAMPLE], ["plan", *dumps], ["net", EXAMPLE],
+            ["df", *dumps], ["df", EXAMPLE, "--json"], ["diff", EXAMPLE, other], ["whatif", EXAMPLE, "--out", "3"], ["explain", EXAMPLE, "1.0"],
+            ["picture", EXAMPLE, other], ["report", EXAMPLE], ["shell", EXAMPLE]]
+
+
+def test_installed(program):
+    """In a fresh environment the installed package does each command as the tools in the repository do, finds the program on the path,
+    and says where it looked where there is none."""
+    with tempfile.TemporaryDirectory() as folder:
+        place = pathlib.Path(folder)
+        python = environment(place / "fresh")
+        done([python, "-m", "pip", "install", "--no-index", wheel_of(copied(place), place / "out")])
+        (place / "bin").mkdir()
         (place / "bin" / "osdmapd").symlink_to(program)
-        words = ["env", f"PATH={place / 'bin'}:{os.environ['PATH']}", place / "bin" / "rekhuso", "check", EXAMPLE]
-        equal(ran(words, place), (0, f"{EXAMPLE}: lawful\n"))
+        words = commands_over(place)
+        equal(sorted({own[0] for own in words} - {"--version"}), sorted(done([python, "-c", NAMES]).split()))
+        for own in words:
+            found = ran(["env", f"PATH={place / 'bin'}", place / "fresh" / "bin" / "rekhuso", *own])
+            equal((own, *found), (own, *ran([sys.executable, TOOLS / "rekhuso", *own, *([] if own == ["--version"] else ["--program", program])])))
+            assert found[0] == 0, found
+        status, told = ran(["env", f"PATH={folder}", place / "fresh" / "bin" / "rekhuso", "df", EXAMPLE])
+        equal((status, told), (1, f"no program: no folder of PATH has osdmapd ({folder}); `make run` in its repository proves and builds it, "
+                                  "and --program FILE names it\n"))
+
+
+def test_editable(program):
+    """An editable install, in an environment that sees the system's packages, runs the files that it was made of."""
+    with tempfile.TemporaryDirectory() as folder:
+        place = pathlib.Path(folder)
+        python, source = environment(place / "fresh", "--system-site-packages"), copied(place)
+        done([python, "-m", "pip", "install", "--no-build-isolation", "--no-index", "--no-deps", "-e", source])
+        equal(done([python, "-c", "import rekhuso; print(rekhuso.__file__)"]), f"{source / 'rekhuso' / '__init__.py'}\n")
+        equal(ran([place / "fresh" / "bin" / "rekhuso", "--program", program, "check", EXAMPLE]), (0, f"{EXAMPLE}: lawful\n"))
 
 
 def test_docstrings(program):
     """Every module, class and function of the tools has its docstring."""
-    for path in [*(TOOLS / "rekhuso").glob("*.py"), TOOLS / "wheels.py"]:
+    for path in (TOOLS / "rekhuso").glob("*.py"):
         for node in ast.walk(ast.parse(path.read_text())):
             if isinstance(node, (ast.Module, ast.ClassDef, ast.FunctionDef)):
                 assert ast.get_docstring(node), f"{path.name}: {getattr(node, 'name', 'the module')}"
@@ -78,7 +191,7 @@ def test_docstrings(program):
 def test_types(program):
     """`mypy --strict` finds nothing in the tools."""
     with tempfile.TemporaryDirectory() as folder:
-        status, told = ran(["mypy", "--strict", "--cache-dir", folder, TOOLS / "rekhuso", TOOLS / "wheels.py"])
+        status, told = ran(["mypy", "--strict", "--cache-dir", folder, TOOLS / "rekhuso"])
         assert status == 0, told[-600:]
 
 
@@ -93,7 +206,8 @@ def test_what_is_not_run(program):
 
 
 # What a test asks for beside Python: without it the test is not run.
-NEEDED = {test_installed: ("pip", lambda: importlib.util.find_spec("pip") is not None),
+BACKEND = "Python with pip, venv, setuptools and wheel (Debian: python3-pip, python3-venv)", lambda: builder() is not None
+NEEDED = {test_wheel: BACKEND, test_installed: BACKEND, test_editable: BACKEND,
           test_types: ("mypy", lambda: shutil.which("mypy") is not None)}
 
 
@@ -105,13 +219,13 @@ def lacking(test):
 
 def not_run():
     """A line for each test that cannot be run here, which says what it lacks."""
-    return [f"NOT RUN, since there is no {lacking(test)}: {test.__doc__}" for test in NEEDED if lacking(test)]
+    return [f"NOT RUN, since there is no {lacking(test)}: {' '.join(test.__doc__.split())}" for test in NEEDED if lacking(test)]
 
 
 def tests():
     """Each test that can be run here with its name."""
     own = [test for name, test in globals().items() if name.startswith("test_")]
-    return [(test.__doc__.rstrip("."), test) for test in own if lacking(test) is None]
+    return [(" ".join(test.__doc__.split()).rstrip("."), test) for test in own if lacking(test) is None]
 
 
 def main():

@@ -16,7 +16,6 @@ from typing import IO, NoReturn
 
 from . import __version__, bring, check, df, explain, net, picture, plan, report, shell, unlike, whatif
 from .faults import Fault, Misuse
-from .monitor import built
 
 COMMANDS = [bring, check, plan, net, df, unlike, whatif, explain, picture, report, shell]
 
@@ -37,7 +36,7 @@ def parser() -> argparse.ArgumentParser:
     """The command line: one parser with a subcommand for each module of COMMANDS."""
     top = Parser(prog="rekhuso", description="Tools beside osdmapd, for people with a cluster.")
     top.add_argument("--version", action="version", version=f"rekhuso {__version__}")
-    top.add_argument("--program", type=pathlib.Path, default=built(), help="the built program (else that of this repository, or of PATH)")
+    top.add_argument("--program", type=pathlib.Path, help="the built program (else that of this repository, or of PATH)")
     commands = top.add_subparsers(dest="command", required=True, metavar="COMMAND")
     for module in COMMANDS:
         module.add_to(commands)

@@ -38,13 +38,19 @@ from typing import IO, Any, NamedTuple, NoReturn
 from .faults import Fault, Refused
 from .texts import text_of, written
 
-BUILT = pathlib.Path(__file__).resolve().parent.parent.parent / "crates" / "osdmapd" / "out" / "osdmapd"
+# The crate of the program, where the tools stand in its repository, and what `make run` builds there.
+CRATE = pathlib.Path(__file__).resolve().parent.parent.parent / "crates" / "osdmapd"
+BUILT = CRATE / "out" / "osdmapd"
 
 
 def built() -> pathlib.Path:
-    """The program where none is named: that of this repository, else `osdmapd` on the path."""
-    found = None if BUILT.exists() else shutil.which("osdmapd")
-    return pathlib.Path(found) if found else BUILT
+    """The program where none is named: that of the repository in which the tools stand, else `osdmapd` on the path. A fault that tells
+    where it was looked for."""
+    found = str(BUILT) if BUILT.exists() else shutil.which("osdmapd")
+    if found is None:
+        places = ([f"{BUILT} is not there"] if CRATE.is_dir() else []) + [f"no folder of PATH has osdmapd ({os.environ.get('PATH', '')})"]
+        raise Fault(f"no program: {', and '.join(places)}; `make run` in its repository proves and builds it, and --program FILE names it")
+    return pathlib.Path(found)
 
 
 def has_straw2(value: Any) -> bool:
