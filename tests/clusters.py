@@ -191,7 +191,7 @@ def test_df(tools):
     value = tools.map("001-built")
     status, output, error = tools.run("df", "--json", tools.put("m", value))
     assert status == 0, error
-    told = {row["id"]: row["groups"] for row in json.loads(output)["tree"] if row["id"] >= 0}
+    told = {row["id"]: row["pgs"] for row in json.loads(output)["nodes"] if row["id"] >= 0}
     counts = [int(answer.split(" ")[3]) for answer in tools.answers(value, [f"count {osd}" for osd in range(48)])]
     assert [told[osd] for osd in range(48)] == counts
     status, output, _ = tools.run("df", tools.put("m", value))

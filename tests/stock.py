@@ -99,7 +99,7 @@ def test_weights_of_zero(tools):
              "023-thousand": ["left out: 1 OSD of weight 0, which gets no groups: osd.751"]}
     for name, wanted in lines.items():
         output, error = ran(tools, "import", *dumps(tools, name), "--names", "names")
-        assert error.splitlines() == ["left out: classes of devices", *wanted], (name, error)
+        assert error.splitlines() == wanted, (name, error)
         is_ceph(tools, name, [json.loads(output)])
 
 
@@ -239,8 +239,8 @@ def test_commands(tools):
             for osd in set(places) - {None, 2147483647}:
                 counts[osd] += 1
         tree = json.loads(ran(tools, "df", path, "--json")[0])
-        rows = [row for row in tree["tree"] + tree["stray"] if row["id"] >= 0]
-        assert {row["id"]: row["groups"] for row in rows} == counts, name
+        rows = [row for row in tree["nodes"] + tree["stray"] if row["id"] >= 0]
+        assert {row["id"]: row["pgs"] for row in rows} == counts, name
         group = max(STOCK[name]["up"], key=lambda own: len(own))
         assert ran(tools, "explain", path, group)[0].splitlines()[-1].startswith(f"its up set is {ceph_set(STOCK[name]['up'][group]).split(' ')[0]}")
         other = dict(value, osds=[dict(osd, weight=0) if osd["id"] == 3 else osd for osd in value["osds"]])
@@ -250,7 +250,7 @@ def test_commands(tools):
         assert ran(tools, "diff", path, tools.put("other", other))[0].splitlines()[-1].startswith(f"{moved} groups, "), name
         for word in ("picture", "report"):
             page = ran(tools, word, path, "--names", tools.folder / "names")[0]
-            assert page.count('class="c"') == len([row for row in tree["tree"] if row["id"] >= 0]), (name, word)
+            assert page.count('class="c"') == len([row for row in tree["nodes"] if row["id"] >= 0]), (name, word)
         xml.etree.ElementTree.fromstring(ran(tools, "picture", path)[0])
         output, _ = tools.run("shell", path, stdin=f"up {group}\nepoch\n")[1:]
         assert output == f"up 1000 {group} {ceph_set(STOCK[name]['up'][group])}\nepoch 1000\n", output

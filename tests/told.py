@@ -126,12 +126,12 @@ def test_totals(tools):
     places = [osd for places in sets.values() for osd in json.loads(places.split(" ")[0].replace("none", "null")) if osd is not None]
     weight = sum(weight for bucket in value["buckets"] for item, weight in bucket["items"] if item >= 0) / 65536
     told = json.loads(ran(tools, "df", tools.put("m", value), "--json"))
-    assert [(row["id"], row["groups"]) for row in told["stray"]] == [(count, 2), (count + 1, 0)], told["stray"]
-    assert (told["total"]["groups"], round(told["total"]["weight"], 9)) == (len(places), round(weight, 9)), told["total"]
-    assert not {row["id"] for row in told["tree"]} & {count, count + 1, count + 2}
+    assert [(row["id"], row["pgs"], row["var"]) for row in told["stray"]] == [(count, 2, None), (count + 1, 0, 0)], told["stray"]
+    assert (told["summary"]["pgs"], round(told["summary"]["crush_weight"], 9)) == (len(places), round(weight, 9)), told["summary"]
+    assert not {row["id"] for row in told["nodes"]} & {count, count + 1, count + 2}
     lines = [line.split() for line in ran(tools, "df", "m").splitlines()]
     at = next(at for at, line in enumerate(lines) if line[-1] == "TOTAL")
-    assert lines[at][:-1] == [f"{weight:.5f}", str(len(places)), f"{told['total']['share']:.2f}"], lines[at]
+    assert lines[at][:-1] == [f"{weight:.5f}", f"{told['summary']['share']:.2f}", str(len(places))], lines[at]
     assert [line[0] for line in lines[at - 2:at]] == [str(count), str(count + 1)], lines[at - 2:at]
     assert lines[at - 3] == ["outside", "every", "bucket"], lines[at - 3]
     assert "outside" not in ran(tools, "df", tools.put("m", tools.map("002-built")))
@@ -169,11 +169,11 @@ def test_tree_of_the_page(tools):
     page = ran(tools, "report", path, "--names", names)
     sums = re.search('<table class="sums">.*?</table>', page).group()
     rows = [[html.unescape(cell).strip() for cell in re.findall("<td>(.*?)</td>", row)] for row in re.findall("<tr>(?:<td>.*?)</tr>", sums)]
-    wanted = [known["buckets" if row["id"] < 0 else "osds"][str(row["id"])] for row in told["tree"]]
+    wanted = [known["buckets" if row["id"] < 0 else "osds"][str(row["id"])] for row in told["nodes"]]
     assert [row[0] for row in rows] == [*wanted, "total"], rows
-    assert [int(row[4]) for row in rows] == [row["groups"] for row in [*told["tree"], told["total"]]], rows
-    roots = [row["share"] for row in told["tree"] if row["depth"] == 0]
-    assert abs(sum(roots) - told["total"]["share"]) <= 0.005 * (len(roots) + 1), (roots, told["total"])
+    assert [int(row[4]) for row in rows] == [row["pgs"] for row in [*told["nodes"], told["summary"]]], rows
+    roots = [row["share"] for row in told["nodes"] if row["depth"] == 0]
+    assert abs(sum(roots) - told["summary"]["share"]) <= 0.005 * (len(roots) + 1), (roots, told["summary"])
     assert page.index("<svg") < page.index('<table class="sums">') < page.index("<h2>OSDs</h2>")
     assert "prefers-color-scheme:dark" in page and not re.search('<rect[^>]*width="100%"[^>]*fill=', page)
 
@@ -189,6 +189,113 @@ def test_plans_that_are_refused(tools):
     assert told["unbalanced"] == [[1, "29 BalanceRule"]], told
     assert "<p>pool 1 is passed over: 29 BalanceRule</p>" in ran(tools, "report", "twice")
     assert json.loads(ran(tools, "whatif", path, "--out", "0", "--balance", "--json"))["unbalanced"] == []
+
+
+# The columns of `ceph osd df tree` (Ceph, OSDMap.cc, OSDUtilizationPlainDumper) that tell nothing of bytes, in their order.
+CEPH_COLUMNS = ["ID", "CLASS", "WEIGHT", "REWEIGHT", "VAR", "PGS", "STATUS", "TYPE NAME"]
+
+
+def columns(line, names):
+    """The part of a line in each column: all end where their names do, and the last, of two words, goes on."""
+    ends = [found.end() for found in re.finditer(r"\S+", names)][:-2]
+    return [line[start:end].strip() for start, end in zip([0, *ends], [*ends, None])]
+
+
+def test_columns(tools):
+    """`df` has the columns of `ceph osd df tree` in their order; an OSD's VAR is what it has to what its weights call for, beside the
+    difference of the two in groups."""
+    own = json.loads(json.dumps(clusters.CLUSTERS["002-built"]))
+    for device in own["crush_dump"]["devices"]:
+        device["class"] = "ssd" if device["id"] % 3 else "hdd"
+    own["osd_dump"]["osds"][2].update(up=0)
+    own["osd_dump"]["osds"][5].update(weight=0)
+    files = tools.put("o", own["osd_dump"]), tools.put("c", own["crush_dump"])
+    names, *lines = ran(tools, "df", *files).splitlines()
+    found = columns(names, names)
+    assert [name for name in found if name in CEPH_COLUMNS] == CEPH_COLUMNS, found
+    value = json.loads(ran(tools, "import", *files))
+    counts = [int(answer.split(" ")[3]) for answer in tools.answers(value, [f"count {osd}" for osd in range(value["max_osd"])])]
+    rows = [dict(zip(found, columns(line, names))) for line in lines]
+    kinds = {device["id"]: device.get("class", "") for device in own["crush_dump"]["devices"]}
+    osds = {int(row["ID"]): row for row in rows if row["TYPE NAME"].startswith("osd.")}
+    assert osds.keys() == kinds.keys() and len(set(kinds.values())) > 1, osds
+    # Each pool's places are shared out over the OSDs of its rule's tree that are up and in, by weight.
+    shares, items = dict.fromkeys(kinds, 0.0), {item: weight for bucket in value["buckets"] for item, weight in bucket["items"]}
+    sets = tools.sets(value)
+    for pool in value["pools"]:
+        rule = next(rule for rule in value["rules"] if rule["id"] == pool["rule"])
+        weights = {osd: items[osd] for osd in below(value, next(step[1] for step in rule["steps"] if step[0] == "take")) if osd not in (2, 5)}
+        places = [osd for group, told in sets.items() if group.startswith(f"{pool['id']}.") for osd in json.loads(told.split(" ")[0])]
+        for osd, weight in weights.items():
+            shares[osd] += len(places) * weight / sum(weights.values())
+    for osd, row in osds.items():
+        wanted = [str(osd), kinds[osd], "0" if osd == 5 else "1.00000", str(counts[osd]), "down" if osd == 2 else "up"]
+        assert [row[name] for name in ("ID", "CLASS", "REWEIGHT", "PGS", "STATUS")] == wanted, (row, wanted)
+        if osd not in (2, 5):
+            assert abs(float(row["VAR"]) - counts[osd] / shares[osd]) < 0.006, (row, shares[osd])
+            assert abs(float(row["DEVIATION"]) - counts[osd] + shares[osd]) < 0.006, (row, shares[osd])
+    assert osds[5]["VAR"] == "0" and any(row["TYPE NAME"].startswith("host ") for row in rows), osds[5]
+
+
+def test_json(tools):
+    """What each command tells as JSON is one object, which says what the same command tells as text."""
+    path, _, value, _ = with_names(tools, "002-built")
+    other = dict(value, osds=[dict(osd, up=osd["id"] != 2, weight=0 if osd["id"] == 5 else osd["weight"]) for osd in value["osds"]],
+                 pg_upmap_items=[["1.4", [[5, 1], [1, 5]]]])
+    files, found = {"m": path, "n": tools.put("n", other)}, {}
+    for words in (["df", "m"], ["diff", "m", "n"], ["plan", "m"], ["check", "n"], ["explain", "n", "1.4"], ["net", "n"], ["whatif", "m", "--out", "3"]):
+        found[words[0]] = json.loads(ran(tools, words[0], *(files.get(word, word) for word in words[1:]), "--json"))
+        assert list(found[words[0]])[:2] == ["command", "epoch"], words
+        assert (found[words[0]]["command"], found[words[0]]["epoch"]) == (words[0], value["epoch"]), words
+    line, moved = ran(tools, "diff", path, files["n"]).splitlines()
+    diff = found["diff"]
+    assert json.loads(line.removeprefix("change ")) == diff["change"] and diff["unsaid"] == [], (line, diff)
+    assert moved == f"{diff['groups']} groups, {diff['places']} places and {len(diff['osds'])} OSDs move", (moved, diff)
+    status, output, error = tools.run("plan", path)
+    assert status == 0 and found["plan"]["commands"] == output.splitlines() != [], (status, error)
+    pool = found["plan"]["pools"][0]
+    assert error.startswith(f"pool 1: {pool['moves']} moves of {pool['groups']} groups; before {pool['before']['least']} to "), (error, pool)
+    after = tools.sets(clusters.with_commands(value, output.splitlines()))
+    places = [osd for places in after.values() for osd in json.loads(places.split(" ")[0])]
+    weights = {item: weight for bucket in value["buckets"] for item, weight in bucket["items"] if item >= 0}
+    away = [abs(places.count(osd) - len(places) * weight / sum(weights.values())) for osd, weight in weights.items()]
+    assert abs(pool["after"]["farthest"] - max(away)) < 1e-9 and f"; after {pool['after']['least']} to " in error, (pool, away)
+    assert {pool["after"]["least"], pool["after"]["greatest"]} == {edge(map(places.count, weights)) for edge in (min, max)}, pool
+    assert found["check"]["lawful"] is True and found["check"]["places"] == [], found["check"]
+    story, places = found["explain"], tools.sets(other)["1.4"]
+    assert places == f"[{','.join(map(str, story['up']))}] {story['up_primary']}", (places, story)
+    watched = Watched(other)
+    assert [own["osd"] for own in story["passed_over"]] == watched.met_by("1.4") and story["pg_upmap"] is None, story
+    assert [(own["from"], own["to"]) for own in story["pg_upmap_items"]] == [(5, 1), (1, 5)], story
+    assert ran(tools, "net", files["n"]) == f"change {json.dumps(found['net']['change'], separators=(',', ':'), sort_keys=True)}\n"
+    assert ran(tools, "net", files["n"], "--ceph").splitlines() == found["net"]["commands"] != [], found["net"]
+
+
+def test_json_of_what_is_unlawful(tools):
+    """Of a map that is not lawful `check --json` has every place at fault, and the status and standard error stay."""
+    _, names, value, _ = with_names(tools, "002-built")
+    value["pools"][0]["size"], value["max_osd"] = 11, 0
+    for words in ((), ("--names", names)):
+        status, output, error = tools.run("check", tools.put("w", value), "--json", *words)
+        told = json.loads(output)
+        assert status == 1 and told["lawful"] is False and told["refused"] == {"number": 12, "name": "BadLimit"}, (status, told)
+        assert {(own["path"], own["number"]) for own in told["places"]} == {("pools[0].size", 12), ("max_osd", 12)}, told
+        assert len(error.splitlines()) == 1 + len(told["places"]), error
+
+
+def test_help(tools):
+    """Every argument of every command has its help, and each form of `plan` its line of usage."""
+    commands = re.findall("^    ([a-z]+) ", ran(tools, "--help"), re.MULTILINE)
+    assert len(commands) == 11, commands
+    for command in commands:
+        usage, _, *parts = ran(tools, command, "--help").split("\n\n")
+        listed = [line for part in parts if part.split("\n")[0] in ("positional arguments:", "options:") for line in part.split("\n")[1:] if line]
+        for line, behind in zip(listed, [*listed[1:], ""]):
+            is_named = len(line) - len(line.lstrip()) == 2
+            assert not is_named or "  " in line.strip() or behind.startswith(" " * 8), (command, line)
+        if command == "plan":
+            forms = [line.removeprefix("usage:").split("rekhuso plan ")[1] for line in usage.splitlines()]
+            assert [form.split(" [")[0] for form in forms] == ["MAP", "OSD_DUMP CRUSH_DUMP"], usage
 
 
 def tests():

@@ -38,17 +38,17 @@ def test_tree(tools):
     """`df` over dumps shows the cluster's own tree, each OSD once, with Ceph's groups of all pools, and what weighs 0 where it stands."""
     for name in (SEVERAL, DRAINED, "006-class-rules-only", SET):
         told, (buckets, weights), groups = json.loads(ran(tools, "df", *dumps(tools, name), "--json")[0]), own_tree(name), counts(name)
-        rows = told["tree"]
+        rows = told["nodes"]
         assert sorted(row["id"] for row in rows) == sorted({*buckets, *weights}) and told["stray"] == [], name
         for row in rows:
             if row["id"] >= 0:
-                assert row["groups"] == groups.get(row["id"], 0) and row["weight"] == weights[row["id"]], (name, row)
-                assert row["weight"] or (row["groups"], row["share"]) == (0, 0), (name, row)
+                assert row["pgs"] == groups.get(row["id"], 0) and row["crush_weight"] == weights[row["id"]], (name, row)
+                assert row["crush_weight"] or (row["pgs"], row["share"], row["var"]) == (0, 0, 0), (name, row)
         above = {}
         for row in rows:
             above[row["depth"]] = row["id"]
             assert row["depth"] == 0 or row["id"] in buckets[above[row["depth"] - 1]], (name, row)
-        assert told["total"]["groups"] == sum(groups.values()) and abs(told["total"]["share"] - told["total"]["groups"]) < 1, name
+        assert told["summary"]["pgs"] == sum(groups.values()) and abs(told["summary"]["share"] - told["summary"]["pgs"]) < 1, name
         assert [pool["id"] for pool in told["pools"]] == [pool["pool"] for pool in STOCK[name]["osd_dump"]["pools"]]
         lines = ran(tools, "df", *dumps(tools, name))[0].splitlines()
         assert len(lines) == 1 + len(rows) + 1 + len(told["pools"]) + 1, (name, lines)
@@ -57,7 +57,7 @@ def test_tree(tools):
 def test_shares_under_a_weight_set(tools):
     """Under a weight set the shares go by the weights themselves, no plan is made, and it is told what to do."""
     told, weights = json.loads(ran(tools, "df", *dumps(tools, SET), "--json")[0]), own_tree(SET)[1]
-    osds = {row["id"]: row["share"] for row in told["tree"] if row["id"] >= 0}
+    osds = {row["id"]: row["share"] for row in told["nodes"] if row["id"] >= 0}
     total, whole = sum(weights[osd] for osd in osds), sum(counts(SET).values())
     assert all(abs(share - whole * weights[osd] / total) < 0.02 for osd, share in osds.items()), osds
     output, error = ran(tools, "plan", *dumps(tools, SET), status=1)

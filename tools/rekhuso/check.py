@@ -15,7 +15,7 @@ from .forms import NAMES, Place
 from .monitor import answers_of, has_straw2, raw_answers
 from .places import change_places, map_places
 from .shares import with_names
-from .texts import names_in, text_of
+from .texts import add_json, names_in, put_json, text_of
 
 OWNERS = re.compile(r"(buckets|osds|pools|rules)\[([0-9]+)\]")
 NUMBERS = {name: number for number, name in reversed(NAMES.items())}
@@ -49,43 +49,63 @@ def told(value: Any, place: Place, names: dict[str, Any]) -> str:
     return f"{place._replace(why=with_names(place.why, names))}" + (f": {name}" if name is not None else "")
 
 
-def refusal(name: str, number: int, found: list[str], path: str) -> Fault:
-    """What is told of a refusal: the program's name for it, and the places."""
-    return Fault(f"{path}: refused: {number} {name}", *found)
+class Unlawful(Fault):
+    """A map or a change that the program refuses: its name for that, and every place at fault."""
+
+    def __init__(self, path: str, number: int, name: str, value: Any, places: list[Place], names: dict[str, Any]) -> None:
+        """Of a file, where the places stand in a value; what it speaks of is told by its name."""
+        super().__init__(f"{path}: refused: {number} {name}", *(told(value, place, names) for place in places))
+        found = [dict(place._asdict(), name=NAMES[place.number], why=with_names(place.why, names), of=owner(value, place, names))
+                 for place in places]
+        self.parts = {"refused": {"number": number, "name": name}, "places": found}
 
 
 def check_map(path: str, program: Any, names: dict[str, Any]) -> str:
-    """The text of a map that is lawful. A fault with the places where it is not."""
+    """The text of a map that is lawful; `Unlawful` where it is not."""
     text = text_of(path)
     try:
         answers_of(program, text, ["epoch"])
     except Refused as refused:
         value = parsed(text)
         places = [] if refused.name == "BadJson" else map_places(value, has_straw2(text))
-        raise refusal(refused.name, NUMBERS[refused.name], [told(value, place, names) for place in places], path) from None
+        raise Unlawful(path, NUMBERS[refused.name], refused.name, value, places, names) from None
     return text
 
 
-def work(options: Any) -> None:
-    """Tells that a map or a change is lawful."""
+def checked(options: Any) -> tuple[str, str | None]:
+    """The text of a map, and what the program answers to a change where there is one; `Unlawful` where it refuses either."""
     names = names_in(options.names)
     text = check_map(options.map, options.program, names)
     if options.change is None:
-        print(f"{options.map}: lawful")
-        return
+        return text, None
     change = text_of(options.change).strip().removeprefix("change ").replace("\n", " ")
     answer = raw_answers(options.program, text, [f"change {change}"])[0]
     if answer.startswith("err "):
         number, name = answer.split(" ")[1:3]
         found = [] if number == "10" else change_places(json.loads(text), parsed(change), has_straw2(text))
-        raise refusal(name, int(number), [told(None, place, names) for place in found], options.change)
-    print(f"{options.change}: lawful: {answer}")
+        raise Unlawful(options.change, int(number), name, None, found, names)
+    return text, answer
+
+
+def work(options: Any) -> None:
+    """Tells that a map or a change is lawful; as JSON, also that it is not, and where."""
+    try:
+        text, answer = checked(options)
+    except Unlawful as fault:
+        if options.json:
+            put_json("check", None, lawful=False, answer=None, **fault.parts)
+        raise
+    if options.json:
+        put_json("check", json.loads(text)["epoch"], lawful=True, answer=answer, refused=None, places=[])
+    else:
+        print(f"{options.map}: lawful" if answer is None else f"{options.change}: lawful: {answer}")
 
 
 def add_to(commands: Any) -> None:
     """The subcommand."""
     own = commands.add_parser("check", help="whether a map or a change is lawful, and where not", description=__doc__)
-    own.add_argument("map", metavar="MAP")
+    own.add_argument("map", metavar="MAP", help="a map, as `import` writes it; - is standard input")
     own.add_argument("change", metavar="CHANGE", nargs="?", help="a file with a change")
     own.add_argument("--names", metavar="FILE", help="names, as `import --names` wrote them")
+    add_json(own)
     own.set_defaults(work=work)

@@ -171,6 +171,7 @@ class Cluster:
     def names(self) -> dict[str, Any]:
         """The names of all that a map has by number alone."""
         return {"buckets": {str(number): self.buckets[number]["name"] for number in self.kept},
+                "classes": {str(device["id"]): device["class"] for device in self.crush["devices"] if "class" in device},
                 "osds": {str(device["id"]): device["name"] for device in self.crush["devices"]},
                 "pools": {str(pool["pool"]): pool["pool_name"] for pool in self.pools},
                 "rules": {str(rule["rule_id"]): rule["rule_name"] for rule in self.rules},
@@ -235,9 +236,10 @@ class Cluster:
 
     def left_out(self, has_names: bool) -> list[str]:
         """What the map does not hold and the up sets do not need, each in one line."""
-        found = [] if has_names else ["names of OSDs, buckets, pools and rules (--names FILE keeps them)"]
-        if any("class" in device for device in self.crush["devices"]):
-            found.append("classes of devices")
+        kept = " (--names FILE keeps them)"
+        found = [] if has_names else [f"names of OSDs, buckets, pools and rules{kept}"]
+        if any("class" in device for device in self.crush["devices"]) and not has_names:
+            found.append(f"classes of devices{kept}")
         for key, what in (("pg_temp", "temporary sets (pg_temp), which change the acting set and not the up set"),
                           ("primary_temp", "temporary primaries (primary_temp)")):
             if self.osd_dump.get(key):

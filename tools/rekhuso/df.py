@@ -1,29 +1,80 @@
-"""`df`: the tree of buckets with each OSD's weight, reweight, state, groups, share and deviation, its totals, and the pools.
+"""`df`: the tree of buckets with the columns of `ceph osd df tree`, its totals, and the pools.
 
-Of two dumps the tree is the cluster's, without the shadow buckets of device classes, and with what weighs 0; groups and shares are
-those of all pools.
+VAR is the ratio of an OSD's groups to its share, which is what its weight and reweight call for; DEVIATION is the difference of the
+two, in groups. Of two dumps the tree is the cluster's, without the shadow buckets of device classes, and with what weighs 0; groups
+and shares are those of all pools.
 """
 
 from __future__ import annotations
 
-import json
 from typing import Any
 
-from .shares import COLUMNS, Shares, named, spread, table_row
+from .shares import Shares, named, spread
+from .texts import add_json, put_json
 from .whole import add_files, whole_with_sets
 
+COLUMNS = ["ID", "CLASS", "WEIGHT", "REWEIGHT", "SHARE", "DEVIATION", "VAR", "PGS", "STATUS", "TYPE NAME"]
+# The state of an OSD as Ceph tells it: one that is out has the reweight 0.
+STATUS = {"up": "up", "up,out": "up", "down": "down", "down,out": "down", "absent": "DNE"}
+INDENT = "    "
 
-def tree_lines(shares: Shares, names: dict[str, Any]) -> list[str]:
+
+def ratio(groups: int, share: float) -> float | None:
+    """How many times its share an OSD has; None where it has groups and no share."""
+    return groups / share if share > 0 else None if groups else 0.0
+
+
+def node(shares: Shares, row: dict[str, Any], names: dict[str, Any]) -> dict[str, Any]:
+    """What is told of an OSD or a bucket, under the keys of Ceph's own JSON, and with its share."""
+    number = row["id"]
+    var = ratio(row["groups"], sum(shares.wanted.get(osd, 0.0) for osd in shares.below(number)))
+    found = {"id": number, "name": named(names, "buckets" if number < 0 else "osds", number), "crush_weight": row["weight"],
+             "pgs": row["groups"], "share": row["share"], "var": None if var is None else round(var, 4)}
+    if number < 0:
+        kind = names.get("types", {}).get(str(row["type"]), f"type {row['type']}")
+        return dict(found, type=kind, type_id=row["type"], reweight=-1)
+    own = names.get("classes", {}).get(str(number), "")
+    return dict(found, type="osd", type_id=0, reweight=row["reweight"], deviation=row["deviation"], status=STATUS[row["state"]],
+                device_class=own)
+
+
+def nodes(shares: Shares, names: dict[str, Any]) -> list[dict[str, Any]]:
+    """The tree, each bucket before what stands in it, with its depth."""
+    return [dict(node(shares, row, names), depth=depth) for root in shares.roots() for depth, row in shares.rows(root)]
+
+
+def summary(shares: Shares) -> dict[str, Any]:
+    """The totals, how even the OSDs are that may have groups, and the least and the greatest ratio to a share."""
+    total, even = shares.total(), spread(shares)
+    ratios = [shares.counts.get(osd, 0) / share for osd, share in shares.wanted.items() if share]
+    return {"crush_weight": total["weight"], "pgs": total["groups"], "share": total["share"], "min_pgs": even["least"],
+            "max_pgs": even["greatest"], "min_var": round(min(ratios, default=0.0), 4), "max_var": round(max(ratios, default=0.0), 4),
+            "deviation": even["deviation"]}
+
+
+def decimal(number: float, places: int) -> str:
+    """A number as Ceph's tables have it: 0 without decimals."""
+    return f"{number:.{places}f}" if number else "0"
+
+
+def cells(own: dict[str, Any], depth: int) -> list[str]:
+    """A row of the table, for an OSD or a bucket."""
+    weight, groups, share = decimal(own["crush_weight"], 5), str(own["pgs"]), decimal(own["share"], 2)
+    var = "-" if own["var"] is None else decimal(own["var"], 2)
+    if own["id"] < 0:
+        name = f"{own['type']} {own['name']}" if not own["type"].startswith("type ") else f"{own['name']} of {own['type']}"
+        return [str(own["id"]), "", weight, "-", share, "-", var, groups, "", INDENT * depth + name]
+    return [str(own["id"]), own["device_class"], weight, decimal(own["reweight"], 5), share, f"{own['deviation']:+.2f}", var, groups,
+            own["status"], INDENT * depth + own["name"]]
+
+
+def tree_lines(tree: list[dict[str, Any]], stray: list[dict[str, Any]], total: dict[str, Any]) -> list[str]:
     """The tree as a table of text, then the OSDs outside every bucket, then the totals."""
-    rows = [COLUMNS]
-    for root in shares.roots():
-        rows += [table_row(row, "  " * depth + named(names, "osds" if row["id"] >= 0 else "buckets", row["id"]))
-                 for depth, row in shares.rows(root)]
-    stray, total = shares.stray(), shares.total()
+    rows = [COLUMNS] + [cells(own, own["depth"]) for own in tree]
     if stray:
-        rows.append([""] * 7 + ["outside every bucket"])
-    rows += [table_row(row, "  " + named(names, "osds", row["id"])) for row in stray]
-    rows.append(["", f"{total['weight']:.5f}", "", "", str(total["groups"]), f"{total['share']:.2f}", "", "TOTAL"])
+        rows.append([""] * (len(COLUMNS) - 1) + ["outside every bucket"])
+    rows += [cells(own, 1) for own in stray]
+    rows.append(["", "", decimal(total["crush_weight"], 5), "", decimal(total["share"], 2), "", "", str(total["pgs"]), "", "TOTAL"])
     widths = [max(len(row[at]) for row in rows) for at in range(len(COLUMNS) - 1)]
     return ["  ".join([cell.rjust(width) for cell, width in zip(row, widths)] + [row[-1]]) for row in rows]
 
@@ -32,22 +83,22 @@ def work(options: Any) -> None:
     """Tells the tree, the pools and the totals of a map or a cluster."""
     whole, sets = whole_with_sets(options.files, options)
     names, shares = whole.names, whole.shares(sets)
-    even = spread(shares)
+    tree, stray, total = nodes(shares, names), [node(shares, row, names) for row in shares.stray()], summary(shares)
+    pools = [dict(pool, name=named(names, "pools", pool["id"])) for pool in shares.pools()]
     if options.json:
-        tree = [dict(row, depth=depth) for root in shares.roots() for depth, row in shares.rows(root)]
-        parts = {"tree": tree, "stray": shares.stray(), "total": shares.total(), "pools": shares.pools(), "spread": even}
-        print(json.dumps(parts, indent=1))
+        put_json("df", whole.tree["epoch"], nodes=tree, stray=stray, summary=total, pools=pools)
         return
-    print("\n".join(tree_lines(shares, names)))
-    for pool in shares.pools():
+    print("\n".join(tree_lines(tree, stray, total)))
+    for pool in pools:
         short = f", {pool['short']} with fewer places than its size" if pool["short"] else ""
-        print(f"{named(names, 'pools', pool['id'])}: {pool['groups']} groups of size {pool['size']} by rule {pool['rule']}{short}")
-    print(f"an OSD has {even['least']} to {even['greatest']} groups; standard deviation from the shares {even['deviation']}")
+        print(f"{pool['name']}: {pool['groups']} groups of size {pool['size']} by rule {pool['rule']}{short}")
+    print(f"an OSD has {total['min_pgs']} to {total['max_pgs']} groups; MIN/MAX VAR {total['min_var']:.2f}/{total['max_var']:.2f}; "
+          f"standard deviation from the shares {total['deviation']}")
 
 
 def add_to(commands: Any) -> None:
     """The subcommand."""
     own = commands.add_parser("df", help="the tree with the groups of each OSD", description=__doc__)
-    add_files(own)
-    own.add_argument("--json", action="store_true", help="as JSON")
+    add_files(own, "[--json]")
+    add_json(own)
     own.set_defaults(work=work)

@@ -10,7 +10,8 @@ from .forms import GROUP
 from .monitor import up_sets
 from .net import raised
 from .shares import named
-from .whole import FILES, Files, add_names, whole_of
+from .texts import add_json, put_json
+from .whole import add_map_files, add_names, usage, whole_of
 
 
 def group_word(word: str) -> str:
@@ -84,27 +85,39 @@ class Group:
         weight = self.weight(osd)
         return f"osd.{osd} (reweight {weight / 65536:.5f})" if weight else f"osd.{osd}"
 
-    def exception_lines(self) -> list[str]:
-        """What each exception did, or why it did nothing."""
-        lines, out = [], [osd for osd in self.explicit or [] if self.weight(osd) == 0]
-        if self.explicit is not None:
-            lines.append(f"its explicit set {told(self.explicit)} " + (f"does nothing, nor do its pairs: osd.{out[0]} is out" if out
-                                                                       else "stands in place of the raw set"))
-        places = list(self.sets["explicit"].places)
-        for was, now in [] if out else self.pairs:
+    def idle_explicit(self) -> str | None:
+        """Why the explicit set does nothing; None where it stands, or where there is none."""
+        return next((f"osd.{osd} is out" for osd in self.explicit or [] if self.weight(osd) == 0), None)
+
+    def pair_parts(self) -> list[dict[str, Any]]:
+        """What each pair did, or why it did nothing; none of a group whose explicit set does nothing, as then no pair is looked at."""
+        parts, places = [], list(self.sets["explicit"].places)
+        for was, now in [] if self.idle_explicit() else self.pairs:
             why = (f"osd.{was} does not stand in the set" if was not in places else f"osd.{now} stands there already" if now in places
                    else f"osd.{now} is out" if self.weight(now) == 0 else None)
             if why is None:
                 places[places.index(was)] = now
-            lines.append(f"its pair {was} to {now} " + (f"does nothing: {why}" if why else f"gives {told(places)}"))
-        return lines
+            parts.append({"from": was, "to": now, "idle": why, "set": list(places)})
+        return parts
+
+    def exception_lines(self) -> list[str]:
+        """What each exception did, or why it did nothing."""
+        lines, idle = [], self.idle_explicit()
+        if self.explicit is not None:
+            lines.append(f"its explicit set {told(self.explicit)} " + (f"does nothing, nor do its pairs: {idle}" if idle
+                                                                       else "stands in place of the raw set"))
+        return lines + [f"its pair {own['from']} to {own['to']} " + (f"does nothing: {own['idle']}" if own["idle"] else
+                                                                    f"gives {told(own['set'])}") for own in self.pair_parts()]
+
+    def down(self) -> list[int]:
+        """The OSDs that leave the set, as they are down."""
+        return [osd for osd in self.sets["mapped"].places if osd is not None and not self.osds[osd]["up"]]
 
     def change_lines(self) -> list[str]:
         """What changed the set, a line each; or one line that nobody did."""
         passed = self.passed_over()
         lines = ["passed over as out: " + ", ".join(map(self.passed_words, passed))] if passed else []
-        lines += self.exception_lines()
-        lines += [f"osd.{osd} is down and leaves" for osd in self.sets["mapped"].places if osd is not None and not self.osds[osd]["up"]]
+        lines += self.exception_lines() + [f"osd.{osd} is down and leaves" for osd in self.down()]
         return lines or ["nobody has changed the set: no OSD was passed over as out, there is no exception, and no OSD of it is down"]
 
     def lines(self, names: dict[str, Any]) -> list[str]:
@@ -117,17 +130,33 @@ class Group:
                 f"its up set is {told(up.places)}, its primary " + ("none" if up.primary is None else f"osd.{up.primary}")]
 
 
+    def parts(self, names: dict[str, Any]) -> dict[str, Any]:
+        """The whole story as JSON has it: the set at each stage, and what changed it."""
+        rule, up = next(own for own in self.value["rules"] if own["id"] == self.pool["rule"]), self.sets["up"]
+        explicit = None if self.explicit is None else {"set": self.explicit, "idle": self.idle_explicit()}
+        return {"group": self.group, "pool": dict(self.pool, name=named(names, "pools", self.pool["id"])),
+                "rule": dict(rule, name=named(names, "rules", rule["id"])), "raw": self.sets["raw"].places,
+                "passed_over": [{"osd": osd, "reweight": self.weight(osd) / 65536} for osd in self.passed_over()],
+                "pg_upmap": explicit, "pg_upmap_items": self.pair_parts(), "down": self.down(), "up": up.places, "up_primary": up.primary}
+
+
 def work(options: Any) -> None:
     """Tells a group's story."""
     whole = whole_of(options.files, options)
     value = whole.map_of(int(options.group.split(".")[0]))
-    print("\n".join(Group(value, options.group, options.program).lines(whole.names)))
+    group = Group(value, options.group, options.program)
+    if options.json:
+        put_json("explain", value["epoch"], **group.parts(whole.names))
+    else:
+        print("\n".join(group.lines(whole.names)))
 
 
 def add_to(commands: Any) -> None:
     """The subcommand."""
     own = commands.add_parser("explain", help="why a group is where it is", description=__doc__)
-    own.add_argument("files", metavar=FILES, nargs="+", action=Files)
-    own.add_argument("group", metavar="PG", type=group_word)
+    own.usage = usage("PG", "[--json]")
+    add_map_files(own)
+    own.add_argument("group", metavar="PG", type=group_word, help="the group, as 1.1f")
     add_names(own)
+    add_json(own)
     own.set_defaults(work=work)

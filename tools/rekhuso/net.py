@@ -13,7 +13,7 @@ from typing import Any
 
 from .faults import Fault
 from .monitor import Monitor, Session, Up
-from .texts import text_of, written
+from .texts import add_json, put_json, text_of, written
 from .unlike import change_of, commands, place_of
 
 
@@ -73,17 +73,20 @@ def work(options: Any) -> None:
     with Monitor(text, options.program) as monitor:
         value: dict[str, Any] = json.loads(text)
         new = settled(monitor, value)
-    if options.ceph:
+    change, _ = change_of(value, new)
+    if options.json:
+        put_json("net", value["epoch"], change=change, commands=commands(value, new))
+    elif options.ceph:
         for line in commands(value, new):
             print(line)
-        return
-    change, _ = change_of(value, new)
-    print(f"change {written(change)}")
+    else:
+        print(f"change {written(change)}")
 
 
 def add_to(commands_of: Any) -> None:
     """The subcommand."""
     own = commands_of.add_parser("net", help="the fewest pairs for the same sets", description=__doc__)
-    own.add_argument("map", metavar="MAP")
+    own.add_argument("map", metavar="MAP", help="a map, as `import` writes it; - is standard input")
     own.add_argument("--ceph", action="store_true", help="as Ceph's commands")
+    add_json(own)
     own.set_defaults(work=work)

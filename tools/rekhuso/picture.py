@@ -10,7 +10,7 @@ import html
 from typing import Any
 
 from .shares import Shares, named
-from .whole import add_names, is_crush_dump, whole_with_sets
+from .whole import ABOUT_FILES, add_names, is_crush_dump, usage, whole_with_sets
 
 # Squares keep their colours in the dark, and so what stands in them.
 STYLE = ("text{font:11px sans-serif;fill:#333}.r{font-weight:bold}.n{font-size:8px;text-anchor:middle;fill:#222}.g{fill:#fff}.c{stroke:#999;stroke-width:.5}"
@@ -107,6 +107,7 @@ def work(options: Any) -> None:
 def add_to(commands: Any) -> None:
     """The subcommand."""
     own = commands.add_parser("picture", help="the OSDs and their shares as SVG", description=__doc__)
-    own.add_argument("files", metavar="OSD_DUMP CRUSH_DUMP | MAP", nargs="+")
+    own.usage = usage().replace("MAP [", "MAP [MAP ..] [")
+    own.add_argument("files", metavar="MAP .. | OSD_DUMP CRUSH_DUMP", nargs="+", help=f"{ABOUT_FILES}; of several maps, side by side")
     add_names(own)
     own.set_defaults(work=work)

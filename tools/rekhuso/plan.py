@@ -20,7 +20,7 @@ from .greedy import Deviations, Pairs, moves_within
 from .monitor import Monitor, Session, Up, groups_of
 from .net import settled
 from .shares import Shares, named
-from .texts import names_in, text_of
+from .texts import add_json, names_in, put_json, text_of
 from .unlike import commands, place_of
 from .whole import NO_PLAN, add_files, has_other_weights, tree_in
 
@@ -45,8 +45,16 @@ class Plan(NamedTuple):
     whole: int | None = None
 
 
-def plan_of_map(options: Any) -> list[str]:
-    """The commands of the plans of a map in a file."""
+class Told(NamedTuple):
+    """What is told of plans: the epoch of the map, the commands, and the parts of each pool."""
+
+    epoch: int
+    lines: list[str]
+    pools: list[dict[str, Any]]
+
+
+def plan_of_map(options: Any) -> Told:
+    """The plans of a map in a file."""
     if options.tree is not None or options.pools is not None:
         raise Misuse("--tree and --pools go with two dumps alone")
     names, text = names_in(options.names), text_of(options.files[0])
@@ -58,21 +66,22 @@ def plan_of_map(options: Any) -> list[str]:
         return planned(monitor, cluster, chosen(options.pool or [], cluster), options)
 
 
-def plan_of_dumps(options: Any) -> list[str]:
-    """The commands of the plans of two dumps, map by map where the cluster takes several. A fault where a weight set is in force."""
+def plan_of_dumps(options: Any) -> Told:
+    """The plans of two dumps, map by map where the cluster takes several. A fault where a weight set is in force."""
     names = names_in(options.names) if options.names else {}
     found = brought(options.files[0], options.files[1], options)
     if found.cluster.has_weight_set:
         raise Fault(NO_PLAN)
     every = {"pools": [pool for value in found.maps for pool in value["pools"]]}
     wanted = chosen(options.pool or [], Cluster(every, every, names or found.cluster.names()))
-    lines: list[str] = []
+    told: list[Told] = []
     for part, value in zip(found.parts, found.maps):
         pools = [pool for pool in value["pools"] if pool in wanted]
         if pools or not wanted:
             with monitor_of(value, options.program) as monitor:
-                lines += planned(monitor, Cluster(value, part.kept_exceptions(), names or part.names()), pools, options)
-    return sorted(lines, key=lambda line: place_of(line.split(" ")[3]))
+                told.append(planned(monitor, Cluster(value, part.kept_exceptions(), names or part.names()), pools, options))
+    lines = sorted((line for own in told for line in own.lines), key=lambda line: place_of(line.split(" ")[3]))
+    return Told(found.cluster.epoch, lines, [pool for own in told for pool in own.pools])
 
 
 def chosen(words: list[str], cluster: Cluster) -> list[dict[str, Any]]:
@@ -132,18 +141,23 @@ def shortened(session: Session, value: dict[str, Any], shares: Shares, pools: li
 
 # What is told
 
-def spread(weights: dict[int, int], counts: dict[int, int]) -> str:
+def spread(weights: dict[int, int], counts: dict[int, int]) -> dict[str, Any]:
     """The least and greatest number of groups of a pool that a candidate has, and how far they are from their shares, in groups."""
     own = [counts.get(osd, 0) for osd in weights]
     groups, total = sum(own), sum(weights.values())
     away = [count - groups * weight / total for count, weight in zip(own, weights.values())]
     deviation = (sum(gap * gap for gap in away) / len(away)) ** 0.5 if away else 0.0
-    most = max((abs(gap) for gap in away), default=0.0)
-    return (f"{min(own, default=0)} to {max(own, default=0)} groups an OSD, at most {most:.2f} from a share, "
-            f"standard deviation {deviation:.2f}")
+    return {"least": min(own, default=0), "greatest": max(own, default=0), "farthest": max((abs(gap) for gap in away), default=0.0),
+            "deviation": deviation}
 
 
-def length(plan: Plan, options: Any) -> str:
+def spread_words(found: dict[str, Any]) -> str:
+    """The same in words."""
+    return (f"{found['least']} to {found['greatest']} groups an OSD, at most {found['farthest']:.2f} from a share, "
+            f"standard deviation {found['deviation']:.2f}")
+
+
+def length_words(plan: Plan, options: Any) -> str:
     """How long a plan is, beside the one that --deviation asks for and the whole one."""
     if plan.whole is None:
         return ""
@@ -160,26 +174,35 @@ def changed(old: dict[str, Any], new: dict[str, Any]) -> list[str]:
     return [group for group, pairs in new["pg_upmap_items"] if kept.get(group) != pairs]
 
 
-def told(pool: dict[str, Any], plan: Plan, before: Shares, after: dict[str, Up], options: Any) -> str:
-    """What is said of a pool's plan; the sets after it are those of its groups that may have others than before."""
+def pool_parts(pool: dict[str, Any], plan: Plan, before: Shares, after: dict[str, Up]) -> dict[str, Any]:
+    """What is told of a pool's plan; the sets after it are those of its groups that may have others than before."""
     counts, weights = Counter(before.counts_in[pool["id"]]), before.weights_for(pool)
     was = spread(weights, counts)
     for sign, sets in ((-1, before.ups), (1, after)):
         for osd in (osd for group in after for osd in sets[group].places if osd is not None):
             counts[osd] += sign
     groups = sum(before.ups[group].places != up.places for group, up in after.items())
-    return f"{plan.moves} moves of {groups} groups{length(plan, options)}; before {was}; after {spread(weights, counts)}"
+    return {"id": pool["id"], "moves": plan.moves, "groups": groups, "refused": plan.refusal or None, "moves_within": plan.wanted,
+            "moves_whole": plan.whole, "before": was, "after": spread(weights, counts)}
 
 
-def planned(session: Session, cluster: Cluster, pools: list[dict[str, Any]], options: Any) -> list[str]:
-    """The commands of the plans of some pools; tells on standard error what they are."""
+def pool_words(parts: dict[str, Any], plan: Plan, options: Any) -> str:
+    """The same in words."""
+    if plan.refusal:
+        return f"{plan.refusal}: passed over"
+    return (f"{plan.moves} moves of {parts['groups']} groups{length_words(plan, options)}; before {spread_words(parts['before'])}; "
+            f"after {spread_words(parts['after'])}")
+
+
+def planned(session: Session, cluster: Cluster, pools: list[dict[str, Any]], options: Any) -> Told:
+    """The plans of some pools; tells on standard error what they are."""
     part = dict(cluster.value, pools=pools)
     before = Shares(part, session.ups(groups_of(part)))
     if options.deviation is None:
         plans = {pool["id"]: moved(session, pool["id"], options.max) for pool in pools}
     else:
         plans = shortened(session, cluster.value, before, pools, options)
-    new = session.dump()
+    new, found = session.dump(), []
     after: dict[int, dict[str, Up]] = {pool["id"]: {} for pool in pools}
     for group, up in session.ups(changed(cluster.value, new)).items():
         after[place_of(group)[0]][group] = up
@@ -187,14 +210,19 @@ def planned(session: Session, cluster: Cluster, pools: list[dict[str, Any]], opt
         plan, name = plans[pool["id"]], named(cluster.names if options.names else {}, "pools", pool["id"])
         if plan.refusal and options.pool:
             raise Fault(f"{name}: {plan.refusal}")
-        line = f"{plan.refusal}: passed over" if plan.refusal else told(pool, plan, before, after[pool["id"]], options)
-        print(f"{name}: {line}", file=sys.stderr)
-    return commands(cluster.value, settled(session, new), cluster.kept)
+        parts = pool_parts(pool, plan, before, after[pool["id"]])
+        print(f"{name}: {pool_words(parts, plan, options)}", file=sys.stderr)
+        found.append(dict(parts, name=named(cluster.names, "pools", pool["id"])))
+    return Told(cluster.value["epoch"], commands(cluster.value, settled(session, new), cluster.kept), found)
 
 
 def work(options: Any) -> None:
     """Asks the program for its plans, in one session a map, and tells them."""
-    for line in plan_of_map(options) if len(options.files) == 1 else plan_of_dumps(options):
+    told = plan_of_map(options) if len(options.files) == 1 else plan_of_dumps(options)
+    if options.json:
+        put_json("plan", told.epoch, commands=told.lines, pools=told.pools)
+        return
+    for line in told.lines:
         print(line)
 
 
@@ -222,7 +250,8 @@ def distance(word: str) -> Fraction:
 def add_to(commands_of: Any) -> None:
     """The subcommand."""
     own = commands_of.add_parser("plan", help="a balancer's plan as Ceph's commands", description=__doc__)
-    add_files(own)
+    add_files(own, "[--pool ID|NAME]..", "[--max N]", "[--deviation D]", "[--json]")
+    add_json(own)
     own.add_argument("--pool", metavar="ID|NAME", action="append", help="only this pool; as often as there are pools")
     own.add_argument("--max", metavar="N", type=limit, default=MOST, help="at most N moves a pool, 1 to 1024")
     own.add_argument("--deviation", metavar="D", type=distance, help="only as many moves as bring each OSD within D groups of its share")

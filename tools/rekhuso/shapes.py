@@ -14,7 +14,7 @@ OSD_DUMP = {
     "?pg_temp": [object], "?primary_temp": [object], "?pg_upmap_primaries": [object],
 }
 CRUSH_DUMP = {
-    "devices": [{"id": int, "name": str}], "types": [{"type_id": int, "name": str}],
+    "devices": [{"id": int, "name": str, "?class": str}], "types": [{"type_id": int, "name": str}],
     "buckets": [{"id": int, "name": str, "type_id": int, "alg": str, "?hash": str, "items": [{"id": int, "weight": int}]}],
     "rules": [{"rule_id": int, "rule_name": str, "type": int,
                "steps": [{"op": str, "?item": int, "?item_name": str, "?num": int, "?type": str}]}],

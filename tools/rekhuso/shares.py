@@ -9,8 +9,6 @@ from typing import Any
 
 from .monitor import Up, groups_of
 
-COLUMNS = ["ID", "WEIGHT", "REWEIGHT", "STATE", "PGS", "SHARE", "VAR", "NAME"]
-
 
 def named(names: dict[str, Any], kind: str, number: int) -> str:
     """The name of a thing, or what stands for it."""

@@ -160,5 +160,5 @@ def work(options: Any) -> None:
 def add_to(commands_of: Any) -> None:
     """The subcommand."""
     own = commands_of.add_parser("shell", help="a prompt over a live session", description=__doc__)
-    own.add_argument("map", metavar="MAP")
+    own.add_argument("map", metavar="MAP", help="a map, as `import` writes it, in a file")
     own.set_defaults(work=work)

@@ -9,7 +9,7 @@ from typing import Any
 
 from .faults import Fault
 
-KINDS = ("buckets", "osds", "pools", "rules", "types")
+KINDS = ("buckets", "classes", "osds", "pools", "rules", "types")
 
 
 def text_of(path: str) -> str:
@@ -70,6 +70,16 @@ def names_in(path: str | None) -> dict[str, dict[str, str]]:
             if not is_text(name):
                 raise Fault(f"{path}: {kind}.{number}: no text")
     return {kind: names.get(kind, {}) for kind in KINDS}
+
+
+def put_json(command: str, epoch: int | None, **parts: Any) -> None:
+    """Puts out what a command tells as one object: which command it is, of which epoch it tells (None where there is no lawful map), and its own parts."""
+    print(json.dumps({"command": command, "epoch": epoch, **parts}, indent=1))
+
+
+def add_json(own: Any) -> None:
+    """The option for JSON."""
+    own.add_argument("--json", action="store_true", help="tell all of it as one JSON object")
 
 
 def written(value: Any) -> str:

@@ -7,7 +7,7 @@ from typing import Any
 from .faults import Refused
 from .monitor import Up, groups_of, has_straw2, map_in, raw_answers, up_sets
 from .shares import with_names
-from .texts import names_in, written
+from .texts import add_json, names_in, put_json, written
 
 
 # The exceptions of a map, and the word that Ceph's commands have for each.
@@ -111,21 +111,25 @@ def work(options: Any) -> None:
     names = names_in(options.names)
     change, unsaid = change_of(old, new)
     before, after = (up_sets(options.program, value, groups_of(value)) for value in (old, new))
-    print(f"change {written(change)}")
-    for line in unsaid:
-        print(f"no change says: {with_names(line, names)}")
     if not unsaid:
         answer = raw_answers(options.program, old, [f"change {written(change)}"], has_straw2(old) or has_straw2(new))[0]
         if not answer.startswith("ok "):
             raise Refused(answer.split(" ")[2], int(answer.split(" ")[1]))
-    told = moved(before, after)
+    told, unsaid = moved(before, after), [with_names(line, names) for line in unsaid]
+    if options.json:
+        put_json("diff", old["epoch"], new_epoch=new["epoch"], change=change, unsaid=unsaid, **told)
+        return
+    print(f"change {written(change)}")
+    for line in unsaid:
+        print(f"no change says: {line}")
     print(f"{told['groups']} groups, {told['places']} places and {len(told['osds'])} OSDs move")
 
 
 def add_to(commands: Any) -> None:
     """The subcommand."""
     own = commands.add_parser("diff", help="what differs between two maps", description=__doc__)
-    own.add_argument("old", metavar="MAP")
-    own.add_argument("new", metavar="MAP")
+    own.add_argument("old", metavar="OLD_MAP", help="the map before, as `import` writes it; - is standard input")
+    own.add_argument("new", metavar="NEW_MAP", help="the map after")
     own.add_argument("--names", metavar="FILE", help="names, as `import --names` wrote them")
+    add_json(own)
     own.set_defaults(work=work)

@@ -18,9 +18,9 @@ from .flows import picture
 from .forms import change_form
 from .monitor import Up, answers_of, groups_of, raw_answers, up_of
 from .shares import named
-from .texts import put, written
+from .texts import put, put_json, written
 from .unlike import place_of
-from .whole import FILES, Whole, add_names, whole_of
+from .whole import ABOUT_FILES, FILES, Whole, add_names, usage, whole_of
 
 
 def change_in(text: str) -> dict[str, Any]:
@@ -317,18 +317,24 @@ def work(options: Any) -> None:
     found = result(whole, change_of(options, whole.named_tree(), whole.names), options, grown)
     if options.picture is not None:
         put(options.picture, picture(grown or whole.tree, found, whole.names))
-    print(json.dumps(found, indent=1) if options.json else "\n".join(lines(found)))
+    if options.json:
+        put_json("whatif", whole.tree["epoch"], **found)
+    else:
+        print("\n".join(lines(found)))
 
 
 def add_to(commands: Any) -> None:
     """The subcommand."""
     own = commands.add_parser("whatif", help="what moves if a change is made", description=__doc__)
-    own.add_argument("words", metavar=f"{FILES} [CHANGE]", nargs="+", help="a change is JSON, without its base or with it")
+    own.usage = usage("[CHANGE | --add-host NAME WEIGHTS [--under BUCKET] | --each TYPE]", *(f"[--{word} OSD|BUCKET].." for word in ("out", "in", "down")),
+                      "[--reweight OSD|BUCKET W]..", "[--balance]", "[--json]", "[--picture FILE]")
+    own.add_argument("words", metavar=f"{FILES} [CHANGE]", nargs="+", help=f"{ABOUT_FILES}; behind them a change as JSON, without its base or "
+                     "with it")
     for word, about in (("out", "takes no groups"), ("in", "takes its whole share again"), ("down", "is down")):
         own.add_argument(f"--{word}", metavar="OSD|BUCKET", action="append", default=[], help=f"it {about}; as often as wanted")
     own.add_argument("--reweight", metavar=("OSD|BUCKET", "W"), nargs=2, action="append", default=[], help="its reweight, 0 to 1")
     own.add_argument("--add-host", metavar=("NAME", "WEIGHTS"), nargs=2, help="instead: a host with new OSDs of these weights, as 1,1,2.5")
-    own.add_argument("--under", metavar="BUCKET", help="the bucket below which it comes")
+    own.add_argument("--under", metavar="BUCKET", help="the bucket below which the host comes")
     own.add_argument("--each", metavar="TYPE", help="instead: each bucket of this type out, in turn")
     own.add_argument("--balance", action="store_true", help="each pool is balanced after the change")
     add_names(own)

@@ -14,7 +14,9 @@ from .monitor import Up, groups_of, map_in, map_with_sets
 from .shares import Shares
 from .texts import json_of, names_in, text_of
 
-FILES = "OSD_DUMP CRUSH_DUMP | MAP"
+FILES = "MAP | OSD_DUMP CRUSH_DUMP"
+ABOUT_FILES = ("a map, as `import` writes it (- is standard input); or the two dumps of a cluster, what `ceph osd dump -f json` and `ceph osd "
+               "crush dump` print")
 NO_PLAN = ("no plan: a compat weight set (choose_args) is in force, so a plan by its weights would undo what it was tuned for, and one by the "
            "weights themselves would start from sets that are not there. Turn Ceph's balancer off, take the set away by "
            "`ceph osd crush weight-set rm-compat`, which moves data, and dump again")
@@ -30,9 +32,21 @@ class Files(argparse.Action):
         setattr(namespace, self.dest, values)
 
 
-def add_files(own: Any) -> None:
-    """The files of a command over a map or two dumps, and the options for dumps and names."""
-    own.add_argument("files", metavar=FILES, nargs="+", action=Files)
+def usage(*words: str) -> str:
+    """The use of a command with its own words, a line for each form: over a map, and over two dumps."""
+    own = " ".join([*words, "[--names FILE]"])
+    return f"%(prog)s MAP {own}\n       %(prog)s OSD_DUMP CRUSH_DUMP {own} [--pools ID|NAME,..] [--tree FILE] [--unmatched]"
+
+
+def add_map_files(own: Any) -> None:
+    """The files of a command over a map or two dumps."""
+    own.add_argument("files", metavar=FILES, nargs="+", action=Files, help=ABOUT_FILES)
+
+
+def add_files(own: Any, *words: str) -> None:
+    """The same, and the options for dumps and names; the words are the command's own ones in its use."""
+    own.usage = usage(*words)
+    add_map_files(own)
     add_names(own)
 
 
