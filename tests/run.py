@@ -15,7 +15,7 @@ with `arguments` says all itself: files, standard output, standard error, status
 have their answers beside them. `plans` and `balanced` are plans of a balancer reckoned apart (plans.py, balanced.py), `soak`
 many sessions whose answers must be those of one history (soak.py), `patched` tables that random changes led to beside tables
 built anew (anew.py), `stocked` rows of other tables that answer the same under `--stock`, `straws` picks that each entry of a
-logarithm's tables decides (straws.py), and `apart` holds what reckons apart against Ceph's placements and the kept answers, and
+logarithm's tables decides (straws.py), `wide` the limits of stock clusters (wide.py), and `apart` holds what reckons apart against Ceph's placements and the kept answers, and
 the kept picture.
 `clusters` are the tools over clusters of Ceph's (clusters.py) and stock ones (stock.py, whole.py, stock_edges.py), what `import`
 has against others (brought.py), plans (moves.py), what the tools tell (told.py), their edges (edges.py) and their package
@@ -57,11 +57,12 @@ import stock_edges
 import straws
 import told
 import whole
+import wide
 from plans import cases as plan_cases
 
 HERE = pathlib.Path(__file__).resolve().parent
 TABLES = ["worked", "placements", "changes", "growth", "limits", "texts", "sessions", "balance", "plans", "balanced", "soak", "program", "examples",
-          "apart", "maxima", "patched", "stock", "stocked", "straws", "clusters", "races", "live", "pages"]
+          "apart", "maxima", "patched", "stock", "stocked", "straws", "wide", "clusters", "races", "live", "pages"]
 SECONDS = 300
 
 
@@ -592,6 +593,12 @@ def stocked():
                 yield run
 
 
+def wide_limits():
+    """The limits of stock clusters, at their edges and past them."""
+    for name, test in wide.tests():
+        yield Check(name, test)
+
+
 def of_clusters():
     """The tools over clusters as Ceph's tools dump them."""
     yield Check("the places at fault that tools tell, beside the refusals of all tables", lambda _: faulty.faults(
@@ -643,7 +650,7 @@ def of_pages():
     return (Check(name, lambda _, test=test: test() or []) for name, test in pages.tests())
 
 
-MADE = {"pages": of_pages, "stocked": stocked, "straws": straw_picks, "live": typed, "races": races, "clusters": of_clusters, "patched": patched, "plans": plans, "examples": examples, "maxima": maxima, "balanced": balanced_case, "soak": soaks, "apart": apart}
+MADE = {"pages": of_pages, "stocked": stocked, "straws": straw_picks, "wide": wide_limits, "live": typed, "races": races, "clusters": of_clusters, "patched": patched, "plans": plans, "examples": examples, "maxima": maxima, "balanced": balanced_case, "soak": soaks, "apart": apart}
 # What tells of a table's tests that cannot be run here.
 NOT_RUN = {"clusters": packaged.not_run}
 

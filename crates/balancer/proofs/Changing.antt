@@ -24,10 +24,10 @@ use Rattle.stated.specs.declared.exception.Pair.{Pair}
 use Rattle.stated.specs.declared.pg.Pg.{Pg}
 use Rattle.stated.specs.Exceptions.{place_of, key_of, has_pool_of, has_group, sides, are_pairs, all_named, is_sound, is_exception, stays, exceptions_after}
 use Rattle.stated.specs.Growth.{grown}
-use Rattle.stated.specs.Limits.{max_pools}
-use Rattle.stated.specs.Pools.{PoolFacts}
+use Rattle.stated.specs.Limits.{max_pools, max_total_groups}
+use Rattle.stated.specs.Pools.{PoolFacts, total_groups}
 use Rattle.osdmap.specs.Maps.{ClusterMap, osd_exists, has_rule, HoldsTogether}
-use Rattle.osdmap.specs.Changes.{names_osds, weighs_rightly, pools_kept, pools_there, pools_after, all_named_groups, names_pools, brings_new, brings_forest, brings_rightly, names_groups, excepts_soundly, names_once, change_fault, apply}
+use Rattle.osdmap.specs.Changes.{names_osds, weighs_rightly, pools_kept, pools_there, pools_after, all_named_groups, names_pools, brings_new, brings_forest, leaves_few_groups, brings_rightly, names_groups, excepts_soundly, names_once, change_fault, apply}
 use Rattle.osdmap.specs.Placement.{group_of}
 use Rattle.osdmap.proofs.PlacementLemmas.{found_passes}
 use Rattle.pgtable.specs.Patches.{changed_map}
@@ -99,12 +99,16 @@ module _ (m : ClusterMap) (items : List (Exception Pair)) where
       ∙ all_more (λ (e : Exception Pair). has_group m.pools e.pg) (λ (e : Exception Pair). has_pool_of m.pools e.pg) items (λ e is. pool_of_group e.pg is) (groups_there sound)
 
   brought_rightly : HoldsTogether m → brings_rightly m change ≡ true
-  unfolding brings_rightly
+  unfolding brings_rightly leaves_few_groups is_distinct
   brought_rightly holds =
       let ruled : list_all (has_rule m.rules) (pools_kept m change) ≡ true = ap (list_all (has_rule m.rules)) kept_same ∙ holds.ruled in
       let few : nat_le (length (pools_there m change)) max_pools ≡ true = ap (λ (ps : List PoolFacts). nat_le (length ps) max_pools) there_same ∙ few_pools (length m.pools) holds.few_pools in
-      rw (ruled, few) refl
+      let groups : nat_le (total_groups (pools_after m change)) max_total_groups ≡ true = ap (λ (ps : List PoolFacts). nat_le (total_groups ps) max_total_groups) after_same ∙ few_groups (total_groups m.pools) holds.few_groups in
+      rw (ruled, few, groups) refl
     where
+      few_groups : (n : ℕ) → n ≤ 262144 → nat_le n 262144 ≡ true
+      few_groups n h = grind (arith, nat_tests)
+
       few_pools : (n : ℕ) → n ≤ 32 → nat_le n 32 ≡ true
       few_pools n h = grind (arith, nat_tests)
 

@@ -80,22 +80,22 @@ weight_within m p osd is =
     let passes : is_candidate m p (get_or (osds_of m) osd 0) ≡ true = rw at is in
     rw at at (term_within (weight_in_map m) (is_candidate m p) (osds_of m) osd 0 inside passes)
 
--- the candidates have at most 1,024 times 4,096 places
-pub places_few : (m : ClusterMap) (p : PoolFacts) → HoldsTogether m → pool_at m.pools p.id ≡ Some p → places m p ≤ 1024 * 4096
+-- the candidates have at most 1,024 times 65,536 places
+pub places_few : (m : ClusterMap) (p : PoolFacts) → HoldsTogether m → pool_at m.pools p.id ≡ Some p → places m p ≤ 1024 * 65536
 unfolding places
 places_few m p holds there =
     let within = pool_within m p p.id holds there in
-    let each : All (λ osd. count_in m p.id osd ≤ 4096) (candidate_osds m p) = λ k d inside. omega (arith, count_small m p (get_or (candidate_osds m p) k d) holds there, within.groups_most) in
+    let each : All (λ osd. count_in m p.id osd ≤ 65536) (candidate_osds m p) = λ k d inside. omega (arith, count_small m p (get_or (candidate_osds m p) k d) holds there, within.groups_most) in
     let few = few_filtered (is_candidate m p) (length m.presences) 1024 holds.few in
-    omega (arith, sum_by-le (count_in m p.id) 4096 (candidate_osds m p) each, mul-le (length (candidate_osds m p)) 4096 1024 4096 few (omega arith))
+    omega (arith, sum_by-le (count_in m p.id) 65536 (candidate_osds m p) each, mul-le (length (candidate_osds m p)) 65536 1024 65536 few (omega arith))
 
 -- ---- deviations
 
 -- the difference of two products within the limits has at most 100 bits
-between : (a b c d t n : ℕ) → a ≤ 4096 → t ≤ 2 ^ 58 → n ≤ 1024 * 4096 → b ≤ t → c ≡ a * t → d ≡ n * b → ((pos c -ℤ pos d) <ℤ pos (2 ^ 100)) × (neg_ℤ (pos (2 ^ 100)) <ℤ (pos c -ℤ pos d))
+between : (a b c d t n : ℕ) → a ≤ 65536 → t ≤ 2 ^ 58 → n ≤ 1024 * 65536 → b ≤ t → c ≡ a * t → d ≡ n * b → ((pos c -ℤ pos d) <ℤ pos (2 ^ 100)) × (neg_ℤ (pos (2 ^ 100)) <ℤ (pos c -ℤ pos d))
 between a b c d t n few small most within is that =
-    let high : a * t ≤ 4096 * 2 ^ 58 = mul-le a t 4096 (2 ^ 58) few small in
-    let low : n * b ≤ 4194304 * 2 ^ 58 = mul-le n b 4194304 (2 ^ 58) most (omega arith) in
+    let high : a * t ≤ 65536 * 2 ^ 58 = mul-le a t 65536 (2 ^ 58) few small in
+    let low : n * b ≤ 67108864 * 2 ^ 58 = mul-le n b 67108864 (2 ^ 58) most (omega arith) in
     (omega (arith, ints), omega (arith, ints))
 
 -- so has the deviation of a candidate

@@ -158,6 +158,7 @@ module _ (m : ClusterMap) (p : PoolFacts) (v : Move) (good : IsGood m p v) where
     few_pools = holds.few_pools;
     pools_rise = holds.pools_rise;
     pools_within = holds.pools_within;
+    few_groups = holds.few_groups;
     ruled = holds.ruled;
     explicit_rise = holds.explicit_rise;
     explicit_sound = holds.explicit_sound;

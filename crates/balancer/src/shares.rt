@@ -118,7 +118,7 @@ pub(crate) fn total(map: &OsdMap, osds: &[u32]) -> u64
     total
 }
 
-/// How many groups of a pool stand on an OSD: at most 4,096.
+/// How many groups of a pool stand on an OSD: at most 65,536.
 pub(crate) fn count(map: &OsdMap, table: &PgTable, pool: &Pool, osd: u32) -> u64
     requires table { IsTableOf table.now map.now.map }
     requires there { pool_at map.now.map.pools pool.now.id ≡ Some pool.now }

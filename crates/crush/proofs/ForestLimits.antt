@@ -4,7 +4,7 @@ use Rattle.std.specs.List.{list_all}
 use Rattle.std.proofs.lemmas.Bool.{and_parts, and_from, ltb-true, lt-ltb}
 use Rattle.std.proofs.lemmas.Bool.Decides.{nat_tests}
 use Rattle.crush.specs.declared.bucket.Bucket.{Bucket}
-use Rattle.crush.specs.Forest.{level_of}
+use Rattle.crush.specs.Forest.{level_of, most_items}
 use Rattle.crush.specs.WellFormed.{is_within, bucket_limits_ok, forest_limits_ok, is_known, has_items_below}
 use Rattle.crush.proofs.ItemMarks.{no_item}
 use Rattle.crush.proofs.IdSearches.{no_bucket}
@@ -15,8 +15,8 @@ within : (low high n : ℕ) → is_within low high n ≡ true → (low ≤ n) ×
 within low high n ok = grind (arith, nat_tests)
 
 -- how many buckets there are
-pub limits-buckets : (buckets : List Bucket) (max_osd : ℕ) → forest_limits_ok buckets max_osd ≡ true → length buckets ≤ 512
-limits-buckets buckets max_osd ok = (within 1 512 _ (and_parts _ _ (and_parts _ _ ok).0).0).1
+pub limits-buckets : (buckets : List Bucket) (max_osd : ℕ) → forest_limits_ok buckets max_osd ≡ true → length buckets ≤ 4096
+limits-buckets buckets max_osd ok = (within 1 4096 _ (and_parts _ _ (and_parts _ _ ok).0).0).1
 
 -- how many devices there are
 pub limits-devices : (buckets : List Bucket) (max_osd : ℕ) → forest_limits_ok buckets max_osd ≡ true → max_osd ≤ 1024
@@ -27,8 +27,8 @@ pub limits-each : (buckets : List Bucket) (max_osd : ℕ) → forest_limits_ok b
 limits-each buckets max_osd ok = (and_parts _ _ ok).1
 
 -- how many items a bucket has
-pub limits-items : (b : Bucket) → bucket_limits_ok b ≡ true → (0 < length b.items) × (length b.items ≤ 64)
-limits-items b ok = let parts = within 1 64 (length b.items) (and_parts _ _ (and_parts _ _ ok).0).1 in (omega arith, parts.1)
+pub limits-items : (b : Bucket) → bucket_limits_ok b ≡ true → (0 < length b.items) × (length b.items ≤ most_items b.kind)
+limits-items b ok = let parts = within 1 (most_items b.kind) (length b.items) (and_parts _ _ (and_parts _ _ ok).0).1 in (omega arith, parts.1)
 
 -- what is known below fewer devices is known below more
 is_known-more : (buckets : List Bucket) (few many : ℕ) → few ≤ many → (id : ℤ) → is_known buckets few id ≡ true → is_known buckets many id ≡ true
@@ -49,7 +49,7 @@ has_items_below-more buckets few many le below =
 -- and so are the limits
 pub limits-most : (buckets : List Bucket) (max_osd : ℕ) → forest_limits_ok buckets max_osd ≡ true → forest_limits_ok buckets 1024 ≡ true
 limits-most buckets max_osd ok =
-    let count = is_within 1 512 (length buckets) in
+    let count = is_within 1 4096 (length buckets) in
     let devices = is_within 1 1024 max_osd in
     let each = list_all bucket_limits_ok buckets in
     let outer = and_parts (count && devices) each ok in

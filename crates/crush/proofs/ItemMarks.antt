@@ -67,7 +67,7 @@ module _ (buckets : List Bucket) where
       omega (arith, one, more, counted, so_far)
 
   -- one more item marked
-  pub marked_more : (items : List Item) (k : ℕ) (seen : List Bool) (before : ℤ → ℕ) (d : Item) (item : ℤ) → length seen ≡ 1536 → slot buckets item < 1536 → k < length items → (get_or items k d).id ≡ item → is_known buckets 1024 item ≡ true → get_or seen (slot buckets item) false ≡ false → ((id : ℤ) → is_known buckets 1024 id ≡ true → marks buckets seen id ≡ before id + count_by (λ i. int_eq i.id id) (take k items)) → (id : ℤ) → is_known buckets 1024 id ≡ true → marks buckets (set seen (slot buckets item) true) id ≡ before id + count_by (λ i. int_eq i.id id) (take (k + 1) items)
+  pub marked_more : (items : List Item) (k : ℕ) (seen : List Bool) (before : ℤ → ℕ) (d : Item) (item : ℤ) → length seen ≡ 5120 → slot buckets item < 5120 → k < length items → (get_or items k d).id ≡ item → is_known buckets 1024 item ≡ true → get_or seen (slot buckets item) false ≡ false → ((id : ℤ) → is_known buckets 1024 id ≡ true → marks buckets seen id ≡ before id + count_by (λ i. int_eq i.id id) (take k items)) → (id : ℤ) → is_known buckets 1024 id ≡ true → marks buckets (set seen (slot buckets item) true) id ≡ before id + count_by (λ i. int_eq i.id id) (take (k + 1) items)
   marked_more items k seen before d item room within in_range here known fresh so_far id known_id =
       let one_more = sum_by_more (counts id) items k d in_range in
       let at : slot buckets item < length seen = omega arith in

@@ -14,7 +14,7 @@ use Rattle.crush.specs.declared.bucket.Bucket.{Bucket}
 use Rattle.crush.specs.declared.bucket.BucketKind.{BucketKind}
 use Rattle.crush.specs.declared.bucket.BucketKind.TheVariants.{Uniform, List as InList, Tree, Straw2}
 use Rattle.crush.specs.declared.bucket.Item.{Item}
-use Rattle.crush.specs.Forest.{bucket_at, weight_of, IsPickable}
+use Rattle.crush.specs.Forest.{bucket_at, weight_of, most_items, IsPickable}
 use Rattle.crush.specs.WellFormed.{item_limits_ok, bucket_limits_ok, weights_ok, is_within, IsForest}
 use Rattle.keylist.proofs.Counts.{find-place}
 use Rattle.keylist.proofs.Each.{list_all-at}
@@ -28,7 +28,7 @@ pub not_found : {X : Type 0} (p : X → Bool) (xs : List X) → None ≡ positio
 not_found p xs e = grind (arith, nat_tests, gets, find_at p xs)
 
 -- what the limits say of a bucket
-has_items : (b : Bucket) → bucket_limits_ok b ≡ true → is_within 1 64 (length b.items) ≡ true
+has_items : (b : Bucket) → bucket_limits_ok b ≡ true → is_within 1 (most_items b.kind) (length b.items) ≡ true
 has_items b ok = (and_parts _ _ (and_parts _ _ ok).0).1
 
 -- and of its items
@@ -49,7 +49,7 @@ item_weighs i ok = ltb-true 0 i.weight (and_parts _ _ ok).1
 -- a bucket within the limits, whose weights add up to a word
 pickable : (b : Bucket) → bucket_limits_ok b ≡ true → weights_ok b.kind b.items ≡ true → IsPickable b
 pickable b ok fits =
-    let count : (0 < length b.items) × (length b.items ≤ 64) = grind (arith, nat_tests, has_items b ok) in
+    let count : (0 < length b.items) × (length b.items ≤ most_items b.kind) = grind (arith, nat_tests, has_items b ok) in
     let heavy : 0 < (get_or b.items 0 no_item).weight = item_weighs (get_or b.items 0 no_item) (list_all-at item_limits_ok b.items 0 no_item count.0 (items_within b ok)) in
     record {
       some = count.0;

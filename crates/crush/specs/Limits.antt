@@ -3,7 +3,11 @@ use Rattle.std.specs.Prelude.{ℕ, ℤ, pos, neg_ℤ}
 
 -- the most buckets of a forest
 abbrev pub max_buckets : ℕ
-max_buckets = 512
+max_buckets = 4096
+
+-- the most of a plain cluster's
+abbrev pub plain_buckets : ℕ
+plain_buckets = 512
 
 -- the lowest id of a bucket
 abbrev pub lowest_bucket : ℤ
@@ -13,9 +17,12 @@ lowest_bucket = neg_ℤ (pos 65536)
 abbrev pub max_level : ℕ
 max_level = 15
 
--- the most items of a bucket
+-- the most items of a bucket, and of a straw2 bucket
 abbrev pub max_items : ℕ
 max_items = 64
+
+abbrev pub max_straws : ℕ
+max_straws = 1024
 
 -- the most devices
 abbrev pub max_devices : ℕ

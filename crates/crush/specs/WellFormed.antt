@@ -10,8 +10,8 @@ use Rattle.crush.specs.declared.bucket.BucketKind.TheVariants.{Uniform, List as 
 use Rattle.refusal.specs.declared.refused.Refusal.{Refusal}
 use Rattle.refusal.specs.declared.refused.Refusal.TheVariants.{BadLimit, BadForest}
 use Rattle.refusal.specs.Outcomes.{refused_unless}
-use Rattle.crush.specs.Forest.{bucket_at, level_of, weight_of}
-use Rattle.crush.specs.Limits.{max_buckets, lowest_bucket, max_level, max_items, max_devices}
+use Rattle.crush.specs.Forest.{bucket_at, level_of, weight_of, most_items}
+use Rattle.crush.specs.Limits.{max_buckets, plain_buckets, lowest_bucket, max_level, max_items, max_devices}
 
 -- a number from low to high
 abbrev pub is_within : ℕ → ℕ → ℕ → Bool
@@ -26,10 +26,10 @@ is_bucket_id id = int_le lowest_bucket id && int_lt id (pos 0)
 abbrev pub item_limits_ok : Item → Bool
 item_limits_ok i = int_le lowest_bucket i.id && int_lt i.id (pos max_devices) && nat_lt 0 i.weight
 
--- a bucket within the limits: of a type from 1 to the highest, with items, no more than the most
+-- a bucket within the limits: of a type from 1 to the highest, with items, no more than the most of its kind
 abbrev pub bucket_limits_ok : Bucket → Bool
 bucket_limits_ok b =
-    is_bucket_id b.id && is_within 1 max_level b.level && is_within 1 max_items (length b.items)
+    is_bucket_id b.id && is_within 1 max_level b.level && is_within 1 (most_items b.kind) (length b.items)
     && list_all item_limits_ok b.items
 
 -- a forest within the limits: buckets, no more than the most, over devices, no more than the most
@@ -97,7 +97,18 @@ pub record IsForest (buckets : List Bucket) : Type 0 where
   pub limits : IsTrue (forest_limits_ok buckets max_devices)
   pub lawful : IsTrue (forest_ok buckets max_devices)
 
+-- a forest as plain clusters have them: no more buckets, and no more items of one
+abbrev pub is_plain_bucket : Bucket → Bool
+is_plain_bucket b = nat_le (length b.items) max_items
+
+abbrev pub is_plain_forest : List Bucket → Bool
+is_plain_forest buckets = nat_le (length buckets) plain_buckets && list_all is_plain_bucket buckets
+
 -- why a list of buckets is no forest: a limit first
 abbrev pub forest_fault : List Bucket → ℕ → Option Refusal
 forest_fault buckets max_osd =
     if forest_limits_ok buckets max_osd then refused_unless (forest_ok buckets max_osd) BadForest else Some BadLimit
+
+-- why it is none of a plain cluster: a limit of those first
+abbrev pub plain_forest_fault : List Bucket → ℕ → Option Refusal
+plain_forest_fault buckets max_osd = if is_plain_forest buckets then forest_fault buckets max_osd else Some BadLimit

@@ -1,5 +1,6 @@
 //! Buckets and their items.
 
+use crate::limits::{MAX_ITEMS, MAX_STRAWS};
 use keylist::Entries;
 
 /// An item of a bucket.
@@ -24,6 +25,23 @@ pub enum BucketKind {
     Straw2,
 }
 
+impl BucketKind {
+    ghost use Rattle.std.specs.Prelude.{◌≡◌, ◌≤◌};
+    ghost use Rattle.crush.specs.Forest.{most_items};
+    ghost use Rattle.crush.specs.Limits.{max_straws};
+
+    /// How many items a bucket of this kind has at most.
+    pub fn most_items(self) -> usize
+        ensures value { result ≡ most_items self }
+        ensures few { most_items self ≤ max_straws }
+    {
+        match self {
+            BucketKind::Uniform | BucketKind::List | BucketKind::Tree => MAX_ITEMS,
+            BucketKind::Straw2 => MAX_STRAWS,
+        }
+    }
+}
+
 /// A bucket.
 #[derive(Debug, Drop)]
 pub struct Bucket {
@@ -33,6 +51,6 @@ pub struct Bucket {
     pub level: u8,
     /// How it picks among its items.
     pub kind: BucketKind,
-    /// Its items, 1 to 64, in order.
+    /// Its items in order: 1 to 64, in a straw2 bucket 1 to 1,024.
     pub items: Entries<Item>,
 }

@@ -8,7 +8,7 @@ use crate::limits::MAX_DEVICES;
 use crate::met::{SLOTS, slot_of};
 use crate::parents::parents_of;
 use crate::search::{bucket_of, is_known};
-use crate::well_formed::{is_well_formed, is_within_limits};
+use crate::well_formed::{is_plain_forest, is_well_formed, is_within_limits};
 use refusal::{Memory, Refusal};
 use std::alloc::Global;
 use std::cmp::Reverse;
@@ -42,15 +42,29 @@ impl Forest {
     ghost use Rattle.crush.specs.Forest.{bucket_at, IsPickable};
     ghost use Rattle.crush.specs.Order.{by_id};
     ghost use Rattle.crush.specs.Paths.{has_item, is_above, IsAncestor};
-    ghost use Rattle.crush.specs.WellFormed.{forest_limits_ok, forest_ok, forest_fault, IsForest, IsDescending};
+    ghost use Rattle.crush.specs.WellFormed.{forest_limits_ok, forest_ok, forest_fault, plain_forest_fault, IsForest, IsDescending};
+
+    /// The forest of a plain cluster: `BadLimit` (12) where there are more than 512 buckets, or more than 64 items in
+    /// one, else what [`Forest::stock`] answers.
+    pub fn new(buckets: Vec<Bucket>, max_osd: u32) -> Result<Self, Refusal>
+        ensures value { Judges result (plain_forest_fault buckets.items max_osd) (λ f. f ≡ by_id buckets.items) }
+        ensures same { IfOk result (IsPermutation buckets.items) }
+        ensures descending { IfOk result IsDescending }
+        ensures buckets { IfOk result (λ f. (id : ℤ) → bucket_at f id ≡ bucket_at buckets.items id) }
+    {
+        if !is_plain_forest(&buckets) {
+            return Err(Refusal::BadLimit);
+        }
+        Forest::stock(buckets, max_osd)
+    }
 
     /// The forest of these buckets over the devices from 0 up to below `max_osd`, its buckets by id from -1 downwards.
-    /// It is refused with 12 (`BadLimit`) where it has no bucket or more than 512, `max_osd` is not in 1 to 1,024, or
-    /// a bucket has an id outside -1 to -65,536, a type outside 1 to 15, no item or more than 64, or an item outside
-    /// -65,536 to 1,023 or of weight 0; else with 13 (`BadForest`) where two buckets have one id, an item is no bucket
+    /// It is refused with 12 (`BadLimit`) where it has no bucket or more than 4,096, `max_osd` is not in 1 to 1,024, or
+    /// a bucket has an id outside -1 to -65,536, a type outside 1 to 15, no item or more than 64 (1,024 in a straw2 bucket), or an item
+    /// outside -65,536 to 1,023 or of weight 0; else with 13 (`BadForest`) where two buckets have one id, an item is no bucket
     /// of the forest and no device below `max_osd`, an item's type is not below its bucket's, an item stands in the
     /// forest twice, or the weights of a bucket come to more than 4,294,967,295 or differ in a uniform bucket.
-    pub fn new(buckets: Vec<Bucket>, max_osd: u32) -> Result<Self, Refusal>
+    pub fn stock(buckets: Vec<Bucket>, max_osd: u32) -> Result<Self, Refusal>
         ensures value { Judges result (forest_fault buckets.items max_osd) (λ f. f ≡ by_id buckets.items) }
         ensures same { IfOk result (IsPermutation buckets.items) }
         ensures descending { IfOk result IsDescending }

@@ -2,12 +2,12 @@
 
 ghost use Rattle.std.specs.Prelude.{◌≡◌, ◌<◌, ◌≤◌, ◌&&◌, ◌==◌, nat_lt, length, IsTrue};
 ghost use Rattle.std.specs.List.{list_all};
-ghost use Rattle.crush.specs.Forest.{level_of, weight_of};
-ghost use Rattle.crush.specs.Limits.{max_items, max_buckets, max_devices};
-ghost use Rattle.crush.specs.WellFormed.{is_bucket_id, item_limits_ok, bucket_limits_ok, forest_limits_ok, has_own_ids, is_item_ok, has_items_below, has_items_once, is_even, weights_ok, forest_ok, IsDescending, IsNotAscending};
+ghost use Rattle.crush.specs.Forest.{level_of, weight_of, most_items};
+ghost use Rattle.crush.specs.Limits.{max_straws, max_buckets, max_devices};
+ghost use Rattle.crush.specs.WellFormed.{is_bucket_id, item_limits_ok, bucket_limits_ok, forest_limits_ok, is_plain_bucket, is_plain_forest, has_own_ids, is_item_ok, has_items_below, has_items_once, is_even, weights_ok, forest_ok, IsDescending, IsNotAscending};
 
 use crate::bucket::{Bucket, BucketKind, Item};
-use crate::limits::{LOWEST_BUCKET, MAX_BUCKETS, MAX_DEVICES, MAX_ITEMS, MAX_LEVEL};
+use crate::limits::{LOWEST_BUCKET, MAX_BUCKETS, MAX_DEVICES, MAX_ITEMS, MAX_LEVEL, PLAIN_BUCKETS};
 use crate::met::are_met_once;
 use crate::search::{is_known, level_of};
 
@@ -40,7 +40,7 @@ fn is_bucket_within(bucket: &Bucket) -> bool
     let count = bucket.items.len();
     is_bucket_id(bucket.id)
         && (1 <= bucket.level && bucket.level <= MAX_LEVEL)
-        && (1 <= count && count <= MAX_ITEMS)
+        && (1 <= count && count <= bucket.kind.most_items())
         && are_items_within(&bucket.items)
 }
 
@@ -59,6 +59,27 @@ pub(crate) fn is_within_limits(buckets: &[Bucket], max_osd: u32) -> bool
     (1 <= buckets.len() && buckets.len() <= MAX_BUCKETS)
         && (1 <= max_osd && max_osd <= MAX_DEVICES)
         && are_buckets_within(buckets)
+}
+
+/// Whether a bucket has no more items than one of a plain cluster.
+fn is_plain_bucket(bucket: &Bucket) -> bool
+    ensures { result ≡ is_plain_bucket bucket.now }
+{
+    bucket.items.len() <= MAX_ITEMS
+}
+
+/// Whether each bucket has no more.
+fn are_plain_buckets(buckets: &[Bucket]) -> bool
+    ensures { result ≡ list_all is_plain_bucket buckets.now }
+{
+    buckets.iter().all(is_plain_bucket)
+}
+
+/// Whether there are no more buckets, and no more items of one, than in a plain cluster.
+pub(crate) fn is_plain_forest(buckets: &[Bucket]) -> bool
+    ensures { result ≡ is_plain_forest buckets.now }
+{
+    buckets.len() <= PLAIN_BUCKETS && are_plain_buckets(buckets)
 }
 
 /// Whether no two buckets, in order, have one id.
@@ -98,7 +119,7 @@ fn have_items_below(buckets: &[Bucket], max_osd: u32) -> bool
 
 /// The weight of some items.
 fn total_weight(items: &[Item]) -> u64
-    requires { length items.now ≤ max_items }
+    requires { length items.now ≤ max_straws }
     ensures { result ≡ weight_of items.now }
 {
     items.iter().map(|item| u64::from(item.weight)).sum()
@@ -122,9 +143,10 @@ fn is_even(items: &[Item]) -> bool
 /// Whether the weights of a bucket add up to a word, and those of a uniform one are all the same.
 fn are_weights_lawful(kind: BucketKind, items: &[Item]) -> bool
     requires some { 0 < length items.now }
-    requires few { length items.now ≤ max_items }
+    requires few { length items.now ≤ most_items kind }
     ensures { result ≡ weights_ok kind items.now }
 {
+    let _ = kind.most_items();
     let fits = total_weight(items) <= u64::from(u32::MAX);
     match kind {
         BucketKind::Uniform => fits && is_even(items),

@@ -14,7 +14,7 @@ use Rattle.rjenkins.specs.Jenkins.{hash3_of, hash4_of}
 use Rattle.crush.specs.declared.bucket.Item.{Item}
 use Rattle.crush.specs.declared.bucket.Bucket.{Bucket}
 use Rattle.crush.specs.declared.bucket.BucketKind.TheVariants.{Uniform}
-use Rattle.crush.specs.Forest.{word, weight_of}
+use Rattle.crush.specs.Forest.{word, weight_of, most_items}
 use Rattle.crush.specs.Items.{item_at}
 use Rattle.crush.specs.Uniform.{places_drawn, draw_order, uniform_place}
 use Rattle.crush.specs.Listed.{wins, wins_at, last_place}
@@ -153,7 +153,8 @@ pub tree_picks_weight : TreePicksWeight
 unfolding place_by
 tree_picks_weight b x r kind pickable =
     let n = length b.items in
-    let all : weight_between b.items 0 (2 ^ height_of n) ≡ weight_of b.items = ap weight_of (take_all (2 ^ height_of n) b.items (height_holds n pickable.some pickable.few)) in
+    let few : n ≤ 64 = subst (λ k. n ≤ most_items k) kind pickable.few in
+    let all : weight_between b.items 0 (2 ^ height_of n) ≡ weight_of b.items = ap weight_of (take_all (2 ^ height_of n) b.items (height_holds n pickable.some few)) in
     let draw = draw_at x (word b.id) r in
     let place = tree_place draw b.items (height_of n) 0 in
     let has : 0 < weight_between b.items place 1 = tree_some draw (λ node. hash4-lt x node r (word b.id)) b.items (height_of n) 0 (omega (arith, all, pickable.weighs)) in

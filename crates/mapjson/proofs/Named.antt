@@ -43,7 +43,7 @@ in_first : (q : PoolPart) (number : ℕ) (rest : Option PoolFacts) (b : Bool) �
     → (option_map_or (λ p. nat_lt number p.pg_num) rest false ≡ true → number < 2 ^ 32)
     → option_map_or (λ p. nat_lt number p.pg_num) (cond b (Some (pool_of q)) rest) false ≡ true → number < 2 ^ 32
 in_first q number rest true fit others there =
-    let groups = natural_between 1 4096 q.pg_num (pool_fits_each q fit).pg_num in
+    let groups = natural_between 1 65536 q.pg_num (pool_fits_each q fit).pg_num in
     omega (arith, ltb-true _ _ there, groups.most)
 in_first q number rest false fit others there = others there
 

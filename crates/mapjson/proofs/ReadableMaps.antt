@@ -11,6 +11,7 @@ use Rattle.json.proofs.Printed.Utf8.{are_ascii}
 use Rattle.serde_json.specs.Data.{Data}
 use Rattle.serde_json.specs.View.{items_of}
 use Rattle.crush.specs.declared.bucket.BucketKind.{BucketKind}
+use Rattle.crush.specs.Forest.{most_items}
 use Rattle.crush.specs.declared.bucket.BucketKind.TheVariants.{Uniform, List as Listed, Tree, Straw2}
 use Rattle.crush.specs.declared.step.Mode.{Mode}
 use Rattle.crush.specs.declared.step.Mode.TheVariants.{Firstn, Indep}
@@ -29,7 +30,7 @@ use Rattle.stated.specs.declared.parts.PairPart.{PairPart}
 use Rattle.stated.specs.declared.pg.Pg.{Pg}
 use Rattle.crush.specs.WellFormed.{is_bucket_id}
 use Rattle.stated.specs.PgText.{group_text}
-use Rattle.stated.specs.Parts.{pg_of, is_osd_id, pair_fits, exception_fits, exceptions_fit, is_between, has_between, item_fits, bucket_fits, step_fits, rule_fits, pool_fits, osd_fits, head_fits, lists_fit, parts_fit}
+use Rattle.stated.specs.Parts.{pg_of, is_osd_id, pair_fits, exception_fits, exceptions_fit, is_between, has_between, item_fits, bucket_fits, step_fits, rule_fits, pool_fits, osd_fits, head_fits, lists_fit, has_few_groups, parts_fit}
 use Rattle.mapjson.specs.Written.{number_data, kind_word, item_data, bucket_data, use_word, choose_word, step_data, rule_data, pool_data, osd_data, pair_data, exception_data, map_data}
 use Rattle.mapjson.proofs.Readable.{IsReadable, ItemsReadable}
 
@@ -89,7 +90,7 @@ bucket_readable : (b : BucketPart) → bucket_fits b ≡ true → IsReadable (bu
 unfolding bucket_fits bucket_data
 bucket_readable b h =
     let items = and_parts _ (list_all item_fits b.items) h in
-    let many = and_parts _ (has_between 1 64 b.items) items.0 in
+    let many = and_parts _ (has_between 1 (most_items b.kind) b.items) items.0 in
     let head = and_parts (is_bucket_id b.id) (is_between (pos 1) (pos 15) b.level) many.0 in (
       (
         refl,
@@ -152,8 +153,8 @@ unfolding pool_fits pool_data
 pool_readable p h =
     let size = and_parts _ (is_between (pos 1) (pos 10) p.size) h in
     let rule = and_parts _ (is_between (pos 0) (pos 255) p.rule) size.0 in
-    let pgp_num = and_parts _ (is_between (pos 1) (pos 4096) p.pgp_num) rule.0 in
-    let id = and_parts (is_between (pos 1) (pos 65535) p.id) (is_between (pos 1) (pos 4096) p.pg_num) pgp_num.0 in (
+    let pgp_num = and_parts _ (is_between (pos 1) (pos 65536) p.pgp_num) rule.0 in
+    let id = and_parts (is_between (pos 1) (pos 65535) p.id) (is_between (pos 1) (pos 65536) p.pg_num) pgp_num.0 in (
       (
         refl,
         number_between (pos 1) (pos 65535) p.id tt (omega arith) id.0,
@@ -162,10 +163,10 @@ pool_readable p h =
           use_ascii p.kind,
           (
             refl,
-            number_between (pos 1) (pos 4096) p.pg_num tt (omega arith) id.1,
+            number_between (pos 1) (pos 65536) p.pg_num tt (omega arith) id.1,
             (
               refl,
-              number_between (pos 1) (pos 4096) p.pgp_num tt (omega arith) pgp_num.1,
+              number_between (pos 1) (pos 65536) p.pgp_num tt (omega arith) pgp_num.1,
               (
                 refl,
                 number_between (pos 0) (pos 255) p.rule tt (omega arith) rule.1,
@@ -255,7 +256,8 @@ map_readable p h =
     let items = and_parts _ (exceptions_fit pair_fits p.pg_upmap_items) h in
     let explicit = and_parts _ (exceptions_fit is_osd_id p.pg_upmap) items.0 in
     let osds = and_parts _ (list_all osd_fits p.osds) explicit.0 in
-    let pools = and_parts _ (list_all pool_fits p.pools) osds.0 in
+    let groups = and_parts _ (has_few_groups p.pools) osds.0 in
+    let pools = and_parts _ (list_all pool_fits p.pools) groups.0 in
     let rules = and_parts _ (list_all rule_fits p.rules) pools.0 in
     let buckets = and_parts _ (list_all bucket_fits p.buckets) rules.0 in
     let head = and_parts (head_fits p) (lists_fit p) buckets.0 in

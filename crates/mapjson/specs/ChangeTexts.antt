@@ -1,5 +1,5 @@
 -- The change that a JSON text (RFC 8259) states, and the limits of its numbers.
-use Rattle.std.specs.Prelude.{◌≡◌, ℕ, ℤ, pos, nat_abs, ◌&&◌, Bool, true, not, List, map, Option, Some, None, option_and_then, Result, Ok, Err, IfOk, if◌then◌else◌}
+use Rattle.std.specs.Prelude.{◌≡◌, ℕ, ℤ, pos, nat_abs, ◌&&◌, ◌||◌, Bool, true, not, List, map, Option, Some, None, option_and_then, Result, Ok, Err, IfOk, if◌then◌else◌}
 use Rattle.std.specs.List.{list_all}
 use Rattle.std.specs.Option.{option_map_or, option_or, IsSomeAnd}
 use Rattle.crush.specs.Limits.{max_devices}
@@ -13,6 +13,8 @@ use Rattle.refusal.specs.declared.refused.Refusal.{Refusal}
 use Rattle.refusal.specs.declared.refused.Refusal.TheVariants.{BadLimit, BadPool}
 use Rattle.stated.specs.Limits.{max_pool_id, max_entries}
 use Rattle.stated.specs.Ordered.{IsOrdered}
+use Rattle.stated.specs.Plain.{pool_is_plain, growth_is_plain, crush_is_plain, plain_entries}
+use Rattle.stated.specs.Profiles.{is_stock}
 use Rattle.stated.specs.Parts.{has_enough_groups, is_between, has_between, is_osd_id, pool_fits, pg_fits, pair_fits, exceptions_fit, pool_of, pg_of, pair_of, exception_of}
 use Rattle.partjson.specs.declared.change.RawChange.{RawChange}
 use Rattle.partjson.specs.declared.change.RawReweight.{RawReweight}
@@ -30,7 +32,7 @@ is_pool_id z = is_between (pos 1) (pos max_pool_id) z
 unfoldable pub reweight_fits : RawReweight → Bool
 reweight_fits w = is_osd_id w.osd && is_between (pos 0) (pos 4294967295) w.weight
 
--- at most 131,072 entries, each within its limits
+-- at most 262,144 entries, each within its limits
 abbrev pub entries_fit : {X : Type 0} → (X → Bool) → List X → Bool
 entries_fit fits xs = has_between 0 max_entries xs && list_all fits xs
 
@@ -43,6 +45,16 @@ change_fits c =
     && entries_fit is_osd_id c.down && entries_fit is_osd_id c.up && entries_fit reweight_fits c.weight
     && entries_fit pg_fits c.old_upmap && entries_fit pg_fits c.old_items
     && exceptions_fit is_osd_id c.new_upmap && exceptions_fit pair_fits c.new_items
+
+-- no list longer, no pool with more groups, and no forest with more buckets or items than in plain clusters
+unfoldable pub change_is_plain : RawChange → Bool
+change_is_plain c =
+    has_between 0 plain_entries c.old_pools && crush_is_plain c.new_crush
+    && has_between 0 plain_entries c.new_pools && list_all pool_is_plain c.new_pools
+    && has_between 0 plain_entries c.grow_pool && list_all growth_is_plain c.grow_pool
+    && has_between 0 plain_entries c.down && has_between 0 plain_entries c.up && has_between 0 plain_entries c.weight
+    && has_between 0 plain_entries c.old_upmap && has_between 0 plain_entries c.old_items
+    && has_between 0 plain_entries c.new_upmap && has_between 0 plain_entries c.new_items
 
 -- ---- the change
 
@@ -86,6 +98,11 @@ raw_change_fault c =
     if not (change_fits c) then Some BadLimit
     else option_or (new_crush_fault c.new_crush) (refused_unless (are_even c) BadPool)
 
+-- the same by the limits of a profile
+abbrev pub change_fault_in : Profile → RawChange → Option Refusal
+change_fault_in profile c =
+    if is_stock profile || change_is_plain c then raw_change_fault c else Some BadLimit
+
 -- the base and the parts are those of a change
 pub record IsChangeOf (c : RawChange) (base : ℕ) (parts : ChangeParts) : Type 0 where
   pub base_is : base ≡ nat_abs c.base
@@ -93,13 +110,13 @@ pub record IsChangeOf (c : RawChange) (base : ℕ) (parts : ChangeParts) : Type 
   pub parts_are : parts ≡ parts_within c parts.new_crush
 
 -- a text that states no change, or one with a fault
-abbrev pub fault_of_stated_change : Result RawChange Refusal → Option Refusal
-fault_of_stated_change (Ok c) = raw_change_fault c
-fault_of_stated_change (Err refusal) = Some refusal
+abbrev pub fault_of_stated_change : Profile → Result RawChange Refusal → Option Refusal
+fault_of_stated_change profile (Ok c) = change_fault_in profile c
+fault_of_stated_change profile (Err refusal) = Some refusal
 
--- why a text is refused as a change, by the kinds of buckets that it may state
+-- why a text is refused as a change, by the kinds of buckets that it may state and the limits
 abbrev pub change_text_fault : Profile → List ℕ → Option Refusal
-change_text_fault profile bytes = fault_of_stated_change (stated_by (change_in profile) bytes)
+change_text_fault profile bytes = fault_of_stated_change profile (stated_by (change_in profile) bytes)
 
 -- the base is the one that a change states, and the parts are those that it states, in order
 pub record IsChangeStated (c : RawChange) (base : ℕ) (parts : ChangeParts) : Type 0 where

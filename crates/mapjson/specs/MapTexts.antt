@@ -1,21 +1,26 @@
 -- The map that a JSON text (RFC 8259) states, and why a text is refused as one.
-use Rattle.std.specs.Prelude.{ℕ, List, Option, Some, Result, Ok, Err, IfOk}
+use Rattle.std.specs.Prelude.{ℕ, List, Option, Some, Result, Ok, Err, IfOk, if◌then◌else◌}
 use Rattle.stated.specs.declared.parts.MapParts.{MapParts}
 use Rattle.refusal.specs.declared.refused.Refusal.{Refusal}
 use Rattle.osdmap.specs.Maps.{ClusterMap}
-use Rattle.osdmap.specs.Stated.{map_fault, IsStated}
+use Rattle.osdmap.specs.Stated.{map_fault, plain_map_fault, IsStated}
 use Rattle.jsonstream.specs.Json.{stated_by}
 use Rattle.stated.specs.declared.profile.Profile.{Profile}
+use Rattle.stated.specs.Profiles.{is_stock}
 use Rattle.partjson.specs.Profiles.{map_in}
 
--- a text that states no map, or a map with a fault
-abbrev pub fault_of_stated : Result MapParts Refusal → Option Refusal
-fault_of_stated (Ok parts) = map_fault parts
-fault_of_stated (Err refusal) = Some refusal
+-- what is wrong with parts by the limits of a profile
+abbrev pub fault_in : Profile → MapParts → Option Refusal
+fault_in profile p = if is_stock profile then map_fault p else plain_map_fault p
 
--- why a text is refused as a map, by the kinds of buckets that it may state
+-- a text that states no map, or a map with a fault
+abbrev pub fault_of_stated : Profile → Result MapParts Refusal → Option Refusal
+fault_of_stated profile (Ok parts) = fault_in profile parts
+fault_of_stated profile (Err refusal) = Some refusal
+
+-- why a text is refused as a map, by the kinds of buckets that it may state and the limits
 abbrev pub map_text_fault : Profile → List ℕ → Option Refusal
-map_text_fault profile bytes = fault_of_stated (stated_by (map_in profile) bytes)
+map_text_fault profile bytes = fault_of_stated profile (stated_by (map_in profile) bytes)
 
 -- the map is the one that a text states
 abbrev pub StatesMap : Profile → List ℕ → ClusterMap → Type 0

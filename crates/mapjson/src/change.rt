@@ -1,15 +1,15 @@
 //! The change that the stated parts of one stand for, and why there is none.
 
 ghost use Rattle.refusal.specs.Outcomes.{Makes};
-ghost use Rattle.mapjson.specs.ChangeTexts.{raw_change_fault, IsChangeOf};
+ghost use Rattle.mapjson.specs.ChangeTexts.{raw_change_fault, change_fault_in, IsChangeOf};
 
 mod limits;
 mod within;
 
-use limits::change_fits;
+use limits::{change_fits, change_is_plain};
 use partjson::RawChange;
 use refusal::Refusal;
-use stated::ChangeParts;
+use stated::{ChangeParts, Profile};
 use std::alloc::Global;
 use within::{base_within, crush_within, parts_within, pools_within};
 
@@ -19,7 +19,18 @@ use within::{base_within, crush_within, parts_within, pools_within};
 pub(crate) fn change_within(
     alloc: Global,
     change: &RawChange,
+    profile: Profile,
 ) -> Result<(u64, ChangeParts), Refusal>
+    ensures { Makes result (change_fault_in profile change.now) (λ r. IsChangeOf change.now r.0 r.1) }
+{
+    if !(profile.is_stock() || change_is_plain(change)) {
+        return Err(Refusal::BadLimit);
+    }
+    change_of(alloc, change)
+}
+
+/// The same within the limits of all changes.
+fn change_of(alloc: Global, change: &RawChange) -> Result<(u64, ChangeParts), Refusal>
     ensures { Makes result (raw_change_fault change.now) (λ r. IsChangeOf change.now r.0 r.1) }
 {
     if !change_fits(change) {

@@ -7,7 +7,8 @@ ghost use Rattle.refusal.specs.Outcomes.{Makes};
 ghost use Rattle.osdmap.specs.PartsOf.{parts_of};
 ghost use Rattle.jsonstream.specs.Json.{stated_by};
 ghost use Rattle.partjson.specs.StatedMaps.{stated_map};
-ghost use Rattle.mapjson.specs.MapTexts.{map_text_fault, StatesMap};
+ghost use Rattle.mapjson.specs.MapTexts.{fault_in, map_text_fault, StatesMap};
+ghost use Rattle.osdmap.specs.Stated.{IsStated};
 ghost use Rattle.mapjson.specs.ChangeTexts.{change_text_fault, StatesChange};
 ghost use Rattle.mapjson.specs.Written.{written};
 
@@ -19,7 +20,7 @@ use crate::written::ToJson;
 use osdmap::{Change, OsdMap};
 use partjson::{read_change_parts, read_map_parts};
 use refusal::{Memory, Refusal};
-use stated::Profile;
+use stated::{MapParts, Profile};
 use std::alloc::Global;
 
 /// The map that a text states: `BadJson` (10) where the text is not UTF-8, is no JSON or nests deeper than 127;
@@ -28,14 +29,25 @@ use std::alloc::Global;
 pub fn read_map(alloc: Global, bytes: &[u8], profile: Profile) -> Result<OsdMap, Refusal>
     ensures { Makes result (map_text_fault profile bytes.now) (λ m. StatesMap profile bytes.now m.map) }
 {
-    OsdMap::new(alloc, read_map_parts(alloc, bytes, profile)?)
+    map_of(alloc, read_map_parts(alloc, bytes, profile)?, profile)
+}
+
+/// The map that parts state by the limits of a profile.
+fn map_of(alloc: Global, parts: MapParts, profile: Profile) -> Result<OsdMap, Refusal>
+    ensures { Makes result (fault_in profile parts) (λ m. IsStated parts m.map) }
+{
+    if profile.is_stock() {
+        OsdMap::stock(alloc, parts)
+    } else {
+        OsdMap::new(alloc, parts)
+    }
 }
 
 /// The base and the change that a text states: `BadJson` (10) where the text is not UTF-8, is no JSON or nests deeper
 /// than 127; `BadField` (11) where it does not state a change that brings no kinds of buckets but those of the profile;
 /// `BadLimit` (12) where a number or a length is outside its limits: a base of 0 to 2^64 - 1, ids of pools of 1 to
 /// 65,535, OSDs of 0 to 1,023, reweights of 0 to 4,294,967,295, groups' numbers of at most 32 bits, at most 10 OSDs or
-/// pairs of a group, lists of at most 131,072 entries, of a new pool what [`osdmap::Pool`] has, of a growth what
+/// pairs of a group, lists of at most 262,144 entries, of a new pool what [`osdmap::Pool`] has, of a growth what
 /// [`osdmap::Grow`] has, and of a new CRUSH map what a map's buckets and rules have; `BadForest` (13) where the new
 /// buckets are no well-formed forest over 1,024 devices; `BadRule` (14) where a new rule is outside the grammar, takes
 /// a bucket that is not among them, or has the id of another; `BadPool` (15) where the `pgp_num` of a new or growing
@@ -44,7 +56,7 @@ pub fn read_change(alloc: Global, bytes: &[u8], profile: Profile) -> Result<(u64
     ensures { Makes result (change_text_fault profile bytes.now) (StatesChange profile bytes.now) }
 {
     let stated = read_change_parts(alloc, bytes, profile)?;
-    let (base, parts) = change_within(alloc, &stated)?;
+    let (base, parts) = change_within(alloc, &stated, profile)?;
     let change = Change::new(parts)?;
     Ok((base, change))
 }

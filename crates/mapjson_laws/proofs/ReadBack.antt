@@ -13,7 +13,7 @@ use Rattle.refusal.specs.declared.refused.Refusal.TheVariants.{Memory as OutOfMe
 use Rattle.osdmap.specs.Maps.{ClusterMap}
 use Rattle.crush.specs.WellFormed.{forest_ok}
 use Rattle.stated.specs.Exceptions.{target, sides, is_set, are_pairs}
-use Rattle.stated.specs.Parts.{is_osd_id, pair_fits, osd_fits, pool_fits, exception_fits, exceptions_fit, parts_fit, pool_of, pair_of}
+use Rattle.stated.specs.Parts.{is_osd_id, pair_fits, osd_fits, pool_fits, has_few_groups, exception_fits, exceptions_fit, parts_fit, pool_of, pair_of}
 use Rattle.osdmap.specs.Stated.{buckets_of, rules_ok, pools_ok, osds_ok, is_listed, exceptions_ok, explicit_of, all_exceptions_ok, map_fault, IsStated}
 use Rattle.osdmap.specs.PartsOf.{parts_of}
 use Rattle.jsonstream.specs.Json.{◌>>=◌, json_of, stated_by}
@@ -85,7 +85,8 @@ unfolding parts_fit exceptions_fit all_exceptions_ok
 lawful_named p fits ok =
     let items = and_parts _ (exceptions_fit pair_fits p.pg_upmap_items) fits in
     let explicit = and_parts _ (exceptions_fit is_osd_id p.pg_upmap) items.0 in
-    let pools = (and_parts _ (list_all pool_fits p.pools) (and_parts _ (list_all osd_fits p.osds) explicit.0).0).1 in
+    let counted = (and_parts _ (list_all osd_fits p.osds) explicit.0).0 in
+    let pools = (and_parts _ (list_all pool_fits p.pools) (and_parts _ (has_few_groups p.pools) counted).0).1 in
     let each = and_parts (exceptions_ok target is_set (map pool_of p.pools) (is_listed p.osds) (explicit_of p)) _ ok in (
       exceptions_named target is_set (is_listed p.osds) nat_abs is_osd_id p.pools pools p.pg_upmap (and_parts _ (list_all (exception_fits is_osd_id) p.pg_upmap) explicit.1).1 (and_parts _ _ each.0).1,
       exceptions_named sides are_pairs (is_listed p.osds) pair_of pair_fits p.pools pools p.pg_upmap_items (and_parts _ (list_all (exception_fits pair_fits) p.pg_upmap_items) items.1).1 (and_parts _ _ each.1).1,
@@ -98,7 +99,7 @@ written_back m lawful is one =
     let named = lawful_named (parts_of m) ok.0 ok.1 in
     let states = written_states_in m ok.0 named.0 named.1 in
     record {
-      faultless = ap fault_of_stated states ∙ lawful;
+      faultless = ap (fault_of_stated Stock) states ∙ lawful;
       states = subst (λ r. IfOk r (λ parts. IsStated parts m)) (sym states) is;
       alone = λ n stated. one (parts_of m) n m (subst (λ r. IfOk r (λ parts. IsStated parts n)) states stated) is;
     }

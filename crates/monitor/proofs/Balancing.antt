@@ -15,7 +15,7 @@ use Rattle.balancer.specs.Shares.{has_one_block}
 use Rattle.balancer.specs.Plans.{plan_fault, plan_fault_of, plan_change}
 use Rattle.state.specs.States.{Kept, next_step, commit_fault, fault_in, IsRefusedBy}
 use Rattle.state.specs.Balances.{moves_in, IsUnbalanced, Balances as TakesPlan}
-use Rattle.monitor.specs.Balances.{AnswersBalance, IsEven, IsUnplanned}
+use Rattle.monitor.specs.Balances.{AnswersBalance, IsEven, IsUnplanned, AddsPlan}
 use Rattle.monitor.proofs.Histories.{IsLed, commit_unspent}
 
 -- balancing after a history that goes on from this one is balancing from here too
@@ -118,6 +118,24 @@ module _ (old : Kept) (pool limit : ℕ) (led : IsLed old) where
         },
         inr (subst (λ (k : Kept). IsUnplanned old.first (length old.pass.row.cells) k.pass.history pool limit e) same (unplanned_there e done.0)),
       )
+
+  -- and adds its incremental alone
+  pub adds_plan : (new : Kept) (r : Result (ℕ × ℕ) Refusal) → TakesPlan old new pool limit r
+      → AddsPlan old.first old.pass.history new.pass.history pool limit r
+  adds_plan new (Ok ok) done = elim done.0.2 [
+    | inl stays ↦ inl (done.0.1 ∙ stays.0, ap (λ (k : Kept). k.pass.history) stays.2)
+    | inr moved ↦
+        let more : new.pass.history ≡ old.pass.history ++ next_step old.map change ∷ [] = ap (λ (k : Kept). k.pass.history) moved.3 in
+        let step : next_step old.map change ≡ record { epoch = ok.0; change = plan_change there pool limit } =
+        λ i. record { epoch = sym moved.2 i; change = ap (λ m. plan_change m pool limit) led.map i } in
+        inr (λ none. moved.0 (sym done.0.1 ∙ none), more ∙ ap (λ s. old.pass.history ++ s ∷ []) step)
+  ]
+  adds_plan new (Err e) done = ap (λ (k : Kept). k.pass.history) done.1
+
+-- where nothing was found beyond what was seen, it is added to that
+pub plans_from : (first : ClusterMap) (begun before now : List Step) (pool limit : ℕ) (r : Result (ℕ × ℕ) Refusal)
+    → before ≡ begun → AddsPlan first before now pool limit r → AddsPlan first begun now pool limit r
+plans_from first begun before now pool limit r same done = subst (λ h. AddsPlan first h now pool limit r) same done
 
 -- ---- no plan is refused for a seat's draws
 

@@ -11,7 +11,7 @@ use Rattle.epochlog.specs.Epochs.{Begins}
 use Rattle.sealed.proofs.Beginnings.{begins_itself, begins_on}
 use Rattle.state.specs.States.{Kept, committed, next_step, commit_fault, fault_in, unless, IsRefusedBy, Commits as TakesCommit}
 use Rattle.state.proofs.Journals.{accepted}
-use Rattle.monitor.specs.Histories.{AnswersCommit}
+use Rattle.monitor.specs.Histories.{AnswersCommit, AddsChange}
 
 -- a history of nothing is lawful
 pub lawful_none : (first : ClusterMap) → IsLawful first []
@@ -91,6 +91,25 @@ committed_by old new base change (Err e) led leads done =
       },
       inr (subst (λ f. IsRefusedBy f e) fault done.0),
     )
+
+-- and adds its incremental alone
+pub adds_change : (old new : Kept) (base : ℕ) (change : ChangeParts) (r : Result (ℕ × ℕ) Refusal)
+    → TakesCommit old new base change r → AddsChange old.pass.history new.pass.history change r
+adds_change old new base change (Ok ok) done =
+    let fine = accepted old base change done.0.0 in
+    let more : new.pass.history ≡ old.pass.history ++ next_step old.map change ∷ [] =
+    ap (λ (k : Kept). k.pass.history) done.0.1.0 in
+    let next : ok.0 ≡ base + 1 = done.0.1.1 in
+    let epoch : old.map.epoch + 1 ≡ ok.0 = ap (λ n. n + 1) (sym fine.current) ∙ sym next in
+    let step : next_step old.map change ≡ record { epoch = ok.0; change = change } =
+    ap (λ (n : ℕ). record { epoch = n; change = change }) epoch in
+    more ∙ ap (λ s. old.pass.history ++ s ∷ []) step
+adds_change old new base change (Err e) done = ap (λ (k : Kept). k.pass.history) done.1
+
+-- where nothing was found beyond what was seen, it is added to that
+pub adds_from : (begun before now : List Step) (change : ChangeParts) (r : Result (ℕ × ℕ) Refusal) → before ≡ begun
+    → AddsChange before now change r → AddsChange begun now change r
+adds_from begun before now change r same done = subst (λ h. AddsChange h now change r) same done
 
 -- ---- no change is refused for a seat's draws
 

@@ -50,3 +50,14 @@ AnswersBalance first most before now pool limit r =
     GoesOn first before now
     × MatchResult r (λ ok. IsPlanned first most before now pool limit ok.0 ok.1 ⊎ IsEven first now pool limit ok.0 ok.1)
     (λ e. (e ≡ SeatSpent) ⊎ IsUnplanned first most now pool limit e)
+
+-- a history is longer by the incremental of a plan's change where moves were told, and by nothing else
+abbrev pub AddsMoves : ClusterMap → List Step → List Step → ℕ → ℕ → ℕ → ℕ → Type 0
+AddsMoves first before now pool limit number moves =
+    ((moves ≡ 0) × (now ≡ before))
+    ⊎ ((moves ≢ 0)
+    × (now ≡ before ++ record { epoch = number; change = plan_change (after first before) pool limit } ∷ []))
+
+abbrev pub AddsPlan : ClusterMap → List Step → List Step → ℕ → ℕ → Result (ℕ × ℕ) Refusal → Type 0
+AddsPlan first before now pool limit r =
+    MatchResult r (λ ok. AddsMoves first before now pool limit ok.0 ok.1) (λ e. now ≡ before)

@@ -50,3 +50,8 @@ AnswersCommit first most before now base change r =
     GoesOn first before now
     × MatchResult r (λ ok. IsCommitted first most before now base change ok.0 ok.1)
     (λ e. (e ≡ SeatSpent) ⊎ IsRefusedBy (commit_fault (after first now) (length now) most base change) e)
+
+-- a history is longer by the incremental of a change that was accepted, and by nothing else
+abbrev pub AddsChange : List Step → List Step → ChangeParts → Result (ℕ × ℕ) Refusal → Type 0
+AddsChange before now change r =
+    MatchResult r (λ ok. now ≡ before ++ record { epoch = ok.0; change = change } ∷ []) (λ e. now ≡ before)

@@ -1,5 +1,5 @@
 -- What callers see of a monitor, who its members are, and what a member that holds its lock knows.
-use Rattle.std.specs.Prelude.{◌≡◌, ◌⊎◌, ℕ, ◌+◌, [], IsSomeAnd, option_and_then, option_map, unwrap_or}
+use Rattle.std.specs.Prelude.{◌≡◌, ◌⊎◌, ℕ, ◌+◌, Bool, true, [], IsSomeAnd, option_and_then, option_map, unwrap_or}
 use Rattle.std.specs.Option.{option_map_or}
 use Rattle.ticketlock.specs.declared.table.Words.{Words}
 use Rattle.ticketlock.specs.declared.read_guard.ReadGuard.{ReadGuard}
@@ -16,18 +16,20 @@ use Rattle.monitor.specs.declared.locked.Locked.{Locked}
 use Rattle.monitor.specs.declared.member.Member.{Member}
 
 -- what callers see of a monitor: the first map, the row of epochs, the words of the lock from which its seats draw, the
--- state that the lock was made with, and which kinds of buckets the texts of its changes may state
+-- state that the lock was made with, which kinds of buckets the texts of its changes may state, and whether there is one
+-- member
 pub record Monitored : Type 0 where
   pub first : ClusterMap
   pub row : Line
   pub words : Words
   pub made : Kept
   pub profile : Profile
+  pub alone : Bool
 
 -- a monitor by its parts
-abbrev pub monitored : ClusterMap → Line → Words → Kept → Profile → Monitored
-monitored first row words made profile =
-    record { first = first; row = row; words = words; made = made; profile = profile }
+abbrev pub monitored : ClusterMap → Line → Words → Kept → Profile → Bool → Monitored
+monitored first row words made profile alone =
+    record { first = first; row = row; words = words; made = made; profile = profile; alone = alone }
 
 -- the state is one of this monitor: its first map is the monitor's, and its pass is of the monitor's row
 pub record IsStateOf (monitor : Monitored) (state : Kept) : Type 0 where
@@ -73,6 +75,10 @@ IsSpent monitor member = IsSomeAnd member.seat (λ seat. seat.place.draws ≡ dr
 abbrev pub DrawsOnce : Monitored → Member → Member → Type 0
 DrawsOnce monitor before after =
     before.pass.history ≡ [] → IsSpent monitor before ⊎ (draws_made after ≡ draws_made before + 1)
+
+-- a member that has none beside it sees no more than before
+abbrev pub StaysAlone : Monitored → Seen → Seen → Type 0
+StaysAlone monitor before now = monitor.alone ≡ true → now ≡ before
 
 -- ---- who holds the lock
 

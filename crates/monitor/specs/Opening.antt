@@ -1,5 +1,5 @@
 -- What a monitor is opened with.
-use Rattle.std.specs.Prelude.{◌≡◌, ℕ, ◌&&◌, ◌^◌, Bool, nat_le, List, length, All}
+use Rattle.std.specs.Prelude.{◌≡◌, ◌==◌, ℕ, ◌&&◌, ◌^◌, Bool, nat_le, List, length, All}
 use Rattle.osdmap.specs.Maps.{ClusterMap}
 use Rattle.epochlog.specs.Epochs.{is_within_limits}
 use Rattle.state.specs.States.{opened}
@@ -22,7 +22,7 @@ can_open epoch journal seats draws =
 
 -- a monitor with this first map and a journal of such a capacity, whose lock was made with the state at its beginning:
 -- the first map is the present one, and the journal is empty; and so many members, each with so many draws, who have
--- seen nothing
+-- seen nothing; and the monitor knows whether there is one
 pub record IsOpening (map : ClusterMap) (journal seats draws : ℕ) (monitor : Monitored) (members : List Member)
     : Type 0 where
   pub first : monitor.first ≡ map
@@ -32,3 +32,4 @@ pub record IsOpening (map : ClusterMap) (journal seats draws : ℕ) (monitor : M
   pub limit : draws_of monitor ≡ draws
   pub count : length members ≡ seats
   pub each : All (IsNewMemberOf monitor) members
+  pub alone : monitor.alone ≡ (seats == 1)

@@ -11,14 +11,14 @@ use std::alloc::Global;
 use std::sync::Wait;
 
 impl Monitor {
-    ghost use Rattle.std.specs.Prelude.{◌≡◌, ◌≤◌, length, Err, IfOk, IfErr};
+    ghost use Rattle.std.specs.Prelude.{◌≡◌, ◌≤◌, true, length, Err, IfOk, IfErr};
     ghost use Rattle.std.specs.Str.{IsUtf8};
     ghost use Rattle.refusal.specs.declared.refused.Refusal.TheVariants.{SeatSpent};
     ghost use Rattle.balancer.specs.Limits.{max_moves};
     ghost use Rattle.state.specs.Answers.{FindsUp, FindsCount, FindsGroups};
-    ghost use Rattle.monitor.specs.Histories.{Looks, FindsEpoch, FindsText, AnswersCommit};
-    ghost use Rattle.monitor.specs.Balances.{AnswersBalance};
-    ghost use Rattle.monitor.specs.Members.{IsMemberOf, IsSpent, DrawsOnce};
+    ghost use Rattle.monitor.specs.Histories.{Looks, FindsEpoch, FindsText, AnswersCommit, AddsChange};
+    ghost use Rattle.monitor.specs.Balances.{AnswersBalance, AddsPlan};
+    ghost use Rattle.monitor.specs.Members.{IsMemberOf, IsSpent, DrawsOnce, StaysAlone};
 
     /// The epoch and the up set of a group: `UnknownPool` (23), else `UnknownGroup` (25). `SeatSpent` (31) once the
     /// member's seat has made its draws, and only then. It takes no memory. Members share the lock.
@@ -30,6 +30,7 @@ impl Monitor {
         ensures spent { IfErr result (λ e. e ≡ SeatSpent → IsSpent self.now member.new) }
         ensures refused { IsSpent self.now member.old → result ≡ Err SeatSpent }
         ensures once { DrawsOnce self.now member.old member.new }
+        ensures alone { StaysAlone self.now member.old.pass member.new.pass }
     {
         let shared = self.share(rt, member)?;
         let answer = self.shown(&shared, member).answer_up(pg);
@@ -52,6 +53,7 @@ impl Monitor {
         ensures spent { IfErr result (λ e. e ≡ SeatSpent → IsSpent self.now member.new) }
         ensures refused { IsSpent self.now member.old → result ≡ Err SeatSpent }
         ensures once { DrawsOnce self.now member.old member.new }
+        ensures alone { StaysAlone self.now member.old.pass member.new.pass }
     {
         let shared = self.share(rt, member)?;
         let answer = self.shown(&shared, member).answer_count(osd);
@@ -76,6 +78,7 @@ impl Monitor {
         ensures spent { IfErr result (λ e. e ≡ SeatSpent → IsSpent self.now member.new) }
         ensures refused { IsSpent self.now member.old → result ≡ Err SeatSpent }
         ensures once { DrawsOnce self.now member.old member.new }
+        ensures alone { StaysAlone self.now member.old.pass member.new.pass }
     {
         let shared = self.share(rt, member)?;
         let answer = self.shown(&shared, member).answer_groups(alloc, osd);
@@ -92,6 +95,7 @@ impl Monitor {
         ensures spent { IfErr result (λ e. e ≡ SeatSpent → IsSpent self.now member.new) }
         ensures refused { IsSpent self.now member.old → result ≡ Err SeatSpent }
         ensures once { DrawsOnce self.now member.old member.new }
+        ensures alone { StaysAlone self.now member.old.pass member.new.pass }
     {
         let shared = self.share(rt, member)?;
         let epoch = self.shown(&shared, member).map().epoch();
@@ -115,6 +119,7 @@ impl Monitor {
         ensures spent { IfErr result (λ e. e ≡ SeatSpent → IsSpent self.now member.new) }
         ensures refused { IsSpent self.now member.old → result ≡ Err SeatSpent }
         ensures once { DrawsOnce self.now member.old member.new }
+        ensures alone { StaysAlone self.now member.old.pass member.new.pass }
     {
         let shared = self.share(rt, member)?;
         let text = write_map(alloc, self.shown(&shared, member).map());
@@ -142,6 +147,8 @@ impl Monitor {
         ensures spent { IfErr result (λ e. e ≡ SeatSpent → IsSpent self.now member.new) }
         ensures refused { IsSpent self.now member.old → result ≡ Err SeatSpent }
         ensures once { DrawsOnce self.now member.old member.new }
+        ensures alone { self.now.alone ≡ true →
+            AddsChange member.old.pass.history member.new.pass.history change result }
     {
         let mut guard = self.hold(rt, member)?;
         let state: &mut State = &mut guard.value_mut().state;
@@ -173,6 +180,8 @@ impl Monitor {
         ensures spent { IfErr result (λ e. e ≡ SeatSpent → IsSpent self.now member.new) }
         ensures refused { IsSpent self.now member.old → result ≡ Err SeatSpent }
         ensures once { DrawsOnce self.now member.old member.new }
+        ensures alone { self.now.alone ≡ true →
+            AddsPlan self.now.first member.old.pass.history member.new.pass.history pool limit result }
     {
         let mut held = self.hold(rt, member)?;
         let state: &mut State = &mut held.value_mut().state;

@@ -5,13 +5,14 @@ ghost use Rattle.refusal.specs.declared.refused.Refusal.TheVariants.{SeatSpent};
 ghost use Rattle.osdmap.specs.Changes.{IsLawful, after};
 ghost use Rattle.epochlog.specs.Epochs.{Begins};
 ghost use Rattle.balancer.specs.Limits.{max_moves};
-ghost use Rattle.monitor.specs.Histories.{AnswersCommit};
-ghost use Rattle.monitor.specs.Balances.{AnswersBalance};
+ghost use Rattle.monitor.specs.Histories.{AnswersCommit, AddsChange};
+ghost use Rattle.monitor.specs.Balances.{AnswersBalance, AddsPlan};
 
 use epochlog::{Pass, Row};
 use osdmap::Change;
 use refusal::Refusal;
 use state::State;
+use std::sync::Wait;
 use ticketlock::Fact;
 
 /// A state under the lock. Each that is lent or put back has the first map of the one that the lock was made with, and
@@ -44,9 +45,23 @@ pub(crate) fn see(pass: &mut Pass, state: &State)
     ensures pass { pass.new ≡ state.now.pass }
     ensures begins { Begins pass.old.history pass.new.history }
     ensures lawful { IsLawful state.now.first state.now.pass.history }
+    ensures same { length pass.old.history ≡ length state.now.pass.history → pass.new ≡ pass.old }
 {
     pass.join(state.pass());
     let _ = state.map();
+}
+
+/// Returns where a state that is not behind a pass has seen no more than it, and else never.
+pub(crate) fn wait_until_same<R: Wait>(rt: &R, state: &State, pass: &Pass)
+    requires row { state.now.pass.row ≡ pass.now.row }
+    ensures { length pass.now.history ≡ length state.now.pass.history }
+{
+    for _ in rt.forever() {
+        if state.pass().epoch() == pass.epoch() {
+            return;
+        }
+    }
+    unreachable!()
 }
 
 /// Commits a change to a state, by one who has seen all that it has.
@@ -61,6 +76,7 @@ pub(crate) fn commit(
     requires pass { pass.old ≡ state.old.pass }
     ensures commits { AnswersCommit state.old.first (length row.now.cells)
         pass.old.history pass.new.history base change result }
+    ensures own { AddsChange pass.old.history pass.new.history change result }
     ensures unspent { IfErr result (λ e. e ≢ SeatSpent) }
     ensures pass { pass.new ≡ state.new.pass }
     ensures first { state.new.first ≡ state.old.first }
@@ -86,6 +102,7 @@ pub(crate) fn balance(
     requires few { limit ≤ max_moves }
     ensures balances { AnswersBalance state.old.first
         (length row.now.cells) pass.old.history pass.new.history pool limit result }
+    ensures own { AddsPlan state.old.first pass.old.history pass.new.history pool limit result }
     ensures unspent { IfErr result (λ e. e ≢ SeatSpent) }
     ensures pass { pass.new ≡ state.new.pass }
     ensures first { state.new.first ≡ state.old.first }

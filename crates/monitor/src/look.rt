@@ -24,7 +24,7 @@ pub struct Look<'a> {
 impl Monitor {
     ghost use Rattle.std.specs.Prelude.{◌≡◌, IfOk, IfErr, OnOk};
     ghost use Rattle.monitor.specs.Histories.{GoesOn};
-    ghost use Rattle.monitor.specs.Members.{IsMemberOf, IsSpent};
+    ghost use Rattle.monitor.specs.Members.{IsMemberOf, IsSpent, StaysAlone};
     ghost use Rattle.monitor.specs.Looking.{IsLookOf};
 
     /// Shares the lock, to look at the state. `Err` (31, `SeatSpent`), once the member's seat has made its draws and
@@ -36,6 +36,7 @@ impl Monitor {
         ensures err { IfErr result (λ back.
             IsMemberOf self.now back × IsSpent self.now back × (back.pass ≡ member.pass)) }
         ensures refused { OnOk result (¬ IsSpent self.now member) }
+        ensures alone { IfOk result (λ look. StaysAlone self.now member.pass look.pass) }
     {
         let mut member = member;
         match self.share(rt, &mut member) {

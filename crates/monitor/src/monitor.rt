@@ -19,6 +19,8 @@ pub struct Monitor {
     pub(crate) row: Row,
     pub(crate) first: OsdMap,
     pub(crate) profile: Profile,
+    // Whether it has one member.
+    pub(crate) alone: bool,
 }
 
 impl Monitor {
@@ -64,7 +66,7 @@ impl Model for Monitor {
 
     ghost Value = { Monitored };
 
-    ghost view = { λ m. monitored m.first.map m.row m.lock.words (first_of m.lock).state.value m.profile };
+    ghost view = { λ m. monitored m.first.map m.row m.lock.words (first_of m.lock).state.value m.profile m.alone };
 
-    ghost invariant = { λ m. IsOpened (monitored m.first.map m.row m.lock.words (first_of m.lock).state.value m.profile) };
+    ghost invariant = { λ m. IsOpened (monitored m.first.map m.row m.lock.words (first_of m.lock).state.value m.profile m.alone) };
 }

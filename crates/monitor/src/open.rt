@@ -104,6 +104,7 @@ impl Monitor {
         requires { can_open map.map.epoch journal seats draws ≡ true }
         ensures { IfOk result (λ r. IsOpening map.map journal seats draws r.0 r.1.items) }
     {
+        let alone = seats == 1;
         let row = row_after(alloc, map.epoch(), journal)?;
         let first = map.copy(alloc)?;
         let state = State::new(alloc, map, &row)?;
@@ -113,6 +114,7 @@ impl Monitor {
             row,
             first,
             profile: Profile::Plain,
+            alone,
         };
         let members = monitor.members(alloc, seats)?;
         Ok((monitor, members))

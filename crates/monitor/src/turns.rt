@@ -5,10 +5,11 @@ ghost use Rattle.ticketlock.specs.Guards.{first_of_read};
 ghost use Rattle.osdmap.specs.Changes.{after};
 ghost use Rattle.monitor.specs.Members.{lent};
 
-use crate::locked::{Locked, is_behind, see};
+use crate::locked::{Locked, is_behind, see, wait_until_same};
 use crate::member::Member;
 use crate::monitor::Monitor;
 use crate::shared::Shared;
+use epochlog::Pass;
 use refusal::Refusal;
 use state::State;
 use std::sync::Wait;
@@ -27,12 +28,23 @@ pub(crate) fn state_of<'g>(guard: &'g ReadGuard<'_, Locked>) -> &'g State
 }
 
 impl Monitor {
-    ghost use Rattle.std.specs.Prelude.{◌≡◌, ◌+◌, ◌-◌, [], IfOk, IfErr, IsSomeAnd, OnOk, OnErr};
+    ghost use Rattle.std.specs.Prelude.{◌≡◌, ◌≤◌, ◌+◌, ◌-◌, [], true, length, IfOk, IfErr, IsSomeAnd, OnOk, OnErr};
     ghost use Rattle.osdmap.specs.Changes.{after, IsLawful};
     ghost use Rattle.refusal.specs.declared.refused.Refusal.TheVariants.{SeatSpent};
     ghost use Rattle.monitor.specs.Histories.{GoesOn};
-    ghost use Rattle.monitor.specs.Members.{IsMemberOf, IsStateOf, IsSpent, Holds, draws_made, draws_of};
+    ghost use Rattle.monitor.specs.Members.{IsMemberOf, IsStateOf, IsSpent, StaysAlone, Holds, draws_made, draws_of};
     ghost use Rattle.monitor.specs.Sharing.{IsSharing};
+
+    /// Returns only where a member that has none beside it finds no more than it has seen: nobody else can have made
+    /// more, so it does not wait.
+    fn stay_alone<R: Wait>(&self, rt: &R, state: &State, pass: &Pass)
+        requires row { state.now.pass.row ≡ pass.now.row }
+        ensures { self.now.alone ≡ true → length pass.now.history ≡ length state.now.pass.history }
+    {
+        if self.alone {
+            wait_until_same(rt, state, pass);
+        }
+    }
 
     /// Shares the lock, for several questions to one state: [`Monitor::shown`] lends it, and [`Monitor::give_back`]
     /// ends the hold. Until then the member has no seat, and asks nothing else. Where the lent state has not seen what
@@ -45,6 +57,7 @@ impl Monitor {
         ensures spent { IfErr result (λ e.
             (e ≡ SeatSpent) × IsMemberOf self.now member.new × IsSpent self.now member.new) }
         ensures same { OnErr result (member.new.pass ≡ member.old.pass) }
+        ensures alone { StaysAlone self.now member.old.pass member.new.pass }
         ensures unspent { OnOk result (¬ IsSpent self.now member.old) }
         ensures once { IfOk result (λ shared.
             member.old.pass.history ≡ [] → shared.guard.turn.place.draws ≡ draws_made member.old + 1) }
@@ -57,6 +70,7 @@ impl Monitor {
             match self.lock.wait_read(rt, seat) {
                 Ok(guard) => {
                     if !is_behind(state_of(&guard), &member.pass) {
+                        self.stay_alone(rt, state_of(&guard), &member.pass);
                         see(&mut member.pass, state_of(&guard));
                         return Ok(Shared { guard });
                     }
@@ -85,6 +99,7 @@ impl Monitor {
         ensures spent { IfErr result (λ e.
             (e ≡ SeatSpent) × IsMemberOf self.now member.new × IsSpent self.now member.new) }
         ensures same { OnErr result (member.new.pass ≡ member.old.pass) }
+        ensures alone { StaysAlone self.now member.old.pass member.new.pass }
         ensures unspent { OnOk result (¬ IsSpent self.now member.old) }
         ensures once { IfOk result (λ guard.
             member.old.pass.history ≡ [] → guard.turn.place.draws ≡ draws_made member.old + 1) }
@@ -98,6 +113,7 @@ impl Monitor {
                 Ok(guard) => {
                     let state: &State = &guard.value().state;
                     if !is_behind(state, &member.pass) {
+                        self.stay_alone(rt, state, &member.pass);
                         see(&mut member.pass, state);
                         return Ok(guard);
                     }

@@ -1,13 +1,13 @@
 -- A map that was built has what its parts state, and holds together.
 use Rattle.std.proofs.Common.{cond, ◌≡◌, ◌∙◌, ℕ, ◌≤◌, Bool, true, false, not, ◌==◌, nat_lt, List, [], ◌∷◌, map, length, Option, Some, None, pos, nat_abs, refl, sym, ap, arith}
 use Rattle.std.specs.Prelude.{◌||◌, nat_le, int_le}
-use Rattle.std.specs.List.{list_all, range_with_len, All}
+use Rattle.std.specs.List.{list_all, range_with_len, sum_by, All}
 use Rattle.std.specs.Option.{option_map, option_map_or}
 use Rattle.std.proofs.lemmas.Bool.Decides.{nat_tests}
 use Rattle.std.proofs.lemmas.List.{length-map}
 use Rattle.std.proofs.lemmas.Int.{ints}
 use Rattle.std.proofs.lemmas.List.Elements.{All-nil, All-cons}
-use Rattle.std.proofs.lemmas.List.Sorted.{length_permutation, IsPermutation-refl, All-permutation}
+use Rattle.std.proofs.lemmas.List.Sorted.{length_permutation, sum_by-IsPermutation, IsPermutation-refl, All-permutation}
 use Rattle.std.proofs.lemmas.List.Folds.{list_all-map}
 use Rattle.std.proofs.lemmas.List.FromFn.{length-range_with_len}
 use Rattle.crush.specs.WellFormed.{forest_ok}
@@ -19,8 +19,8 @@ use Rattle.stated.specs.declared.rules.NumberedRule.{NumberedRule}
 use Rattle.refusal.specs.declared.refused.Refusal.{Refusal}
 use Rattle.refusal.specs.declared.refused.Refusal.TheVariants.{BadLimit, BadForest, BadRule, BadPool, BadOsd, BadException}
 use Rattle.osdmap.specs.Maps.{ClusterMap, has_rule, is_kind, is_presence, HoldsTogether}
-use Rattle.stated.specs.Parts.{is_between, has_between, bucket_fits, rule_fits, pool_fits, osd_fits, is_osd_id, pair_fits, exceptions_fit, head_fits, lists_fit, parts_fit, pool_of}
-use Rattle.stated.specs.Pools.{PoolFacts, IsWithinLimits}
+use Rattle.stated.specs.Parts.{is_between, has_between, bucket_fits, rule_fits, has_few_groups, pool_fits, osd_fits, is_osd_id, pair_fits, exceptions_fit, head_fits, lists_fit, parts_fit, pool_of}
+use Rattle.stated.specs.Pools.{PoolFacts, total_groups, IsWithinLimits}
 use Rattle.keylist.specs.Keys.{is_distinct}
 use Rattle.osdmap.specs.Stated.{buckets_of, rules_ok, pool_ok, pools_ok, osd_ok, osds_ok, explicit_of, items_of, all_exceptions_ok, map_fault, listed_osd, presence_in, weight_in, IsStated}
 use Rattle.refusal.specs.Outcomes.{refused_unless}
@@ -28,6 +28,7 @@ use Rattle.keylist.specs.Order.{Rises}
 use Rattle.stated.specs.CrushMaps.{rule_of, rules_fit, crush_fault, IsCrushMap, IsCrushOf}
 use Rattle.osdmap.specs.Built.{pools_fit, osds_fit, state_of, rows_of, row_presence, row_weight}
 use Rattle.keylist.proofs.Tests.{and_first, and_second}
+use Rattle.stated.proofs.Totals.{sum_by-map}
 use Rattle.stated.proofs.Within.{natural_between, pool_fits_each, pool_within}
 use Rattle.stated.proofs.Narrowed.{osd_weight_fits}
 use Rattle.osdmap.proofs.PlacementLemmas.{found_passes}
@@ -40,12 +41,13 @@ use Rattle.keylist.proofs.Each.{all_more, all_so, list_all-agree, map-agree, map
 pub record PartsFit (p : MapParts) : Type 0 where
   pub epoch : is_between (pos 1) (pos 2147483648) p.epoch ≡ true
   pub max_osd : is_between (pos 1) (pos 1024) p.max_osd ≡ true
-  pub count : has_between 1 512 p.buckets ≡ true
+  pub count : has_between 1 4096 p.buckets ≡ true
   pub rule_count : has_between 1 32 p.rules ≡ true
   pub pool_count : has_between 0 32 p.pools ≡ true
   pub buckets : list_all bucket_fits p.buckets ≡ true
   pub rules : list_all rule_fits p.rules ≡ true
   pub pools : list_all pool_fits p.pools ≡ true
+  pub groups : has_few_groups p.pools ≡ true
   pub osds : list_all osd_fits p.osds ≡ true
   pub explicit : exceptions_fit is_osd_id p.pg_upmap ≡ true
   pub items : exceptions_fit pair_fits p.pg_upmap_items ≡ true
@@ -62,6 +64,7 @@ parts_fit_each p h = record {
   buckets = grind arith;
   rules = grind arith;
   pools = grind arith;
+  groups = grind arith;
   osds = grind arith;
   explicit = grind arith;
   items = grind arith;
@@ -301,6 +304,13 @@ few_pools p m built few =
     let made = length_permutation _ _ built.pools.same ∙ length-map p.pools pool_of in
     grind (arith, nat_tests, made)
 
+-- nor have they more groups together than a map may have
+few_groups : (p : MapParts) (m : ClusterMap) → IsBuilt p m → has_few_groups p.pools ≡ true → total_groups m.pools ≤ 262144
+unfolding has_few_groups
+few_groups p m built few =
+    let made = sum_by-IsPermutation (λ (q : PoolFacts). q.pg_num) _ _ built.pools.same ∙ sum_by-map (λ (q : PoolFacts). q.pg_num) pool_of p.pools in
+    grind (arith, nat_tests, made)
+
 -- a map that is built holds together
 pub holds : (p : MapParts) (m : ClusterMap) → IsBuilt p m → HoldsTogether m
 holds p m built =
@@ -322,6 +332,7 @@ holds p m built =
       few_pools = few_pools p m built each.pool_count;
       pools_rise = built.pools.rising;
       pools_within = pools_within p m built each.pools;
+      few_groups = few_groups p m built each.groups;
       ruled = ruled p m built;
       explicit_rise = rw built.explicit (λ i j d below inside. absurd (omega arith));
       explicit_sound = rw built.explicit refl;

@@ -229,6 +229,7 @@ module _ (p : MapParts) (limits : parts_fit p ≡ true) where
         few_pools = holds.few_pools;
         pools_rise = holds.pools_rise;
         pools_within = holds.pools_within;
+        few_groups = holds.few_groups;
         ruled = holds.ruled;
         explicit_rise = explicit_rises.rising;
         explicit_sound = still_sound target is_set (explicit_of p) explicit explicit_fine explicit_rises.same;

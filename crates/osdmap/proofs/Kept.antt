@@ -1,8 +1,8 @@
 -- What holds in a map holds after a change that nothing refuses.
-use Rattle.std.proofs.Common.{◌≡◌, ◌∙◌, sym, subst, refl, arith, ℕ, zero, suc, ◌≤◌, Bool, true, false, not, ◌&&◌, eqb, List, [], ◌∷◌, map, length, set, Option, Some, None, IfSome, unwrap_or}
+use Rattle.std.proofs.Common.{◌≡◌, ◌∙◌, sym, subst, refl, arith, ℕ, zero, suc, ◌≤◌, Bool, true, false, not, ◌&&◌, ◌==◌, eqb, List, [], ◌∷◌, ◌++◌, map, length, set, Option, Some, None, IfSome, unwrap_or}
 use mathlib.Core.Bool.{false≢true}
 use Rattle.std.specs.Prelude.{nat_lt, nat_le, slice_get}
-use Rattle.std.specs.List.{list_all, filter, fold, All}
+use Rattle.std.specs.List.{list_all, list_any, filter, fold, All}
 use Rattle.std.specs.Option.{option_map_or}
 use Rattle.std.proofs.lemmas.Bool.{false_from_ne_true, eqb-true}
 use Rattle.std.proofs.lemmas.Bool.Decides.{nat_tests}
@@ -17,19 +17,21 @@ use Rattle.stated.specs.declared.change.ChangeParts.{ChangeParts}
 use Rattle.stated.specs.declared.change.Reweight.{Reweight}
 use Rattle.stated.specs.CrushMaps.{CrushFacts, IsCrushMap}
 use Rattle.stated.specs.Growth.{IsGrowth, grown}
-use Rattle.stated.specs.Pools.{PoolFacts, IsWithinLimits}
-use Rattle.keylist.specs.Keys.{has_key, entry_at}
+use Rattle.stated.specs.Pools.{PoolFacts, total_groups, IsWithinLimits}
+use Rattle.keylist.specs.Keys.{is_distinct, has_key, entry_at}
 use Rattle.keylist.specs.Order.{IsRising}
 use Rattle.keylist.specs.Puts.{put}
 use Rattle.stated.specs.Exceptions.{key_of, has_group, target, sides, all_named, is_set, are_pairs, is_sound, is_exception, stays, is_among, exceptions_after}
 use Rattle.osdmap.specs.Maps.{ClusterMap, osd_exists, has_rule, is_presence, HoldsTogether}
 use Rattle.stated.specs.Incrementals.{Step}
 use Rattle.stated.specs.Ordered.{IsChange}
-use Rattle.osdmap.specs.Changes.{names_osds, weighs_rightly, pools_kept, pools_there, pools_after, buckets_after, rules_after, all_named_groups, names_groups, brings_new, has_devices_below, brings_forest, grows_from, brings_rightly, excepts_soundly, change_fault, apply, with_up, with_weight}
+use Rattle.osdmap.specs.Changes.{names_osds, weighs_rightly, pools_kept, pools_there, pools_after, buckets_after, rules_after, all_named_groups, names_groups, brings_new, has_devices_below, brings_forest, grows_from, leaves_few_groups, brings_rightly, excepts_soundly, names_once, change_fault, apply, with_up, with_weight}
 use Rattle.keylist.proofs.Tests.{and_first, and_second, not_true}
 use Rattle.keylist.proofs.KeyedOrder.{rising-filter}
 use Rattle.keylist.proofs.KeyedMaps.{has-entry, entry-put, entry-without, list_all-puts, list_all-filter, rising-puts}
 use Rattle.keylist.proofs.KeyedPuts.{All-puts}
+use Rattle.keylist.proofs.KeyedDistinct.{distinct-append}
+use Rattle.osdmap.proofs.GroupTotals.{few-groups-after}
 use Rattle.osdmap.proofs.Grown.{list_all-grown, rising-grown, within-grown, exception_grows}
 use Rattle.osdmap.proofs.Devices.{over_devices}
 use Rattle.osdmap.proofs.Accepted.{Accepted, accepted}
@@ -180,16 +182,27 @@ record Rightly (m : ClusterMap) (c : ChangeParts) : Type 0 where
   pub new : list_all (has_rule (rules_after m c)) c.new_pools ≡ true
   pub few : nat_le (length (pools_there m c)) 32 ≡ true
   pub grow : list_all (grows_from (pools_there m c)) c.grow_pool ≡ true
+  pub groups : leaves_few_groups m c ≡ true
 
 -- pools that come rightly pass each test of it
 rightly-each : (m : ClusterMap) (c : ChangeParts) → brings_rightly m c ≡ true → Rightly m c
 unfolding brings_rightly
-rightly-each m c h = record { kept = grind (arith, h); new = grind (arith, h); few = grind (arith, h); grow = grind (arith, h) }
+rightly-each m c h = record { kept = grind (arith, h); new = grind (arith, h); few = grind (arith, h); grow = grind (arith, h); groups = grind (arith, h) }
 
 -- then at most 32 are there
 few-after : (m : ClusterMap) (c : ChangeParts) → Rightly m c → length (pools_after m c) ≤ 32
 unfolding pools_after
 few-after m c rightly = rw length-map (grind (arith, nat_tests, rightly.few))
+
+-- and they have at most 262,144 groups together
+groups-after : (m : ClusterMap) (c : ChangeParts) → Rightly m c → names_once c ≡ true → total_groups (pools_after m c) ≤ 262144
+unfolding names_once
+groups-after m c rightly once =
+    let ids = map (λ (p : PoolFacts). p.id) c.new_pools in
+    let both : is_distinct (map (λ (id : ℕ). id) c.old_pools ++ ids) ≡ true = grind (arith, once) in
+    let parts : ((is_distinct (map (λ (id : ℕ). id) c.old_pools) && is_distinct ids) && not (list_any (λ k. list_any (λ j. j == k) ids) (map (λ (id : ℕ). id) c.old_pools))) ≡ true =
+    sym (distinct-append (map (λ (id : ℕ). id) c.old_pools) ids) ∙ both in
+    few-groups-after m c rightly.groups (grind (arith, parts))
 
 -- each has its rule
 ruled-after : (m : ClusterMap) (c : ChangeParts) → Rightly m c → list_all (has_rule (rules_after m c)) (pools_after m c) ≡ true
@@ -272,6 +285,7 @@ HoldsTogether-after m step lawful is holds =
       few_pools = few-after m step.change rightly;
       pools_rise = pools-rise m step.change holds.pools_rise;
       pools_within = within-after m step.change is.pools_within is.growths_within holds.pools_within;
+      few_groups = groups-after m step.change rightly ok.once;
       ruled = ruled-after m step.change rightly;
       explicit_rise = exceptions-rise step.change.old_pools step.change.old_upmap step.change.new_upmap m.explicit holds.explicit_rise;
       explicit_sound = explicit-after m step ok holds;

@@ -9,6 +9,7 @@ pub mod Grown
 mod Devices
 mod Leaving
 mod Growing
+mod GroupTotals
 pub mod Kept
 pub mod PlacementLemmas
 mod Replaced

@@ -7,22 +7,22 @@ use Rattle.osdmap.specs.Placement.{masks, mask_of}
 
 -- half of each mask is at most the one before it
 abbrev AreHalved : ℕ → List ℕ → Type 0
-AreHalved before [] = 4095 / 2 ≤ before
+AreHalved before [] = 65535 / 2 ≤ before
 AreHalved before (m ∷ ms) = (m / 2 ≤ before) × AreHalved m ms
 
 -- so half of the first that is at least b - 1 is below b
-half_below : (b before : ℕ) (ms : List ℕ) → AreHalved before ms → before < b → unwrap_or (find (λ m. nat_le (b - 1) m) ms) 4095 / 2 < b
+half_below : (b before : ℕ) (ms : List ℕ) → AreHalved before ms → before < b → unwrap_or (find (λ m. nat_le (b - 1) m) ms) 65535 / 2 < b
 half_below b before [] halved below = omega (arith, halved, below)
 half_below b before (m ∷ ms) halved below = by_test (nat_le (b - 1) m) refl (half_below b m ms halved.1)
   where
-    by_test : (fits : Bool) → nat_le (b - 1) m ≡ fits → (m < b → unwrap_or (find (λ n. nat_le (b - 1) n) ms) 4095 / 2 < b) → unwrap_or (cond fits (Some m) (find (λ n. nat_le (b - 1) n) ms)) 4095 / 2 < b
+    by_test : (fits : Bool) → nat_le (b - 1) m ≡ fits → (m < b → unwrap_or (find (λ n. nat_le (b - 1) n) ms) 65535 / 2 < b) → unwrap_or (cond fits (Some m) (find (λ n. nat_le (b - 1) n) ms)) 65535 / 2 < b
     by_test true long rest = omega (arith, halved.0, below)
     by_test false short rest = rest (grind (arith, nat_tests))
 
 -- half of a count's mask is below it
 pub mask_half : (b : ℕ) → 0 < b → mask_of b / 2 < b
 unfolding mask_of masks
-mask_half b some = half_below b 0 masks (omega arith, (omega arith, (omega arith, (omega arith, (omega arith, (omega arith, (omega arith, (omega arith, (omega arith, (omega arith, (omega arith, (omega arith, (omega arith, omega arith))))))))))))) some
+mask_half b some = half_below b 0 masks (omega arith, (omega arith, (omega arith, (omega arith, (omega arith, (omega arith, (omega arith, (omega arith, (omega arith, (omega arith, (omega arith, (omega arith, (omega arith, (omega arith, (omega arith, (omega arith, (omega arith, omega arith))))))))))))))))) some
 
 -- the masks from the one of j bits on
 abbrev AreMasks : ℕ → List ℕ → Type 0
@@ -45,13 +45,13 @@ found_mask c p k j (m ∷ ms) are from end is some fits tight =
     by_test false short false last rest = absurd (grind (arith, nat_tests))
 
 -- one less than the least power of two that is at least a count is the mask of that count
-pub mask_power : (c p k : ℕ) → p ≡ 2 ^ k → 0 < c → c ≤ 4096 → c ≤ p → p / 2 < max 1 c → p - 1 ≡ mask_of c
+pub mask_power : (c p k : ℕ) → p ≡ 2 ^ k → 0 < c → c ≤ 65536 → c ≤ p → p / 2 < max 1 c → p - 1 ≡ mask_of c
 unfolding mask_of masks
 mask_power c p k is some few fits tight =
-    sym (ap (λ o. unwrap_or o 4095) (found_mask c p k 0 masks (refl, (refl, (refl, (refl, (refl, (refl, (refl, (refl, (refl, (refl, (refl, (refl, (refl, tt))))))))))))) (omega arith) (by_test (nat_lt k 13) refl) is some fits tight))
+    sym (ap (λ o. unwrap_or o 65535) (found_mask c p k 0 masks (refl, (refl, (refl, (refl, (refl, (refl, (refl, (refl, (refl, (refl, (refl, (refl, (refl, (refl, (refl, (refl, (refl, tt))))))))))))))))) (omega arith) (by_test (nat_lt k 17) refl) is some fits tight))
   where
-    by_test : (small : Bool) → nat_lt k 13 ≡ small → k < 13
+    by_test : (small : Bool) → nat_lt k 17 ≡ small → k < 17
     by_test true below = grind (arith, nat_tests)
     by_test false beyond =
-        let more = pow-le-pow_right {n = 2} (omega arith) {i = 13} {j = k} (grind (arith, nat_tests)) in
+        let more = pow-le-pow_right {n = 2} (omega arith) {i = 17} {j = k} (grind (arith, nat_tests)) in
         absurd (omega (arith, more, is, tight, few))

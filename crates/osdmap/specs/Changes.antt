@@ -1,5 +1,5 @@
 -- Changes: what refuses one, the map after one, and what makes a journal of them lawful.
-use Rattle.std.specs.Prelude.{◌≡◌, ℕ, ◌+◌, Bool, true, false, not, ◌&&◌, pos, int_lt, List, [], ◌∷◌, ◌++◌, length, map, Option, Some, None, slice_get, slice_set, nat_le, if◌then◌else◌}
+use Rattle.std.specs.Prelude.{◌≡◌, ℕ, ◌+◌, Bool, true, false, not, ◌&&◌, ◌||◌, pos, int_lt, List, [], ◌∷◌, ◌++◌, length, map, Option, Some, None, slice_get, slice_set, nat_le, if◌then◌else◌}
 use Rattle.std.specs.List.{list_all, filter, fold}
 use Rattle.std.specs.Option.{option_map_or}
 use Rattle.crush.specs.declared.bucket.Bucket.{Bucket}
@@ -12,9 +12,9 @@ use Rattle.stated.specs.Growth.{Growth, grown}
 use Rattle.refusal.specs.declared.refused.Refusal.TheVariants.{UnknownOsd, BadWeight, UnknownPool, PoolExists, BadForest, BadPool, UnknownGroup, BadNewException, DuplicatePart}
 use Rattle.stated.specs.declared.pg.Pg.{Pg}
 use Rattle.stated.specs.Incrementals.{Step}
-use Rattle.stated.specs.Limits.{max_pools}
+use Rattle.stated.specs.Limits.{max_pools, max_total_groups}
 use Rattle.crush.specs.Limits.{full_weight}
-use Rattle.stated.specs.Pools.{PoolFacts}
+use Rattle.stated.specs.Pools.{PoolFacts, total_groups}
 use Rattle.keylist.specs.Keys.{is_distinct, has_key}
 use Rattle.keylist.specs.Puts.{put}
 use Rattle.stated.specs.Exceptions.{place_of, key_of, has_pool, has_pool_of, has_group, target, sides, all_named, is_set, are_pairs, is_sound, exceptions_after}
@@ -81,11 +81,17 @@ unfoldable pub grows_from : List PoolFacts → Growth → Bool
 grows_from pools g =
     option_map_or (λ p. nat_le p.pg_num g.pg_num && nat_le p.pgp_num g.pgp_num) (pool_at pools g.pool) false
 
--- each pool that stays or comes has a rule of its kind then, there are at most 32 pools, and none gets fewer groups
+-- where no pool comes twice, all pools have at most 262,144 groups after the change
+unfoldable pub leaves_few_groups : ClusterMap → ChangeParts → Bool
+leaves_few_groups m c =
+    not (is_distinct (map (λ p. p.id) c.new_pools)) || nat_le (total_groups (pools_after m c)) max_total_groups
+
+-- each pool that stays or comes has a rule of its kind then, there are at most 32 pools, none gets fewer groups, and
+-- all together do not get too many
 unfoldable pub brings_rightly : ClusterMap → ChangeParts → Bool
 brings_rightly m c =
     list_all (has_rule (rules_after m c)) (pools_kept m c) && list_all (has_rule (rules_after m c)) c.new_pools
-    && nat_le (length (pools_there m c)) max_pools && list_all (grows_from (pools_there m c)) c.grow_pool
+    && nat_le (length (pools_there m c)) max_pools && list_all (grows_from (pools_there m c)) c.grow_pool && leaves_few_groups m c
 
 -- each group that is named is there then
 unfoldable pub names_groups : ClusterMap → ChangeParts → Bool

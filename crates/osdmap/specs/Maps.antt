@@ -15,10 +15,10 @@ use Rattle.stated.specs.declared.exception.Pair.{Pair}
 use Rattle.stated.specs.Exceptions.{key_of, is_exception, target, sides, is_set, are_pairs}
 use Rattle.keylist.specs.Order.{IsRising}
 use Rattle.crush.specs.Limits.{max_devices}
-use Rattle.stated.specs.Limits.{max_rules, max_pools}
+use Rattle.stated.specs.Limits.{max_rules, max_pools, max_total_groups}
 use Rattle.crush.specs.Limits.{full_weight}
 use Rattle.stated.specs.CrushMaps.{rule_at, is_rule_over}
-use Rattle.stated.specs.Pools.{PoolFacts, IsWithinLimits}
+use Rattle.stated.specs.Pools.{PoolFacts, total_groups, IsWithinLimits}
 
 -- what callers see of a map: its epoch, the buckets of its forest by id downwards, its rules and pools by id upwards,
 -- and by number whether each OSD exists and is up, and its reweight; the explicit sets and the pairs of groups, by
@@ -87,6 +87,7 @@ pub record HoldsTogether (m : ClusterMap) : Type 0 where
   pub few_pools : length m.pools ≤ max_pools
   pub pools_rise : IsRising (λ p. p.id) m.pools
   pub pools_within : All IsWithinLimits m.pools
+  pub few_groups : total_groups m.pools ≤ max_total_groups
   pub ruled : list_all (has_rule m.rules) m.pools ≡ true
   pub explicit_rise : IsRising key_of m.explicit
   pub explicit_sound : list_all (is_exception target is_set m.pools (osd_exists m)) m.explicit ≡ true

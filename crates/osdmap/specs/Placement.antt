@@ -17,13 +17,14 @@ use Rattle.osdmap.specs.Mapped.{mapped}
 use Rattle.stated.specs.CrushMaps.{rule_at}
 use Rattle.osdmap.specs.Maps.{ClusterMap, pool_at, osd_exists, osd_is_up}
 
--- the numbers 2 ^ k - 1 up to 4095
+-- the numbers 2 ^ k - 1 up to 65535
 unfoldable pub masks : List ℕ
-masks = 0 ∷ 1 ∷ 3 ∷ 7 ∷ 15 ∷ 31 ∷ 63 ∷ 127 ∷ 255 ∷ 511 ∷ 1023 ∷ 2047 ∷ 4095 ∷ []
+masks = 0 ∷ 1 ∷ 3 ∷ 7 ∷ 15 ∷ 31 ∷ 63 ∷ 127 ∷ 255 ∷ 511 ∷ 1023 ∷ 2047 ∷ 4095 ∷ 8191 ∷ 16383 ∷ 32767 ∷
+    65535 ∷ []
 
--- the least of these that is at least b - 1, for b up to 4096
+-- the least of these that is at least b - 1, for b up to 65536
 unfoldable pub mask_of : ℕ → ℕ
-mask_of b = unwrap_or (find (λ m. nat_le (b - 1) m) masks) 4095
+mask_of b = unwrap_or (find (λ m. nat_le (b - 1) m) masks) 65535
 
 -- a number folded into the numbers below b, so that most stay where they are when b grows (ceph_stable_mod)
 unfoldable pub stable_mod : ℕ → ℕ → ℕ → ℕ

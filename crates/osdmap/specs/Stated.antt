@@ -13,6 +13,7 @@ use Rattle.stated.specs.declared.parts.OsdPart.{OsdPart}
 use Rattle.stated.specs.declared.rules.NumberedRule.{NumberedRule}
 use Rattle.refusal.specs.declared.refused.Refusal.{Refusal}
 use Rattle.refusal.specs.declared.refused.Refusal.TheVariants.{BadLimit, BadForest, BadRule, BadPool, BadOsd, BadException}
+use Rattle.stated.specs.Plain.{map_is_plain}
 use Rattle.stated.specs.Parts.{parts_fit, bucket_of, step_of, pool_of, exception_of, pair_of}
 use Rattle.stated.specs.declared.exception.Exception.{Exception}
 use Rattle.stated.specs.declared.exception.Pair.{Pair}
@@ -84,6 +85,10 @@ map_fault p =
     else if not (osds_ok p) then Some BadOsd
     else if not (all_exceptions_ok p) then Some BadException
     else None
+
+-- of a plain cluster's: a limit of those too, else the same
+abbrev pub plain_map_fault : MapParts → Option Refusal
+plain_map_fault p = if not (map_is_plain p) then Some BadLimit else map_fault p
 
 -- ---- the map that parts state
 

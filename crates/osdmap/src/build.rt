@@ -12,6 +12,7 @@ use pools::pools_of;
 use refusal::Refusal;
 use stated::fits::parts_fit;
 use stated::numbers::word;
+use stated::plain::map_is_plain;
 use stated::{CrushMap, MapParts};
 use std::alloc::Global;
 
@@ -19,7 +20,7 @@ impl OsdMap {
     ghost use Rattle.std.specs.Prelude.{◌≡◌, true};
     ghost use Rattle.refusal.specs.Outcomes.{Makes};
     ghost use Rattle.stated.specs.Parts.{parts_fit};
-    ghost use Rattle.osdmap.specs.Stated.{map_fault, IsStated};
+    ghost use Rattle.osdmap.specs.Stated.{map_fault, plain_map_fault, IsStated};
     ghost use Rattle.osdmap.specs.Built.{without_exceptions};
 
     /// The map that parts within the limits state beside their exceptions.
@@ -44,9 +45,20 @@ impl OsdMap {
         })
     }
 
+    /// The map of a plain cluster that parts state: `BadLimit` (12) where there is more of something than in plain
+    /// clusters; else what [`OsdMap::stock`] answers.
+    pub fn new(alloc: Global, parts: MapParts) -> Result<OsdMap, Refusal>
+        ensures { Makes result (plain_map_fault parts) (λ m. IsStated parts m.map) }
+    {
+        if !map_is_plain(&parts) {
+            return Err(Refusal::BadLimit);
+        }
+        OsdMap::stock(alloc, parts)
+    }
+
     /// The map that parts state: `BadLimit` (12), `BadForest` (13), `BadRule` (14), `BadPool` (15), `BadOsd` (16) or
     /// `BadException` (17) where something is wrong, the first of these, each tested over the whole map; `Memory` (30).
-    pub fn new(alloc: Global, parts: MapParts) -> Result<OsdMap, Refusal>
+    pub fn stock(alloc: Global, parts: MapParts) -> Result<OsdMap, Refusal>
         ensures { Makes result (map_fault parts) (λ m. IsStated parts m.map) }
     {
         if !parts_fit(&parts) {

@@ -7,9 +7,10 @@ use Rattle.std.proofs.lemmas.Bool.{eqb-true}
 use Rattle.std.proofs.lemmas.Bool.Decides.{nat_tests}
 use Rattle.std.proofs.lemmas.List.Elements.{All-head, All-tail, All-weaker, All-filter, filter_passes}
 use Rattle.std.proofs.lemmas.List.Filters.{length-filter_both}
+use Rattle.std.proofs.lemmas.List.Sums.{sum_by-cons}
 use Rattle.stated.specs.declared.exception.Exception.{Exception}
 use Rattle.stated.specs.declared.pg.Pg.{Pg}
-use Rattle.stated.specs.Pools.{PoolFacts, IsWithinLimits}
+use Rattle.stated.specs.Pools.{PoolFacts, total_groups, IsWithinLimits}
 use Rattle.keylist.specs.Order.{IsRising}
 use Rattle.stated.specs.Exceptions.{key_of, has_group}
 use Rattle.keylist.proofs.Tests.{not_true}
@@ -43,19 +44,19 @@ module _ {E : Type 0} where
   IsThere pools e = has_group pools e.pg ≡ true
 
   -- the exceptions of one pool
-  few_here : (p : PoolFacts) (ps : List PoolFacts) (es : List (Exception E)) → p.pg_num ≤ 4096 → IsRising key_of es → All (λ e. of_pool p e ≡ true) es → All (IsThere (p ∷ ps)) es → length es ≤ 4096
+  few_here : (p : PoolFacts) (ps : List PoolFacts) (es : List (Exception E)) → p.pg_num ≤ 65536 → IsRising key_of es → All (λ e. of_pool p e ≡ true) es → All (IsThere (p ∷ ps)) es → length es ≤ p.pg_num
   few_here p ps es few rises same there =
       let least : All (λ (e : Exception E). p.id * 2 ^ 32 ≤ key_of e) es = λ k d inside. let is = eqb-true _ _ (same k d inside) in rw is (omega arith) in
-      let most : All (λ (e : Exception E). key_of e < p.id * 2 ^ 32 + 4096) es = λ k d inside.
+      let most : All (λ (e : Exception E). key_of e < p.id * 2 ^ 32 + p.pg_num) es = λ k d inside.
       let is = eqb-true _ _ (same k d inside) in
       let number = group_here p ps (get_or es k d).pg (same k d inside) (there k d inside) in
       rw is (omega (arith, number, few))
       in
-      let room = rising_room key_of (p.id * 2 ^ 32) (p.id * 2 ^ 32 + 4096) es rises least most (omega arith) in
+      let room = rising_room key_of (p.id * 2 ^ 32) (p.id * 2 ^ 32 + p.pg_num) es rises least most (omega arith) in
       omega (arith, room)
 
   -- the exceptions of all pools
-  pub few_exceptions : (pools : List PoolFacts) (es : List (Exception E)) → All IsWithinLimits pools → IsRising key_of es → All (IsThere pools) es → length es ≤ length pools * 4096
+  pub few_exceptions : (pools : List PoolFacts) (es : List (Exception E)) → All IsWithinLimits pools → IsRising key_of es → All (IsThere pools) es → length es ≤ total_groups pools
   few_exceptions [] [] within rises there = omega arith
   few_exceptions [] (e ∷ es) within rises there = absurd (false≢true (All-head (IsThere []) e es there))
   few_exceptions (p ∷ ps) es within rises there =
@@ -67,4 +68,4 @@ module _ {E : Type 0} where
       let kept = All-filter others (IsThere (p ∷ ps)) es there in
       let still : All (IsThere ps) (filter others es) = λ k d inside. group_there p ps (get_or (filter others es) k d).pg (not_true _ (apart k d inside)) (kept k d inside) in
       let rest = few_exceptions ps (filter others es) (All-tail IsWithinLimits p ps within) (rising-filter key_of others es rises) still in
-      omega (arith, both, first, rest)
+      rw (sum_by-cons (λ (q : PoolFacts). q.pg_num) p ps) (omega (arith, both, first, rest))

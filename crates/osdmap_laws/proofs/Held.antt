@@ -174,6 +174,7 @@ holds_at m epoch holds = record {
   few_pools = holds.few_pools;
   pools_rise = holds.pools_rise;
   pools_within = holds.pools_within;
+  few_groups = holds.few_groups;
   ruled = holds.ruled;
   explicit_rise = holds.explicit_rise;
   explicit_sound = holds.explicit_sound;

@@ -1,6 +1,6 @@
 -- Values within their limits fit as parts.
-use Rattle.std.proofs.Common.{◌≡◌, ◌∙◌, ℕ, ◌^◌, ◌≤◌, ℤ, pos, negsuc, true, nat_lt, List, [], ◌∷◌, map, length, get_or, refl, arith}
-use Rattle.std.specs.List.{list_all, All}
+use Rattle.std.proofs.Common.{◌≡◌, ◌∙◌, ℕ, ◌^◌, ◌≤◌, ℤ, pos, negsuc, true, nat_lt, List, [], ◌∷◌, map, length, get_or, nat_abs, refl, arith}
+use Rattle.std.specs.List.{list_all, sum_by, All}
 use Rattle.std.proofs.lemmas.Bool.Decides.{nat_tests}
 use Rattle.std.proofs.lemmas.List.{length-map}
 use Rattle.std.proofs.lemmas.List.Elements.{All-weaker}
@@ -12,15 +12,17 @@ use Rattle.crush.specs.declared.bucket.BucketKind.{BucketKind}
 use Rattle.crush.specs.declared.bucket.BucketKind.TheVariants.{Uniform, List as InList, Tree, Straw2}
 use Rattle.crush.specs.declared.step.Step.{Step}
 use Rattle.crush.specs.declared.step.Step.TheVariants as step
-use Rattle.crush.specs.Forest.{weight_of}
+use Rattle.crush.specs.Forest.{weight_of, most_items}
 use Rattle.crush.specs.WellFormed.{is_within, is_bucket_id, item_limits_ok, bucket_limits_ok, is_even, weights_ok}
 use Rattle.crush.specs.Grammar.{step_limits_ok}
 use Rattle.keylist.proofs.Each.{list_all-at, list_all-from}
 use Rattle.stated.specs.declared.rules.NumberedRule.{NumberedRule}
 use Rattle.stated.specs.CrushMaps.{is_rule_over}
-use Rattle.stated.specs.Parts.{is_between, has_between, item_fits, bucket_fits, step_fits, rule_fits, pool_fits}
+use Rattle.stated.specs.Parts.{is_between, has_between, item_fits, bucket_fits, step_fits, rule_fits, has_few_groups, pool_fits}
 use Rattle.osdmap.specs.PartsOf.{item_part, bucket_part, step_part, rule_part, pool_part}
-use Rattle.stated.specs.Pools.{PoolFacts, IsWithinLimits}
+use Rattle.stated.specs.declared.parts.PoolPart.{PoolPart}
+use Rattle.stated.specs.Pools.{PoolFacts, total_groups, IsWithinLimits}
+use Rattle.stated.proofs.Totals.{sum_by-map}
 use Rattle.keylist.proofs.Tests.{and_first}
 use Rattle.keylist.proofs.Each.{all_more}
 
@@ -77,7 +79,7 @@ unfolding bucket_fits
 bucket_fine b limits weights =
     let id : is_bucket_id b.id ≡ true = grind (arith, limits) in
     let level = within_fits 1 15 b.level (grind (arith, limits)) in
-    let count = within_counts item_part 1 64 b.items (grind (arith, limits)) in
+    let count = within_counts item_part 1 (most_items b.kind) b.items (grind (arith, limits)) in
     let items = items_fine b.items (grind (arith, limits)) (weights_light b.kind b.items weights) in
     rw (id, level, count, items) refl
 
@@ -124,8 +126,8 @@ pool_fine : (p : PoolFacts) → IsWithinLimits p → pool_fits (pool_part p) ≡
 unfolding pool_fits
 pool_fine p within =
     let id = natural_fits 1 65535 p.id (omega (arith, within.id_some)) within.id_most in
-    let pg_num = natural_fits 1 4096 p.pg_num (omega (arith, within.groups_some, within.groups_few)) within.groups_most in
-    let pgp_num = natural_fits 1 4096 p.pgp_num (omega (arith, within.groups_some)) (omega (arith, within.groups_few, within.groups_most)) in
+    let pg_num = natural_fits 1 65536 p.pg_num (omega (arith, within.groups_some, within.groups_few)) within.groups_most in
+    let pgp_num = natural_fits 1 65536 p.pgp_num (omega (arith, within.groups_some)) (omega (arith, within.groups_few, within.groups_most)) in
     let rule = natural_fits 0 255 p.rule (omega arith) within.rule_most in
     let size = natural_fits 1 10 p.size (omega (arith, within.size_some)) within.size_most in
     rw (id, pg_num, pgp_num, rule, size) refl
@@ -135,3 +137,10 @@ pub pools_fine : (pools : List PoolFacts) → All IsWithinLimits pools → list_
 pools_fine pools within =
     list_all-map pool_fits pool_part pools
     ∙ list_all-from_AllPass (λ p. pool_fits (pool_part p)) pools (All-weaker IsWithinLimits (λ p. pool_fits (pool_part p) ≡ true) pool_fine pools within)
+
+-- and they have as few groups together
+pub groups_fine : (pools : List PoolFacts) → total_groups pools ≤ 262144 → has_few_groups (map pool_part pools) ≡ true
+unfolding has_few_groups
+groups_fine pools few =
+    let same : sum_by (λ (q : PoolPart). nat_abs q.pg_num) (map pool_part pools) ≡ total_groups pools = sum_by-map (λ (q : PoolPart). nat_abs q.pg_num) pool_part pools in
+    rw same (grind (arith, nat_tests, few))

@@ -39,7 +39,7 @@ use Rattle.osdmap.proofs.Excepted.{exists_same, exceptions_same}
 use Rattle.stated.specs.Ordered.{IsChange}
 use Rattle.osdmap.proofs.Kept.{HoldsTogether-after}
 use Rattle.osdmap_laws.proofs.FewExceptions.{few_exceptions}
-use Rattle.osdmap_laws.proofs.OwnFits.{natural_fits, count_fits, buckets_fine, rules_fine, pools_fine}
+use Rattle.osdmap_laws.proofs.OwnFits.{natural_fits, count_fits, buckets_fine, rules_fine, pools_fine, groups_fine}
 use Rattle.osdmap_laws.proofs.OwnOsds.{own_distinct, own_ok, own_fit, own_presences, own_weights}
 use Rattle.keylist.proofs.Each.{all_more, map_twice}
 
@@ -157,7 +157,7 @@ module _ (m : ClusterMap) (holds : HoldsTogether m) where
         (all_more (is_exception names sound m.pools (osd_exists m)) (λ e. has_group m.pools e.pg) es
         (λ e h. and_first (has_group m.pools e.pg) (all_named names (osd_exists m) e) (and_first (has_group m.pools e.pg && all_named names (osd_exists m) e) (is_sound sound m.pools e) h)) all) in
         let few = few_exceptions m.pools es holds.pools_within rises there in
-        let count = count_fits (exception_part entry_part) 0 131072 es (omega arith) (omega (arith, few, holds.few_pools)) in
+        let count = count_fits (exception_part entry_part) 0 262144 es (omega arith) (omega (arith, few, holds.few_groups)) in
         let entries = list_all-map (exception_fits fits) (exception_part entry_part) es ∙ all_more (is_exception names sound m.pools (osd_exists m)) (λ e. exception_fits fits (exception_part entry_part e)) es one_fits all in
         rw (count, entries) refl
 
@@ -187,12 +187,13 @@ module _ (m : ClusterMap) (holds : HoldsTogether m) where
         version_fine m.rules,
         natural_fits 1 2147483648 m.epoch some most,
         natural_fits 1 1024 (length m.presences) holds.some holds.few,
-        count_fits bucket_part 1 512 m.buckets (grind (arith, nat_tests, holds.forest.limits)) (grind (arith, nat_tests, holds.forest.limits)),
+        count_fits bucket_part 1 4096 m.buckets (grind (arith, nat_tests, holds.forest.limits)) (grind (arith, nat_tests, holds.forest.limits)),
         count_fits rule_part 1 32 m.rules holds.some_rules holds.few_rules,
         count_fits pool_part 0 32 m.pools (omega arith) holds.few_pools,
         buckets_fine m.buckets (grind (arith, holds.forest.limits)) (grind (arith, holds.over_osds)),
         rules_fine m.buckets m.rules holds.rules_over,
         pools_fine m.pools holds.pools_within,
+        groups_fine m.pools holds.few_groups,
         own_fit m holds,
         exceptions_fine target is_set pos is_osd_id target_fine m.explicit holds.explicit_rise holds.explicit_sound,
         exceptions_fine sides are_pairs pair_part pair_fits pair_fine m.items holds.items_rise holds.items_sound,

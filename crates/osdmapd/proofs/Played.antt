@@ -1,5 +1,5 @@
 -- The texts of sessions.
-use Rattle.std.proofs.Common.{◌≡◌, ◌∙◌, ◌++◌, false, refl, ap, subst, append_assoc, ℕ, List, map, length, Option, None, IfSome, OnOk, Result, Ok, Err}
+use Rattle.std.proofs.Common.{◌≡◌, ◌∙◌, ◌==◌, ◌++◌, Bool, false, refl, ap, subst, append_assoc, ℕ, List, map, length, Option, None, IfSome, OnOk, Result, Ok, Err}
 use Rattle.std.specs.List.{concat}
 use Rattle.std.specs.Result.{IsErrAnd}
 use Rattle.stated.specs.Incrementals.{Step}
@@ -41,22 +41,23 @@ left_by monitor players parts lefts started kept =
     1 players parts lefts started kept
 
 -- texts of a monitor with this first map, journal and profile
-texts_from : (monitor : Monitored) (m : ClusterMap) (journal : ℕ) (profile : Profile) (all : List Step) (parts : List Part) (lefts : List Left)
-    → monitor.first ≡ m → length monitor.row.cells ≡ journal → monitor.profile ≡ profile
-    → Pairs (λ number part left. IsLeftIn monitor.first (length monitor.row.cells) monitor.profile all number part (text_left left)) 1 parts lefts
-    → Pairs (IsLeftIn m journal profile all) 1 parts (map text_left lefts)
-texts_from monitor m journal profile all parts lefts first room kinds paired =
-    subst (λ p. Pairs (IsLeftIn m journal p all) 1 parts (map text_left lefts)) kinds
-    (subst (λ k. Pairs (IsLeftIn m k monitor.profile all) 1 parts (map text_left lefts)) room
-    (subst (λ f. Pairs (IsLeftIn f (length monitor.row.cells) monitor.profile all) 1 parts (map text_left lefts)) first
-    (pairs_made (IsLeftIn monitor.first (length monitor.row.cells) monitor.profile all) text_left 1 parts lefts paired)))
+texts_from : (monitor : Monitored) (m : ClusterMap) (journal : ℕ) (profile : Profile) (alone : Bool) (all : List Step) (parts : List Part) (lefts : List Left)
+    → monitor.first ≡ m → length monitor.row.cells ≡ journal → monitor.profile ≡ profile → monitor.alone ≡ alone
+    → Pairs (λ number part left. IsLeftIn monitor.first (length monitor.row.cells) monitor.profile monitor.alone all number part (text_left left)) 1 parts lefts
+    → Pairs (IsLeftIn m journal profile alone all) 1 parts (map text_left lefts)
+texts_from monitor m journal profile alone all parts lefts first room kinds one paired =
+    subst (λ b. Pairs (IsLeftIn m journal profile b all) 1 parts (map text_left lefts)) one
+    (subst (λ p. Pairs (IsLeftIn m journal p monitor.alone all) 1 parts (map text_left lefts)) kinds
+    (subst (λ k. Pairs (IsLeftIn m k monitor.profile monitor.alone all) 1 parts (map text_left lefts)) room
+    (subst (λ f. Pairs (IsLeftIn f (length monitor.row.cells) monitor.profile monitor.alone all) 1 parts (map text_left lefts)) first
+    (pairs_made (IsLeftIn monitor.first (length monitor.row.cells) monitor.profile monitor.alone all) text_left 1 parts lefts paired))))
 
 -- the texts from the map that a text states
 pub texts_of : (monitor : Monitored) (m : ClusterMap) (journal : ℕ) (profile : Profile) (stated : List ℕ) (parts : List Part) (lefts : List Left)
     → StatesMap profile stated m → monitor.first ≡ m → length monitor.row.cells ≡ journal → monitor.profile ≡ profile
-    → AreLeftBy monitor parts lefts → AreTextsOf journal profile stated parts (map text_left lefts)
-texts_of monitor m journal profile stated parts lefts states first room kinds (all, lawful, paired) =
-    (m, states, all, subst (λ f. IsLawful f all) first lawful, texts_from monitor m journal profile all parts lefts first room kinds paired)
+    → monitor.alone ≡ (length parts == 1) → AreLeftBy monitor parts lefts → AreTextsOf journal profile stated parts (map text_left lefts)
+texts_of monitor m journal profile stated parts lefts states first room kinds one (all, lawful, paired) =
+    (m, states, all, subst (λ f. IsLawful f all) first lawful, texts_from monitor m journal profile (length parts == 1) all parts lefts first room kinds one paired)
 
 -- what is out where the output fails, at whatever error is told
 pub served_part : (r : Result Unit Fault) (journal : ℕ) (profile : Profile) (stated : List ℕ) (parts : List Part) (before after : List ℕ)

@@ -1,5 +1,5 @@
 -- What a run of the program writes.
-use Rattle.std.specs.Prelude.{◌≡◌, ℕ, Bool, true, false, List, [], ◌++◌, codes, length, Some, None, Result, Ok, Err}
+use Rattle.std.specs.Prelude.{◌≡◌, ◌==◌, ℕ, Bool, true, false, List, [], ◌++◌, codes, length, Some, None, Result, Ok, Err}
 use Rattle.std.specs.Fmt.{decimal}
 use Rattle.std.specs.List.{concat}
 use Rattle.stated.specs.Incrementals.{Step}
@@ -36,24 +36,24 @@ abbrev pub unseen : Sight
 unseen = record { member = []; follower = [] }
 
 -- the text of the session of a number: its heading, and the answers of its script, from this first map, with a
--- journal for so many changes, whose texts may state these kinds of buckets; the last of them leaves its member with
--- this history
-abbrev pub IsSessionText : ClusterMap → ℕ → Profile → ℕ → List ℕ → List ℕ → List Step → Type 0
-IsSessionText first journal profile number script text seen =
-    (answers : List ℕ) × (last : Sight) × IsTranscript (session_with first journal profile lets_all) 1 unseen
+-- journal for so many changes, whose texts may state these kinds of buckets, of a member that is alone or not; the last
+-- of them leaves its member with this history
+abbrev pub IsSessionText : ClusterMap → ℕ → Profile → Bool → ℕ → List ℕ → List ℕ → List Step → Type 0
+IsSessionText first journal profile alone number script text seen =
+    (answers : List ℕ) × (last : Sight) × IsTranscript (session_with first journal profile alone lets_all) 1 unseen
     (lines_in script) answers last
     × (last.member ≡ seen) × (text ≡ heading number ++ answers)
 
 -- the same of a session of this monitor
 abbrev pub IsTextBy : Monitored → ℕ → List ℕ → List ℕ → List Step → Type 0
 IsTextBy monitor number script text seen =
-    IsSessionText monitor.first (length monitor.row.cells) monitor.profile number script text seen
+    IsSessionText monitor.first (length monitor.row.cells) monitor.profile monitor.alone number script text seen
 
 -- what is left to put out of the session of a part, once it has ended: the text of a script; of a live session nothing
-abbrev pub IsLeftOf : ClusterMap → ℕ → Profile → ℕ → Part → List ℕ → List Step → Type 0
-IsLeftOf first journal profile number (Script script) text seen =
-    IsSessionText first journal profile number script.items text seen
-IsLeftOf first journal profile number (Live source target) text seen = text ≡ []
+abbrev pub IsLeftOf : ClusterMap → ℕ → Profile → Bool → ℕ → Part → List ℕ → List Step → Type 0
+IsLeftOf first journal profile alone number (Script script) text seen =
+    IsSessionText first journal profile alone number script.items text seen
+IsLeftOf first journal profile alone number (Live source target) text seen = text ≡ []
 
 -- what is to be put out of what is left
 abbrev pub text_left : Left → List ℕ
@@ -67,14 +67,15 @@ seen_left left = left.member.pass.history
 abbrev pub IsLeftBy : Monitored → ℕ → Part → Left → Type 0
 IsLeftBy monitor number part left =
     IsMemberOf monitor left.member
-    × IsLeftOf monitor.first (length monitor.row.cells) monitor.profile number part (text_left left) (seen_left left)
+    × IsLeftOf monitor.first (length monitor.row.cells) monitor.profile monitor.alone number part (text_left left)
+    (seen_left left)
 
 -- ---- all sessions
 
 -- what is left of a session whose last history begins this one
-abbrev pub IsLeftIn : ClusterMap → ℕ → Profile → List Step → ℕ → Part → List ℕ → Type 0
-IsLeftIn first journal profile all number part text =
-    (seen : List Step) × Begins seen all × IsLeftOf first journal profile number part text seen
+abbrev pub IsLeftIn : ClusterMap → ℕ → Profile → Bool → List Step → ℕ → Part → List ℕ → Type 0
+IsLeftIn first journal profile alone all number part text =
+    (seen : List Step) × Begins seen all × IsLeftOf first journal profile alone number part text seen
 
 -- what is left of the sessions of these parts, numbered from 1, at one monitor: the last history of each begins one
 -- that is lawful from the first map
@@ -82,14 +83,16 @@ abbrev pub AreLeftBy : Monitored → List Part → List Left → Type 0
 AreLeftBy monitor parts lefts =
     (all : List Step) × IsLawful monitor.first all
     × Pairs (λ number part left.
-    IsLeftIn monitor.first (length monitor.row.cells) monitor.profile all number part (text_left left)) 1 parts lefts
+    IsLeftIn monitor.first (length monitor.row.cells) monitor.profile monitor.alone all number part (text_left left))
+    1 parts lefts
 
 -- what is left of the sessions of these parts, numbered from 1, from the map that a text states: there is one history,
--- lawful from that map, which the last history of each session begins
+-- lawful from that map, which the last history of each session begins; a session that is the only one sees nothing but
+-- what its own answers tell
 abbrev pub AreTextsOf : ℕ → Profile → List ℕ → List Part → List (List ℕ) → Type 0
 AreTextsOf journal profile stated parts texts =
     (m : ClusterMap) × StatesMap profile stated m × (all : List Step) × IsLawful m all
-    × Pairs (IsLeftIn m journal profile all) 1 parts texts
+    × Pairs (IsLeftIn m journal profile (length parts == 1) all) 1 parts texts
 
 -- the texts of a map that is not refused are out, one after the other
 abbrev pub IsServed : ℕ → Profile → List ℕ → List Part → List ℕ → List ℕ → Type 0

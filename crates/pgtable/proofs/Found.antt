@@ -37,8 +37,8 @@ small_place m (Some osd) few is = let below : nat_lt osd 1024 ≡ true = below_m
 pub mapped_small : (m : ClusterMap) (p : PoolFacts) (n : ℕ) (set : List (Option ℕ)) → HoldsTogether m → set ≡ mapped_set m p n → All (λ place. IfSome place (λ osd. osd < 1024)) set
 mapped_small m p n set holds is k d inside = small_place m (get_or set k d) holds.few (rw (← is) at (mapped_exist m p n holds) k d inside)
 
--- a pool has at most 4,096 sets
-pub few_sets : (m : ClusterMap) (p : PoolFacts) (sets : List (List (Option ℕ))) → p.pg_num ≤ 4096 → sets ≡ sets_of m p → length sets ≤ 4096
+-- a pool has at most 65,536 sets
+pub few_sets : (m : ClusterMap) (p : PoolFacts) (sets : List (List (Option ℕ))) → p.pg_num ≤ 65536 → sets ≡ sets_of m p → length sets ≤ 65536
 few_sets m p sets few is = rw is (omega (arith, length-map-range_with_len (mapped_set m p) 0 p.pg_num))
 
 -- ---- sizes

@@ -134,8 +134,8 @@ module _ (old : List PoolTable) (m : ClusterMap) where
 
 -- ---- evaluations
 
--- pools have at most 4,096 evaluations each
-few_evals : (m : ClusterMap) (c : ChangeParts) (ps : List PoolFacts) → All IsWithinLimits ps → sum_by (evals_in m c) ps ≤ 4096 * length ps
+-- pools have at most 65,536 evaluations each
+few_evals : (m : ClusterMap) (c : ChangeParts) (ps : List PoolFacts) → All IsWithinLimits ps → sum_by (evals_in m c) ps ≤ 65536 * length ps
 few_evals m c [] within = omega arith
 few_evals m c (p ∷ ps) within =
     let here = All-head IsWithinLimits p ps within in
@@ -145,8 +145,8 @@ few_evals m c (p ∷ ps) within =
     let sum = sum_by-cons (evals_in m c) p ps in
     omega (arith, here.groups_most)
 
--- all pools have at most 131,072
-pub evals_whole : (m : ClusterMap) (c : ChangeParts) → HoldsTogether m → sum_by (evals_in m c) m.pools ≤ 131072
+-- all pools have at most 2,097,152
+pub evals_whole : (m : ClusterMap) (c : ChangeParts) → HoldsTogether m → sum_by (evals_in m c) m.pools ≤ 2097152
 evals_whole m c holds = omega (arith, few_evals m c m.pools holds.pools_within, holds.few_pools)
 
 -- the evaluations of the pools so far, at the end, are all

@@ -5,22 +5,26 @@ use Rattle.std.specs.declared.vec.Vec.{Vec}
 use Rattle.std.specs.declared.alloc.Global.{Global}
 use Rattle.refusal.specs.declared.refused.Refusal.{Refusal}
 use Rattle.refusal.specs.declared.refused.Refusal.TheVariants.{SeatSpent, Memory as OutOfMemory}
+use Rattle.stated.specs.declared.change.ChangeParts.{ChangeParts}
 use Rattle.stated.specs.Incrementals.{Step}
 use Rattle.osdmap.specs.Maps.{ClusterMap}
 use Rattle.osdmap.specs.Changes.{IsLawful, after}
 use Rattle.mapjson.specs.Written.{written}
-use Rattle.monitor.specs.Histories.{GoesOn}
+use Rattle.epochlog.specs.Epochs.{Seen}
+use Rattle.balancer.specs.Plans.{plan_change}
+use Rattle.monitor.specs.Histories.{GoesOn, AddsChange}
+use Rattle.monitor.specs.Balances.{AddsPlan}
 use Rattle.monitor.specs.Followers.{Followed}
 use Rattle.monitor.specs.declared.member.Member.{Member}
 use Rattle.session.specs.declared.command.Question.{Question}
 use Rattle.session.specs.declared.command.Question.TheVariants.{Up, Count, Groups, Epoch, Dump}
 use Rattle.session.specs.declared.reply.Reply.{Reply}
-use Rattle.session.specs.Texts.{epoch_text, dump_text, refusal_text, line_of}
+use Rattle.session.specs.Texts.{epoch_text, dump_text, ok_text, moved_text, refusal_text, line_of}
 use Rattle.session.specs.Replies.{reply_text}
 use Rattle.session.specs.Commands.{ask, command_in, question_in, task_in}
 use Rattle.session.specs.Transcripts.{TakesLine}
 use Rattle.stated.specs.declared.profile.Profile.{Profile}
-use Rattle.session.specs.Answers.{Asks, Sight, session_with}
+use Rattle.session.specs.Answers.{Asks, AddsOwn, Sight, session_with}
 use Rattle.session.specs.Sessions.{seen_by}
 use Rattle.session.proofs.Histories.{goes_on_same}
 use Rattle.session.proofs.Replies.{takes_line}
@@ -83,14 +87,35 @@ some_line [] question e = absurd (none_some e)
 some_line (c ∷ cs) question e = omega arith
 
 -- and is taken so, where each line is let through
-pub takes_question : (first : ClusterMap) (most : ℕ) (profile : Profile) (lets : ℕ → Bool → Type 0) (number : ℕ) (before now : Sight) (line : List ℕ)
+pub takes_question : (first : ClusterMap) (most : ℕ) (profile : Profile) (alone : Bool) (lets : ℕ → Bool → Type 0) (number : ℕ) (before now : Sight) (line : List ℕ)
     (question : Question) (answer : List ℕ) → ((n : ℕ) → lets n true) → command_in line ≡ Some (ask question)
     → Asks first before.member now.member question answer → now.follower ≡ before.follower
-    → TakesLine (session_with first most profile lets) number before line answer now
-takes_question first most profile lets number before now line question answer passes is asked same =
-    takes_line (session_with first most profile lets) number before now line answer (some_line line question is) (passes number) (rw is (asked, same))
+    → AddsOwn alone before.member answer now.member → TakesLine (session_with first most profile alone lets) number before line answer now
+takes_question first most profile alone lets number before now line question answer passes is asked same own =
+    takes_line (session_with first most profile alone lets) number before now line answer (some_line line question is) (passes number) (rw is (asked, same), own)
 
 -- what is seen by a member and a follower is the same where these have seen the same
 pub same_sight : (one other : Member) (follower same : Option Followed) → one.pass ≡ other.pass → follower ≡ same
     → seen_by one follower ≡ seen_by other same
 same_sight one other follower same passed followed = rw (passed, followed) refl
+
+-- a member that is alone and has seen no more has its own
+pub own_same : (alone : Bool) (before now : Seen) (answer : List ℕ) → (alone ≡ true → now ≡ before)
+    → AddsOwn alone before.history answer now.history
+own_same alone before now answer same is = inl (ap (λ (pass : Seen). pass.history) (same is))
+
+-- the line of a change that was accepted tells its epoch
+pub own_change : (alone : Bool) (before now : List Step) (change : ChangeParts) (r : Result (ℕ × ℕ) Refusal)
+    → (alone ≡ true → AddsChange before now change r) → AddsOwn alone before (line_of (λ ok. ok_text ok.0 ok.1) r) now
+own_change alone before now change (Ok ok) adds is = inr (ok.0, change, ok.1, adds is, inl refl)
+own_change alone before now change (Err e) adds is = inl (adds is)
+
+-- and so does that of moves
+pub own_plan : (first : ClusterMap) (alone : Bool) (before now : List Step) (pool limit : ℕ) (r : Result (ℕ × ℕ) Refusal)
+    → (alone ≡ true → AddsPlan first before now pool limit r)
+    → AddsOwn alone before (line_of (λ ok. moved_text ok.1 ok.0) r) now
+own_plan first alone before now pool limit (Ok ok) adds is = elim (adds is) [
+  | inl none ↦ inl none.1
+  | inr more ↦ inr (ok.0, plan_change (after first before) pool limit, ok.1, more.1, inr refl)
+]
+own_plan first alone before now pool limit (Err e) adds is = inl (adds is)

@@ -7,3 +7,4 @@ mod Passing
 mod Asked
 mod Coming
 mod Firsts
+mod Alone

@@ -1,5 +1,5 @@
 -- What a line answers to a session of a monitor, by what its member and its follower have seen before and after it.
-use Rattle.std.specs.Prelude.{◌≡◌, ◌⊎◌, ℕ, ◌<◌, ◌≤◌, Bool, List, codes, Option, Some, None, Result, Err, MatchResult}
+use Rattle.std.specs.Prelude.{◌≡◌, ◌⊎◌, ℕ, ◌<◌, ◌≤◌, Bool, true, List, [], ◌∷◌, ◌++◌, codes, Option, Some, None, Result, Err, MatchResult}
 use Rattle.std.specs.declared.vec.Vec.{Vec}
 use Rattle.std.specs.declared.alloc.Global.{Global}
 use Rattle.stated.specs.declared.pg.Pg.{Pg}
@@ -104,10 +104,23 @@ Does first most profile before (Some (balance pool limit)) answer now =
 Does first most profile before (Some (follower t)) answer now =
     Tells first before.follower now.follower t answer × (now.member ≡ before.member)
 
--- what a line answers, and what the session has seen then
-abbrev pub IsAnswered : ClusterMap → ℕ → Profile → Sight → List ℕ → List ℕ → Sight → Type 0
-IsAnswered first most profile before line answer now = Does first most profile before (command_in line) answer now
+-- a history stays, or is longer by one incremental, whose epoch an answer tells
+abbrev pub AddsTold : List Step → List ℕ → List Step → Type 0
+AddsTold before answer now =
+    (now ≡ before)
+    ⊎ ((epoch : ℕ) × (change : ChangeParts) × (count : ℕ)
+    × (now ≡ before ++ record { epoch = epoch; change = change } ∷ [])
+    × ((answer ≡ ok_text epoch count) ⊎ (answer ≡ moved_text count epoch)))
 
--- how a session goes behind a gate
-abbrev pub session_with : ClusterMap → ℕ → Profile → (ℕ → Bool → Type 0) → Manner Sight
-session_with first most profile lets = record { answers = IsAnswered first most profile; lets = lets }
+-- a member that has none beside it sees nothing but what its own answers tell
+abbrev pub AddsOwn : Bool → List Step → List ℕ → List Step → Type 0
+AddsOwn alone before answer now = alone ≡ true → AddsTold before answer now
+
+-- what a line answers, and what the session has seen then
+abbrev pub IsAnswered : ClusterMap → ℕ → Profile → Bool → Sight → List ℕ → List ℕ → Sight → Type 0
+IsAnswered first most profile alone before line answer now =
+    Does first most profile before (command_in line) answer now × AddsOwn alone before.member answer now.member
+
+-- how a session goes behind a gate, of a member that is alone or not
+abbrev pub session_with : ClusterMap → ℕ → Profile → Bool → (ℕ → Bool → Type 0) → Manner Sight
+session_with first most profile alone lets = record { answers = IsAnswered first most profile alone; lets = lets }

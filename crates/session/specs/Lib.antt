@@ -9,3 +9,4 @@ pub mod Sessions
 pub mod Ends
 pub mod Readings
 pub mod Watches
+pub mod Alone

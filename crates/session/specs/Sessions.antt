@@ -26,4 +26,4 @@ sight_of member = seen_by member None
 
 -- how a session of this monitor goes behind a gate
 abbrev pub session_of : Monitored → (ℕ → Bool → Type 0) → Manner Sight
-session_of monitor lets = session_with monitor.first (length monitor.row.cells) monitor.profile lets
+session_of monitor lets = session_with monitor.first (length monitor.row.cells) monitor.profile monitor.alone lets

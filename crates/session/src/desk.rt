@@ -145,13 +145,13 @@ impl<'a, R, G> Desk<'a, R, G> {
 impl<'a, R: Wait, G> Desk<'a, R, G> {
     ghost use Rattle.std.specs.Prelude.{length};
     ghost use Rattle.std.specs.Option.{option_map};
-    ghost use Rattle.monitor.specs.Members.{IsMemberOf};
+    ghost use Rattle.monitor.specs.Members.{IsMemberOf, StaysAlone};
     ghost use Rattle.monitor.specs.Sharing.{IsSharing};
     ghost use Rattle.monitor.specs.Balances.{AnswersBalance};
-    ghost use Rattle.session.specs.Texts.{line_of};
+    ghost use Rattle.session.specs.Texts.{line_of, ok_text, moved_text};
     ghost use Rattle.session.specs.Commands.{shown};
     ghost use Rattle.session.specs.Replies.{reply_text};
-    ghost use Rattle.session.specs.Answers.{Asks, Changes, Awaits, Does};
+    ghost use Rattle.session.specs.Answers.{Asks, Changes, Awaits, Does, AddsOwn};
     ghost use Rattle.session.specs.Sessions.{seen_by, IsFollowerOf};
 
     /// What a question answers by the state that a member shares.
@@ -197,6 +197,8 @@ impl<'a, R: Wait, G> Desk<'a, R, G> {
         ensures member { IsMemberOf self.now.monitor.now member.new }
         ensures asks { Asks self.now.monitor.now.first member.old.pass.history member.new.pass.history question
             (line_of reply_text result) }
+        ensures own { AddsOwn self.now.monitor.now.alone member.old.pass.history
+            (line_of reply_text result) member.new.pass.history }
     {
         let shared = self.monitor.share(self.rt, member)?;
         let answer = self.answer_of(&shared, member, question);
@@ -210,6 +212,8 @@ impl<'a, R: Wait, G> Desk<'a, R, G> {
         ensures member { IsMemberOf self.now.monitor.now member.new }
         ensures changes { Changes self.now.monitor.now.first (length self.now.monitor.now.row.cells)
             self.now.monitor.now.profile member.old.pass.history member.new.pass.history text.now result }
+        ensures own { AddsOwn self.now.monitor.now.alone member.old.pass.history
+            (line_of (λ ok. ok_text ok.0 ok.1) result) member.new.pass.history }
     {
         let (base, change) = read_change(self.alloc, text, self.monitor.profile())?;
         self.monitor.commit(self.rt, member, base, change)
@@ -222,6 +226,7 @@ impl<'a, R: Wait, G> Desk<'a, R, G> {
         ensures member { IsMemberOf self.now.monitor.now member.new }
         ensures awaits { Awaits self.now.monitor.now.first wanted
             member.old.pass.history member.new.pass.history result }
+        ensures own { StaysAlone self.now.monitor.now member.old.pass member.new.pass }
     {
         let _ = watch(self.rt, self.monitor, wanted);
         let epoch = self.monitor.epoch(self.rt, member)?;
@@ -238,6 +243,8 @@ impl<'a, R: Wait, G> Desk<'a, R, G> {
         ensures member { IsMemberOf self.now.monitor.now member.new }
         ensures balances { AnswersBalance self.now.monitor.now.first (length self.now.monitor.now.row.cells)
             member.old.pass.history member.new.pass.history plan.pool plan.limit result }
+        ensures own { AddsOwn self.now.monitor.now.alone member.old.pass.history
+            (line_of (λ ok. moved_text ok.1 ok.0) result) member.new.pass.history }
     {
         self.monitor.balance(self.rt, member, plan.pool, plan.limit)
     }
@@ -256,6 +263,8 @@ impl<'a, R: Wait, G> Desk<'a, R, G> {
         ensures does { Does self.now.monitor.now.first (length self.now.monitor.now.row.cells)
             self.now.monitor.now.profile (seen_by member.old follower.old)
             (option_map shown command.entry) (line_of reply_text result) (seen_by member.new follower.new) }
+        ensures own { AddsOwn self.now.monitor.now.alone member.old.pass.history
+            (line_of reply_text result) member.new.pass.history }
     {
         match command {
             None => Err(Refusal::BadCommand),

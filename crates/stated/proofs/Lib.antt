@@ -7,3 +7,4 @@ mod DigitsLeft
 mod PgTexts
 pub mod GroupTexts
 mod Shorts
+pub mod Totals

@@ -13,6 +13,7 @@ use Rattle.stated.specs.declared.parts.StepPart.{StepPart}
 use Rattle.stated.specs.declared.parts.StepPart.TheVariants.{SetChooseTries, SetChooseleafTries, Take, Choose as Chooses, Emit}
 use Rattle.stated.specs.declared.parts.OsdPart.{OsdPart}
 use Rattle.stated.specs.Parts.{is_between, has_between, item_fits, bucket_fits, step_fits, rule_fits, osd_fits, item_of, bucket_of, step_of}
+use Rattle.crush.specs.Forest.{most_items}
 use Rattle.crush.specs.WellFormed.{is_within, is_bucket_id, item_limits_ok, bucket_limits_ok, forest_limits_ok}
 use Rattle.crush.specs.Grammar.{step_limits_ok, rule_limits_ok}
 use Rattle.stated.proofs.Within.{word_between, natural_between}
@@ -145,15 +146,15 @@ unfolding bucket_fits
 bucket_within b h =
     let id : is_bucket_id b.id ≡ true = grind arith in
     let level = level_within 1 15 b.level (grind arith) in
-    let count = count_within item_of 1 64 b.items (grind arith) in
+    let count = count_within item_of 1 (most_items b.kind) b.items (grind arith) in
     let items = items_within b.items (grind arith) in
     grind (arith, id, level, count, items)
 
 -- buckets that fit are, together, within the limits of a forest
-pub forest_limits : (buckets : List BucketPart) (max_osd : ℕ) → list_all bucket_fits buckets ≡ true → has_between 1 512 buckets ≡ true → 1 ≤ max_osd → max_osd ≤ 1024
+pub forest_limits : (buckets : List BucketPart) (max_osd : ℕ) → list_all bucket_fits buckets ≡ true → has_between 1 4096 buckets ≡ true → 1 ≤ max_osd → max_osd ≤ 1024
     → forest_limits_ok (map bucket_of buckets) max_osd ≡ true
 forest_limits buckets max_osd fits count some few =
-    let counted = count_within bucket_of 1 512 buckets count in
+    let counted = count_within bucket_of 1 4096 buckets count in
     let each : list_all bucket_limits_ok (map bucket_of buckets) ≡ true = rw (list_all-map bucket_limits_ok bucket_of buckets) (all_more bucket_fits (λ b. bucket_limits_ok (bucket_of b)) buckets bucket_within fits) in
     grind (arith, nat_tests, counted, each)
 

@@ -33,8 +33,8 @@ word_between low high (negsuc n) word h = absurd (false≢true h)
 -- each number of a pool that is within its limits
 pub record PoolFits (p : PoolPart) : Type 0 where
   pub id : is_between (pos 1) (pos 65535) p.id ≡ true
-  pub pg_num : is_between (pos 1) (pos 4096) p.pg_num ≡ true
-  pub pgp_num : is_between (pos 1) (pos 4096) p.pgp_num ≡ true
+  pub pg_num : is_between (pos 1) (pos 65536) p.pg_num ≡ true
+  pub pgp_num : is_between (pos 1) (pos 65536) p.pgp_num ≡ true
   pub rule : is_between (pos 0) (pos 255) p.rule ≡ true
   pub size : is_between (pos 1) (pos 10) p.size ≡ true
 
@@ -53,8 +53,8 @@ pool_fits_each p h = record {
 pub pool_within : (p : PoolPart) → PoolFits p → p.pgp_num ≤ℤ p.pg_num → IsWithinLimits (pool_of p)
 pool_within p each few =
     let id = natural_between 1 65535 p.id each.id in
-    let pg = natural_between 1 4096 p.pg_num each.pg_num in
-    let pgp = natural_between 1 4096 p.pgp_num each.pgp_num in
+    let pg = natural_between 1 65536 p.pg_num each.pg_num in
+    let pgp = natural_between 1 65536 p.pgp_num each.pgp_num in
     let rule = natural_between 0 255 p.rule each.rule in
     let size = natural_between 1 10 p.size each.size in
     let few' : pos (nat_abs p.pgp_num) ≤ℤ pos (nat_abs p.pg_num) = rw (← pgp.is, ← pg.is) few in
@@ -77,8 +77,8 @@ pool_whole p fits even = pool_within p (pool_fits_each p fits) (omega (arith, in
 -- each number of a growth that is within its limits
 pub record GrowthFits (g : GrowPart) : Type 0 where
   pub pool : is_between (pos 1) (pos 65535) g.pool ≡ true
-  pub pg_num : is_between (pos 1) (pos 4096) g.pg_num ≡ true
-  pub pgp_num : is_between (pos 1) (pos 4096) g.pgp_num ≡ true
+  pub pg_num : is_between (pos 1) (pos 65536) g.pg_num ≡ true
+  pub pgp_num : is_between (pos 1) (pos 65536) g.pgp_num ≡ true
 
 -- so is each of a growth
 pub growth_fits_each : (g : GrowPart) → growth_fits g ≡ true → GrowthFits g
@@ -89,8 +89,8 @@ growth_fits_each g h = record { pool = grind arith; pg_num = grind arith; pgp_nu
 pub growth_within : (g : GrowPart) → GrowthFits g → g.pgp_num ≤ℤ g.pg_num → IsGrowth (growth_of g)
 growth_within g each few =
     let pool = natural_between 1 65535 g.pool each.pool in
-    let pg = natural_between 1 4096 g.pg_num each.pg_num in
-    let pgp = natural_between 1 4096 g.pgp_num each.pgp_num in
+    let pg = natural_between 1 65536 g.pg_num each.pg_num in
+    let pgp = natural_between 1 65536 g.pgp_num each.pgp_num in
     let few' : pos (nat_abs g.pgp_num) ≤ℤ pos (nat_abs g.pg_num) = rw (← pgp.is, ← pg.is) few in
     record {
       pool_some = omega (arith, pool.least);

@@ -6,6 +6,7 @@ pub mod Incrementals
 pub mod Limits
 pub mod Ordered
 pub mod Parts
+pub mod Plain
 pub mod PgText
 pub mod Pools
 pub mod Profiles

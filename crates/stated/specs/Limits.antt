@@ -32,8 +32,12 @@ abbrev pub max_pool_id : ℕ
 max_pool_id = 65535
 
 abbrev pub max_groups : ℕ
-max_groups = 4096
+max_groups = 65536
+
+-- how many groups all pools of a map have together at most
+abbrev pub max_total_groups : ℕ
+max_total_groups = 262144
 
 -- how many exceptions of one kind a map has at most, and how many entries a list of a change
 abbrev pub max_entries : ℕ
-max_entries = 131072
+max_entries = 262144

@@ -1,11 +1,12 @@
 -- The parts of a map as a text states them: their limits, what is wrong with them, and the values that they stand for.
 use Rattle.std.specs.Prelude.{ℕ, is_some, unwrap_or, ℤ, pos, negsuc, nat_abs, int_le, nat_le, Bool, true, false, not, ◌&&◌, List, length, map, Option, Some, if◌then◌else◌}
-use Rattle.std.specs.List.{list_all}
+use Rattle.std.specs.List.{list_all, sum_by}
 use Rattle.std.specs.Option.{option_map_or}
 use Rattle.crush.specs.declared.bucket.Item.{Item}
 use Rattle.crush.specs.declared.bucket.Bucket.{Bucket}
 use Rattle.crush.specs.declared.step.Step.{Step}
 use Rattle.crush.specs.declared.step.Step.TheVariants.{SetChooseTries as TryFor, SetChooseleafTries as TryForLeaves, Take as TakeBucket, Choose as ChooseBy, Emit as EmitAll}
+use Rattle.crush.specs.Forest.{most_items}
 use Rattle.crush.specs.Rules.{Recipe}
 use Rattle.crush.specs.WellFormed.{is_bucket_id}
 use Rattle.stated.specs.declared.parts.MapParts.{MapParts}
@@ -25,8 +26,8 @@ use Rattle.stated.specs.declared.exception.Pair.{Pair}
 use Rattle.refusal.specs.declared.refused.Refusal.{Refusal}
 use Rattle.refusal.specs.declared.refused.Refusal.TheVariants.{BadLimit, BadPool}
 use Rattle.refusal.specs.Outcomes.{refused_unless}
-use Rattle.crush.specs.Limits.{max_buckets, max_items, lowest_bucket, max_level, max_devices, max_steps, max_tries, max_count, max_size}
-use Rattle.stated.specs.Limits.{max_version, max_first_epoch, max_osd_id, max_item_weight, max_rules, max_rule_id, max_pools, max_pool_id, max_groups, max_entries}
+use Rattle.crush.specs.Limits.{max_buckets, lowest_bucket, max_level, max_devices, max_steps, max_tries, max_count, max_size}
+use Rattle.stated.specs.Limits.{max_version, max_first_epoch, max_osd_id, max_item_weight, max_rules, max_rule_id, max_pools, max_pool_id, max_groups, max_total_groups, max_entries}
 use Rattle.crush.specs.Limits.{full_weight}
 use Rattle.stated.specs.Pools.{PoolFacts}
 
@@ -45,7 +46,7 @@ item_fits i = is_between lowest_bucket (pos max_osd_id) i.id && is_between (pos 
 
 unfoldable pub bucket_fits : BucketPart → Bool
 bucket_fits b =
-    is_bucket_id b.id && is_between (pos 1) (pos max_level) b.level && has_between 1 max_items b.items
+    is_bucket_id b.id && is_between (pos 1) (pos max_level) b.level && has_between 1 (most_items b.kind) b.items
     && list_all item_fits b.items
 
 unfoldable pub step_fits : StepPart → Bool
@@ -82,7 +83,7 @@ pair_fits p = is_osd_id p.from && is_osd_id p.to
 unfoldable pub exception_fits : {P : Type 0} → (P → Bool) → ExceptionPart P → Bool
 exception_fits fits e = pg_fits e.pg && has_between 0 max_size e.entries && list_all fits e.entries
 
--- at most 131,072 exceptions, each within its limits
+-- at most 262,144 exceptions, each within its limits
 unfoldable pub exceptions_fit : {P : Type 0} → (P → Bool) → List (ExceptionPart P) → Bool
 exceptions_fit fits es = has_between 0 max_entries es && list_all (exception_fits fits) es
 
@@ -96,11 +97,15 @@ head_fits p =
 unfoldable pub lists_fit : MapParts → Bool
 lists_fit p = has_between 1 max_buckets p.buckets && has_between 1 max_rules p.rules && has_between 0 max_pools p.pools
 
+-- all pools together have at most 262,144 groups
+unfoldable pub has_few_groups : List PoolPart → Bool
+has_few_groups pools = nat_le (sum_by (λ p. nat_abs p.pg_num) pools) max_total_groups
+
 -- every number and every length of the map
 unfoldable pub parts_fit : MapParts → Bool
 parts_fit p =
     head_fits p && lists_fit p && list_all bucket_fits p.buckets && list_all rule_fits p.rules
-    && list_all pool_fits p.pools && list_all osd_fits p.osds
+    && list_all pool_fits p.pools && has_few_groups p.pools && list_all osd_fits p.osds
     && exceptions_fit is_osd_id p.pg_upmap && exceptions_fit pair_fits p.pg_upmap_items
 
 -- ---- the values that parts within the limits stand for

@@ -1,5 +1,6 @@
 -- A pool: how many groups it has, and the rule and size by which they are placed (Ceph, osd_types.h, pg_pool_t).
-use Rattle.std.specs.Prelude.{ℕ, ◌≤◌, ◌<◌}
+use Rattle.std.specs.Prelude.{ℕ, ◌≤◌, ◌<◌, List}
+use Rattle.std.specs.List.{sum_by}
 use Rattle.crush.specs.declared.step.RuleKind.{RuleKind}
 use Rattle.crush.specs.Limits.{max_size}
 use Rattle.stated.specs.Limits.{max_pool_id, max_groups, max_rule_id}
@@ -12,6 +13,10 @@ pub record PoolFacts : Type 0 where
   pub pgp_num : ℕ
   pub rule : ℕ
   pub size : ℕ
+
+-- how many groups some pools have together
+abbrev pub total_groups : List PoolFacts → ℕ
+total_groups pools = sum_by (λ p. p.pg_num) pools
 
 -- each number is within its limits, and no more groups serve for placement than there are
 pub record IsWithinLimits (p : PoolFacts) : Type 0 where

@@ -1,4 +1,4 @@
--- Profiles: which kinds of buckets (Ceph, crush.h) the texts of maps and changes may state.
+-- Profiles: which kinds of buckets (Ceph, crush.h) the texts of maps and changes may state, and whose limits hold.
 use Rattle.std.specs.Prelude.{Bool, true, false, List}
 use Rattle.std.specs.List.{list_all}
 use Rattle.crush.specs.declared.bucket.BucketKind.{BucketKind}
@@ -6,6 +6,11 @@ use Rattle.crush.specs.declared.bucket.BucketKind.TheVariants.{Uniform, List as 
 use Rattle.stated.specs.declared.parts.BucketPart.{BucketPart}
 use Rattle.stated.specs.declared.profile.Profile.{Profile}
 use Rattle.stated.specs.declared.profile.Profile.TheVariants.{Plain, Stock}
+
+-- whether the limits are those of stock clusters
+abbrev pub is_stock : Profile → Bool
+is_stock Plain = false
+is_stock Stock = true
 
 -- whether each profile has buckets of this kind
 abbrev pub is_plain_kind : BucketKind → Bool

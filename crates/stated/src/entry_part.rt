@@ -101,7 +101,7 @@ fn all_exceptions_fit<E, P: EntryPart<E>>(exceptions: &[ExceptionPart<P>]) -> bo
     exceptions.iter().all(|exception| exception_fits(exception))
 }
 
-/// Whether there are at most 131,072 exceptions, each within its limits: a group of a pool's id of 1 to 65,535 and a
+/// Whether there are at most 262,144 exceptions, each within its limits: a group of a pool's id of 1 to 65,535 and a
 /// number of at most 32 bits, and at most 10 entries that name OSDs of ids 0 to 1,023.
 #[tactic(auto, unfolding(crate::specs::Parts::exceptions_fit))]
 pub fn exceptions_fit<E, P: EntryPart<E>>(exceptions: &[ExceptionPart<P>]) -> bool

@@ -16,8 +16,8 @@ use crate::numbers::{has_between, is_between, is_bucket_id};
 use crate::parts::{
     BucketPart, CrushParts, ItemPart, MapParts, OsdPart, PoolPart, RulePart, StepPart,
 };
-use crate::pool::all_pools_fit;
-use crush::limits::{MAX_BUCKETS, MAX_ITEMS, MAX_STEPS};
+use crate::pool::{all_pools_fit, have_few_groups};
+use crush::limits::{MAX_BUCKETS, MAX_STEPS};
 
 /// A part of a map whose numbers and lengths have limits.
 trait Limited {
@@ -59,7 +59,7 @@ impl Limited for BucketPart {
         let items: &[ItemPart] = &self.items;
         is_bucket_id(self.id)
             && is_between(1, MAX_LEVEL, self.level)
-            && has_between(1, MAX_ITEMS, items)
+            && has_between(1, self.kind.most_items(), items)
             && all_within(items)
     }
 }
@@ -149,6 +149,7 @@ pub fn parts_fit(parts: &MapParts) -> bool
         && all_within::<BucketPart>(&parts.buckets)
         && all_within::<RulePart>(&parts.rules)
         && all_pools_fit(&parts.pools)
+        && have_few_groups(&parts.pools)
         && all_within::<OsdPart>(&parts.osds)
         && exceptions_fit(&parts.pg_upmap)
         && exceptions_fit(&parts.pg_upmap_items)

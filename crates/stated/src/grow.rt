@@ -7,12 +7,13 @@ ghost use Rattle.stated.specs.Growth.{growth_fits, IsGrowth, grows_evenly, growt
 use crate::limits::{MAX_GROUPS, MAX_POOL_ID};
 use crate::numbers::{is_between, word};
 use crate::parts::GrowPart;
+use crate::plain::growth_is_plain;
 use crate::pool::Pool;
 use keylist::Keyed;
 use refusal::Refusal;
 use std::marker::Model;
 
-/// What a pool grows to: 1 to 65,535 is its id, 1 to 4,096 its number of groups `pg_num`, 1 to `pg_num` the number
+/// What a pool grows to: 1 to 65,535 is its id, 1 to 65,536 its number of groups `pg_num`, 1 to `pg_num` the number
 /// `pgp_num` of groups for placement.
 #[derive(Clone, Copy, Debug, PartialEq, Eq)]
 pub struct Grow {
@@ -56,11 +57,12 @@ impl Grow {
     ghost use Rattle.refusal.specs.Outcomes.{Judges, refused_unless};
     ghost use Rattle.refusal.specs.declared.refused.Refusal.TheVariants.{BadPool};
     ghost use Rattle.stated.specs.Growth.{IsGrowth, grown_to, growth_fits, grows_evenly, growth_fault, growth_of};
+    ghost use Rattle.stated.specs.Plain.{plain_growth_fault};
 
-    /// What a pool grows to: `BadLimit` (12) where a number is outside its limits, else `BadPool` (15) where `pgp_num`
-    /// is above `pg_num`.
+    /// What a pool of a plain cluster grows to: `BadLimit` (12) where a number is outside the limits, those of plain
+    /// clusters among them, else `BadPool` (15) where `pgp_num` is above `pg_num`.
     pub fn new(pool: i128, pg_num: i128, pgp_num: i128) -> Result<Grow, Refusal>
-        ensures { Judges result (growth_fault (record { pool = pool; pg_num = pg_num; pgp_num = pgp_num }))
+        ensures { Judges result (plain_growth_fault (record { pool = pool; pg_num = pg_num; pgp_num = pgp_num }))
             (λ g. g ≡ growth_of (record { pool = pool; pg_num = pg_num; pgp_num = pgp_num })) }
     {
         let part = GrowPart {
@@ -68,6 +70,17 @@ impl Grow {
             pg_num,
             pgp_num,
         };
+        if !growth_is_plain(&part) {
+            return Err(Refusal::BadLimit);
+        }
+        Grow::stock(part)
+    }
+
+    /// What a pool of a stock cluster grows to: `BadLimit` (12) where a number is outside its limits, else `BadPool` (15)
+    /// where `pgp_num` is above `pg_num`.
+    pub fn stock(part: GrowPart) -> Result<Grow, Refusal>
+        ensures { Judges result (growth_fault part) (λ g. g ≡ growth_of part) }
+    {
         if !growth_fits(&part) {
             return Err(Refusal::BadLimit);
         }

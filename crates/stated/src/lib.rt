@@ -16,6 +16,7 @@ pub mod osd;
 pub mod parts;
 pub mod pg;
 pub mod pg_text;
+pub mod plain;
 pub mod pool;
 pub mod profile;
 pub mod rules;

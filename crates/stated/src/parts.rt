@@ -13,7 +13,7 @@ pub struct MapParts {
     pub epoch: i128,
     /// OSDs have ids below this: 1 to 1,024.
     pub max_osd: i128,
-    /// The buckets of the forest: 1 to 512.
+    /// The buckets of the forest: 1 to 4,096.
     pub buckets: Entries<BucketPart>,
     /// The rules: 1 to 32.
     pub rules: Entries<RulePart>,
@@ -21,9 +21,9 @@ pub struct MapParts {
     pub pools: Entries<PoolPart>,
     /// The OSDs listed.
     pub osds: Entries<OsdPart>,
-    /// The explicit sets: 0 to 131,072.
+    /// The explicit sets: 0 to 262,144.
     pub pg_upmap: Entries<ExceptionPart<i128>>,
-    /// The pairs of groups: 0 to 131,072.
+    /// The pairs of groups: 0 to 262,144.
     pub pg_upmap_items: Entries<ExceptionPart<PairPart>>,
 }
 
@@ -95,9 +95,9 @@ pub struct PoolPart {
     pub id: i128,
     /// What it is for: copies or coded parts.
     pub kind: RuleKind,
-    /// The number of groups: 1 to 4,096.
+    /// The number of groups: 1 to 65,536.
     pub pg_num: i128,
-    /// The number of groups for placement: 1 to 4,096, at most `pg_num`.
+    /// The number of groups for placement: 1 to 65,536, at most `pg_num`.
     pub pgp_num: i128,
     /// The id of the pool's rule: 0 to 255.
     pub rule: i128,
@@ -110,16 +110,16 @@ pub struct PoolPart {
 pub struct GrowPart {
     /// The id of the pool: 1 to 65,535.
     pub pool: i128,
-    /// The number of groups: 1 to 4,096.
+    /// The number of groups: 1 to 65,536.
     pub pg_num: i128,
-    /// The number of groups for placement: 1 to 4,096, at most `pg_num`.
+    /// The number of groups for placement: 1 to 65,536, at most `pg_num`.
     pub pgp_num: i128,
 }
 
 /// A CRUSH map as a text states it.
 #[derive(Debug, Drop)]
 pub struct CrushParts {
-    /// The buckets of the forest: 1 to 512.
+    /// The buckets of the forest: 1 to 4,096.
     pub buckets: Entries<BucketPart>,
     /// The rules: 1 to 32.
     pub rules: Entries<RulePart>,

@@ -1,19 +1,21 @@
 //! Pools: how many groups they have, and the rule and size by which these are placed.
 
-ghost use Rattle.std.specs.Prelude.{◌≡◌, true};
+ghost use Rattle.std.specs.Prelude.{◌≡◌, ◌≤◌, true, nat_abs};
 ghost use Rattle.std.specs.List.{list_all};
-ghost use Rattle.stated.specs.Parts.{pool_fits, has_enough_groups, pool_of};
+ghost use Rattle.stated.specs.Parts.{pool_fits, has_few_groups, has_enough_groups, pool_of};
+ghost use Rattle.stated.specs.Limits.{max_groups};
 ghost use Rattle.stated.specs.Pools.{IsWithinLimits};
 
-use crate::limits::{MAX_GROUPS, MAX_POOL_ID, MAX_RULE_ID, MAX_SIZE};
+use crate::limits::{MAX_GROUPS, MAX_POOL_ID, MAX_RULE_ID, MAX_SIZE, MAX_TOTAL_GROUPS};
 use crate::numbers::{is_between, word};
 use crate::parts::PoolPart;
+use crate::plain::pool_is_plain;
 use crush::RuleKind;
 use keylist::Keyed;
 use refusal::Refusal;
 use std::marker::Model;
 
-/// A pool: 1 to 65,535 is its id, 1 to 4,096 its number of groups `pg_num`, 1 to `pg_num` the number `pgp_num` of
+/// A pool: 1 to 65,535 is its id, 1 to 65,536 its number of groups `pg_num`, 1 to `pg_num` the number `pgp_num` of
 /// groups for placement, 0 to 255 the id of its rule, 1 to 10 the size of a group (Ceph, `pg_pool_t`).
 #[derive(Clone, Copy, Debug, PartialEq, Eq)]
 pub struct Pool {
@@ -78,17 +80,52 @@ pub fn all_pools_fit(pools: &[PoolPart]) -> bool
     pools.iter().all(|pool| pool_fits(pool))
 }
 
+/// The number of groups of a pool within its limits.
+fn group_count(pool: &PoolPart) -> u128
+    requires { pool_fits pool.now ≡ true }
+    ensures value { result ≡ nat_abs pool.now.pg_num }
+    ensures few { result ≤ max_groups }
+{
+    u128::from(word(pool.pg_num))
+}
+
+/// Whether some pools, each within its limits, have together no more groups than a map may have.
+#[tactic(auto, unfolding(crate::specs::Parts::has_few_groups))]
+pub fn have_few_groups(pools: &[PoolPart]) -> bool
+    requires { list_all pool_fits pools.now ≡ true }
+    ensures { result ≡ has_few_groups pools.now }
+{
+    let mut groups: u128 = 0;
+    for pool in pools {
+        groups += group_count(pool);
+    }
+    groups <= MAX_TOTAL_GROUPS
+}
+
 impl Pool {
     ghost use Rattle.std.specs.Prelude.{◌≡◌, ◌<◌, ◌≤◌, true};
     ghost use Rattle.refusal.specs.Outcomes.{Judges, refused_unless};
     ghost use Rattle.refusal.specs.declared.refused.Refusal.TheVariants.{BadPool};
     ghost use Rattle.stated.specs.Limits.{max_groups};
+    ghost use Rattle.stated.specs.Limits.{max_groups};
     ghost use Rattle.stated.specs.Pools.{IsWithinLimits};
     ghost use Rattle.stated.specs.Parts.{pool_fits, has_enough_groups, pool_fault, pool_of};
+    ghost use Rattle.stated.specs.Plain.{plain_pool_fault};
 
-    /// The pool that its parts state: `BadLimit` (12) where a number is outside its limits, else `BadPool` (15) where
-    /// `pgp_num` is above `pg_num`.
+    /// The pool of a plain cluster that its parts state: `BadLimit` (12) where a number is outside the limits, those of
+    /// plain clusters among them, else `BadPool` (15) where `pgp_num` is above `pg_num`.
     pub fn new(part: PoolPart) -> Result<Pool, Refusal>
+        ensures { Judges result (plain_pool_fault part) (λ pool. pool ≡ pool_of part) }
+    {
+        if !pool_is_plain(&part) {
+            return Err(Refusal::BadLimit);
+        }
+        Pool::stock(part)
+    }
+
+    /// The pool of a stock cluster that its parts state: `BadLimit` (12) where a number is outside its limits, else
+    /// `BadPool` (15) where `pgp_num` is above `pg_num`.
+    pub fn stock(part: PoolPart) -> Result<Pool, Refusal>
         ensures { Judges result (pool_fault part) (λ pool. pool ≡ pool_of part) }
     {
         if !pool_fits(&part) {
@@ -124,7 +161,7 @@ impl Pool {
         let _ = &self.id;
     }
 
-    /// The same pool with other numbers of groups: `pg_num` is at most 4,096, and `pgp_num` 1 to `pg_num`.
+    /// The same pool with other numbers of groups: `pg_num` is at most 65,536, and `pgp_num` 1 to `pg_num`.
     pub(crate) fn with_groups(&self, pg_num: u32, pgp_num: u32) -> Pool
         requires some { 0 < pgp_num }
         requires few { pgp_num ≤ pg_num }
@@ -155,7 +192,7 @@ impl Pool {
         self.kind
     }
 
-    /// The number of groups: at most 4,096.
+    /// The number of groups: at most 65,536.
     pub fn pg_num(&self) -> u32
         ensures value { result ≡ self.now.pg_num }
         ensures few { result ≤ max_groups }

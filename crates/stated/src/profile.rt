@@ -10,9 +10,9 @@ use crush::BucketKind;
 /// Which maps and changes texts may state.
 #[derive(Clone, Copy, Debug, PartialEq, Eq)]
 pub enum Profile {
-    /// Those with uniform, list and tree buckets.
+    /// Those with uniform, list and tree buckets, within the limits of plain clusters.
     Plain,
-    /// Those of stock Ceph clusters: straw2 buckets too.
+    /// Those of stock Ceph clusters: straw2 buckets too, within the limits of all maps.
     Stock,
 }
 
@@ -35,7 +35,17 @@ fn are_plain_kinds(buckets: &[BucketPart]) -> bool
 
 impl Profile {
     ghost use Rattle.std.specs.Prelude.{◌≡◌};
-    ghost use Rattle.stated.specs.Profiles.{has_kinds};
+    ghost use Rattle.stated.specs.Profiles.{is_stock, has_kinds};
+
+    /// Whether the limits are those of stock clusters.
+    pub fn is_stock(self) -> bool
+        ensures { result ≡ is_stock self }
+    {
+        match self {
+            Profile::Plain => false,
+            Profile::Stock => true,
+        }
+    }
 
     /// Whether the profile has the kinds of all these buckets.
     pub fn has_kinds(self, buckets: &[BucketPart]) -> bool

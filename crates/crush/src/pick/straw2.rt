@@ -4,7 +4,7 @@ ghost use Rattle.std.specs.Prelude.{◌≡◌, ℕ, ◌+◌, ◌-◌, ◌^◌, �
 ghost use Rattle.rjenkins.specs.Jenkins.{hash3_of};
 ghost use Rattle.crush.specs.Forest.{word};
 ghost use Rattle.crush.specs.Items.{item_at};
-ghost use Rattle.crush.specs.Limits.{max_items};
+ghost use Rattle.crush.specs.Limits.{max_straws};
 ghost use Rattle.crush.specs.Straw2.{straw2_place};
 
 use crate::bucket::Item;
@@ -50,7 +50,7 @@ impl Longest {
 /// The places of four items from one on: past the last one, that one again.
 fn places_from(from: usize, count: usize) -> [usize; 4]
     requires some { from < count }
-    requires few { count ≤ max_items }
+    requires few { count ≤ max_straws }
     ensures { (at : ℕ) → at < 4 → slice_index result at ≡ min (from + at) (count - 1) }
 {
     let last = count - 1;
@@ -77,14 +77,17 @@ fn hashes_at(items: &[Item], places: [usize; 4], x: u32, r: u32) -> [u32; 4]
     hash3_each(x, ids, [r; 4])
 }
 
-/// The place that a straw2 bucket picks. It goes by blocks of four, the last of which is filled up with the last item:
-/// a straw is no longer than itself.
+/// The place that a straw2 bucket picks. An item that is the only one needs no straw. More go by blocks of four, the
+/// last of which is filled up with the last item: a straw is no longer than itself.
 pub(super) fn straw2_pick(items: &[Item], x: u32, r: u32) -> usize
     requires some { 0 < length items.now }
-    requires few { length items.now ≤ max_items }
+    requires few { length items.now ≤ max_straws }
     ensures place { result ≡ straw2_place x r items.now }
     ensures within { result < length items.now }
 {
+    if items.len() == 1 {
+        return 0;
+    }
     let mut longest = Longest {
         place: 0,
         short: FARTHEST,

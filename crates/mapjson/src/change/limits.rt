@@ -6,13 +6,14 @@ ghost use Rattle.stated.specs.CrushMaps.{crush_fits};
 ghost use Rattle.stated.specs.Growth.{growth_fits};
 ghost use Rattle.stated.specs.Limits.{max_entries};
 ghost use Rattle.stated.specs.Parts.{has_between, is_osd_id, pg_fits, pool_fits};
-ghost use Rattle.mapjson.specs.ChangeTexts.{is_pool_id, reweight_fits, entries_fit, change_fits};
+ghost use Rattle.mapjson.specs.ChangeTexts.{is_pool_id, reweight_fits, entries_fit, change_fits, change_is_plain};
 
 use partjson::{RawChange, RawReweight};
 use stated::fits::crush_fits;
 use stated::grow::all_growths_fit;
 use stated::limits::{MAX_ENTRIES, MAX_POOL_ID};
 use stated::numbers::{has_between, is_between, is_osd_id};
+use stated::plain::{crush_is_plain, growths_are_plain, is_plain_list, pools_are_plain};
 use stated::pool::all_pools_fit;
 use stated::{CrushParts, GrowPart, PgParts, PoolPart, exceptions_fit, pg_fits};
 
@@ -141,4 +142,25 @@ pub(super) fn change_fits(change: &RawChange) -> bool
         && groups_fit(&change.old_items)
         && exceptions_fit(&change.new_upmap)
         && exceptions_fit(&change.new_items)
+}
+
+/// Whether no list of a change is longer, no pool of it has more groups, and no forest more buckets or items than in
+/// plain clusters.
+#[tactic(auto, unfolding(crate::specs::ChangeTexts::change_is_plain))]
+pub(super) fn change_is_plain(change: &RawChange) -> bool
+    ensures { result ≡ change_is_plain change.now }
+{
+    is_plain_list(&change.old_pools)
+        && crush_is_plain(&change.new_crush)
+        && is_plain_list(&change.new_pools)
+        && pools_are_plain(&change.new_pools)
+        && is_plain_list(&change.grow_pool)
+        && growths_are_plain(&change.grow_pool)
+        && is_plain_list(&change.down)
+        && is_plain_list(&change.up)
+        && is_plain_list(&change.weight)
+        && is_plain_list(&change.old_upmap)
+        && is_plain_list(&change.old_items)
+        && is_plain_list(&change.new_upmap)
+        && is_plain_list(&change.new_items)
 }

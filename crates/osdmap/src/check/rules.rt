@@ -2,12 +2,17 @@
 
 ghost use Rattle.std.specs.Prelude.{◌≡◌};
 ghost use Rattle.std.specs.List.{list_all};
+ghost use Rattle.std.specs.List.Sorted.{IsNonDecreasingBy};
+ghost use Rattle.std.specs.Prelude.{◌<◌, ◌^◌, map};
+ghost use Rattle.stated.specs.Growth.{grown};
+ghost use Rattle.stated.specs.Pools.{total_groups};
 ghost use Rattle.osdmap.specs.Maps.{has_rule};
 
 use crate::build::has_rule;
+use crate::in_place::grown;
 use crate::map::OsdMap;
-use keylist::{has, put_count};
-use stated::limits::MAX_POOLS;
+use keylist::{are_distinct, has, put_count};
+use stated::limits::{MAX_POOLS, MAX_TOTAL_GROUPS};
 use stated::{Change, Grow, NumberedRule, Pool};
 
 /// Whether each of some pools has a rule of its kind among some.
@@ -17,12 +22,27 @@ fn have_rules(pools: &[Pool], rules: &[NumberedRule]) -> bool
     pools.iter().all(|pool| has_rule(rules, *pool))
 }
 
+/// How many groups some pools have together once they have grown.
+fn total_groups(pools: &[Pool], growths: &[Grow]) -> u128
+    requires { IsNonDecreasingBy (λ g. g.pool) growths.now }
+    ensures total { result ≡ total_groups (map (grown growths.now) pools.now) }
+    ensures small { result < 2 ^ 100 }
+{
+    let mut total: u128 = 0;
+    for pool in pools {
+        total += u128::from(grown(growths, *pool).pg_num());
+    }
+    total
+}
+
 impl OsdMap {
-    ghost use Rattle.std.specs.Prelude.{◌≡◌, true, length, nat_le};
+    ghost use Rattle.std.specs.Prelude.{◌≡◌, ◌<◌, ◌^◌, true, length, nat_le, map};
+    ghost use Rattle.stated.specs.Growth.{grown};
+    ghost use Rattle.stated.specs.Pools.{total_groups};
     ghost use Rattle.std.specs.List.{list_all};
     ghost use Rattle.stated.specs.Limits.{max_pools};
     ghost use Rattle.osdmap.specs.Maps.{has_rule};
-    ghost use Rattle.osdmap.specs.Changes.{pools_kept, pools_there, rules_after, brings_new, grows_from, brings_rightly};
+    ghost use Rattle.osdmap.specs.Changes.{pools_kept, pools_there, rules_after, brings_new, grows_from, leaves_few_groups, brings_rightly};
 
     /// The rules after a change.
     fn rules_after<'a>(&'a self, change: &'a Change) -> &'a [NumberedRule]
@@ -85,8 +105,40 @@ impl OsdMap {
         put_count(&[], new) <= MAX_POOLS - self.count_kept(change)
     }
 
-    /// Whether each pool that stays or comes has a rule of its kind, there are at most 32 pools then, and none gets
-    /// fewer groups.
+    /// How many groups the pools that stay have after a change.
+    #[tactic(auto, unfolding(crate::specs::Changes::pools_kept))]
+    fn groups_kept(&self, change: &Change) -> u128
+        ensures total { result ≡ total_groups (map (grown change.now.grow_pool) (pools_kept self.now.map change.now)) }
+        ensures small { result < 2 ^ 100 }
+    {
+        let parts = change.parts();
+        let old: &[u32] = &parts.old_pools;
+        let pools: &[Pool] = &self.pools;
+        let mut total: u128 = 0;
+        for pool in pools {
+            if !has(old, u64::from(pool.id())) {
+                total += u128::from(grown(&parts.grow_pool, *pool).pg_num());
+            }
+        }
+        total
+    }
+
+    /// Whether all pools have at most 262,144 groups after a change, where no pool comes twice.
+    #[tactic(auto, using(crate::proofs::GroupTotals::total_after), unfolding(crate::specs::Changes::leaves_few_groups))]
+    fn leaves_few_groups(&self, change: &Change) -> bool
+        requires { brings_new self.now.map change.now ≡ true }
+        ensures { result ≡ leaves_few_groups self.now.map change.now }
+    {
+        let new: &[Pool] = &change.parts().new_pools;
+        if !are_distinct(new) {
+            return true;
+        }
+        let total = self.groups_kept(change) + total_groups(new, &change.parts().grow_pool);
+        total <= MAX_TOTAL_GROUPS
+    }
+
+    /// Whether each pool that stays or comes has a rule of its kind, there are at most 32 pools then, none gets fewer
+    /// groups, and all have at most 262,144.
     #[tactic(auto, unfolding(crate::specs::Changes::brings_rightly))]
     pub(crate) fn brings_rightly(&self, change: &Change) -> bool
         requires { brings_new self.now.map change.now ≡ true }
@@ -97,5 +149,6 @@ impl OsdMap {
             && have_rules(&change.parts().new_pools, rules)
             && self.are_few(change)
             && self.all_grow(change)
+            && self.leaves_few_groups(change)
     }
 }

@@ -7,7 +7,7 @@ use Rattle.keylist.proofs.Each.{list_all-at}
 use Rattle.crush.proofs.met.are_met_once.Goals as goal
 
 pub loop-bucket-init : goal.loop-bucket-init
-loop-bucket-init c = λ id known. marks-none c.args.buckets.now 1536 id
+loop-bucket-init c = λ id known. marks-none c.args.buckets.now 5120 id
 
 pub mark-requires-clause-known : goal.mark-requires-clause-known
 mark-requires-clause-known c =

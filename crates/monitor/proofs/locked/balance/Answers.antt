@@ -1,4 +1,4 @@
-use Rattle.monitor.proofs.Balancing.{balanced_by, never_spent}
+use Rattle.monitor.proofs.Balancing.{balanced_by, adds_plan, never_spent}
 use Rattle.monitor.proofs.locked.balance.Goals as goal
 
 pub returns-clause-balances : goal.returns-clause-balances
@@ -11,6 +11,14 @@ returns-clause-balances c =
     (record { map = is.after; lawful = is.lawful; epoch = is.epoch })
     c.balance-answer.ensures.balances in
     rw (c.balance-answer.ensures.pass, c.requires.pass, ← c.requires.row) done
+
+pub returns-clause-own : goal.returns-clause-own
+returns-clause-own c =
+    let was = c.map.ensures in
+    let done = adds_plan c.args.state.now c.args.pool c.args.limit
+    (record { map = was.after; lawful = was.lawful; epoch = was.epoch }) c.balance-answer.new.self c.balance-answer.result
+    c.balance-answer.ensures.balances in
+    rw (c.balance-answer.ensures.pass, c.requires.pass) done
 
 pub returns-clause-unspent : goal.returns-clause-unspent
 returns-clause-unspent c =

@@ -1,4 +1,4 @@
-use Rattle.monitor.proofs.Histories.{committed_by, unspent}
+use Rattle.monitor.proofs.Histories.{committed_by, adds_change, unspent}
 use Rattle.monitor.proofs.locked.commit.Goals as goal
 
 pub returns-clause-commits : goal.returns-clause-commits
@@ -12,6 +12,12 @@ returns-clause-commits c =
     (record { map = is.after; lawful = is.lawful; epoch = is.epoch })
     c.commit-answer.ensures.commits in
     rw (c.commit-answer.ensures.pass, c.requires.pass, ← c.requires.row) done
+
+pub returns-clause-own : goal.returns-clause-own
+returns-clause-own c =
+    let done = adds_change c.args.state.now c.commit-answer.new.self c.args.base c.args.change c.commit-answer.result
+    c.commit-answer.ensures.commits in
+    rw (c.commit-answer.ensures.pass, c.requires.pass) done
 
 pub returns-clause-unspent : goal.returns-clause-unspent
 returns-clause-unspent c =

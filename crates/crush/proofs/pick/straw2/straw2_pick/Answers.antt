@@ -23,3 +23,9 @@ returns-clause-within c =
     let low = least_below f n c.requires.some in
     let found : c.loop-block.longest.place ≡ least_place f n = c.loop-block.invariant.place ∙ ap (least_place f) (omega arith) in
     omega arith
+
+pub returns-then-items-eq1-clause-place : goal.returns-then-items-eq1-clause-place
+returns-then-items-eq1-clause-place c =
+    let f = shortfall_at c.args.x c.args.r c.args.items.now in
+    let low = least_below f (length c.args.items.now) c.requires.some in
+    omega (arith, low, c.if-items-eq1.true)

@@ -6,5 +6,5 @@ use Rattle.pgtable.proofs.table.PgTable.shown_count.Given as goal
 abbrev pub invariant-loop-table : goal.invariant-loop-table
 invariant-loop-table l = record {
   value : l.count ≡ length (flat_map (held_in l.osd) (take l.table-index l.self.pools));
-  few : l.count ≤ 4096 * l.table-index;
+  few : l.count ≤ 65536 * l.table-index;
 }

@@ -5,7 +5,7 @@ use Rattle.session.specs.Readings.{Passes, Halted}
 use Rattle.session.specs.Replies.{reply_text}
 use Rattle.session.specs.Sessions.{seen_by, session_of}
 use Rattle.session.specs.Texts.{line_of}
-use Rattle.session.proofs.Asked.{takes_question, some_line}
+use Rattle.session.proofs.Asked.{takes_question, some_line, own_same}
 use Rattle.session.proofs.Passing.{passes_none, passes_line, passes_more, cut_line, halted_line, halted_behind, handed_on}
 use Rattle.session.proofs.desk.Desk.answer_shared.Goals as goal
 
@@ -37,8 +37,9 @@ loop-left-preserved g c =
     let (line, part, is, asks) = c.in-Some.ensures in
     let others = c.in-Some.others.now in
     let answer = line_of reply_text c.answer_of-answer.result in
-    let taken = takes_question c.args.self.now.monitor.now.first (length c.args.self.now.monitor.now.row.cells) c.args.self.now.monitor.now.profile (g.G.Gate.lets c.args.self.now.gate.now)
-    next sight sight line c.in-Some.question answer c.requires.open asks c.answer_of-answer.ensures refl in
+    let own = own_same c.args.self.now.monitor.now.alone c.args.held.1.now.pass c.args.held.1.now.pass answer (λ is. refl) in
+    let taken = takes_question c.args.self.now.monitor.now.first (length c.args.self.now.monitor.now.row.cells) c.args.self.now.monitor.now.profile c.args.self.now.monitor.now.alone (g.G.Gate.lets c.args.self.now.gate.now)
+    next sight sight line c.in-Some.question answer c.requires.open asks c.answer_of-answer.ensures refl own in
     let here : Passes m next sight c.loop-left.rest.now answer (next + 1) sight others =
     subst (λ t. Passes m next sight t answer (next + 1) sight others) (sym is) (passes_line m next sight sight line others answer part taken) in
     let lens : length c.loop-left.rest.now ≡ length line + suc (length others) = ap length is ∙ length-append line (10 ∷ others) in (
@@ -67,9 +68,10 @@ returns-in_err-put_answer-clause-err g c =
     let error = c.in_err-put_answer.field-0.0 in
     let before = g.W.Sink.written c.args.sink.now in
     let after = g.W.Sink.written c.put_answer.new.sink in
+    let own = own_same c.args.self.now.monitor.now.alone c.args.held.1.now.pass c.args.held.1.now.pass answer (λ is. refl) in
     let lets = c.requires.open next in
     let (cut, more, stopped) = cut_line m next sight sight line answer (g.W.Sink.written c.loop-left.sink) after (Err error)
-    (some_line line c.in-Some.question asks) lets (rw asks (c.answer_of-answer.ensures, refl)) c.in_err-put_answer.ensures.out in
+    (some_line line c.in-Some.question asks) lets (rw asks (c.answer_of-answer.ensures, refl), own) c.in_err-put_answer.ensures.out in
     let here : Halted m error next sight c.loop-left.rest.now cut sight =
     subst (λ t. Halted m error next sight t cut sight) (sym is) (halted_line m error next sight sight line others cut part stopped) in
     handed_on (λ (e : SessionError). (x : List ℕ) × Halted m e number sight c.args.text.now x sight × (after ≡ before ++ x))

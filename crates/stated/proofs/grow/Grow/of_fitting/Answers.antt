@@ -15,13 +15,13 @@ pub word-requires-2 : goal.word-requires-2
 word-requires-2 c =
     let fits : SFits w128 c.args.part.pg_num = search rules in
     let each : GrowthFits c.args.part = growth_fits_each _ (search rules) in
-    rw to_z-of_z (word_between 1 4096 c.args.part.pg_num (omega arith) each.pg_num)
+    rw to_z-of_z (word_between 1 65536 c.args.part.pg_num (omega arith) each.pg_num)
 
 pub word-requires-3 : goal.word-requires-3
 word-requires-3 c =
     let fits : SFits w128 c.args.part.pgp_num = search rules in
     let each : GrowthFits c.args.part = growth_fits_each _ (search rules) in
-    rw to_z-of_z (word_between 1 4096 c.args.part.pgp_num (omega arith) each.pgp_num)
+    rw to_z-of_z (word_between 1 65536 c.args.part.pgp_num (omega arith) each.pgp_num)
 
 pub invariant_of-result : goal.invariant_of-result
 invariant_of-result c =

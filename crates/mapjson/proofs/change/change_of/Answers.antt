@@ -1,7 +1,7 @@
 use Rattle.std.proofs.Common.{◌≡◌, true, rules}
 use Rattle.mapjson.specs.ChangeTexts.{change_fits}
 use Rattle.mapjson.proofs.ChangeFits.{change_fits_each}
-use Rattle.mapjson.proofs.change.change_within.Goals as goal
+use Rattle.mapjson.proofs.change.change_of.Goals as goal
 
 pub crush_within-requires : goal.crush_within-requires
 crush_within-requires c =

@@ -4,7 +4,7 @@ use Rattle.osdmap.specs.Stated.{map_fault, IsStated}
 use Rattle.stated.proofs.Judged.{stops}
 use Rattle.osdmap.proofs.Built.{parts_fit_each, fault_limit}
 use Rattle.osdmap.proofs.Excepted.{fault_bare, fault_explicit, fault_items, no_fault_with, is_stated_with, holds_with}
-use Rattle.osdmap.proofs.map.OsdMap.new.Goals as goal
+use Rattle.osdmap.proofs.map.OsdMap.stock.Goals as goal
 
 pub returns-then-not-parts_fit : goal.returns-then-not-parts_fit
 returns-then-not-parts_fit c = inr (fault_limit c.args.parts (sym c.parts_fit.ensures.value ∙ c.if-not-parts_fit.true))

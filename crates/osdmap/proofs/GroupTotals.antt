@@ -1,0 +1,82 @@
+-- How many groups pools have together, where some come and some grow.
+use Rattle.std.proofs.Common.{◌≡◌, ◌∙◌, sym, ap, refl, arith, ℕ, ◌+◌, ◌≤◌, ◌==◌, Bool, true, false, not, ◌&&◌, List, [], ◌∷◌, map, length, inl, inr}
+use mathlib.Core.Bool.{false≢true}
+use Rattle.std.specs.Prelude.{nat_le, ◌||◌}
+use Rattle.std.specs.List.{list_all, list_any, filter, fold, sum_by}
+use Rattle.std.proofs.lemmas.Bool.{cases_Bool, cases_order, ne_eqb, eqb-true, eq-eqb, false_from_ne_true}
+use Rattle.std.proofs.lemmas.Bool.Decides.{nat_tests}
+use Rattle.std.proofs.lemmas.List.Sums.{sum_by-cons}
+use Rattle.stated.specs.declared.change.ChangeParts.{ChangeParts}
+use Rattle.stated.specs.Growth.{Growth, grown}
+use Rattle.stated.specs.Pools.{PoolFacts, total_groups}
+use Rattle.stated.proofs.Totals.{sum_by-map}
+use Rattle.keylist.specs.Keys.{is_distinct, has_key}
+use Rattle.keylist.specs.Puts.{put}
+use Rattle.keylist.proofs.Tests.{and_first, and_second, not_true}
+use Rattle.keylist.proofs.KeyedMaps.{has-put}
+use Rattle.keylist.proofs.KeyedPuts.{put_past, put_over, put_before}
+use Rattle.osdmap.specs.Maps.{ClusterMap}
+use Rattle.osdmap.specs.Changes.{pools_kept, pools_there, pools_after, brings_new, leaves_few_groups, names_once}
+
+module _ {X : Type 0} (key : X → ℕ) (f : X → ℕ) where
+  -- an entry of a key that is not there adds its own
+  sum-put : (xs : List X) (e : X) → has_key key xs (key e) ≡ false → sum_by f (put key xs e) ≡ sum_by f xs + f e
+  unfolding put
+  sum-put [] e new = sum_by-cons f e [] ∙ omega arith
+  sum-put (x ∷ xs) e new = elim (cases_order (key x) (key e)) [
+    | inl same ↦ let there : (key x == key e) ≡ true = eq-eqb (key x) (key e) same in let bad : false ≡ true = sym new ∙ rw there refl in absurd (false≢true bad)
+    | inr (inl below) ↦
+        let other : (key x == key e) ≡ false = ne_eqb (key x) (key e) (λ same. omega (arith, same, below)) in
+        let rest : has_key key xs (key e) ≡ false = rw other at new in
+        rw (put_past key x xs e below, sum_by-cons f x (put key xs e), sum-put xs e rest, sum_by-cons f x xs) (omega arith)
+    | inr (inr above) ↦ rw (put_before key x xs e above, sum_by-cons f e (x ∷ xs)) (omega arith)
+  ]
+
+  -- what is not there is not there once an entry of another key has come
+  still-apart : (xs es : List X) (e : X) → list_any (λ j. j == key e) (map key es) ≡ false → list_all (λ d. not (has_key key xs (key d))) es ≡ true
+      → list_all (λ d. not (has_key key (put key xs e) (key d))) es ≡ true
+  still-apart xs [] e none apart = refl
+  still-apart xs (d ∷ ds) e none apart = elim (cases_Bool (key d == key e)) [
+    | inl same ↦ let bad : true ≡ false = (sym (rw same refl)) ∙ none in absurd (cc)
+    | inr other ↦
+        let back : (key e == key d) ≡ false = ne_eqb (key e) (key d) (λ same. let bad : true ≡ false = sym (eq-eqb (key d) (key e) (sym same)) ∙ other in absurd (cc)) in
+        let rest : list_any (λ j. j == key e) (map key ds) ≡ false = rw other at none in
+        let here = and_first (not (has_key key xs (key d))) (list_all (λ c. not (has_key key xs (key c))) ds) apart in
+        let more = and_second (not (has_key key xs (key d))) (list_all (λ c. not (has_key key xs (key c))) ds) apart in
+        rw (has-put key xs e (key d), back, not_true _ here, still-apart xs ds e rest more) refl
+  ]
+
+  -- entries of keys that are not there, of which none stands twice, add theirs
+  sum-puts : (xs es : List X) → is_distinct (map key es) ≡ true → list_all (λ e. not (has_key key xs (key e))) es ≡ true
+      → sum_by f (fold (put key) xs es) ≡ sum_by f xs + sum_by f es
+  unfolding is_distinct
+  sum-puts xs [] once apart = omega arith
+  sum-puts xs (e ∷ es) once apart =
+      let none = not_true _ (and_first (not (list_any (λ j. j == key e) (map key es))) (is_distinct (map key es)) once) in
+      let rest = and_second (not (list_any (λ j. j == key e) (map key es))) (is_distinct (map key es)) once in
+      let here = not_true _ (and_first (not (has_key key xs (key e))) (list_all (λ d. not (has_key key xs (key d))) es) apart) in
+      let more = and_second (not (has_key key xs (key e))) (list_all (λ d. not (has_key key xs (key d))) es) apart in
+      rw (sum-puts (put key xs e) es rest (still-apart xs es e none more), sum-put xs e here, sum_by-cons f e es) (omega arith)
+
+-- the groups of pools that have grown
+abbrev grown_groups : List Growth → PoolFacts → ℕ
+grown_groups gs p = (grown gs p).pg_num
+
+-- they are theirs once they have grown
+grown-total : (gs : List Growth) (ps : List PoolFacts) → total_groups (map (grown gs) ps) ≡ sum_by (grown_groups gs) ps
+grown-total gs ps = sum_by-map (λ (q : PoolFacts). q.pg_num) (grown gs) ps
+
+-- where no pool comes twice, the pools after a change have the groups of those that stay and of those that come
+pub total_after : (m : ClusterMap) (c : ChangeParts) → brings_new m c ≡ true → is_distinct (map (λ p. p.id) c.new_pools) ≡ true
+    → total_groups (pools_after m c) ≡ total_groups (map (grown c.grow_pool) (pools_kept m c)) + total_groups (map (grown c.grow_pool) c.new_pools)
+unfolding pools_after pools_there brings_new
+total_after m c new once =
+    grown-total c.grow_pool (fold (put (λ (p : PoolFacts). p.id)) (pools_kept m c) c.new_pools)
+    ∙ sum-puts (λ (p : PoolFacts). p.id) (grown_groups c.grow_pool) (pools_kept m c) c.new_pools once new
+    ∙ rw (grown-total c.grow_pool (pools_kept m c), grown-total c.grow_pool c.new_pools) refl
+
+-- a change of which no key stands twice leaves so few
+pub few-groups-after : (m : ClusterMap) (c : ChangeParts) → leaves_few_groups m c ≡ true → is_distinct (map (λ p. p.id) c.new_pools) ≡ true
+    → total_groups (pools_after m c) ≤ 262144
+unfolding leaves_few_groups
+few-groups-after m c few once = let fits : nat_le (total_groups (pools_after m c)) 262144 ≡ true = rw once at few in grind (arith, nat_tests, fits)
