@@ -22,6 +22,8 @@ import given
 HERE = pathlib.Path(__file__).resolve().parent
 TOOLS, EXAMPLE = HERE.parent / "tools", HERE.parent / "examples" / "map.json"
 SECONDS = 120
+# How many times a type may be told as `Any`, which says nothing.
+ANYS = 60
 # A moment that is given as the time of what is built.
 EPOCH = 1700000000
 # Puts out the names of all commands.
@@ -193,6 +195,17 @@ def test_types(program):
     with tempfile.TemporaryDirectory() as folder:
         status, told = ran(["mypy", "--strict", "--cache-dir", folder, TOOLS / "rekhuso"])
         assert status == 0, told[-600:]
+
+
+def test_what_types_say(program):
+    """`Any` stands for a type at few places, and forms of objects are told in one module."""
+    names, forms = [], set()
+    for path in (TOOLS / "rekhuso").glob("*.py"):
+        for node in ast.walk(ast.parse(path.read_text())):
+            names += [path.name] if isinstance(node, ast.Name) and node.id == "Any" else []
+            is_form = isinstance(node, ast.ClassDef) and any(isinstance(base, ast.Name) and base.id == "TypedDict" for base in node.bases)
+            forms |= {path.name} if is_form else set()
+    assert len(names) <= ANYS and forms == {"kinds.py"}, (len(names), forms)
 
 
 def test_what_is_not_run(program):

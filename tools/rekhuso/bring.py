@@ -10,12 +10,15 @@ from __future__ import annotations
 import json
 import pathlib
 import sys
-from typing import Any, NamedTuple
+from typing import NamedTuple, cast
 
 from .advice import advised
 from .cluster import KINDS, Cluster, listed
 from .faults import Fault, Misuse, Refused
 from .forms import TRIES
+from .kinds import (
+    Bucket, Commands, CrushDump, DumpOsd, DumpPool, Map, Options, Osd, OsdDump, Parser, Pool, Program, Rule, Told, Shape, Tree,
+)
 from .monitor import Monitor, has_straw2
 from .outside import reasons, root_reasons, size_reasons, unmatched
 from .places import map_places
@@ -32,10 +35,10 @@ class Brought(NamedTuple):
 
     cluster: Cluster
     parts: list[Cluster]
-    maps: list[dict[str, Any]]
+    maps: list[Map]
 
 
-def bucket_of(cluster: Cluster, number: int, is_own: bool = False) -> dict[str, Any]:
+def bucket_of(cluster: Cluster, number: int, is_own: bool = False) -> Bucket:
     """A bucket in the map's form; with its own weights where those in force are of a weight set, and these are asked for."""
     bucket, items = cluster.buckets[number], [list(item) for item in cluster.held[number]]
     if is_own and cluster.has_weight_set:
@@ -44,30 +47,31 @@ def bucket_of(cluster: Cluster, number: int, is_own: bool = False) -> dict[str, 
     return {"id": number, "items": items, "kind": bucket["alg"], "type": bucket["type_id"]}
 
 
-def osd_of(osd: dict[str, Any]) -> dict[str, Any]:
+def osd_of(osd: DumpOsd) -> Osd:
     """An OSD in the map's form; a reweight above 1 is one of 1 to Ceph."""
     return {"exists": True, "id": osd["osd"], "up": bool(osd["up"]), "weight": min(round(osd["weight"] * 65536), 65536)}
 
 
-def pool_of(pool: dict[str, Any]) -> dict[str, Any]:
+def pool_of(pool: DumpPool) -> Pool:
     """A pool in the map's form."""
     return {"id": pool["pool"], "kind": KINDS[pool["type"]], "pg_num": pool["pg_num"], "pgp_num": pool["pg_placement_num"],
             "rule": pool["crush_rule"], "size": pool["size"]}
 
 
-def map_of(cluster: Cluster) -> dict[str, Any]:
+def map_of(cluster: Cluster) -> Map:
     """The map of a cluster that is in the profile."""
-    rules = [{"id": rule["rule_id"], "kind": KINDS[rule["type"]], "steps": cluster.steps_of(rule)} for rule in cluster.rules]
+    rules: list[Rule] = [{"id": rule["rule_id"], "kind": KINDS[rule["type"]], "steps": cluster.steps_of(rule)} for rule in cluster.rules]
     tries = any(step[0] in TRIES for rule in rules for step in rule["steps"])
     explicit, items = cluster.exceptions
-    gone = [{"exists": False, "id": osd, "up": False, "weight": min(weight, 65536)} for osd, weight in cluster.gone.items() if osd < cluster.max_osd]
+    gone: list[Osd] = [{"exists": False, "id": osd, "up": False, "weight": min(weight, 65536)} for osd, weight in cluster.gone.items()
+                       if osd < cluster.max_osd]
     return {"buckets": [bucket_of(cluster, number) for number in cluster.kept], "epoch": cluster.epoch,
             "max_osd": cluster.max_osd, "osds": [osd_of(osd) for osd in cluster.osds.values()] + gone, "pg_upmap": explicit,
             "pg_upmap_items": items, "pools": [pool_of(pool) for pool in cluster.pools], "rules": rules,
             "version": 2 if tries else 1}
 
 
-def monitor_of(value: dict[str, Any], program: Any) -> Monitor:
+def monitor_of(value: Map, program: Program) -> Monitor:
     """A session over a map that nothing was found against. A fault where the program refuses it: its own name for it, and the places."""
     try:
         return Monitor(value, program)
@@ -77,7 +81,7 @@ def monitor_of(value: dict[str, Any], program: Any) -> Monitor:
 
 # Dumps
 
-def dumped(path: str, shape: dict[str, Any]) -> tuple[dict[str, Any], frozenset[str], list[str]]:
+def dumped(path: str, shape: Shape) -> tuple[Told, frozenset[str], list[str]]:
     """What of the dump in a file is of its form, the keys of which something is not, and each place that is not."""
     value = json_of(path)
     found = misfits(value, shape, "")
@@ -85,7 +89,7 @@ def dumped(path: str, shape: dict[str, Any]) -> tuple[dict[str, Any], frozenset[
     return *fitting(value, shape), faults
 
 
-def gone_in(tree: dict[str, Any], osd_dump: dict[str, Any]) -> dict[int, int]:
+def gone_in(tree: Tree, osd_dump: OsdDump) -> dict[int, int]:
     """The reweights, in units of 1/65,536, of the OSDs that a tree tells not to exist any more and that the OSD dump does not list."""
     there = {osd["osd"] for osd in osd_dump["osds"]}
     return {node["id"]: round(node["reweight"] * 65536) for node in tree["nodes"]
@@ -96,7 +100,7 @@ def both_dumps(osd_dump: str, crush_dump: str, tree: str | None = None) -> tuple
     """The cluster of two dumps, or of three, as far as these are of their forms, and each place that is not; a fault that tells of each
     file that is no JSON object."""
     found, unread = [], []
-    files: list[tuple[str, dict[str, Any]]] = [(osd_dump, OSD_DUMP), (crush_dump, CRUSH_DUMP)]
+    files: list[tuple[str, Shape]] = [(osd_dump, OSD_DUMP), (crush_dump, CRUSH_DUMP)]
     for path, shape in files if tree is None else [*files, (tree, TREE)]:
         try:
             found.append(dumped(path, shape))
@@ -104,9 +108,9 @@ def both_dumps(osd_dump: str, crush_dump: str, tree: str | None = None) -> tuple
             unread += fault.lines
     if unread:
         raise Fault(*unread)
-    (osds, torn_osds, _), (crush, torn_crush, _) = found[:2]
-    gone = {} if tree is None else gone_in(found[2][0], osds)
-    return Cluster(osds, crush, torn_osds | torn_crush, gone), [fault for _, _, faults in found for fault in faults]
+    osds, crush = cast(OsdDump, found[0][0]), cast(CrushDump, found[1][0])
+    gone = {} if tree is None else gone_in(cast(Tree, found[2][0]), osds)
+    return Cluster(osds, crush, found[0][1] | found[1][1], gone), [fault for _, _, faults in found for fault in faults]
 
 
 def with_pools(cluster: Cluster, words: str | None) -> Cluster:
@@ -149,7 +153,7 @@ def against(cluster: Cluster, faults: list[str], is_unmatched: bool, is_one: boo
     return found + apart
 
 
-def brought(osd_dump: str, crush_dump: str, options: Any, is_one: bool = False) -> Brought:
+def brought(osd_dump: str, crush_dump: str, options: Options, is_one: bool = False) -> Brought:
     """The cluster of two dumps and its maps, or its one map; a fault that says all that keeps it out. What only one of the dumps has is
     no fault where the options take it so, and is told on standard error."""
     cluster, faults = both_dumps(osd_dump, crush_dump, options.tree)
@@ -165,7 +169,7 @@ def brought(osd_dump: str, crush_dump: str, options: Any, is_one: bool = False) 
 
 # The command
 
-def judged(options: Any) -> None:
+def judged(options: Options) -> None:
     """Tells whether a cluster comes in. A fault where it does not: each reason, and what is done about it. An error of use where files are
     to be written too."""
     if options.out is not None or options.names is not None:
@@ -190,11 +194,11 @@ def told(cluster: Cluster, has_names: bool) -> list[str]:
     return found
 
 
-def names_of(cluster: Cluster) -> dict[str, Any]:
+def names_of(cluster: Cluster) -> Told:
     """What goes into the file of names: the names of what maps have; where the maps do not have all that weighs, or weigh otherwise, those
     of all buckets and the cluster's tree too, which `df` then shows."""
     has_other = cluster.has_weight_set or bool(cluster.weightless())
-    return dict(cluster.all_names(), tree=cluster.shown()) if has_other else cluster.names()
+    return {**cluster.all_names(), "tree": cluster.shown()} if has_other else dict(cluster.names())
 
 
 def put_all(folder: str, maps: Brought) -> None:
@@ -209,7 +213,7 @@ def put_all(folder: str, maps: Brought) -> None:
         print(path)
 
 
-def work(options: Any) -> None:
+def work(options: Options) -> None:
     """Writes the map on standard output, or all maps into a folder, the names into their file, and what is left out on standard error."""
     if options.check:
         judged(options)
@@ -227,14 +231,14 @@ def work(options: Any) -> None:
         put_all(options.out, found)
 
 
-def add_options(own: Any) -> None:
+def add_options(own: Parser) -> None:
     """The options of a command that takes dumps."""
     own.add_argument("--unmatched", action="store_true", help=UNMATCHED)
     own.add_argument("--tree", metavar="FILE", help="what `ceph osd tree -f json` prints: the reweights of OSDs that were removed and stand in CRUSH")
     own.add_argument("--pools", metavar="ID|NAME,..", help="only these pools")
 
 
-def add_to(commands: Any) -> None:
+def add_to(commands: Commands) -> None:
     """The subcommand."""
     own = commands.add_parser("import", help="a map of what Ceph's tools dump", description=__doc__)
     own.add_argument("osd_dump", metavar="OSD_DUMP", help="what `ceph osd dump -f json` prints")

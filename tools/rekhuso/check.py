@@ -12,6 +12,7 @@ from typing import Any
 
 from .faults import Fault, Refused
 from .forms import NAMES, Place
+from .kinds import Commands, Names, Options, Program
 from .monitor import answers_of, has_straw2, raw_answers
 from .places import change_places, map_places
 from .shares import with_names
@@ -34,7 +35,7 @@ def parsed(text: str) -> Any:
         return None
 
 
-def owner(value: Any, place: Place, names: dict[str, Any]) -> str | None:
+def owner(value: Any, place: Place, names: Names) -> str | None:
     """The name of the bucket, OSD, pool or rule of a map in which a place stands; None where it has none."""
     found = OWNERS.match(place.path)
     entries = value.get(found[1]) if found and isinstance(value, dict) else None
@@ -43,7 +44,7 @@ def owner(value: Any, place: Place, names: dict[str, Any]) -> str | None:
     return name
 
 
-def told(value: Any, place: Place, names: dict[str, Any]) -> str:
+def told(value: Any, place: Place, names: Names) -> str:
     """A place at fault in words, with the names of what it speaks of."""
     name = owner(value, place, names)
     return f"{place._replace(why=with_names(place.why, names))}" + (f": {name}" if name is not None else "")
@@ -52,7 +53,7 @@ def told(value: Any, place: Place, names: dict[str, Any]) -> str:
 class Unlawful(Fault):
     """A map or a change that the program refuses: its name for that, and every place at fault."""
 
-    def __init__(self, path: str, number: int, name: str, value: Any, places: list[Place], names: dict[str, Any]) -> None:
+    def __init__(self, path: str, number: int, name: str, value: Any, places: list[Place], names: Names) -> None:
         """Of a file, where the places stand in a value; what it speaks of is told by its name."""
         super().__init__(f"{path}: refused: {number} {name}", *(told(value, place, names) for place in places))
         found = [dict(place._asdict(), name=NAMES[place.number], why=with_names(place.why, names), of=owner(value, place, names))
@@ -60,7 +61,7 @@ class Unlawful(Fault):
         self.parts = {"refused": {"number": number, "name": name}, "places": found}
 
 
-def check_map(path: str, program: Any, names: dict[str, Any]) -> str:
+def check_map(path: str, program: Program, names: Names) -> str:
     """The text of a map that is lawful; `Unlawful` where it is not."""
     text = text_of(path)
     try:
@@ -72,7 +73,7 @@ def check_map(path: str, program: Any, names: dict[str, Any]) -> str:
     return text
 
 
-def checked(options: Any) -> tuple[str, str | None]:
+def checked(options: Options) -> tuple[str, str | None]:
     """The text of a map, and what the program answers to a change where there is one; `Unlawful` where it refuses either."""
     names = names_in(options.names)
     text = check_map(options.map, options.program, names)
@@ -87,7 +88,7 @@ def checked(options: Any) -> tuple[str, str | None]:
     return text, answer
 
 
-def work(options: Any) -> None:
+def work(options: Options) -> None:
     """Tells that a map or a change is lawful; as JSON, also that it is not, and where."""
     try:
         text, answer = checked(options)
@@ -101,7 +102,7 @@ def work(options: Any) -> None:
         print(f"{options.map}: lawful" if answer is None else f"{options.change}: lawful: {answer}")
 
 
-def add_to(commands: Any) -> None:
+def add_to(commands: Commands) -> None:
     """The subcommand."""
     own = commands.add_parser("check", help="whether a map or a change is lawful, and where not", description=__doc__)
     own.add_argument("map", metavar="MAP", help="a map, as `import` writes it; - is standard input")

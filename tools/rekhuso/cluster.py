@@ -3,9 +3,12 @@
 from __future__ import annotations
 
 from functools import cached_property
-from typing import Any, Callable
+from typing import Callable
 
 from .forms import GROUP, TRIES
+from .kinds import (
+    Bucket, CrushDump, DumpBucket, DumpItem, DumpRule, DumpStep, Entry, Exceptions, Names, OsdDump, Step, altered, entries_of,
+)
 from .shapes import WEIGHT_SET, misfits
 
 HASHPSPOOL = 1
@@ -18,7 +21,7 @@ def listed(words: list[str]) -> str:
     return words[0] if len(words) == 1 else ", ".join(words[:-1]) + " and " + words[-1]
 
 
-def compat_weight_set(crush_dump: dict[str, Any]) -> dict[int, list[int]]:
+def compat_weight_set(crush_dump: CrushDump) -> dict[int, list[int]]:
     """The weights, in units of 1/65,536, that a compat weight set gives the items of each bucket: the one that is in force for all pools
     and all places of a set. None where weight sets are of another form."""
     found: dict[int, list[int]] = {}
@@ -37,7 +40,7 @@ def some(words: list[str], most: int = 8) -> str:
 class Cluster:
     """What two dumps say, with the rules that pools use and the buckets below what these take."""
 
-    def __init__(self, osd_dump: dict[str, Any], crush_dump: dict[str, Any], torn: frozenset[str] = frozenset(),
+    def __init__(self, osd_dump: OsdDump, crush_dump: CrushDump, torn: frozenset[str] = frozenset(),
                  gone: dict[int, int] | None = None) -> None:
         """Of dumps whose entries are all of the right form; `torn` names the keys of which some entries were not, and are gone. `gone`
         has the reweights, in units of 1/65,536, that OSDs have kept which do not exist any more."""
@@ -62,7 +65,7 @@ class Cluster:
     # What there is
 
     @staticmethod
-    def takes(rule: dict[str, Any]) -> list[int]:
+    def takes(rule: DumpRule) -> list[int]:
         """What the steps of a rule take."""
         return [step["item"] for step in rule["steps"] if step["op"] == "take"]
 
@@ -70,11 +73,11 @@ class Cluster:
         """All that the rules take, each once, from -1 downwards."""
         return sorted({root for rule in self.rules for root in self.takes(rule)}, reverse=True)
 
-    def sizes_of(self, rule: dict[str, Any]) -> list[int]:
+    def sizes_of(self, rule: DumpRule) -> list[int]:
         """The sizes of the pools that use a rule."""
         return sorted({pool["size"] for pool in self.pools if pool["crush_rule"] == rule["rule_id"]})
 
-    def step_of(self, step: dict[str, Any], size: int = 0) -> list[Any]:
+    def step_of(self, step: DumpStep, size: int = 0) -> Step:
         """A step of a rule in the map's form, for pools of a size; its type must be one of the CRUSH dump's. In a stock cluster a
         negative count becomes the size less it, and chooseleaf of OSDs becomes choose, as both are the same to Ceph."""
         op = step["op"]
@@ -89,11 +92,11 @@ class Cluster:
             op = "choose_firstn"
         return [op, count + size if self.is_stock and count < 0 else count, kind]
 
-    def steps_of(self, rule: dict[str, Any]) -> list[list[Any]]:
+    def steps_of(self, rule: DumpRule) -> list[Step]:
         """The steps of a rule in the map's form. A block that chooses as many as the size less as many or more gives nothing: only the
         tries that it sets stay, since they hold for the blocks behind it."""
-        steps: list[list[Any]] = []
-        block: list[list[Any]] = []
+        steps: list[Step] = []
+        block: list[Step] = []
         size, is_idle = (self.sizes_of(rule) or [0])[0], False
         for step in rule["steps"]:
             own = self.step_of(step, size)
@@ -109,12 +112,12 @@ class Cluster:
 
     # Buckets and what they hold
 
-    def weights(self, bucket: dict[str, Any]) -> list[int]:
+    def weights(self, bucket: DumpBucket) -> list[int]:
         """The weights by which a bucket picks: its own, or those of a weight set in force, which straw2 buckets alone look at."""
         own = self.weight_sets.get(bucket["id"], []) if bucket["alg"] == "straw2" else []
         return own if len(own) == len(bucket["items"]) else [self.weight(item) for item in bucket["items"]]
 
-    def held_by(self, bucket: dict[str, Any]) -> list[tuple[int, int]]:
+    def held_by(self, bucket: DumpBucket) -> list[tuple[int, int]]:
         """The items of a bucket that a map holds, each with its weight. An item of weight 0 draws the least number in a straw2 bucket, so it
         is never picked where another weighs more; where all weigh 0 the first one always is, and it stays at the least weight."""
         items = list(zip((item["id"] for item in bucket["items"]), self.weights(bucket)))
@@ -145,7 +148,7 @@ class Cluster:
         """An item with all below it that a map holds."""
         return self.reached(root, self.holds)
 
-    def below_rule(self, rule: dict[str, Any]) -> set[int]:
+    def below_rule(self, rule: DumpRule) -> set[int]:
         """What a rule takes, with all below it that a map holds."""
         return {number for root in self.takes(rule) for number in self.below(root)}
 
@@ -155,20 +158,19 @@ class Cluster:
         return any(self.weights(self.buckets[number]) != list(map(self.weight, self.buckets[number]["items"])) for number in self.kept)
 
     @staticmethod
-    def weight(item: dict[str, Any]) -> int:
+    def weight(item: DumpItem) -> int:
         """The weight of an item; from 2^31 on it is printed as a negative number."""
-        weight: int = item["weight"]
-        return weight + 2 ** 32 if weight < 0 else weight
+        return item["weight"] + 2 ** 32 if item["weight"] < 0 else item["weight"]
 
     def bucket_name(self, number: int) -> str:
         """The name of a bucket or a device."""
-        return f"osd.{number}" if number >= 0 else str(self.buckets.get(number, {}).get("name", number))
+        return f"osd.{number}" if number >= 0 else self.buckets[number]["name"] if number in self.buckets else str(number)
 
     def type_name(self, number: int) -> str:
         """The name of a type of buckets."""
         return next((name for name, own in self.types.items() if own == number), str(number))
 
-    def names(self) -> dict[str, Any]:
+    def names(self) -> Names:
         """The names of all that a map has by number alone."""
         return {"buckets": {str(number): self.buckets[number]["name"] for number in self.kept},
                 "classes": {str(device["id"]): device["class"] for device in self.crush["devices"] if "class" in device},
@@ -177,16 +179,16 @@ class Cluster:
                 "rules": {str(rule["rule_id"]): rule["rule_name"] for rule in self.rules},
                 "types": {str(number): name for name, number in self.types.items()}}
 
-    def all_names(self) -> dict[str, Any]:
+    def all_names(self) -> Names:
         """The same with the names of buckets that no map has."""
         return dict(self.names(), buckets={str(number): bucket["name"] for number, bucket in self.buckets.items()})
 
-    def shown(self) -> list[dict[str, Any]]:
+    def shown(self) -> list[Bucket]:
         """The buckets of the cluster's tree in the map's form: from its roots, without shadow buckets, each item where it first stands and
         with its own weight, and no bucket below one of its own type or a lower one, as a dump may have it where no rule comes."""
         types = {number: own["type_id"] for number, own in self.buckets.items() if "~" not in own["name"] and 0 < own["type_id"] < 16}
         inside = {item for number in types for item in self.listed_in(number)}
-        found: list[dict[str, Any]] = []
+        found: list[Bucket] = []
         seen: set[int] = set()
         left = sorted(types.keys() - inside)
         while left:
@@ -202,11 +204,11 @@ class Cluster:
 
     # Exceptions: those that can do nothing are left out
 
-    def kept_exceptions(self) -> dict[str, list[list[Any]]]:
+    def kept_exceptions(self) -> Exceptions:
         """All exceptions of groups that are there, as Ceph has them, in the map's form: also those that do nothing."""
-        explicit = [[entry["pgid"], entry["osds"]] for entry in self.osd_dump.get("pg_upmap", [])]
+        explicit = [[entry["pgid"], entry["osds"]] for entry in entries_of(self.osd_dump, "pg_upmap")]
         items = [[entry["pgid"], [[pair["from"], pair["to"]] for pair in entry["mappings"]]]
-                 for entry in self.osd_dump.get("pg_upmap_items", [])]
+                 for entry in entries_of(self.osd_dump, "pg_upmap_items")]
         return {"pg_upmap": [entry for entry in explicit if self.is_group(entry[0])],
                 "pg_upmap_items": [entry for entry in items if self.is_group(entry[0])]}
 
@@ -220,7 +222,7 @@ class Cluster:
         return found is not None and int(found[2], 16) < self.sizes.get(int(found[1]), 0)
 
     @cached_property
-    def exceptions(self) -> tuple[list[list[Any]], list[list[Any]]]:
+    def exceptions(self) -> tuple[list[Entry], list[Entry]]:
         """The explicit sets and the pairs that may act, where OSDs that are not there count as out: as in Ceph, an explicit set with an
         OSD that is out does nothing, and keeps the pairs of its group from acting too."""
         kept = self.kept_exceptions()
@@ -242,13 +244,14 @@ class Cluster:
             found.append(f"classes of devices{kept}")
         for key, what in (("pg_temp", "temporary sets (pg_temp), which change the acting set and not the up set"),
                           ("primary_temp", "temporary primaries (primary_temp)")):
-            if self.osd_dump.get(key):
-                found.append(f"{len(self.osd_dump[key])} {what}")
+            count = len(entries_of(self.osd_dump, key))
+            if count:
+                found.append(f"{count} {what}")
         other = [f"osd.{osd}" for osd, own in self.osds.items() if own.get("primary_affinity", 1) != 1]
         if other:
             found.append(f"primary affinity of {some(other)}: the primary may differ")
         explicit, items = self.exceptions
-        idle = len(self.osd_dump.get("pg_upmap", [])) - len(explicit) + len(self.osd_dump.get("pg_upmap_items", [])) - len(items)
+        idle = len(entries_of(self.osd_dump, "pg_upmap")) - len(explicit) + len(entries_of(self.osd_dump, "pg_upmap_items")) - len(items)
         return found + ([f"{idle} exceptions that cannot act"] if idle else []) + self.weightless()
 
     def weightless(self) -> list[str]:
@@ -272,16 +275,16 @@ class Cluster:
     def of_pools(self, chosen: set[int]) -> Cluster:
         """The cluster with some of its pools alone, and their exceptions."""
         others = {str(pool) for pool in self.sizes.keys() - chosen}
-        parts: dict[str, Any] = {key: [entry for entry in self.osd_dump[key] if entry["pgid"].split(".")[0] not in others]
-                                 for key in ("pg_upmap", "pg_upmap_items") if key in self.osd_dump}
-        parts["pools"] = [pool for pool in self.pools if pool["pool"] in chosen]
-        return Cluster(dict(self.osd_dump, **parts), self.crush, self.torn, self.gone)
+        parts = {key: [entry for entry in entries_of(self.osd_dump, key) if entry["pgid"].split(".")[0] not in others]
+                 for key in ("pg_upmap", "pg_upmap_items") if key in self.osd_dump}
+        pools = [pool for pool in self.pools if pool["pool"] in chosen]
+        return Cluster(altered(self.osd_dump, **parts, pools=pools), self.crush, self.torn, self.gone)
 
-    def holders(self, rule: dict[str, Any]) -> dict[int, int]:
+    def holders(self, rule: DumpRule) -> dict[int, int]:
         """In which bucket each item stands that a rule may reach."""
         return {item: number for number in self.below_rule(rule) for item in self.holds(number)}
 
-    def counted_rules(self) -> dict[int, list[dict[str, Any]]]:
+    def counted_rules(self) -> dict[int, list[DumpStep]]:
         """The rules with negative counts, each with the steps that have them, by which pools of other sizes go by other steps."""
         found = {rule["rule_id"]: [step for step in rule["steps"] if step["op"].startswith("choose") and step.get("num", 0) < 0] for rule in self.rules}
         return {number: steps for number, steps in found.items() if steps and self.is_stock}

@@ -7,8 +7,8 @@ and shares are those of all pools.
 
 from __future__ import annotations
 
-from typing import Any
 
+from .kinds import Commands, Names, Options, Row, Told
 from .shares import Shares, named, spread
 from .texts import add_json, put_json
 from .whole import add_files, whole_with_sets
@@ -24,7 +24,7 @@ def ratio(groups: int, share: float) -> float | None:
     return groups / share if share > 0 else None if groups else 0.0
 
 
-def node(shares: Shares, row: dict[str, Any], names: dict[str, Any]) -> dict[str, Any]:
+def node(shares: Shares, row: Row, names: Names) -> Told:
     """What is told of an OSD or a bucket, under the keys of Ceph's own JSON, and with its share."""
     number = row["id"]
     var = ratio(row["groups"], sum(shares.wanted.get(osd, 0.0) for osd in shares.below(number)))
@@ -38,12 +38,12 @@ def node(shares: Shares, row: dict[str, Any], names: dict[str, Any]) -> dict[str
                 device_class=own)
 
 
-def nodes(shares: Shares, names: dict[str, Any]) -> list[dict[str, Any]]:
+def nodes(shares: Shares, names: Names) -> list[Told]:
     """The tree, each bucket before what stands in it, with its depth."""
     return [dict(node(shares, row, names), depth=depth) for root in shares.roots() for depth, row in shares.rows(root)]
 
 
-def summary(shares: Shares) -> dict[str, Any]:
+def summary(shares: Shares) -> Told:
     """The totals, how even the OSDs are that may have groups, and the least and the greatest ratio to a share."""
     total, even = shares.total(), spread(shares)
     ratios = [shares.counts.get(osd, 0) / share for osd, share in shares.wanted.items() if share]
@@ -57,7 +57,7 @@ def decimal(number: float, places: int) -> str:
     return f"{number:.{places}f}" if number else "0"
 
 
-def cells(own: dict[str, Any], depth: int) -> list[str]:
+def cells(own: Told, depth: int) -> list[str]:
     """A row of the table, for an OSD or a bucket."""
     weight, groups, share = decimal(own["crush_weight"], 5), str(own["pgs"]), decimal(own["share"], 2)
     var = "-" if own["var"] is None else decimal(own["var"], 2)
@@ -68,7 +68,7 @@ def cells(own: dict[str, Any], depth: int) -> list[str]:
             own["status"], INDENT * depth + own["name"]]
 
 
-def tree_lines(tree: list[dict[str, Any]], stray: list[dict[str, Any]], total: dict[str, Any]) -> list[str]:
+def tree_lines(tree: list[Told], stray: list[Told], total: Told) -> list[str]:
     """The tree as a table of text, then the OSDs outside every bucket, then the totals."""
     rows = [COLUMNS] + [cells(own, own["depth"]) for own in tree]
     if stray:
@@ -79,7 +79,7 @@ def tree_lines(tree: list[dict[str, Any]], stray: list[dict[str, Any]], total: d
     return ["  ".join([cell.rjust(width) for cell, width in zip(row, widths)] + [row[-1]]) for row in rows]
 
 
-def work(options: Any) -> None:
+def work(options: Options) -> None:
     """Tells the tree, the pools and the totals of a map or a cluster."""
     whole, sets = whole_with_sets(options.files, options)
     names, shares = whole.names, whole.shares(sets)
@@ -96,7 +96,7 @@ def work(options: Any) -> None:
           f"standard deviation from the shares {total['deviation']}")
 
 
-def add_to(commands: Any) -> None:
+def add_to(commands: Commands) -> None:
     """The subcommand."""
     own = commands.add_parser("df", help="the tree with the groups of each OSD", description=__doc__)
     add_files(own, "[--json]")

@@ -3,10 +3,10 @@
 from __future__ import annotations
 
 import argparse
-from collections.abc import Iterable
-from typing import Any
+from collections.abc import Iterable, Sequence
 
 from .forms import GROUP
+from .kinds import Commands, Map, Names, Options, Program, Step, Told, PairParts, altered, entries_of
 from .monitor import up_sets
 from .net import raised
 from .shares import named
@@ -21,12 +21,12 @@ def group_word(word: str) -> str:
     return word
 
 
-def told(places: list[int | None]) -> str:
+def told(places: Sequence[int | None]) -> str:
     """A set in brackets."""
     return "[" + ",".join("none" if osd is None else str(osd) for osd in places) + "]"
 
 
-def step_words(step: list[Any], names: dict[str, Any]) -> str:
+def step_words(step: Step, names: Names) -> str:
     """A step of a rule in words."""
     if step[0] == "take":
         return f"take {named(names, 'buckets', step[1])}"
@@ -43,28 +43,27 @@ class Group:
     """A group of a map, with its sets at each stage: what the rule gives, after the explicit set, after pairs, and without OSDs that
     are down."""
 
-    def __init__(self, value: dict[str, Any], group: str, program: Any) -> None:
+    def __init__(self, value: Map, group: str, program: Program) -> None:
         """Asks the program for the sets; `Refused` where there is no such group."""
         self.value, self.group, self.program = value, group, program
         self.osds = {osd["id"]: osd for osd in value["osds"]}
-        self.explicit = dict(value.get("pg_upmap", [])).get(group)
-        self.pairs = dict(value.get("pg_upmap_items", [])).get(group, [])
+        self.explicit: list[int] | None = dict(entries_of(value, "pg_upmap")).get(group)
+        self.pairs: list[list[int]] = dict(entries_of(value, "pg_upmap_items")).get(group, [])
         up = raised(value)
-        stages = {"raw": dict(up, pg_upmap=[], pg_upmap_items=[]), "explicit": dict(up, pg_upmap_items=[]), "mapped": up, "up": value}
+        stages = {"raw": altered(up, pg_upmap=[], pg_upmap_items=[]), "explicit": altered(up, pg_upmap_items=[]), "mapped": up, "up": value}
         self.sets = {stage: up_sets(program, own, [group])[group] for stage, own in stages.items()}
         self.pool = next(own for own in value["pools"] if own["id"] == int(group.split(".")[0]))
 
     def weight(self, osd: int) -> int:
         """The reweight of an OSD in units of 1/65,536, 0 where it is not there."""
-        weight: int = self.osds.get(osd, {"weight": 0})["weight"]
-        return weight
+        return self.osds[osd]["weight"] if osd in self.osds else 0
 
     def placed(self, full: Iterable[int]) -> list[int | None]:
         """What the rule gives where some OSDs have their full reweight, whatever else the OSDs are."""
         devices = {item for bucket in self.value["buckets"] for item, _ in bucket["items"] if item >= 0} | self.osds.keys()
         weights = {**{osd: self.weight(osd) for osd in devices}, **dict.fromkeys(full, 65536)}
         osds = [{"exists": True, "id": osd, "up": True, "weight": weight} for osd, weight in sorted(weights.items())]
-        value = dict(self.value, osds=osds, pools=[self.pool], pg_upmap=[], pg_upmap_items=[])
+        value = altered(self.value, osds=osds, pools=[self.pool], pg_upmap=[], pg_upmap_items=[])
         return up_sets(self.program, value, [self.group])[self.group].places
 
     def met(self, osds: list[int], usual: list[int | None]) -> list[int]:
@@ -89,15 +88,16 @@ class Group:
         """Why the explicit set does nothing; None where it stands, or where there is none."""
         return next((f"osd.{osd} is out" for osd in self.explicit or [] if self.weight(osd) == 0), None)
 
-    def pair_parts(self) -> list[dict[str, Any]]:
+    def pair_parts(self) -> list[PairParts]:
         """What each pair did, or why it did nothing; none of a group whose explicit set does nothing, as then no pair is looked at."""
-        parts, places = [], list(self.sets["explicit"].places)
+        parts: list[PairParts] = []
+        places = list(self.sets["explicit"].places)
         for was, now in [] if self.idle_explicit() else self.pairs:
             why = (f"osd.{was} does not stand in the set" if was not in places else f"osd.{now} stands there already" if now in places
                    else f"osd.{now} is out" if self.weight(now) == 0 else None)
             if why is None:
                 places[places.index(was)] = now
-            parts.append({"from": was, "to": now, "idle": why, "set": list(places)})
+            parts.append({"was": was, "now": now, "idle": why, "places": list(places)})
         return parts
 
     def exception_lines(self) -> list[str]:
@@ -106,8 +106,8 @@ class Group:
         if self.explicit is not None:
             lines.append(f"its explicit set {told(self.explicit)} " + (f"does nothing, nor do its pairs: {idle}" if idle
                                                                        else "stands in place of the raw set"))
-        return lines + [f"its pair {own['from']} to {own['to']} " + (f"does nothing: {own['idle']}" if own["idle"] else
-                                                                    f"gives {told(own['set'])}") for own in self.pair_parts()]
+        return lines + [f"its pair {own['was']} to {own['now']} " + (f"does nothing: {own['idle']}" if own["idle"] else
+                                                                     f"gives {told(own['places'])}") for own in self.pair_parts()]
 
     def down(self) -> list[int]:
         """The OSDs that leave the set, as they are down."""
@@ -120,7 +120,7 @@ class Group:
         lines += self.exception_lines() + [f"osd.{osd} is down and leaves" for osd in self.down()]
         return lines or ["nobody has changed the set: no OSD was passed over as out, there is no exception, and no OSD of it is down"]
 
-    def lines(self, names: dict[str, Any]) -> list[str]:
+    def lines(self, names: Names) -> list[str]:
         """The whole story, a line a stage."""
         pool, rule = self.pool, next(own for own in self.value["rules"] if own["id"] == self.pool["rule"])
         steps, up = "; ".join(step_words(step, names) for step in rule["steps"]), self.sets["up"]
@@ -130,17 +130,18 @@ class Group:
                 f"its up set is {told(up.places)}, its primary " + ("none" if up.primary is None else f"osd.{up.primary}")]
 
 
-    def parts(self, names: dict[str, Any]) -> dict[str, Any]:
+    def parts(self, names: Names) -> Told:
         """The whole story as JSON has it: the set at each stage, and what changed it."""
         rule, up = next(own for own in self.value["rules"] if own["id"] == self.pool["rule"]), self.sets["up"]
+        pairs = [{"from": own["was"], "to": own["now"], "idle": own["idle"], "set": own["places"]} for own in self.pair_parts()]
         explicit = None if self.explicit is None else {"set": self.explicit, "idle": self.idle_explicit()}
-        return {"group": self.group, "pool": dict(self.pool, name=named(names, "pools", self.pool["id"])),
-                "rule": dict(rule, name=named(names, "rules", rule["id"])), "raw": self.sets["raw"].places,
+        return {"group": self.group, "pool": {**self.pool, "name": named(names, "pools", self.pool["id"])},
+                "rule": {**rule, "name": named(names, "rules", rule["id"])}, "raw": self.sets["raw"].places,
                 "passed_over": [{"osd": osd, "reweight": self.weight(osd) / 65536} for osd in self.passed_over()],
-                "pg_upmap": explicit, "pg_upmap_items": self.pair_parts(), "down": self.down(), "up": up.places, "up_primary": up.primary}
+                "pg_upmap": explicit, "pg_upmap_items": pairs, "down": self.down(), "up": up.places, "up_primary": up.primary}
 
 
-def work(options: Any) -> None:
+def work(options: Options) -> None:
     """Tells a group's story."""
     whole = whole_of(options.files, options)
     value = whole.map_of(int(options.group.split(".")[0]))
@@ -151,7 +152,7 @@ def work(options: Any) -> None:
         print("\n".join(group.lines(whole.names)))
 
 
-def add_to(commands: Any) -> None:
+def add_to(commands: Commands) -> None:
     """The subcommand."""
     own = commands.add_parser("explain", help="why a group is where it is", description=__doc__)
     own.usage = usage("PG", "[--json]")

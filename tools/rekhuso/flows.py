@@ -1,14 +1,16 @@
 """The picture of `whatif --picture`: which host gives places to which, as bands from left to right, as SVG."""
 
-import html
-from typing import Any
+from __future__ import annotations
 
+import html
+
+from .kinds import Flows, Map, Names
 from .shares import named
 
 WIDTH, TALL, TOP, SIDE, BAR, SPACE, LEAST = 760, 520, 34, 170, 14, 4, 9
 
 
-def host_of(value: dict[str, Any]) -> dict[int, int]:
+def host_of(value: Map) -> dict[int, int]:
     """The bucket in which each OSD stands; an OSD that stands in none stands for itself."""
     return {item: bucket["id"] for bucket in value["buckets"] for item, _ in bucket["items"] if item >= 0}
 
@@ -39,7 +41,7 @@ def stacked(counts: dict[int, int], scale: float) -> dict[int, float]:
     return tops
 
 
-def bars(counts: dict[int, int], tops: dict[int, float], scale: float, names: dict[str, Any], left: bool) -> list[str]:
+def bars(counts: dict[int, int], tops: dict[int, float], scale: float, names: Names, left: bool) -> list[str]:
     """The bars of one side, each with the host's name and number where there is room for it."""
     parts, edge = [], SIDE if left else WIDTH - SIDE - BAR
     for host, count in counts.items():
@@ -51,7 +53,7 @@ def bars(counts: dict[int, int], tops: dict[int, float], scale: float, names: di
     return parts
 
 
-def bands(pairs: dict[tuple[int, int], int], givers: dict[int, float], takers: dict[int, float], scale: float, names: dict[str, Any]) -> list[str]:
+def bands(pairs: dict[tuple[int, int], int], givers: dict[int, float], takers: dict[int, float], scale: float, names: Names) -> list[str]:
     """The bands, in the order of the bars on both sides, each as wide as the places that go."""
     outs, ins, parts = dict(givers), dict(takers), []
     hues = {host: round(360 * at / max(len(givers), 1)) for at, host in enumerate(givers)}
@@ -68,7 +70,7 @@ def bands(pairs: dict[tuple[int, int], int], givers: dict[int, float], takers: d
     return parts
 
 
-def picture(value: dict[str, Any], found: dict[str, Any], names: dict[str, Any]) -> str:
+def picture(value: Map, found: Flows, names: Names) -> str:
     """The SVG of what moves."""
     pairs = between(found["flows"], host_of(value))
     given, taken = totals(pairs, 0), totals(pairs, 1)

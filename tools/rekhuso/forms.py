@@ -7,7 +7,7 @@ is tested for against a map) is in `places`.
 from __future__ import annotations
 
 import re
-from typing import Any, Callable, Iterator, NamedTuple
+from typing import Callable, Iterator, NamedTuple
 
 NAMES = {10: "BadJson", 11: "BadField", 12: "BadLimit", 13: "BadForest", 14: "BadRule", 15: "BadPool", 16: "BadOsd", 17: "BadException",
          20: "StaleEpoch", 21: "UnknownOsd", 22: "BadWeight", 23: "UnknownPool", 24: "PoolExists", 25: "UnknownGroup", 26: "BadException",
@@ -33,12 +33,12 @@ class Place(NamedTuple):
 
 
 Places = Iterator[Place]
-Form = Callable[[Any, str], Places]
+Form = Callable[[object, str], Places]
 
 
 def number(low: int, high: int) -> Form:
     """A whole number from low to high."""
-    def form(value: Any, path: str) -> Places:
+    def form(value: object, path: str) -> Places:
         """What is wrong with a value as such a number."""
         if isinstance(value, bool) or not isinstance(value, int) or not -2 ** 63 <= value < 2 ** 64:
             yield Place(11, path, "no whole number of 64 bits")
@@ -47,7 +47,7 @@ def number(low: int, high: int) -> Form:
     return form
 
 
-def flag(value: Any, path: str) -> Places:
+def flag(value: object, path: str) -> Places:
     """true or false."""
     if not isinstance(value, bool):
         yield Place(11, path, "neither true nor false")
@@ -55,14 +55,14 @@ def flag(value: Any, path: str) -> Places:
 
 def word(*words: str) -> Form:
     """One of some words."""
-    def form(value: Any, path: str) -> Places:
+    def form(value: object, path: str) -> Places:
         """What is wrong with a value as such a word."""
         if value not in words:
             yield Place(11, path, f"none of {', '.join(words)}")
     return form
 
 
-def group(value: Any, path: str) -> Places:
+def group(value: object, path: str) -> Places:
     """A group's text."""
     match = GROUP.fullmatch(value) if isinstance(value, str) else None
     if match is None:
@@ -73,7 +73,7 @@ def group(value: Any, path: str) -> Places:
 
 def listed(form: Form, least: int, most: int) -> Form:
     """A list of so many entries of a form."""
-    def whole(value: Any, path: str) -> Places:
+    def whole(value: object, path: str) -> Places:
         """What is wrong with a value as such a list, and with its entries."""
         if not isinstance(value, list):
             yield Place(11, path, "no list")
@@ -87,7 +87,7 @@ def listed(form: Form, least: int, most: int) -> Form:
 
 def tupled(*forms: Form) -> Form:
     """A list with an entry of each form."""
-    def whole(value: Any, path: str) -> Places:
+    def whole(value: object, path: str) -> Places:
         """What is wrong with a value as such a list, and with its entries."""
         if not isinstance(value, list) or len(value) != len(forms):
             yield Place(11, path, f"no list of {len(forms)}")
@@ -101,7 +101,7 @@ def keyed(required: dict[str, Form], optional: dict[str, Form] | None = None) ->
     """An object with these keys."""
     forms = {**required, **(optional or {})}
 
-    def whole(value: Any, path: str) -> Places:
+    def whole(value: object, path: str) -> Places:
         """What is wrong with a value as such an object, and with what stands at its keys."""
         dot = f"{path}." if path else ""
         if not isinstance(value, dict):
@@ -120,7 +120,7 @@ def step(has_tries: bool) -> Form:
     """A step of a rule."""
     words = {**STEPS, **(TRIES if has_tries else {})}
 
-    def form(value: Any, path: str) -> Places:
+    def form(value: object, path: str) -> Places:
         """What is wrong with a value as such a step."""
         if not isinstance(value, list) or not value or not isinstance(value[0], str) or value[0] not in words or len(value) != 1 + words[value[0]]:
             tries = "; steps of tries stand in maps of version 2" if isinstance(value, list) and value[:1] in [[op] for op in TRIES] else ""
@@ -131,7 +131,7 @@ def step(has_tries: bool) -> Form:
     return form
 
 
-def item_id(value: Any, path: str) -> Places:
+def item_id(value: object, path: str) -> Places:
     """A device or a bucket."""
     yield from number(-65536, 1023)(value, path)
 

@@ -33,9 +33,10 @@ import threading
 import time
 from collections.abc import Callable
 from itertools import islice
-from typing import IO, Any, NamedTuple, NoReturn
+from typing import IO, NamedTuple, NoReturn
 
 from .faults import Fault, Refused
+from .kinds import Map, Pool, Program
 from .texts import text_of, written
 
 # The crate of the program, where the tools stand in its repository, and what `make run` builds there.
@@ -53,7 +54,7 @@ def built() -> pathlib.Path:
     return pathlib.Path(found)
 
 
-def has_straw2(value: Any) -> bool:
+def has_straw2(value: object) -> bool:
     """Whether a map has a straw2 bucket, so that the program reads it under `--stock` alone; a value, or a text that may be none."""
     if isinstance(value, str):
         if "straw2" not in value and "\\" not in value:
@@ -217,9 +218,9 @@ class Session:
         groups = self.one(f"groups {osd}").split(" ")[3][1:-1]
         return groups.split(",") if groups else []
 
-    def dump(self) -> dict[str, Any]:
+    def dump(self) -> Map:
         """The map as it is."""
-        value: dict[str, Any] = json.loads(self.text())
+        value: Map = json.loads(self.text())
         return value
 
     def text(self) -> str:
@@ -228,7 +229,7 @@ class Session:
 
     # Changes
 
-    def change(self, base: int | None = None, **parts: Any) -> Made:
+    def change(self, base: int | None = None, **parts: object) -> Made:
         """Commits a change: its parts by their keys, as `down=[2]`. Without a base it is the present epoch."""
         value = dict(parts, base=self.epoch() if base is None else base)
         _, epoch, _, evals = self.one(f"change {written(value)}").split(" ")
@@ -245,7 +246,7 @@ class Monitor(Session):
     `with`, or by `close`. Where a timeout is given, a start, a question or an end that takes more seconds ends the program. Under
     `stock` the map and its changes may have straw2 buckets; where nothing is said, the map tells it."""
 
-    def __init__(self, value: Any, program: str | os.PathLike[str] | None = None, journal: int = 65536, sessions: int = 1,
+    def __init__(self, value: Map | str, program: Program = None, journal: int = 65536, sessions: int = 1,
                  timeout: float | None = None, stock: bool | None = None) -> None:
         """Starts the program (that of the repository, or of the path, where none is given) with 1 to 64 sessions and a journal
         of so many changes, 1 to 65,536. ValueError for another number of sessions; a fault where there is no program or it does
@@ -377,40 +378,45 @@ def unblocked(pipe: int) -> int:
 
 # One session for some lines
 
-def raw_answers(program: pathlib.Path, value: Any, lines: list[str], stock: bool | None = None) -> list[str]:
+def raw_answers(program: Program, value: Map | str, lines: list[str], stock: bool | None = None) -> list[str]:
     """The answer of each line over a map, refusals among them."""
     with Monitor(value, program, stock=stock) as monitor:
         return monitor.raw(lines)
 
 
-def answers_of(program: pathlib.Path, value: Any, lines: list[str]) -> list[str]:
+def answers_of(program: Program, value: Map | str, lines: list[str]) -> list[str]:
     """The answer of each line over a map; a refusal ends this as `Refused`."""
     with Monitor(value, program) as monitor:
         return monitor.ask(lines)
 
 
-def up_sets(program: pathlib.Path, value: Any, groups: list[str]) -> dict[str, Up]:
+def up_sets(program: Program, value: Map | str, groups: list[str]) -> dict[str, Up]:
     """The up set of each group of a map."""
     with Monitor(value, program) as monitor:
         return monitor.ups(groups)
 
 
-def map_in(path: str, program: pathlib.Path) -> dict[str, Any]:
+def map_in(path: str, program: Program) -> Map:
     """The map in a file, once the program has found it lawful."""
     text = text_of(path)
     with Monitor(text, program):
-        value: dict[str, Any] = json.loads(text)
+        value: Map = json.loads(text)
         return value
 
 
-def map_with_sets(path: str, program: pathlib.Path) -> tuple[dict[str, Any], dict[str, Up]]:
+def map_with_sets(path: str, program: Program) -> tuple[Map, dict[str, Up]]:
     """The map in a file and the up set of each of its groups, by one session; `Refused` where it is not lawful."""
     text = text_of(path)
     with Monitor(text, program) as monitor:
-        value: dict[str, Any] = json.loads(text)
+        value: Map = json.loads(text)
         return value, monitor.ups(groups_of(value))
 
 
-def groups_of(value: dict[str, Any]) -> list[str]:
+def groups_in(pool: Pool) -> list[str]:
+    """All groups of a pool."""
+    return [f"{pool['id']}.{number:x}" for number in range(pool["pg_num"])]
+
+
+def groups_of(value: Map) -> list[str]:
     """All groups of a map, pool by pool."""
-    return [f"{pool['id']}.{number:x}" for pool in value["pools"] for number in range(pool["pg_num"])]
+    return [group for pool in value["pools"] for group in groups_in(pool)]

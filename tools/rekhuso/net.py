@@ -9,17 +9,17 @@ explicit set alone. Groups with a place that is empty are left as they are. The 
 from __future__ import annotations
 
 import json
-from typing import Any
 
 from .faults import Fault
+from .kinds import Commands, Map, Options, altered, entries_of
 from .monitor import Monitor, Session, Up
 from .texts import add_json, put_json, text_of, written
 from .unlike import change_of, commands, place_of
 
 
-def raised(value: dict[str, Any]) -> dict[str, Any]:
+def raised(value: Map) -> Map:
     """The map with every OSD up that is there, so that up sets are the mapped ones."""
-    return dict(value, osds=[dict(osd, up=osd["exists"]) for osd in value["osds"]])
+    return altered(value, osds=[altered(osd, up=osd["exists"]) for osd in value["osds"]])
 
 
 def own_pairs(base: list[int | None], wanted: list[int | None]) -> list[list[int]] | None:
@@ -30,9 +30,10 @@ def own_pairs(base: list[int | None], wanted: list[int | None]) -> list[list[int
     return [[was, now] for was, now in differ if was is not None and now is not None]
 
 
-def netted(value: dict[str, Any], wanted: dict[str, Up], base: dict[str, Up]) -> dict[str, Any]:
+def netted(value: Map, wanted: dict[str, Up], base: dict[str, Up]) -> Map:
     """The map with the fewest pairs, where some groups want these sets and have those by their rule alone."""
-    explicit, items = dict(value.get("pg_upmap", [])), {}
+    explicit: dict[str, list[int | None]] = dict(entries_of(value, "pg_upmap"))
+    items: dict[str, list[list[int]]] = {}
     for group, pairs in value.get("pg_upmap_items", []):
         places = wanted[group].places
         found = own_pairs(base[group].places, places)
@@ -43,11 +44,11 @@ def netted(value: dict[str, Any], wanted: dict[str, Up], base: dict[str, Up]) ->
             explicit[group] = places
         else:
             items[group] = pairs
-    return dict(value, pg_upmap=[[group, explicit[group]] for group in sorted(explicit, key=place_of)],
+    return altered(value, pg_upmap=[[group, explicit[group]] for group in sorted(explicit, key=place_of)],
                 pg_upmap_items=[[group, items[group]] for group in sorted(items, key=place_of)])
 
 
-def settled(session: Session, value: dict[str, Any]) -> dict[str, Any]:
+def settled(session: Session, value: Map) -> Map:
     """A session's map with the fewest pairs, once the program has answered that the set of each group with pairs is as it was. All
     OSDs of the session's map are up afterwards. A fault where a group would move."""
     groups = [group for group, _ in value.get("pg_upmap_items", [])]
@@ -58,7 +59,7 @@ def settled(session: Session, value: dict[str, Any]) -> dict[str, Any]:
     session.change(old_upmap=groups, old_items=groups)
     new = netted(value, wanted, session.ups(groups))
     own = set(groups)
-    explicit, items = ([entry for entry in new[key] if entry[0] in own] for key in ("pg_upmap", "pg_upmap_items"))
+    explicit, items = ([entry for entry in entries_of(new, key) if entry[0] in own] for key in ("pg_upmap", "pg_upmap_items"))
     session.change(new_upmap=explicit, new_items=items)
     after = session.ups(groups)
     unlike = [group for group in groups if wanted[group].places != after[group].places]
@@ -67,11 +68,11 @@ def settled(session: Session, value: dict[str, Any]) -> dict[str, Any]:
     return new
 
 
-def work(options: Any) -> None:
+def work(options: Options) -> None:
     """Tells the change, or the commands."""
     text = text_of(options.map)
     with Monitor(text, options.program) as monitor:
-        value: dict[str, Any] = json.loads(text)
+        value: Map = json.loads(text)
         new = settled(monitor, value)
     change, _ = change_of(value, new)
     if options.json:
@@ -83,7 +84,7 @@ def work(options: Any) -> None:
         print(f"change {written(change)}")
 
 
-def add_to(commands_of: Any) -> None:
+def add_to(commands_of: Commands) -> None:
     """The subcommand."""
     own = commands_of.add_parser("net", help="the fewest pairs for the same sets", description=__doc__)
     own.add_argument("map", metavar="MAP", help="a map, as `import` writes it; - is standard input")

@@ -4,9 +4,10 @@ from __future__ import annotations
 
 from collections import Counter
 from itertools import combinations
-from typing import Any, Iterable, NamedTuple
+from typing import Iterable, NamedTuple
 
 from .cluster import GREATEST, HASHPSPOOL, KINDS, Cluster, listed, some
+from .kinds import DumpPool, DumpRule, DumpStep, Told, entries_of
 from .places import block_fault
 from .shapes import WEIGHT_SET, misfits
 
@@ -183,7 +184,7 @@ def weight_set_reasons(cluster: Cluster) -> list[str]:
     return found
 
 
-def step_reasons(cluster: Cluster, rule: dict[str, Any]) -> list[str]:
+def step_reasons(cluster: Cluster, rule: DumpRule) -> list[str]:
     """Steps of a rule that no map has: unknown words, items and types, and counts outside their ranges."""
     found, name = [], f"rule {rule['rule_name']}"
     for step in rule["steps"]:
@@ -201,7 +202,7 @@ def step_reasons(cluster: Cluster, rule: dict[str, Any]) -> list[str]:
     return found
 
 
-def negative_reasons(cluster: Cluster, rule: dict[str, Any], step: dict[str, Any]) -> list[str]:
+def negative_reasons(cluster: Cluster, rule: DumpRule, step: DumpStep) -> list[str]:
     """A negative count in a step; in a stock cluster one that is no count, or for no pool."""
     is_stated = cluster.is_stock and step["op"].startswith("choose") and cluster.sizes_of(rule)
     return [] if is_stated else [f"rule {rule['rule_name']} has the negative count {step['num']} in a step {step['op']}"]
@@ -242,7 +243,7 @@ def rule_reasons(cluster: Cluster) -> list[str]:
 
 # Pools and OSDs
 
-def pool_rule_reasons(cluster: Cluster, pool: dict[str, Any]) -> list[str]:
+def pool_rule_reasons(cluster: Cluster, pool: DumpPool) -> list[str]:
     """A pool whose rule is not there, or is for pools of the other kind."""
     name, rule = f"pool {pool['pool']}", next((own for own in cluster.rules if own["rule_id"] == pool["crush_rule"]), None)
     if rule is None:
@@ -307,14 +308,14 @@ def size_of(cluster: Cluster, group: str) -> int:
     return size
 
 
-def targets(entry: dict[str, Any]) -> list[int]:
+def targets(entry: Told) -> list[int]:
     """The OSDs that an exception may lead to."""
     return [pair["to"] for pair in entry["mappings"]] if "mappings" in entry else list(entry["osds"])
 
 
 def exception_reasons(cluster: Cluster) -> list[str]:
     """Exceptions of groups that are there, in a form that no map has."""
-    found, explicit = [], [entry for entry in cluster.osd_dump.get("pg_upmap", []) if cluster.is_group(entry["pgid"])]
+    found, explicit = [], [entry for entry in entries_of(cluster.osd_dump, "pg_upmap") if cluster.is_group(entry["pgid"])]
     for entry in explicit:
         name, size, osds = f"the explicit set of {entry['pgid']}", size_of(cluster, entry["pgid"]), entry["osds"]
         if not 1 <= len(osds) <= size:
@@ -323,11 +324,11 @@ def exception_reasons(cluster: Cluster) -> list[str]:
             found.append(f"{name} has an OSD twice")
     for group, pairs in cluster.exceptions[1]:
         found += range_reason(f"the pairs of {group} are {len(pairs)}", len(pairs), 1, size_of(cluster, group))
-    primaries = len(cluster.osd_dump.get("pg_upmap_primaries", []))
+    primaries = len(entries_of(cluster.osd_dump, "pg_upmap_primaries"))
     if primaries:
         found.append(f"pg_upmap_primaries (of {primaries} group{'s' * (primaries > 1)}), which change the order of up sets")
     for key, word, _ in (SETS, PAIRS):
-        groups = Counter(entry["pgid"] for entry in cluster.osd_dump.get(key, []))
+        groups = Counter(entry["pgid"] for entry in entries_of(cluster.osd_dump, key))
         found += [f"the OSD dump has the {word} of {group} twice" for group, count in groups.items() if count > 1]
     return found
 
@@ -339,7 +340,7 @@ def absent_reasons(cluster: Cluster, is_high: bool) -> list[str]:
     one = f"which is not below max_osd, {most}" if is_high else "which the OSD dump does not list"
     many = one.replace("which is", "which are")
     for key, word, verb in (SETS, PAIRS):
-        named = [(entry["pgid"], osd) for entry in cluster.osd_dump.get(key, []) if cluster.is_group(entry["pgid"])
+        named = [(entry["pgid"], osd) for entry in entries_of(cluster.osd_dump, key) if cluster.is_group(entry["pgid"])
                  for osd in dict.fromkeys(targets(entry)) if osd not in cluster.osds.keys() | cluster.gone.keys() and (osd >= most) == is_high]
         if len(named) > FEW:
             osds = [f"osd.{osd}" for osd in sorted({osd for _, osd in named})]
@@ -353,7 +354,7 @@ def kept_reasons(cluster: Cluster) -> list[str]:
     """Exceptions that lead to an OSD which does not exist and has kept a reweight above 0: Ceph takes them and drops the OSD at look-up."""
     kept = {osd for osd, weight in cluster.gone.items() if weight}
     return [f"the {word} of {entry['pgid']} {verb} osd.{osd}, which does not exist and has kept the reweight {cluster.gone[osd] / 65536:.5f}"
-            for key, word, verb in (SETS, PAIRS) for entry in cluster.osd_dump.get(key, []) if cluster.is_group(entry["pgid"])
+            for key, word, verb in (SETS, PAIRS) for entry in entries_of(cluster.osd_dump, key) if cluster.is_group(entry["pgid"])
             for osd in dict.fromkeys(targets(entry)) if osd in kept]
 
 

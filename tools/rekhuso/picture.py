@@ -7,8 +7,8 @@ one that is down.
 from __future__ import annotations
 
 import html
-from typing import Any
 
+from .kinds import Commands, Names, Options
 from .shares import Shares, named
 from .whole import ABOUT_FILES, add_names, is_crush_dump, usage, whole_with_sets
 
@@ -59,7 +59,7 @@ def hosts_of(shares: Shares) -> list[tuple[str | int, int]]:
     return found
 
 
-def drawn(shares: Shares, names: dict[str, Any], left: int) -> tuple[list[str], int, int]:
+def drawn(shares: Shares, names: Names, left: int) -> tuple[list[str], int, int]:
     """The parts of one map's picture, where it ends on the right, and its height. A rack that would begin far down begins a column."""
     hosts = hosts_of(shares)
     widest = max((len([item for item, _ in shares.buckets[host]["items"] if item >= 0]) for _, host in hosts), default=1)
@@ -81,7 +81,7 @@ def drawn(shares: Shares, names: dict[str, Any], left: int) -> tuple[list[str], 
     return parts, left + column, height
 
 
-def picture(maps: list[Shares], names: dict[str, Any], titles: list[str]) -> str:
+def picture(maps: list[Shares], names: Names, titles: list[str]) -> str:
     """The SVG of one map or two."""
     parts, left, height = [], 8, 0
     for shares, title in zip(maps, titles):
@@ -96,7 +96,7 @@ def picture(maps: list[Shares], names: dict[str, Any], titles: list[str]) -> str
             f'<text x="136" y="{height + 17}">no groups .. the share .. twice as many; in a square its groups; cross: out; bar: down</text></svg>\n')
 
 
-def work(options: Any) -> None:
+def work(options: Options) -> None:
     """Writes the picture on standard output."""
     files: list[str] = options.files
     parts = [files] if len(files) == 2 and is_crush_dump(files[1]) else [[path] for path in files]
@@ -104,7 +104,7 @@ def work(options: Any) -> None:
     print(picture([whole.shares(sets) for whole, sets in wholes], wholes[0][0].names, [part[0] for part in parts]), end="")
 
 
-def add_to(commands: Any) -> None:
+def add_to(commands: Commands) -> None:
     """The subcommand."""
     own = commands.add_parser("picture", help="the OSDs and their shares as SVG", description=__doc__)
     own.usage = usage().replace("MAP [", "MAP [MAP ..] [")

@@ -3,9 +3,10 @@
 from __future__ import annotations
 
 from collections import Counter
-from typing import Any, Iterable
+from typing import Any, Iterable, cast
 
 from .forms import TRIES, Place, Places, change_form, map_form
+from .kinds import Change, Entry, Map, Pool, Rule, Step, entries_of
 from .unlike import place_of
 
 
@@ -18,7 +19,7 @@ def twice(numbers: Iterable[Any], path: str, number: int, what: str) -> Places:
         seen.add(key)
 
 
-def forest_places(value: dict[str, Any], max_osd: int, path: str = "") -> Places:
+def forest_places(value: Map, max_osd: int, path: str = "") -> Places:
     """Buckets that are no forest over so many devices."""
     buckets = value["buckets"]
     yield from twice((bucket["id"] for bucket in buckets), path + "buckets[{}].id", 13, "bucket")
@@ -44,7 +45,7 @@ def forest_places(value: dict[str, Any], max_osd: int, path: str = "") -> Places
                 yield Place(13, here, f"bucket {item} of type {types[item]} below type {bucket['type']}")
 
 
-def block_fault(steps: list[list[Any]], kind: str) -> str | None:
+def block_fault(steps: list[Step], kind: str) -> str | None:
     """What is wrong with the steps of a rule, which are blocks of a take, one to three choose steps, and an emit."""
     way, at = "firstn" if kind == "replicated" else "indep", 0
     while True:
@@ -69,7 +70,7 @@ def block_fault(steps: list[list[Any]], kind: str) -> str | None:
             return None
 
 
-def rule_places(value: dict[str, Any], path: str = "") -> Places:
+def rule_places(value: Map, path: str = "") -> Places:
     """Rules that are none."""
     yield from twice((rule["id"] for rule in value["rules"]), path + "rules[{}].id", 14, "rule")
     buckets = {bucket["id"] for bucket in value["buckets"]}
@@ -82,7 +83,7 @@ def rule_places(value: dict[str, Any], path: str = "") -> Places:
                 yield Place(14, f"{path}rules[{at}].steps[{place}]", f"takes {step[1]}, which is no bucket of the list")
 
 
-def pool_places(pools: list[dict[str, Any]], rules: list[dict[str, Any]], path: str) -> Places:
+def pool_places(pools: list[Pool], rules: list[Rule], path: str) -> Places:
     """Pools whose rule is not there, or of the other kind, or with more groups for placement than they have."""
     kinds = {rule["id"]: rule["kind"] for rule in rules}
     for at, pool in enumerate(pools):
@@ -94,7 +95,7 @@ def pool_places(pools: list[dict[str, Any]], rules: list[dict[str, Any]], path: 
             yield Place(15, f"{path}[{at}].pgp_num", f"{pool['pgp_num']}, above pg_num, {pool['pg_num']}")
 
 
-def entry_faults(entry: list[Any], size: int, is_set: bool) -> Iterable[str]:
+def entry_faults(entry: Entry, size: int, is_set: bool) -> Iterable[str]:
     """What is wrong with the entries of an exception."""
     if not 1 <= len(entry) <= size:
         yield f"{len(entry)} entries, 1 to the pool's size, {size}"
@@ -104,17 +105,17 @@ def entry_faults(entry: list[Any], size: int, is_set: bool) -> Iterable[str]:
         yield "a pair of equal sides"
 
 
-def osds_in(entry: list[Any]) -> list[int]:
+def osds_in(entry: Entry) -> list[int]:
     """The OSDs that an exception names."""
     return [osd for part in entry for osd in (part if isinstance(part, list) else [part])]
 
 
-def map_exceptions(value: dict[str, Any]) -> Places:
+def map_exceptions(value: Map) -> Places:
     """Exceptions of groups or OSDs that are not there, or that break their form."""
     pools = {pool["id"]: pool for pool in value["pools"]}
     there = {osd["id"] for osd in value["osds"] if osd["exists"]}
     for key in ("pg_upmap", "pg_upmap_items"):
-        entries = value.get(key, [])
+        entries = entries_of(value, key)
         yield from twice((entry[0] for entry in entries), key + "[{}][0]", 17, "group")
         for at, (group, entry) in enumerate(entries):
             pool, own = place_of(group)
@@ -127,12 +128,16 @@ def map_exceptions(value: dict[str, Any]) -> Places:
                 yield Place(17, f"{key}[{at}][1]", f"osd.{osd} does not exist")
 
 
-def map_places(value: Any, is_stock: bool = False) -> list[Place]:
+def map_places(value: object, is_stock: bool = False) -> list[Place]:
     """All places of a map that are at fault, under `--stock` or without it: those of form and limits, or where these hold all others."""
     has_tries = isinstance(value, dict) and value.get("version") == 2
     found = list(map_form(has_tries, is_stock)(value, ""))
-    if found:
-        return found
+    return found or lawless_places(cast(Map, value))
+
+
+def lawless_places(value: Map) -> list[Place]:
+    """The places at fault of a map whose form and limits hold."""
+    found: list[Place] = []
     for places in (forest_places(value, value["max_osd"]), rule_places(value), twice((pool["id"] for pool in value["pools"]), "pools[{}].id", 15, "pool"),
                    pool_places(value["pools"], value["rules"], "pools"), twice((osd["id"] for osd in value["osds"]), "osds[{}].id", 16, "OSD")):
         found += places
@@ -147,7 +152,7 @@ def map_places(value: Any, is_stock: bool = False) -> list[Place]:
 class After:
     """What a change is tested against: a map, and its pools after the change."""
 
-    def __init__(self, value: dict[str, Any], change: dict[str, Any]) -> None:
+    def __init__(self, value: Map, change: Change) -> None:
         """Takes a lawful map, and a change of the right form."""
         self.value, self.change = value, change
         self.there = {osd["id"] for osd in value["osds"] if osd["exists"]}
@@ -217,11 +222,15 @@ class After:
                 yield Place(27, f"{left} and {right}", f"{key} stands in both")
 
 
-def change_places(value: dict[str, Any], change: Any, is_stock: bool = False) -> list[Place]:
+def change_places(value: Map, change: object, is_stock: bool = False) -> list[Place]:
     """All places of a change to a lawful map that are at fault, under `--stock` or without it."""
     found = list(change_form(is_stock)(change, ""))
-    if found:
-        return found
+    return found or unfit_places(value, cast(Change, change))
+
+
+def unfit_places(value: Map, change: Change) -> list[Place]:
+    """The places at fault of a change whose form and limits hold."""
+    found: list[Place] = []
     if "new_crush" in change:
         crush = change["new_crush"]
         found += list(forest_places(crush, value["max_osd"], "new_crush.")) + list(rule_places(crush, "new_crush."))

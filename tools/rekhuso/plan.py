@@ -12,11 +12,12 @@ import json
 import sys
 from collections import Counter
 from fractions import Fraction
-from typing import Any, NamedTuple
+from typing import NamedTuple
 
 from .bring import brought, monitor_of
 from .faults import Fault, Misuse
 from .greedy import Deviations, Pairs, moves_within
+from .kinds import Commands, Exceptions, Map, Names, Options, Pool, PoolSpread, PlanParts, altered
 from .monitor import Monitor, Session, Up, groups_of
 from .net import settled
 from .shares import Shares, named
@@ -30,9 +31,9 @@ MOST = 1024
 class Cluster(NamedTuple):
     """What is planned for: the map, its exceptions as Ceph has them, and the names of pools."""
 
-    value: dict[str, Any]
-    kept: dict[str, Any]
-    names: dict[str, Any]
+    value: Map
+    kept: Exceptions
+    names: Names
 
 
 class Plan(NamedTuple):
@@ -50,10 +51,10 @@ class Told(NamedTuple):
 
     epoch: int
     lines: list[str]
-    pools: list[dict[str, Any]]
+    pools: list[PlanParts]
 
 
-def plan_of_map(options: Any) -> Told:
+def plan_of_map(options: Options) -> Told:
     """The plans of a map in a file."""
     if options.tree is not None or options.pools is not None:
         raise Misuse("--tree and --pools go with two dumps alone")
@@ -63,17 +64,16 @@ def plan_of_map(options: Any) -> Told:
         if has_other_weights(value, tree_in(options.names)):
             raise Fault(NO_PLAN)
         cluster = Cluster(value, value, names)
-        return planned(monitor, cluster, chosen(options.pool or [], cluster), options)
+        return planned(monitor, cluster, chosen(options.pool or [], value["pools"], names), options)
 
 
-def plan_of_dumps(options: Any) -> Told:
+def plan_of_dumps(options: Options) -> Told:
     """The plans of two dumps, map by map where the cluster takes several. A fault where a weight set is in force."""
     names = names_in(options.names) if options.names else {}
     found = brought(options.files[0], options.files[1], options)
     if found.cluster.has_weight_set:
         raise Fault(NO_PLAN)
-    every = {"pools": [pool for value in found.maps for pool in value["pools"]]}
-    wanted = chosen(options.pool or [], Cluster(every, every, names or found.cluster.names()))
+    wanted = chosen(options.pool or [], [pool for value in found.maps for pool in value["pools"]], names or found.cluster.names())
     told: list[Told] = []
     for part, value in zip(found.parts, found.maps):
         pools = [pool for pool in value["pools"] if pool in wanted]
@@ -84,11 +84,10 @@ def plan_of_dumps(options: Any) -> Told:
     return Told(found.cluster.epoch, lines, [pool for own in told for pool in own.pools])
 
 
-def chosen(words: list[str], cluster: Cluster) -> list[dict[str, Any]]:
+def chosen(words: list[str], pools: list[Pool], names: Names) -> list[Pool]:
     """The pools that are named, by a name or an id, in the map's order; or all. A fault for a word that is neither."""
-    pools = cluster.value["pools"]
     ids = {str(pool["id"]): pool["id"] for pool in pools}
-    ids.update({name: int(number) for number, name in cluster.names.get("pools", {}).items() if number in ids})
+    ids.update({name: int(number) for number, name in names.get("pools", {}).items() if number in ids})
     unknown = [word for word in words if word not in ids]
     if unknown:
         raise Fault(*(f"no pool {word}" for word in unknown))
@@ -106,21 +105,21 @@ def moved(session: Session, pool: int, most: int) -> Plan:
     return Plan(int(answer.split(" ")[1]))
 
 
-def appended(old: dict[str, Any], new: dict[str, Any], pool: int) -> Pairs:
+def appended(old: Map, new: Map, pool: int) -> Pairs:
     """The pairs that each group of a pool has in the one map beyond those in the other."""
     before = dict(old.get("pg_upmap_items", []))
     found = {group: pairs[len(before.get(group, [])):] for group, pairs in new["pg_upmap_items"] if group.startswith(f"{pool}.")}
     return {group: pairs for group, pairs in found.items() if pairs}
 
 
-def taken_back(session: Session, old: dict[str, Any], groups: list[str]) -> None:
+def taken_back(session: Session, old: Map, groups: list[str]) -> None:
     """Gives some groups the pairs of an older map again."""
     before = dict(old.get("pg_upmap_items", []))
     gone, come = [group for group in groups if group not in before], [[group, before[group]] for group in groups if group in before]
     session.change(old_items=gone, new_items=come)
 
 
-def shortened(session: Session, value: dict[str, Any], shares: Shares, pools: list[dict[str, Any]], options: Any) -> dict[int, Plan]:
+def shortened(session: Session, value: Map, shares: Shares, pools: list[Pool], options: Options) -> dict[int, Plan]:
     """Commits of each pool's plan as many moves as bring every candidate within the deviation that is asked for, at most --max. A
     fault where the program's plan is another than its whole plan's beginning."""
     wholes = {pool["id"]: moved(session, pool["id"], MOST) for pool in pools}
@@ -141,7 +140,7 @@ def shortened(session: Session, value: dict[str, Any], shares: Shares, pools: li
 
 # What is told
 
-def spread(weights: dict[int, int], counts: dict[int, int]) -> dict[str, Any]:
+def spread(weights: dict[int, int], counts: dict[int, int]) -> PoolSpread:
     """The least and greatest number of groups of a pool that a candidate has, and how far they are from their shares, in groups."""
     own = [counts.get(osd, 0) for osd in weights]
     groups, total = sum(own), sum(weights.values())
@@ -151,13 +150,13 @@ def spread(weights: dict[int, int], counts: dict[int, int]) -> dict[str, Any]:
             "deviation": deviation}
 
 
-def spread_words(found: dict[str, Any]) -> str:
+def spread_words(found: PoolSpread) -> str:
     """The same in words."""
     return (f"{found['least']} to {found['greatest']} groups an OSD, at most {found['farthest']:.2f} from a share, "
             f"standard deviation {found['deviation']:.2f}")
 
 
-def length_words(plan: Plan, options: Any) -> str:
+def length_words(plan: Plan, options: Options) -> str:
     """How long a plan is, beside the one that --deviation asks for and the whole one."""
     if plan.whole is None:
         return ""
@@ -168,13 +167,13 @@ def length_words(plan: Plan, options: Any) -> str:
     return f"; {plan.wanted} moves come within {most} of each share, {whole}"
 
 
-def changed(old: dict[str, Any], new: dict[str, Any]) -> list[str]:
+def changed(old: Map, new: Map) -> list[str]:
     """The groups that have other pairs in a new map than in the old one, in which they may have none."""
     kept = dict(old.get("pg_upmap_items", []))
     return [group for group, pairs in new["pg_upmap_items"] if kept.get(group) != pairs]
 
 
-def pool_parts(pool: dict[str, Any], plan: Plan, before: Shares, after: dict[str, Up]) -> dict[str, Any]:
+def pool_parts(pool: Pool, name: str, plan: Plan, before: Shares, after: dict[str, Up]) -> PlanParts:
     """What is told of a pool's plan; the sets after it are those of its groups that may have others than before."""
     counts, weights = Counter(before.counts_in[pool["id"]]), before.weights_for(pool)
     was = spread(weights, counts)
@@ -182,11 +181,11 @@ def pool_parts(pool: dict[str, Any], plan: Plan, before: Shares, after: dict[str
         for osd in (osd for group in after for osd in sets[group].places if osd is not None):
             counts[osd] += sign
     groups = sum(before.ups[group].places != up.places for group, up in after.items())
-    return {"id": pool["id"], "moves": plan.moves, "groups": groups, "refused": plan.refusal or None, "moves_within": plan.wanted,
+    return {"id": pool["id"], "name": name, "moves": plan.moves, "groups": groups, "refused": plan.refusal or None, "moves_within": plan.wanted,
             "moves_whole": plan.whole, "before": was, "after": spread(weights, counts)}
 
 
-def pool_words(parts: dict[str, Any], plan: Plan, options: Any) -> str:
+def pool_words(parts: PlanParts, plan: Plan, options: Options) -> str:
     """The same in words."""
     if plan.refusal:
         return f"{plan.refusal}: passed over"
@@ -194,9 +193,9 @@ def pool_words(parts: dict[str, Any], plan: Plan, options: Any) -> str:
             f"after {spread_words(parts['after'])}")
 
 
-def planned(session: Session, cluster: Cluster, pools: list[dict[str, Any]], options: Any) -> Told:
+def planned(session: Session, cluster: Cluster, pools: list[Pool], options: Options) -> Told:
     """The plans of some pools; tells on standard error what they are."""
-    part = dict(cluster.value, pools=pools)
+    part = altered(cluster.value, pools=pools)
     before = Shares(part, session.ups(groups_of(part)))
     if options.deviation is None:
         plans = {pool["id"]: moved(session, pool["id"], options.max) for pool in pools}
@@ -210,13 +209,13 @@ def planned(session: Session, cluster: Cluster, pools: list[dict[str, Any]], opt
         plan, name = plans[pool["id"]], named(cluster.names if options.names else {}, "pools", pool["id"])
         if plan.refusal and options.pool:
             raise Fault(f"{name}: {plan.refusal}")
-        parts = pool_parts(pool, plan, before, after[pool["id"]])
+        parts = pool_parts(pool, named(cluster.names, "pools", pool["id"]), plan, before, after[pool["id"]])
         print(f"{name}: {pool_words(parts, plan, options)}", file=sys.stderr)
-        found.append(dict(parts, name=named(cluster.names, "pools", pool["id"])))
+        found.append(parts)
     return Told(cluster.value["epoch"], commands(cluster.value, settled(session, new), cluster.kept), found)
 
 
-def work(options: Any) -> None:
+def work(options: Options) -> None:
     """Asks the program for its plans, in one session a map, and tells them."""
     told = plan_of_map(options) if len(options.files) == 1 else plan_of_dumps(options)
     if options.json:
@@ -247,7 +246,7 @@ def distance(word: str) -> Fraction:
     return number
 
 
-def add_to(commands_of: Any) -> None:
+def add_to(commands_of: Commands) -> None:
     """The subcommand."""
     own = commands_of.add_parser("plan", help="a balancer's plan as Ceph's commands", description=__doc__)
     add_files(own, "[--pool ID|NAME]..", "[--max N]", "[--deviation D]", "[--json]")

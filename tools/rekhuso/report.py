@@ -1,9 +1,12 @@
 """`report`: one HTML page of a map, or of two dumps, without outside parts: OSDs, pools, exceptions and the plan."""
 
+from __future__ import annotations
+
 import html
 import json
-from typing import Any
+from collections.abc import Sequence
 
+from .kinds import Commands, Map, Names, Options, Program, altered, entries_of
 from .monitor import Monitor, Up, up_sets
 from .net import raised, settled
 from .picture import picture
@@ -24,14 +27,14 @@ v=r=>r.children[k].textContent,n=x=>parseFloat(x.replace('osd.',''));
 [...b.rows].sort((p,q)=>d*(isNaN(n(v(p)))||isNaN(n(v(q)))?v(p).localeCompare(v(q)):n(v(p))-n(v(q)))).forEach(r=>b.append(r))}))"""
 
 
-def table(columns: list[str], rows: list[list[Any]], kind: str = "sorts") -> str:
+def table(columns: list[str], rows: Sequence[Sequence[object]], kind: str = "sorts") -> str:
     """A table, which a click on a column sorts unless it is of another kind."""
     head = "".join(f"<th>{html.escape(column)}</th>" for column in columns)
     body = "".join("<tr>" + "".join(f"<td>{html.escape(str(entry))}</td>" for entry in row) + "</tr>" for row in rows)
     return f'<table class="{kind}"><thead><tr>{head}</tr></thead><tbody>{body}</tbody></table>'
 
 
-def tree_rows(shares: Shares, names: dict[str, Any]) -> list[list[Any]]:
+def tree_rows(shares: Shares, names: Names) -> list[list[str]]:
     """The tree with its sums as rows, the OSDs outside every bucket, and the totals, as `df` has them."""
     rows = [table_row(row, "  " * depth + named(names, "osds" if row["id"] >= 0 else "buckets", row["id"]))
             for root in shares.roots() for depth, row in shares.rows(root)]
@@ -41,17 +44,17 @@ def tree_rows(shares: Shares, names: dict[str, Any]) -> list[list[Any]]:
     return [[row[-1], *row[1:-1]] for row in rows]
 
 
-def exception_rows(value: dict[str, Any], program: Any) -> list[list[Any]]:
+def exception_rows(value: Map, program: Program) -> list[list[str]]:
     """Each group with exceptions: what it would have without them, what it has, and whether they do anything."""
-    groups = sorted({group for key in ("pg_upmap", "pg_upmap_items") for group, _ in value.get(key, [])}, key=place_of)
+    groups = sorted({group for key in ("pg_upmap", "pg_upmap_items") for group, _ in entries_of(value, key)}, key=place_of)
     up = raised(value)
     with_them = up_sets(program, up, groups) if groups else {}
-    without = up_sets(program, dict(up, pg_upmap=[], pg_upmap_items=[]), groups) if groups else {}
+    without = up_sets(program, altered(up, pg_upmap=[], pg_upmap_items=[]), groups) if groups else {}
     return [[group, json.dumps(without[group].places), json.dumps(with_them[group].places),
              "acts" if without[group].places != with_them[group].places else "does nothing"] for group in groups]
 
 
-def plan_lines(value: dict[str, Any], program: Any) -> tuple[list[str], list[str]]:
+def plan_lines(value: Map, program: Program) -> tuple[list[str], list[str]]:
     """The commands of the plan for every pool that has one, and what is said of pools that the balancer refuses."""
     with Monitor(value, program) as monitor:
         answers = monitor.raw([f"balance {pool['id']} 1024" for pool in value["pools"]])
@@ -61,28 +64,28 @@ def plan_lines(value: dict[str, Any], program: Any) -> tuple[list[str], list[str
     return commands(value, new), refused
 
 
-def plan_part(value: dict[str, Any], names: dict[str, Any], program: Any) -> str:
+def plan_part(value: Map, names: Names, program: Program) -> str:
     """The plan as the page has it."""
     plan, refused = plan_lines(value, program)
     parts = [f"<p>{html.escape(with_names(line, names))}</p>" for line in refused]
     return "".join(parts) + (f"<pre>{html.escape(chr(10).join(plan))}</pre>" if plan else "<p>Nothing is left to move.</p>")
 
 
-def heading(value: dict[str, Any], shares: Shares, title: str) -> str:
+def heading(value: Map, shares: Shares, title: str) -> str:
     """What the page begins with."""
     even, pools = spread(shares), len(value["pools"])
     return (f"<h1>{html.escape(title)}</h1><p>Epoch {value['epoch']}; {len(shares.osds)} OSDs, {pools} pool{'s' * (pools != 1)}. "
             f"An OSD has {even['least']} to {even['greatest']} groups; the standard deviation from the shares is {even['deviation']}.</p>")
 
 
-def plan_parts(whole: Whole, program: Any) -> str:
+def plan_parts(whole: Whole, program: Program) -> str:
     """The plans of all maps, or that there is none where a weight set is in force."""
     if whole.has_weight_set:
         return f"<p>{html.escape(NO_PLAN)}</p>"
     return "".join(plan_part(value, whole.names, program) for value in whole.maps)
 
 
-def page(whole: Whole, sets: dict[str, Up], program: Any, title: str) -> str:
+def page(whole: Whole, sets: dict[str, Up], program: Program, title: str) -> str:
     """The page of a lawful map or of a cluster, as HTML."""
     names, value, shares = whole.names, whole.tree, whole.shares(sets)
     osds = [[named(names, "osds", osd), *table_row(shares.osd_row(osd), "")[1:-1]] for osd in sorted(shares.osds)]
@@ -99,13 +102,13 @@ def page(whole: Whole, sets: dict[str, Up], program: Any, title: str) -> str:
             f"<title>{html.escape(title)}</title><style>{STYLE}</style>{''.join(parts)}<script>{SCRIPT}</script></html>\n")
 
 
-def work(options: Any) -> None:
+def work(options: Options) -> None:
     """Writes the page on standard output."""
     whole, sets = whole_with_sets(options.files, options)
     print(page(whole, sets, options.program, options.files[0]), end="")
 
 
-def add_to(commands_of: Any) -> None:
+def add_to(commands_of: Commands) -> None:
     """The subcommand."""
     own = commands_of.add_parser("report", help="one HTML page of a map", description=__doc__)
     add_files(own)

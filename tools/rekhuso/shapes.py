@@ -1,7 +1,12 @@
 """The form of what Ceph's tools dump, as far as it is read here, and where a value is not of it."""
 
+from __future__ import annotations
+
 import math
-from typing import Any
+from typing import cast
+
+from .kinds import Told, Shape
+
 
 # A key that may be missing begins with a question mark; a list of one shape stands for any number of such entries.
 GROUP = {"pgid": str}
@@ -32,7 +37,7 @@ STEPS = {"take": ("item",), "choose_firstn": ("num", "type"), "choose_indep": ("
 KINDS = {int: "whole number", float: "number", str: "text"}
 
 
-def is_kind(value: Any, kind: type) -> bool:
+def is_kind(value: object, kind: type) -> bool:
     """Whether a value is of a kind; a truth value is no number, nor is what JSON has no number for."""
     if kind is object:
         return True
@@ -41,7 +46,7 @@ def is_kind(value: Any, kind: type) -> bool:
     return isinstance(value, kind) and not isinstance(value, bool)
 
 
-def misfits(value: Any, shape: Any, place: str) -> list[str]:
+def misfits(value: object, shape: object, place: str) -> list[str]:
     """Each place below one at which a value has another form than it must have, and what is wanted there."""
     if isinstance(shape, list):
         if not isinstance(value, list):
@@ -61,10 +66,11 @@ def misfits(value: Any, shape: Any, place: str) -> list[str]:
         if "op" in shape and not found:
             found += [f"{place}.{name}: missing" for name in STEPS.get(value["op"], ()) if name not in value]
         return found
-    return [] if is_kind(value, shape) else [f"{place}: no {KINDS[shape]}"]
+    kind = cast(type, shape)
+    return [] if is_kind(value, kind) else [f"{place}: no {KINDS[kind]}"]
 
 
-def fitting(value: Any, shape: dict[str, Any]) -> tuple[dict[str, Any], frozenset[str]]:
+def fitting(value: object, shape: Shape) -> tuple[Told, frozenset[str]]:
     """What of a dump is of its form: the entries of its lists that are, blanks for what is not; and the keys of which something is gone."""
     value, kept, torn = value if isinstance(value, dict) else {}, {}, set()
     for key, own in shape.items():
@@ -77,7 +83,7 @@ def fitting(value: Any, shape: dict[str, Any]) -> tuple[dict[str, Any], frozense
     return kept, frozenset(torn)
 
 
-def parts_of(value: Any, shape: Any) -> Any:
+def parts_of(value: object, shape: object) -> object:
     """The entries of a list or an object that are of their form; 1 in place of a number."""
     if isinstance(shape, list):
         return [entry for entry in value if not misfits(entry, shape[0], "")] if isinstance(value, list) else []

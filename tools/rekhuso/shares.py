@@ -5,18 +5,18 @@ from __future__ import annotations
 import re
 from collections import Counter
 from itertools import chain
-from typing import Any
 
-from .monitor import Up, groups_of
+from .kinds import Map, Names, Pool, Row, Total, PoolRow, Spread
+from .monitor import Up, groups_in
 
 
-def named(names: dict[str, Any], kind: str, number: int) -> str:
+def named(names: Names, kind: str, number: int) -> str:
     """The name of a thing, or what stands for it."""
     name: str = names.get(kind, {}).get(str(number), f"osd.{number}" if kind == "osds" else f"{kind[:-1]} {number}")
     return name
 
 
-def with_names(text: str, names: dict[str, Any]) -> str:
+def with_names(text: str, names: Names) -> str:
     """A text in which buckets, pools, rules and OSDs are told by their names, as far as they have some."""
     def name_of(found: re.Match[str]) -> str:
         """What stands in place of a kind and its number."""
@@ -29,11 +29,11 @@ def with_names(text: str, names: dict[str, Any]) -> str:
 class Shares:
     """How many places of up sets each OSD has, beside the share that its weight calls for."""
 
-    def __init__(self, value: dict[str, Any], ups: dict[str, Up]) -> None:
+    def __init__(self, value: Map, ups: dict[str, Up]) -> None:
         """Takes a lawful map and the up set of each of its groups."""
         self.value, self.ups = value, ups
         self.osds = {osd["id"]: osd for osd in value["osds"]}
-        self.sets = {pool["id"]: [ups[group] for group in groups_of({"pools": [pool]})] for pool in value["pools"]}
+        self.sets = {pool["id"]: [ups[group] for group in groups_in(pool)] for pool in value["pools"]}
         self.counts_in = {pool["id"]: self.counted(pool) for pool in value["pools"]}
         self.counts: Counter[int] = sum(self.counts_in.values(), Counter())
         self.buckets = {bucket["id"]: bucket for bucket in value["buckets"]}
@@ -43,24 +43,22 @@ class Shares:
             for osd, wanted in self.shares_in(pool).items():
                 self.wanted[osd] = self.wanted.get(osd, 0.0) + wanted
 
-    def ups_in(self, pool: dict[str, Any]) -> list[Up]:
+    def ups_in(self, pool: Pool) -> list[Up]:
         """The up sets of a pool's groups."""
         return self.sets[pool["id"]]
 
-    def counted(self, pool: dict[str, Any]) -> Counter[int]:
+    def counted(self, pool: Pool) -> Counter[int]:
         """In how many groups of a pool each OSD stands."""
-        found: Counter[Any] = Counter(chain.from_iterable(set(up.places) for up in self.ups_in(pool)))
-        del found[None]
-        return found
+        return Counter(osd for osd in chain.from_iterable(set(up.places) for up in self.ups_in(pool)) if osd is not None)
 
-    def weights_for(self, pool: dict[str, Any]) -> dict[int, int]:
+    def weights_for(self, pool: Pool) -> dict[int, int]:
         """The weights of the OSDs that may have groups of a pool: they are below what its rule takes, up and in."""
         steps = next(rule["steps"] for rule in self.value["rules"] if rule["id"] == pool["rule"])
         osds = {osd for step in steps if step[0] == "take" for osd in self.below(step[1])}
         own = {osd: self.osds[osd] for osd in osds if osd in self.osds}
         return {osd: self.items[osd] * state["weight"] for osd, state in own.items() if state["exists"] and state["up"] and state["weight"]}
 
-    def shares_in(self, pool: dict[str, Any]) -> dict[int, float]:
+    def shares_in(self, pool: Pool) -> dict[int, float]:
         """How many places of a pool the weights of the OSDs call for."""
         weights = self.weights_for(pool)
         places, total = sum(self.counts_in[pool["id"]][osd] for osd in weights), sum(weights.values())
@@ -70,11 +68,11 @@ class Shares:
         """The buckets that stand in no other."""
         return [number for number in sorted(self.buckets, reverse=True) if number not in self.items]
 
-    def stray(self) -> list[dict[str, Any]]:
+    def stray(self) -> list[Row]:
         """What is told of the OSDs that exist and stand in no bucket, as Ceph calls them stray."""
         return [self.osd_row(osd) for osd, own in sorted(self.osds.items()) if own["exists"] and osd not in self.items]
 
-    def total(self) -> dict[str, Any]:
+    def total(self) -> Total:
         """What the tree and the OSDs outside come to: weights, groups and shares."""
         return {"weight": sum(weight for item, weight in self.items.items() if item >= 0) / 65536, "groups": sum(self.counts.values()),
                 "share": round(sum(self.wanted.values()), 2)}
@@ -86,10 +84,10 @@ class Shares:
             return "absent"
         return ("up" if own["up"] else "down") + ("" if own["weight"] else ",out")
 
-    def osd_row(self, osd: int) -> dict[str, Any]:
+    def osd_row(self, osd: int) -> Row:
         """What is told of an OSD."""
         groups, wanted = self.counts.get(osd, 0), self.wanted.get(osd, 0.0)
-        return {"id": osd, "weight": self.items.get(osd, 0) / 65536, "reweight": self.osds.get(osd, {"weight": 0})["weight"] / 65536,
+        return {"id": osd, "weight": self.items.get(osd, 0) / 65536, "reweight": (self.osds[osd]["weight"] if osd in self.osds else 0) / 65536,
                 "state": self.state(osd), "groups": groups, "share": round(wanted, 2),
                 "deviation": round(groups - wanted, 2)}
 
@@ -99,18 +97,18 @@ class Shares:
             return [number]
         return [osd for item, _ in self.buckets[number]["items"] for osd in self.below(item)]
 
-    def rows(self, number: int, depth: int = 0) -> list[tuple[int, dict[str, Any]]]:
+    def rows(self, number: int, depth: int = 0) -> list[tuple[int, Row]]:
         """What is told of a bucket and all below it, each with its depth."""
         if number >= 0:
             return [(depth, self.osd_row(number))]
         own = [self.osd_row(osd) for osd in self.below(number)]
-        total = {"id": number, "type": self.buckets[number]["type"], "weight": sum(row["weight"] for row in own),
+        total: Row = {"id": number, "type": self.buckets[number]["type"], "weight": sum(row["weight"] for row in own),
                  "groups": sum(row["groups"] for row in own), "share": round(sum(self.wanted.get(row["id"], 0.0) for row in own), 2)}
         return [(depth, total)] + [row for item, _ in self.buckets[number]["items"] for row in self.rows(item, depth + 1)]
 
-    def pools(self) -> list[dict[str, Any]]:
+    def pools(self) -> list[PoolRow]:
         """What is told of each pool."""
-        found = []
+        found: list[PoolRow] = []
         for pool in self.value["pools"]:
             full = [len(up.places) - up.places.count(None) for up in self.ups_in(pool)]
             found.append({"id": pool["id"], "size": pool["size"], "groups": pool["pg_num"], "rule": pool["rule"],
@@ -118,7 +116,7 @@ class Shares:
         return found
 
 
-def spread(shares: Shares) -> dict[str, Any]:
+def spread(shares: Shares) -> Spread:
     """How even the OSDs are that may have groups: least, greatest, and the standard deviation from their shares."""
     counts = [shares.counts.get(osd, 0) for osd, wanted in shares.wanted.items() if wanted]
     away = [shares.counts.get(osd, 0) - wanted for osd, wanted in shares.wanted.items() if wanted]
@@ -126,7 +124,7 @@ def spread(shares: Shares) -> dict[str, Any]:
     return {"least": min(counts, default=0), "greatest": max(counts, default=0), "deviation": round(deviation, 2)}
 
 
-def table_row(row: dict[str, Any], name: str) -> list[str]:
+def table_row(row: Row, name: str) -> list[str]:
     """A row of the table of text, for an OSD or a bucket."""
     weight, groups, share = f"{row['weight']:.5f}", str(row["groups"]), f"{row['share']:.2f}"
     if row["id"] < 0:

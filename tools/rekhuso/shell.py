@@ -8,9 +8,9 @@ from __future__ import annotations
 import io
 import signal
 import sys
-from typing import Any
 
 from .faults import Misuse
+from .kinds import Commands, Options
 from .monitor import Monitor
 from .texts import text_of
 
@@ -147,7 +147,7 @@ def piped(monitor: Monitor) -> None:
             return
 
 
-def work(options: Any) -> None:
+def work(options: Options) -> None:
     """Answers lines until they end."""
     if options.map == "-":
         raise Misuse("shell reads lines from standard input, so the map must be a file")
@@ -157,7 +157,7 @@ def work(options: Any) -> None:
         (prompted if sys.stdin.isatty() else piped)(monitor)
 
 
-def add_to(commands_of: Any) -> None:
+def add_to(commands_of: Commands) -> None:
     """The subcommand."""
     own = commands_of.add_parser("shell", help="a prompt over a live session", description=__doc__)
     own.add_argument("map", metavar="MAP", help="a map, as `import` writes it, in a file")

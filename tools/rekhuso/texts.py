@@ -5,9 +5,9 @@ from __future__ import annotations
 import json
 import re
 import sys
-from typing import Any
 
 from .faults import Fault
+from .kinds import Parser, Told
 
 KINDS = ("buckets", "classes", "osds", "pools", "rules", "types")
 
@@ -34,7 +34,7 @@ def put(path: str, text: str) -> None:
         raise Fault(f"{path}: {fault.strerror}") from None
 
 
-def json_of(path: str, *keys: str) -> dict[str, Any]:
+def json_of(path: str, *keys: str) -> Told:
     """The object of a JSON file that has these keys. A fault where there is none."""
     try:
         value = json.loads(text_of(path))
@@ -48,7 +48,7 @@ def json_of(path: str, *keys: str) -> dict[str, Any]:
     return value
 
 
-def is_text(value: Any) -> bool:
+def is_text(value: object) -> bool:
     """Whether a value is a text that can be written as UTF-8, which half of a pair of surrogates cannot."""
     try:
         return isinstance(value, str) and bool(value.encode() or True)
@@ -72,16 +72,16 @@ def names_in(path: str | None) -> dict[str, dict[str, str]]:
     return {kind: names.get(kind, {}) for kind in KINDS}
 
 
-def put_json(command: str, epoch: int | None, **parts: Any) -> None:
+def put_json(command: str, epoch: int | None, **parts: object) -> None:
     """Puts out what a command tells as one object: which command it is, of which epoch it tells (None where there is no lawful map), and its own parts."""
     print(json.dumps({"command": command, "epoch": epoch, **parts}, indent=1))
 
 
-def add_json(own: Any) -> None:
+def add_json(own: Parser) -> None:
     """The option for JSON."""
     own.add_argument("--json", action="store_true", help="tell all of it as one JSON object")
 
 
-def written(value: Any) -> str:
+def written(value: object) -> str:
     """The written form of a value: compact JSON, keys in byte order."""
     return json.dumps(value, separators=(",", ":"), sort_keys=True)

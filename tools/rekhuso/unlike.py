@@ -5,6 +5,7 @@ from __future__ import annotations
 from typing import Any
 
 from .faults import Refused
+from .kinds import Change, Commands, Entry, Exceptions, Map, Options, Moved, altered, entries_of
 from .monitor import Up, groups_of, has_straw2, map_in, raw_answers, up_sets
 from .shares import with_names
 from .texts import add_json, names_in, put_json, written
@@ -25,13 +26,13 @@ def place_of(group: str) -> tuple[int, int]:
     return int(pool), int(number, 16)
 
 
-def pool_parts(old: dict[str, Any], new: dict[str, Any]) -> dict[str, Any]:
+def pool_parts(old: Map, new: Map) -> Change:
     """The pools that go, come and grow. A pool that differs otherwise goes and comes, which no one change can say."""
     before, after = by_key(old["pools"], "id"), by_key(new["pools"], "id")
     grown, other = [], []
     for number in sorted(before.keys() & after.keys()):
         was, now = before[number], after[number]
-        same = dict(was, pg_num=now["pg_num"], pgp_num=now["pgp_num"]) == now
+        same = altered(was, pg_num=now["pg_num"], pgp_num=now["pgp_num"]) == now
         if was != now and same and was["pg_num"] <= now["pg_num"] and was["pgp_num"] <= now["pgp_num"]:
             grown.append([number, now["pg_num"], now["pgp_num"]])
         elif was != now:
@@ -40,24 +41,24 @@ def pool_parts(old: dict[str, Any], new: dict[str, Any]) -> dict[str, Any]:
             "grow_pool": grown, "other": other}
 
 
-def exception_parts(old: dict[str, Any], new: dict[str, Any], key: str, gone: list[int]) -> tuple[list[str], list[Any]]:
+def exception_parts(old: Map, new: Map, key: str, gone: list[int]) -> tuple[list[str], list[Entry]]:
     """The groups whose exception goes, pools that go aside, and the exceptions that come or change."""
-    before, after = by_key(old.get(key, []), 0), by_key(new.get(key, []), 0)
+    before, after = by_key(entries_of(old, key), 0), by_key(entries_of(new, key), 0)
     lost = [group for group in before.keys() - after.keys() if place_of(group)[0] not in gone]
     return sorted(lost, key=place_of), [after[group] for group in sorted(after, key=place_of) if before.get(group) != after[group]]
 
 
-def change_of(old: dict[str, Any], new: dict[str, Any]) -> tuple[dict[str, Any], list[str]]:
+def change_of(old: Map, new: Map) -> tuple[Change, list[str]]:
     """The change that makes the one map of the other, and what no change can say."""
-    change: dict[str, Any] = {"base": old["epoch"]}
+    change: Change = {"base": old["epoch"]}
     pools = pool_parts(old, new)
     unsaid = [f"pool {number} differs in more than its numbers of groups" for number in pools.pop("other")]
     change.update({key: value for key, value in pools.items() if value})
-    if any(by_key(old[key], "id") != by_key(new[key], "id") for key in ("buckets", "rules")):
+    if any(by_key(entries_of(old, key), "id") != by_key(entries_of(new, key), "id") for key in ("buckets", "rules")):
         change["new_crush"] = {"buckets": new["buckets"], "rules": new["rules"]}
     before, after = by_key(old["osds"], "id"), by_key(new["osds"], "id")
     none = {"exists": False, "up": False, "weight": 0}
-    parts: dict[str, list[Any]] = {"down": [], "up": [], "weight": []}
+    parts: Change = {"down": [], "up": [], "weight": []}
     for osd in sorted(before.keys() | after.keys()):
         was, now = before.get(osd, none), after.get(osd, none)
         if was["exists"] != now["exists"]:
@@ -75,10 +76,10 @@ def change_of(old: dict[str, Any], new: dict[str, Any]) -> tuple[dict[str, Any],
     return change, unsaid
 
 
-def commands(old: dict[str, Any], new: dict[str, Any], kept: dict[str, Any] | None = None) -> list[str]:
+def commands(old: Map, new: Map, kept: Exceptions | None = None) -> list[str]:
     """What Ceph is told so that the exceptions of one map become those of the other, group by group; what goes, goes first. `kept` is
     what Ceph has, where the old map has not all of it: an explicit set that did nothing would keep pairs that come from acting."""
-    tables = {key: [dict(value.get(key, [])) for value in (old, new, kept or old)] for key in WORDS}
+    tables = {key: [dict(entries_of(value, key)) for value in (old, new, kept or old)] for key in WORDS}
     groups = {group for before, after, _ in tables.values() for group in before.keys() | after.keys()
               if before.get(group) != after.get(group)}
     found = []
@@ -94,18 +95,19 @@ def commands(old: dict[str, Any], new: dict[str, Any], kept: dict[str, Any] | No
     return found
 
 
-def moved(before: dict[str, Up], after: dict[str, Up]) -> dict[str, Any]:
+def moved(before: dict[str, Up], after: dict[str, Up]) -> Moved:
     """How many groups and places differ, and which OSDs take part."""
-    groups, places, osds = 0, 0, set()
+    groups, places = 0, 0
+    osds: set[int | None] = set()
     for group in before.keys() & after.keys():
         was, now = set(before[group].places) - {None}, set(after[group].places) - {None}
         groups += before[group].places != after[group].places
         places += len(now - was)
         osds |= was ^ now
-    return {"groups": groups, "places": places, "osds": sorted(osds)}
+    return {"groups": groups, "places": places, "osds": sorted(osd for osd in osds if osd is not None)}
 
 
-def work(options: Any) -> None:
+def work(options: Options) -> None:
     """Tells the change between two maps and what it moves."""
     old, new = (map_in(path, options.program) for path in (options.old, options.new))
     names = names_in(options.names)
@@ -125,7 +127,7 @@ def work(options: Any) -> None:
     print(f"{told['groups']} groups, {told['places']} places and {len(told['osds'])} OSDs move")
 
 
-def add_to(commands: Any) -> None:
+def add_to(commands: Commands) -> None:
     """The subcommand."""
     own = commands.add_parser("diff", help="what differs between two maps", description=__doc__)
     own.add_argument("old", metavar="OLD_MAP", help="the map before, as `import` writes it; - is standard input")

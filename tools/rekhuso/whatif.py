@@ -11,11 +11,12 @@ import json
 import math
 import os
 import re
-from typing import Any, NamedTuple
+from typing import NamedTuple
 
 from .faults import Fault, Misuse
 from .flows import picture
 from .forms import change_form
+from .kinds import Bucket, Change, Commands, Entry, Flows, Map, Names, Options, altered
 from .monitor import Up, answers_of, groups_of, raw_answers, up_of
 from .shares import named
 from .texts import put, put_json, written
@@ -23,7 +24,7 @@ from .unlike import place_of
 from .whole import ABOUT_FILES, FILES, Whole, add_names, usage, whole_of
 
 
-def change_in(text: str) -> dict[str, Any]:
+def change_in(text: str) -> Change:
     """The change that a word on the command line is, `change ` before it or not; else an error of use."""
     try:
         value = json.loads(text.removeprefix("change "))
@@ -58,7 +59,7 @@ def number_in(word: str) -> float:
         return math.nan
 
 
-def osds_below(value: dict[str, Any], number: int) -> list[int]:
+def osds_below(value: Map, number: int) -> list[int]:
     """The OSDs at or below an item."""
     if number >= 0:
         return [number]
@@ -73,7 +74,7 @@ def number_of(word: str, known: dict[str, str]) -> int | None:
     return next((int(number) for number, name in known.items() if name == word), None)
 
 
-def osds_named(value: dict[str, Any], names: dict[str, Any], word: str) -> list[int]:
+def osds_named(value: Map, names: Names, word: str) -> list[int]:
     """The OSDs that a word names: a number, `osd.N`, or a bucket by id or name. A fault where there are none."""
     number = number_of(word.removeprefix("osd."), names.get("buckets", {}))
     there = {osd["id"] for osd in value["osds"] if osd["exists"]}
@@ -83,7 +84,7 @@ def osds_named(value: dict[str, Any], names: dict[str, Any], word: str) -> list[
     return found
 
 
-def weights_of(options: Any, value: dict[str, Any], names: dict[str, Any]) -> list[list[int]]:
+def weights_of(options: Options, value: Map, names: Names) -> list[list[int]]:
     """The OSDs that get a reweight, each with it in units of 1/65,536. An error of use where one gets two."""
     asked = [(word, 0) for word in options.out] + [(word, 65536) for word in getattr(options, "in")]
     asked += [(word, reweight_in(weight)) for word, weight in options.reweight]
@@ -95,9 +96,9 @@ def weights_of(options: Any, value: dict[str, Any], names: dict[str, Any]) -> li
     return [list(pair) for pair in sorted(found.items())]
 
 
-def change_of(options: Any, value: dict[str, Any], names: dict[str, Any]) -> dict[str, Any]:
+def change_of(options: Options, value: Map, names: Names) -> Change:
     """The change that the options ask for."""
-    change = {"base": value["epoch"], **(options.change or {})}
+    change: Change = {"base": value["epoch"], **(options.change or {})}
     down = {osd for word in options.down for osd in osds_named(value, names, word)}
     for key, more in (("weight", weights_of(options, value, names)), ("down", sorted(down))):
         if more:
@@ -117,7 +118,7 @@ def flows(before: dict[str, Up], after: dict[str, Up]) -> dict[tuple[int, int], 
     return found
 
 
-def compared(before: dict[str, Up], after: dict[str, Up], sizes: dict[int, int]) -> dict[str, Any]:
+def compared(before: dict[str, Up], after: dict[str, Up], sizes: dict[int, int]) -> Flows:
     """What moves between two sets of answers: groups, places, from where to where, and what is left short."""
     short = [group for group, up in after.items() if len([osd for osd in up.places if osd is not None]) < sizes[place_of(group)[0]]]
     counts: dict[int, int] = {}
@@ -128,7 +129,7 @@ def compared(before: dict[str, Up], after: dict[str, Up], sizes: dict[int, int])
     fullest = max(counts, key=lambda osd: (counts[osd], -osd), default=None)
     moved = [group for group, up in after.items() if up.places != before[group].places]
     return {"groups": len(moved), "places": gained, "short": short, "fullest": fullest,
-            "fullest_groups": 0 if fullest is None else counts[fullest],
+            "fullest_groups": 0 if fullest is None else counts[fullest], "unbalanced": [],
             "flows": [[*pair, count] for pair, count in sorted(flows(before, after).items(), key=lambda flow: (-flow[1], flow[0]))]}
 
 
@@ -137,10 +138,10 @@ class Answered(NamedTuple):
 
     before: dict[str, Up]
     after: dict[str, Up]
-    refused: list[list[Any]]
+    refused: list[Entry]
 
 
-def answered(value: dict[str, Any], change: dict[str, Any], options: Any, grown: dict[str, Any] | None = None) -> Answered:
+def answered(value: Map, change: Change, options: Options, grown: Map | None = None) -> Answered:
     """What the program answers over a map and a change, or another map that has a host more; with plans where they are asked for. A
     fault where the change is refused."""
     groups = groups_of(value)
@@ -160,16 +161,16 @@ def answered(value: dict[str, Any], change: dict[str, Any], options: Any, grown:
     return Answered(before, after, refused)
 
 
-def result(whole: Whole, change: dict[str, Any], options: Any, grown: dict[str, Any] | None = None) -> dict[str, Any]:
+def result(whole: Whole, change: Change, options: Options, grown: Map | None = None) -> Flows:
     """What a change moves over all maps, or what another map does that has a host more, and which pools could not be balanced."""
     parts = [answered(value, change_for(value, change, whole.maps), options, grown) for value in whole.maps]
     before = {group: up for part in parts for group, up in part.before.items()}
     after = {group: up for part in parts for group, up in part.after.items()}
     found = compared(before, after, {pool["id"]: pool["size"] for pool in whole.pools})
-    return dict(found, unbalanced=[refused for part in parts for refused in part.refused])
+    return altered(found, unbalanced=[refused for part in parts for refused in part.refused])
 
 
-def change_for(value: dict[str, Any], change: dict[str, Any], maps: list[dict[str, Any]]) -> dict[str, Any]:
+def change_for(value: Map, change: Change, maps: list[Map]) -> Change:
     """What of a change concerns one map of several: what it says of OSDs, and of pools and groups of this map; what it says of pools that
     are in none goes to the first, whose refusal tells it. A fault for a part that no cluster of several maps can be given."""
     if len(maps) == 1 or list(change_form(True)(change, "")):
@@ -188,13 +189,13 @@ def change_for(value: dict[str, Any], change: dict[str, Any], maps: list[dict[st
     return found
 
 
-def pool_in(entry: Any) -> int:
+def pool_in(entry: Entry | int | str) -> int:
     """The pool that an entry of a change names, by its id or by a group."""
     key = entry[0] if isinstance(entry, list) else entry
     return key if isinstance(key, int) else int(key.split(".")[0])
 
 
-def below_which(value: dict[str, Any], names: dict[str, Any], name: str, under: str | None) -> tuple[int, dict[str, Any]]:
+def below_which(value: Map, names: Names, name: str, under: str | None) -> tuple[int, Bucket]:
     """The bucket below which a new host comes, and a host that stands there. A fault where none, or none alone, is meant."""
     hosts = {bucket["id"]: bucket for bucket in value["buckets"] if any(item >= 0 for item, _ in bucket["items"])}
     parents = {bucket["id"]: [hosts[item] for item, _ in bucket["items"] if item in hosts] for bucket in value["buckets"]}
@@ -208,32 +209,32 @@ def below_which(value: dict[str, Any], names: dict[str, Any], name: str, under: 
     return chosen[0], parents[chosen[0]][0]
 
 
-def with_host(value: dict[str, Any], names: dict[str, Any], name: str, weights: list[int], under: str | None) -> dict[str, Any]:
+def with_host(value: Map, names: Names, name: str, weights: list[int], under: str | None) -> Map:
     """The map with a host of new OSDs, which are up and in, of these weights in the CRUSH map, in units of 1/65,536. A fault where it
     is not said below which bucket the host comes."""
     way, host = below_which(value, names, name, under)
-    buckets = {bucket["id"]: dict(bucket, items=[list(item) for item in bucket["items"]]) for bucket in value["buckets"]}
+    buckets = {bucket["id"]: altered(bucket, items=[list(item) for item in bucket["items"]]) for bucket in value["buckets"]}
     known = [osd["id"] for osd in value["osds"]] + [item for bucket in buckets.values() for item, _ in bucket["items"]]
     first, total = max(known) + 1, sum(weights)
     items = [[first + at, own] for at, own in enumerate(weights)]
-    new = {"id": min(buckets) - 1, "items": items, "kind": host["kind"], "type": host["type"]}
+    new: Bucket = {"id": min(buckets) - 1, "items": items, "kind": host["kind"], "type": host["type"]}
     buckets[way]["items"].append([new["id"], total])
     while (above := next((bucket for bucket in buckets.values() if way in [item for item, _ in bucket["items"]]), None)) is not None:
         for item in above["items"]:
             item[1] += total if item[0] == way else 0
         way = above["id"]
     osds = value["osds"] + [{"exists": True, "id": osd, "up": True, "weight": 65536} for osd, _ in new["items"]]
-    return dict(value, buckets=[*buckets.values(), new], osds=osds, max_osd=max(value["max_osd"], first + len(weights)))
+    return altered(value, buckets=[*buckets.values(), new], osds=osds, max_osd=max(value["max_osd"], first + len(weights)))
 
 
-def fullest_words(found: dict[str, Any]) -> str:
+def fullest_words(found: Flows) -> str:
     """The OSD with the most groups, in words."""
     if found["fullest"] is None:
         return "no OSD has a group"
     return f"the fullest OSD is then osd.{found['fullest']} with {found['fullest_groups']} groups"
 
 
-def lines(found: dict[str, Any], most: int = 20) -> list[str]:
+def lines(found: Flows, most: int = 20) -> list[str]:
     """What moves, as text, with at most so many pairs of OSDs."""
     told = [f"{found['groups']} groups and {found['places']} places move; {fullest_words(found)}"]
     told += [f"{count} from osd.{was} to osd.{now}" for was, now, count in found["flows"][:most]]
@@ -245,7 +246,7 @@ def lines(found: dict[str, Any], most: int = 20) -> list[str]:
                    else ["no group has fewer places than its pool's size"])
 
 
-def level_of(value: dict[str, Any], names: dict[str, Any], word: str) -> int:
+def level_of(value: Map, names: Names, word: str) -> int:
     """The type of buckets that a word names, by its name or its number. A fault that lists the types there are where it is none of
     the map's."""
     types = names.get("types", {})
@@ -257,7 +258,7 @@ def level_of(value: dict[str, Any], names: dict[str, Any], word: str) -> int:
     return level
 
 
-def drill(whole: Whole, options: Any) -> None:
+def drill(whole: Whole, options: Options) -> None:
     """Tells what each bucket of a type would move if it went out, one after the other: a line each, or a list as JSON."""
     value, names = whole.tree, whole.names
     level, there = level_of(value, names, options.each), {osd["id"] for osd in value["osds"] if osd["exists"]}
@@ -275,7 +276,7 @@ def drill(whole: Whole, options: Any) -> None:
         print(json.dumps(rows, indent=1))
 
 
-def check_together(options: Any) -> None:
+def check_together(options: Options) -> None:
     """An error of use where options stand together of which one would be passed over."""
     parts = {"CHANGE": options.change, "--out": options.out, "--in": getattr(options, "in"), "--down": options.down,
              "--reweight": options.reweight}
@@ -288,7 +289,7 @@ def check_together(options: Any) -> None:
         raise Misuse("--under goes with --add-host alone")
 
 
-def files_and_change(words: list[str]) -> tuple[list[str], dict[str, Any] | None]:
+def files_and_change(words: list[str]) -> tuple[list[str], Change | None]:
     """The files that words name, and the change behind them if there is one: a last word that is no file. An error of use where it is no
     change either, or where there are more words."""
     is_change = len(words) > 1 and words[-1] != "-" and not os.path.exists(words[-1])
@@ -301,7 +302,7 @@ def files_and_change(words: list[str]) -> tuple[list[str], dict[str, Any] | None
         raise Misuse(f"argument CHANGE: {fault}") from None
 
 
-def work(options: Any) -> None:
+def work(options: Options) -> None:
     """Tells what moves."""
     options.files, options.change = files_and_change(options.words)
     check_together(options)
@@ -323,7 +324,7 @@ def work(options: Any) -> None:
         print("\n".join(lines(found)))
 
 
-def add_to(commands: Any) -> None:
+def add_to(commands: Commands) -> None:
     """The subcommand."""
     own = commands.add_parser("whatif", help="what moves if a change is made", description=__doc__)
     own.usage = usage("[CHANGE | --add-host NAME WEIGHTS [--under BUCKET] | --each TYPE]", *(f"[--{word} OSD|BUCKET].." for word in ("out", "in", "down")),

@@ -4,12 +4,13 @@ from __future__ import annotations
 
 import argparse
 import json
-from typing import Any
+from collections.abc import Sequence
 
 from .bring import Brought, add_options, bucket_of, brought, monitor_of
 from .cluster import Cluster
 from .faults import Fault, Misuse
 from .forms import keyed, listed, number, tupled, word
+from .kinds import Bucket, Map, Names, Options, Parser, Pool, altered
 from .monitor import Up, groups_of, map_in, map_with_sets
 from .shares import Shares
 from .texts import json_of, names_in, text_of
@@ -25,9 +26,10 @@ NO_PLAN = ("no plan: a compat weight set (choose_args) is in force, so a plan by
 class Files(argparse.Action):
     """One file or two; an error of use where there are more."""
 
-    def __call__(self, parser: argparse.ArgumentParser, namespace: argparse.Namespace, values: Any, option: str | None = None) -> None:
+    def __call__(self, parser: argparse.ArgumentParser, namespace: argparse.Namespace, values: str | Sequence[object] | None,
+                 option: str | None = None) -> None:
         """Keeps the words, or ends the command with status 2."""
-        if len(values) > 2:
+        if values is not None and len(values) > 2:
             parser.error(f"{parser.prog.split(' ')[-1]} takes one map, or two dumps")
         setattr(namespace, self.dest, values)
 
@@ -38,19 +40,19 @@ def usage(*words: str) -> str:
     return f"%(prog)s MAP {own}\n       %(prog)s OSD_DUMP CRUSH_DUMP {own} [--pools ID|NAME,..] [--tree FILE] [--unmatched]"
 
 
-def add_map_files(own: Any) -> None:
+def add_map_files(own: Parser) -> None:
     """The files of a command over a map or two dumps."""
     own.add_argument("files", metavar=FILES, nargs="+", action=Files, help=ABOUT_FILES)
 
 
-def add_files(own: Any, *words: str) -> None:
+def add_files(own: Parser, *words: str) -> None:
     """The same, and the options for dumps and names; the words are the command's own ones in its use."""
     own.usage = usage(*words)
     add_map_files(own)
     add_names(own)
 
 
-def add_names(own: Any) -> None:
+def add_names(own: Parser) -> None:
     """The options for names and for dumps."""
     own.add_argument("--names", metavar="FILE", help="names, as `import --names` wrote them")
     add_options(own)
@@ -60,14 +62,14 @@ class Whole:
     """The maps of a cluster, or one map; the tree that is shown of it; its names; and the maps as its shares are reckoned, whose weights
     are the buckets' own also where a weight set is in force."""
 
-    def __init__(self, maps: list[dict[str, Any]], names: dict[str, Any], found: Brought | None = None) -> None:
+    def __init__(self, maps: list[Map], names: Names, found: Brought | None = None) -> None:
         """Of one map, or of a cluster's maps."""
         self.maps, self.names, self.found = maps, names, found
-        self.pools: list[dict[str, Any]] = sorted((pool for value in maps for pool in value["pools"]), key=lambda pool: int(pool["id"]))
+        self.pools: list[Pool] = sorted((pool for value in maps for pool in value["pools"]), key=lambda pool: int(pool["id"]))
         self.tree, self.is_cluster = self.tree_of(found.cluster) if found else maps[0], found is not None
         self.weighed = [own_weights(part, value) for part, value in zip(found.parts, maps)] if found else maps
 
-    def tree_of(self, cluster: Cluster) -> dict[str, Any]:
+    def tree_of(self, cluster: Cluster) -> Map:
         """The cluster as one value: the buckets that are no shadows of device classes, each item once and with its own weight, also those
         of weight 0; all OSDs, pools and rules."""
         osds = {osd["id"]: osd for value in self.maps for osd in value["osds"]}
@@ -75,13 +77,13 @@ class Whole:
         return {"buckets": cluster.shown(), "epoch": cluster.epoch, "osds": list(osds.values()), "pools": self.pools,
                 "rules": [rules[number] for number in sorted(rules)], "max_osd": max(value["max_osd"] for value in self.maps)}
 
-    def named_tree(self) -> dict[str, Any]:
+    def named_tree(self) -> Map:
         """The tree with every bucket of the maps beside it, in which words are looked up."""
         there = {bucket["id"] for bucket in self.tree["buckets"]}
         more = {bucket["id"]: bucket for value in self.maps for bucket in value["buckets"] if bucket["id"] not in there}
-        return dict(self.tree, buckets=[*self.tree["buckets"], *more.values()])
+        return altered(self.tree, buckets=[*self.tree["buckets"], *more.values()])
 
-    def map_of(self, pool: int) -> dict[str, Any]:
+    def map_of(self, pool: int) -> Map:
         """The map that has a pool; where none has it, the first."""
         return next((value for value in self.maps if any(own["id"] == pool for own in value["pools"])), self.maps[0])
 
@@ -100,22 +102,22 @@ class Whole:
 class ClusterShares(Shares):
     """The shares of a cluster that may take several maps: each pool's by its own map, over one tree."""
 
-    def __init__(self, tree: dict[str, Any], maps: list[dict[str, Any]], ups: dict[str, Up]) -> None:
+    def __init__(self, tree: Map, maps: list[Map], ups: dict[str, Up]) -> None:
         """Takes the tree, the maps as shares are reckoned, and the up set of each group."""
-        self.of_pool = {pool["id"]: Shares(dict(value, pools=[]), {}) for value in maps for pool in value["pools"]}
+        self.of_pool = {pool["id"]: Shares(altered(value, pools=[]), {}) for value in maps for pool in value["pools"]}
         super().__init__(tree, ups)
 
-    def weights_for(self, pool: dict[str, Any]) -> dict[int, int]:
+    def weights_for(self, pool: Pool) -> dict[int, int]:
         """The weights of the OSDs that may have groups of the pool, by the map that has it."""
         return {osd: weight for osd, weight in self.of_pool[pool["id"]].weights_for(pool).items() if weight}
 
 
-def own_weights(part: Cluster, value: dict[str, Any]) -> dict[str, Any]:
+def own_weights(part: Cluster, value: Map) -> Map:
     """A map with the buckets' own weights."""
-    return dict(value, buckets=[bucket_of(part, number, True) for number in part.kept])
+    return altered(value, buckets=[bucket_of(part, number, True) for number in part.kept])
 
 
-def tree_in(path: str | None) -> list[dict[str, Any]] | None:
+def tree_in(path: str | None) -> list[Bucket] | None:
     """The cluster's tree in a file of names, where `import` has put one; a fault where it has another form. None of standard input, which
     was read for the names."""
     tree = None if path in (None, "-") else json_of(str(path)).get("tree")
@@ -130,36 +132,36 @@ def tree_in(path: str | None) -> list[dict[str, Any]] | None:
     items = [(item, bucket["type"]) for bucket in tree for item, _ in bucket["items"]]
     if len(types) < len(tree) or len(dict(items)) < len(items) or any(item < 0 and types.get(item, 16) >= above for item, above in items):
         raise Fault(f"{path}: tree: its buckets are no forest")
-    found: list[dict[str, Any]] = tree
+    found: list[Bucket] = tree
     return found
 
 
-def below_tree(value: dict[str, Any], tree: list[dict[str, Any]]) -> dict[int, int] | None:
+def below_tree(value: Map, tree: list[Bucket]) -> dict[int, int] | None:
     """The weights of the OSDs of a tree; None where a map has an OSD in its buckets that the tree has not."""
     weights = {item: weight for bucket in tree for item, weight in bucket["items"] if item >= 0}
     own = {item for bucket in value["buckets"] for item, _ in bucket["items"] if item >= 0}
     return weights if own <= weights.keys() else None
 
 
-def has_other_weights(value: dict[str, Any], tree: list[dict[str, Any]] | None) -> bool:
+def has_other_weights(value: Map, tree: list[Bucket] | None) -> bool:
     """Whether a map has another weight for an OSD than the tree of its cluster, in which it weighs something: that of a weight set."""
     weights = {item: weight for bucket in tree or [] for item, weight in bucket["items"] if item >= 0}
     return any(weights.get(item, weight) not in (0, weight) for bucket in value["buckets"] for item, weight in bucket["items"])
 
 
-def under_tree(value: dict[str, Any], names: dict[str, Any], tree: list[dict[str, Any]] | None) -> Whole:
+def under_tree(value: Map, names: Names, tree: list[Bucket] | None) -> Whole:
     """A map under the tree of the cluster from which it comes, where that is known and has all its OSDs: what weighs 0 stands there, and
     shares go by the weights that it has."""
     weights = below_tree(value, tree) if tree is not None else None
     if tree is None or weights is None:
         return Whole([value], names)
-    buckets = [dict(bucket, items=[[item, weights.get(item, weight)] for item, weight in bucket["items"]]) for bucket in value["buckets"]]
+    buckets = [altered(bucket, items=[[item, weights.get(item, weight)] for item, weight in bucket["items"]]) for bucket in value["buckets"]]
     whole = Whole([value], names)
-    whole.tree, whole.weighed, whole.is_cluster = dict(value, buckets=tree), [dict(value, buckets=buckets)], True
+    whole.tree, whole.weighed, whole.is_cluster = altered(value, buckets=tree), [altered(value, buckets=buckets)], True
     return whole
 
 
-def whole_of(files: list[str], options: Any) -> Whole:
+def whole_of(files: list[str], options: Options) -> Whole:
     """What the files of a command are: one map, or the maps of a cluster. A fault where a map is not lawful, or the cluster stays out."""
     if len(files) == 2:
         return cluster_of(files, options)
@@ -167,7 +169,7 @@ def whole_of(files: list[str], options: Any) -> Whole:
     return under_tree(map_in(files[0], options.program), names_in(options.names), tree_in(options.names))
 
 
-def whole_with_sets(files: list[str], options: Any) -> tuple[Whole, dict[str, Up]]:
+def whole_with_sets(files: list[str], options: Options) -> tuple[Whole, dict[str, Up]]:
     """The same with the up set of each group, by one session for each map."""
     if len(files) == 1:
         check_options(options)
@@ -180,13 +182,13 @@ def whole_with_sets(files: list[str], options: Any) -> tuple[Whole, dict[str, Up
     return whole, sets
 
 
-def check_options(options: Any) -> None:
+def check_options(options: Options) -> None:
     """An error of use where options for dumps stand beside a map."""
     if options.unmatched or options.tree is not None or options.pools is not None:
         raise Misuse("--unmatched, --tree and --pools go with two dumps alone")
 
 
-def cluster_of(files: list[str], options: Any) -> Whole:
+def cluster_of(files: list[str], options: Options) -> Whole:
     """The cluster of two dumps, by its own names where no others are given. A fault where it stays out."""
     found = brought(files[0], files[1], options)
     return Whole(found.maps, names_in(options.names) if options.names else found.cluster.all_names(), found)
