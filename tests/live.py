@@ -31,7 +31,7 @@ import soak
 
 HERE = pathlib.Path(__file__).resolve().parent
 sys.path.insert(0, str(HERE.parent / "tools"))
-from rekhuso import Fault, Monitor, Refused  # noqa: E402
+from rekhuso import Closed, Fault, Monitor, Refused  # noqa: E402
 
 EXAMPLE = HERE.parent / "examples" / "map.json"
 SECONDS = 60
@@ -339,6 +339,37 @@ def test_timeout(program):
                 raise AssertionError("no end of waiting")
             except Fault as fault:
                 equal(str(fault), "no answer within 0.2 seconds")
+
+
+def test_closed_monitor(program):
+    """A monitor that was closed, or whose program has gone, has an error of its own for whatever is asked, in each of its sessions."""
+    value = json.loads(EXAMPLE.read_text())
+    with Monitor(value, program, sessions=2, timeout=SECONDS) as closed:
+        pass
+    with Monitor(value, program, timeout=SECONDS) as gone:
+        os.kill(gone._process.pid, signal.SIGKILL)
+        try:
+            gone.epoch()
+            raise AssertionError("an answer of a program that has gone")
+        except Fault as fault:
+            equal((type(fault), str(fault)), (Fault, "the program ended with status -9"))
+        sessions = [*closed.sessions, gone]
+        for session in sessions:
+            for ask in (session.epoch, lambda session=session: session.up("1.0"), lambda session=session: session.raw(["epoch", "epoch"]),
+                        lambda session=session: session.change(down=[1]), lambda session=session: session.ups(["1.0"])):
+                try:
+                    ask()
+                    raise AssertionError("an answer of a monitor that was closed")
+                except Closed as fault:
+                    equal(str(fault), "the monitor is closed")
+
+
+def test_names_of_a_monitor(program):
+    """What a monitor shows beside what is its own are its questions, its program and its sessions."""
+    with Monitor(json.loads(EXAMPLE.read_text()), program, timeout=SECONDS) as monitor:
+        shown = {name for name in dir(monitor) if not name.startswith("_")}
+    equal(shown, {"ask", "balance", "change", "close", "count", "dump", "epoch", "groups", "is_stock", "one", "program", "raw", "sessions",
+                  "text", "up", "ups"})
 
 
 def test_shell(program):

@@ -207,7 +207,7 @@ def test_the_option(tools):
     plain = tools.map("002-built")
     for given, wanted in ((None, False), (True, True), (False, False)):
         with Monitor(plain, tools.program, timeout=SECONDS, stock=given) as monitor:
-            words = subprocess.run(["ps", "-o", "args=", "-p", str(monitor.process.pid)], capture_output=True, text=True, check=True).stdout
+            words = subprocess.run(["ps", "-o", "args=", "-p", str(monitor._process.pid)], capture_output=True, text=True, check=True).stdout
             assert ("--stock" in words) == wanted == monitor.is_stock, (given, words)
     change = {"base": plain["epoch"], "new_crush": {"buckets": [dict(own, kind="straw2") for own in plain["buckets"]], "rules": plain["rules"]}}
     _, error = ran(tools, "check", tools.put("m", plain), tools.put("c", change), status=1)

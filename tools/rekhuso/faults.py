@@ -20,6 +20,14 @@ class Misuse(Fault):
     status = 2
 
 
+class Closed(Fault):
+    """A question to a monitor that was closed, or whose program has gone."""
+
+    def __init__(self) -> None:
+        """Has one line, whichever the question was."""
+        super().__init__("the monitor is closed")
+
+
 class Refused(Fault):
     """An answer `err NUMBER NAME` of the program, or a map that it refuses by name, which then has no number."""
 

@@ -35,7 +35,7 @@ from collections.abc import Callable
 from itertools import islice
 from typing import IO, NamedTuple, NoReturn
 
-from .faults import Fault, Refused
+from .faults import Closed, Fault, Refused
 from .kinds import Map, Pool, Program
 from .texts import text_of, written
 
@@ -147,43 +147,57 @@ class Session:
 
     def __init__(self, lines: IO[bytes], answers: IO[bytes], gone: Callable[[], NoReturn], patience: Patience) -> None:
         """Takes two open pipes, what raises the fault of a program that has ended, and who watches waits."""
-        self.lines, self.answers, self.gone, self.patience = lines, answers, gone, patience
+        self._lines, self._answers, self._gone, self._patience = lines, answers, gone, patience
+        self._is_closed = False
 
     # Lines and their answers
 
-    def send(self, text: bytes) -> None:
+    def _send(self, text: bytes) -> None:
         """Puts text to the program."""
         try:
-            self.lines.write(text)
-            self.lines.flush()
+            self._lines.write(text)
+            self._lines.flush()
         except (BrokenPipeError, ValueError):
             pass
 
-    def answer(self) -> str:
+    def _answer(self) -> str:
         """The next answer."""
-        line = self.answers.readline()
+        try:
+            line = self._answers.readline()
+        except ValueError:  # Another thread has closed it meanwhile.
+            raise Closed from None
         if not line.endswith(b"\n"):
-            self.gone()
+            self._gone()
         return line[:-1].decode("utf-8")
 
     def one(self, line: str) -> str:
         """The answer of one line, which is not empty and has no newline; a refusal ends this as `Refused`."""
         if not line or "\n" in line:
             raise ValueError("a line that is empty, or more than one")
-        with self.patience:
-            self.send((line + "\n").encode("utf-8", "surrogateescape"))
-            return checked(self.answer())
+        self._check_open()
+        with self._patience:
+            self._send((line + "\n").encode("utf-8", "surrogateescape"))
+            return checked(self._answer())
+
+    def _check_open(self) -> None:
+        """`Closed` where the monitor was closed."""
+        if self._is_closed:
+            raise Closed
 
     def raw(self, lines: list[str]) -> list[str]:
         """The answer of each line, refusals among them. The lines go in beside the answers that come out."""
+        self._check_open()
         text = "".join(line + "\n" for line in lines).encode("utf-8", "surrogateescape")
-        sender = threading.Thread(target=self.send, args=(text,), daemon=True)
+        sender = threading.Thread(target=self._send, args=(text,), daemon=True)
         sender.start()
         wanted = sum(map(bool, text.split(b"\n")))
-        with self.patience:
-            answers = b"".join(islice(self.answers, wanted)).decode("utf-8").split("\n")
+        with self._patience:
+            try:
+                answers = b"".join(islice(self._answers, wanted)).decode("utf-8").split("\n")
+            except ValueError:  # Another thread has closed it meanwhile.
+                raise Closed from None
             if len(answers) <= wanted:
-                self.gone()
+                self._gone()
             sender.join()
         return answers[:wanted]
 
@@ -256,59 +270,59 @@ class Monitor(Session):
         self.program = pathlib.Path(program or built()).resolve()
         if not self.program.is_file() or not os.access(self.program, os.X_OK):
             raise Fault(f"{program or self.program}: no program; `make run` proves and builds it, or --program names another")
-        self.is_stock = has_straw2(value) if stock is None else stock
-        self.errors = tempfile.TemporaryFile()
-        self.folder = tempfile.TemporaryDirectory()
+        self.is_stock, self._is_closed = has_straw2(value) if stock is None else stock, False
+        self._errors = tempfile.TemporaryFile()
+        self._folder = tempfile.TemporaryDirectory()
         self.sessions: list[Session] = []
         text = value if isinstance(value, str) else written(value)
-        pathlib.Path(self.folder.name, "map.json").write_text(text, encoding="utf-8")
+        pathlib.Path(self._folder.name, "map.json").write_text(text, encoding="utf-8")
         names = [(f"lines-{k}", f"answers-{k}") for k in range(1, sessions + 1)] if sessions > 1 else []
-        self.process = self.started(journal, names)
-        self.patience = Patience(self.process, timeout)
+        self._process = self._started(journal, names)
+        self._patience = Patience(self._process, timeout)
         try:
-            with self.patience:
-                self.open(names)
+            with self._patience:
+                self._open(names)
         except BaseException:
-            self.process.kill()
+            self._process.kill()
             self.close()
             raise
 
-    def started(self, journal: int, names: list[tuple[str, str]]) -> subprocess.Popen[bytes]:
+    def _started(self, journal: int, names: list[tuple[str, str]]) -> subprocess.Popen[bytes]:
         """The program in its folder, over named pipes for lines and answers, or where there are none over its standard input and
         output. It stands in a session of its own, so that Ctrl-C at a terminal ends who asks and not the program. A fault where it
         does not start."""
         for name in (name for pair in names for name in pair):
-            os.mkfifo(os.path.join(self.folder.name, name))
+            os.mkfifo(os.path.join(self._folder.name, name))
         words = [lines for lines, _ in names] + [word for _, answers in names for word in ("--to", answers)]
         end, option = subprocess.DEVNULL if names else subprocess.PIPE, ["--stock"] if self.is_stock else []
         try:
             return subprocess.Popen([str(self.program), *option, "--journal", str(journal), "map.json", *(words or ["-"])], stdin=end,
-                                    stdout=end, stderr=self.errors, cwd=self.folder.name, start_new_session=True)
+                                    stdout=end, stderr=self._errors, cwd=self._folder.name, start_new_session=True)
         except OSError as fault:
-            self.errors.close()
-            self.folder.cleanup()
+            self._errors.close()
+            self._folder.cleanup()
             raise Fault(f"{self.program}: no program: {fault.strerror}") from None
 
-    def open(self, names: list[tuple[str, str]]) -> None:
+    def _open(self, names: list[tuple[str, str]]) -> None:
         """Opens the sessions over their pipes and reads their headings. A fault where the program has ended, or is another."""
-        folder, lines, answers = pathlib.Path(self.folder.name), self.process.stdin, self.process.stdout
+        folder, lines, answers = pathlib.Path(self._folder.name), self._process.stdin, self._process.stdout
         pipes: list[tuple[IO[bytes], IO[bytes]]] = [(lines, answers)] if lines and answers else []
-        pipes += [(self.writer(folder / one), self.reader(folder / other)) for one, other in names]
-        super().__init__(*pipes[0], self.ended, self.patience)
-        self.sessions = [self, *(Session(*pair, self.ended, self.patience) for pair in pipes[1:])]
+        pipes += [(self._writer(folder / one), self._reader(folder / other)) for one, other in names]
+        super().__init__(*pipes[0], self._ended, self._patience)
+        self.sessions = [self, *(Session(*pair, self._ended, self._patience) for pair in pipes[1:])]
         for number, session in enumerate(self.sessions, 1):
-            self.greeted(session, f"session {number}\n")
+            self._greeted(session, f"session {number}\n")
 
-    def greeted(self, session: Session, heading: str) -> None:
+    def _greeted(self, session: Session, heading: str) -> None:
         """Reads the heading of a session. A fault where the program has ended or puts out another."""
-        line = session.answers.readline(80)
+        line = session._answers.readline(80)
         if line == heading.encode():
             return
         if line:
             raise Fault(f"{self.program}: another program: its output begins with {line[:20]!r}")
-        self.ended()
+        self._ended()
 
-    def writer(self, path: pathlib.Path) -> IO[bytes]:
+    def _writer(self, path: pathlib.Path) -> IO[bytes]:
         """A named pipe for lines, once the program has opened its end."""
         while True:
             try:
@@ -316,29 +330,30 @@ class Monitor(Session):
             except OSError as fault:
                 if fault.errno != errno.ENXIO:
                     raise
-            self.is_running()
+            self._is_running()
             time.sleep(0.001)
 
-    def reader(self, path: pathlib.Path) -> IO[bytes]:
+    def _reader(self, path: pathlib.Path) -> IO[bytes]:
         """A named pipe for answers, once there is one."""
         pipe = os.open(path, os.O_RDONLY | os.O_NONBLOCK)
         while not select.select([pipe], [], [], 0.1)[0]:
-            self.is_running()
+            self._is_running()
         return os.fdopen(unblocked(pipe), "rb")
 
-    def is_running(self) -> None:
+    def _is_running(self) -> None:
         """Nothing where the program runs; where it has ended, why."""
-        if self.process.poll() is not None:
-            self.ended()
+        if self._process.poll() is not None:
+            self._ended()
 
-    def ended(self) -> NoReturn:
-        """Tells why the program has ended."""
-        status = self.process.wait()
-        if self.patience.is_spent:
+    def _ended(self) -> NoReturn:
+        """Tells why the program has ended; `Closed` where that was told before."""
+        status = self._process.wait()
+        self._check_open()
+        if self._patience.is_spent:
             self.close()
-            raise Fault(f"no answer within {self.patience.seconds} seconds")
-        self.errors.seek(0)
-        error = self.errors.read().decode("utf-8", "replace").strip()
+            raise Fault(f"no answer within {self._patience.seconds} seconds")
+        self._errors.seek(0)
+        error = self._errors.read().decode("utf-8", "replace").strip()
         self.close()
         if status == 2:
             raise Refused(error.removeprefix("map: "))
@@ -346,18 +361,21 @@ class Monitor(Session):
 
     def close(self) -> None:
         """Ends the sessions and the program: it ends once it has answered what it was asked. A second call does nothing."""
-        of_sessions = [stream for session in self.sessions for stream in (session.lines, session.answers)]
-        for stream in [self.process.stdin, self.process.stdout, *of_sessions]:
+        self._is_closed = True
+        for session in self.sessions:
+            session._is_closed = True
+        of_sessions = [stream for session in self.sessions for stream in (session._lines, session._answers)]
+        for stream in [self._process.stdin, self._process.stdout, *of_sessions]:
             try:
                 if stream:
                     stream.close()
             except BrokenPipeError:
                 pass
-        with self.patience:
-            self.process.wait()
-        self.patience.done.set()
-        self.errors.close()
-        self.folder.cleanup()
+        with self._patience:
+            self._process.wait()
+        self._patience.done.set()
+        self._errors.close()
+        self._folder.cleanup()
 
     def __enter__(self) -> Monitor:
         """The monitor itself."""
@@ -366,7 +384,7 @@ class Monitor(Session):
     def __exit__(self, kind: object, *_: object) -> None:
         """Closes the monitor; behind an exception its program is ended at once."""
         if kind is not None:  # Whoever was interrupted, or found a fault, waits for no answer.
-            self.process.kill()
+            self._process.kill()
         self.close()
 
 
