@@ -197,6 +197,19 @@ def test_types(program):
         assert status == 0, told[-600:]
 
 
+def test_lines(program):
+    """No line of the tools has more than 120 columns."""
+    long = [f"{path.name}:{number}" for path in sorted((TOOLS / "rekhuso").glob("*.py"))
+            for number, line in enumerate(path.read_text().splitlines(), 1) if len(line) > 120]
+    equal(long, [])
+
+
+def test_format(program):
+    """`black`, as pyproject.toml sets it, finds nothing to do in the tools."""
+    status, told = ran(["black", "--check", "--config", TOOLS / "pyproject.toml", TOOLS / "rekhuso"])
+    assert status == 0, told[-600:]
+
+
 def test_what_types_say(program):
     """`Any` stands for a type at few places, and forms of objects are told in one module."""
     names, forms = [], set()
@@ -219,9 +232,14 @@ def test_what_is_not_run(program):
 
 
 # What a test asks for beside Python: without it the test is not run.
+def has_black():
+    """Whether the formatter is there, of the year whose form the tools have: each year's black has a form of its own."""
+    return shutil.which("black") is not None and ran(["black", "--version"])[1].startswith("black, 23.")
+
+
 BACKEND = "Python with pip, venv, setuptools and wheel (Debian: python3-pip, python3-venv)", lambda: builder() is not None
 NEEDED = {test_wheel: BACKEND, test_installed: BACKEND, test_editable: BACKEND,
-          test_types: ("mypy", lambda: shutil.which("mypy") is not None)}
+          test_types: ("mypy", lambda: shutil.which("mypy") is not None), test_format: ("black 23", has_black)}
 
 
 def lacking(test):

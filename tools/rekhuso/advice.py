@@ -10,8 +10,9 @@ from .outside import FEW
 
 
 class Advice(NamedTuple):
-    """A kind of reason, by a pattern whose first group is what it is told of; what is done about it; and how many of it are told as
-    one, if they are."""
+    """A kind of reason, by a pattern whose first group is what it is told of; what is done about it; and how many of
+    it are told as one, if they are.
+    """
 
     pattern: str
     done: str
@@ -20,31 +21,65 @@ class Advice(NamedTuple):
 
 POOLS, AGAIN = "--pools takes the other pools", "no monitor dumps it so: take both dumps again"
 KINDS = (
-    Advice(r"^bucket (.+) has \d+ items, more than", "no map holds so many; --pools takes pools whose rules do not reach it",
-           "{count} buckets have more than 64 items: {names}"),
-    Advice(r"^bucket (.+): the weight of .+ is 0$", "no map holds it; `ceph osd crush reweight` gives it a weight",
-           "{count} items of buckets that are not straw2 have the weight 0: in {names}"),
+    Advice(
+        r"^bucket (.+) has \d+ items, more than",
+        "no map holds so many; --pools takes pools whose rules do not reach it",
+        "{count} buckets have more than 64 items: {names}",
+    ),
+    Advice(
+        r"^bucket (.+): the weight of .+ is 0$",
+        "no map holds it; `ceph osd crush reweight` gives it a weight",
+        "{count} items of buckets that are not straw2 have the weight 0: in {names}",
+    ),
     Advice(r"^pool (\d+) has (?:\d+ groups|size \d+), more than", f"no map holds it; {POOLS}"),
-    Advice(r"^\d+ (?:pools|buckets that pools use|rules that pools use), more than", "no map holds so many; --pools takes some pools at a time"),
-    Advice(r"straw buckets?, as ", "`ceph osd crush set-all-straw-buckets-to-straw2` makes them straw2 (Nautilus or later)"),
+    Advice(
+        r"^\d+ (?:pools|buckets that pools use|rules that pools use), more than",
+        "no map holds so many; --pools takes some pools at a time",
+    ),
+    Advice(
+        r"straw buckets?, as ", "`ceph osd crush set-all-straw-buckets-to-straw2` makes them straw2 (Nautilus or later)"
+    ),
     Advice(r"^tunable ", "`ceph osd crush tunables jewel` sets all of them, and moves data once"),
     Advice(r"^no tunable ", "take the dump by Ceph 10.2 or later"),
-    Advice(r"^pool (\d+) is without hashpspool", f"`ceph osd pool set POOL hashpspool true` sets it, and moves its data once; {POOLS}"),
-    Advice(r"^choose_args.*: of pools", "`ceph osd crush weight-set rm POOL` takes each away, once the balancer is off"),
+    Advice(
+        r"^pool (\d+) is without hashpspool",
+        f"`ceph osd pool set POOL hashpspool true` sets it, and moves its data once; {POOLS}",
+    ),
+    Advice(
+        r"^choose_args.*: of pools", "`ceph osd crush weight-set rm POOL` takes each away, once the balancer is off"
+    ),
     Advice(r"^choose_args", "`ceph osd crush weight-set rm-compat` takes it away, once the balancer is off"),
-    Advice(r"can pick the empty bucket (.+)$", "`ceph osd crush rm` takes it away, or `ceph osd crush reweight-all` gives it the weight 0"),
+    Advice(
+        r"can pick the empty bucket (.+)$",
+        "`ceph osd crush rm` takes it away, or `ceph osd crush reweight-all` gives it the weight 0",
+    ),
     Advice(r"(?:is|OSDs are) at or above", "no map holds an OSD of such a number"),
-    Advice(r"the OSD dump does not list", "take both dumps at one time; where the OSD was removed, --tree tells its reweight (`ceph osd tree -f "
-           "json`), and --unmatched takes it as out, which is right where it was"),
-    Advice(r"the CRUSH dump does not list", "take both dumps at one time; --unmatched takes it as out of reach of every rule"),
+    Advice(
+        r"the OSD dump does not list",
+        "take both dumps at one time; where the OSD was removed, --tree tells its reweight (`ceph osd tree -f "
+        "json`), and --unmatched takes it as out, which is right where it was",
+    ),
+    Advice(
+        r"the CRUSH dump does not list",
+        "take both dumps at one time; --unmatched takes it as out of reach of every rule",
+    ),
     Advice(r"^pg_upmap_primaries", "`ceph osd rm-pg-upmap-primary PG` takes each away"),
     Advice(r"not in the grammar|from two buckets|is of the unknown type", "--pools takes the pools of other rules"),
     Advice(r"^pool (\d+) is of type", POOLS),
-    Advice(r"^(.+) stands (?:below .+ buckets of|in .+ twice)", "`ceph osd crush unlink` takes it out of one of them",
-           "{count} items stand below a root more than once: {names}"),
-    Advice(r"^the (?:explicit set|pairs) of (\S+) ", "`ceph osd rm-pg-upmap` and `ceph osd rm-pg-upmap-items` take it away"),
-    Advice(r"is listed twice|is listed in the OSD dump, but|no whole number$|: no [a-z]+$|: missing$|which is no bucket$|which is not below it$|"
-           r"of the unknown kind|chooses the unknown type|no number of 32 bits$|is not below max_osd", AGAIN),
+    Advice(
+        r"^(.+) stands (?:below .+ buckets of|in .+ twice)",
+        "`ceph osd crush unlink` takes it out of one of them",
+        "{count} items stand below a root more than once: {names}",
+    ),
+    Advice(
+        r"^the (?:explicit set|pairs) of (\S+) ", "`ceph osd rm-pg-upmap` and `ceph osd rm-pg-upmap-items` take it away"
+    ),
+    Advice(
+        r"is listed twice|is listed in the OSD dump, but|no whole number$|: no [a-z]+$|: missing$|which is no bucket$|"
+        r"which is not below it$|"
+        r"of the unknown kind|chooses the unknown type|no number of 32 bits$|is not below max_osd",
+        AGAIN,
+    ),
 )
 
 

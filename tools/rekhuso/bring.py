@@ -1,8 +1,9 @@
 """`import`: a map of what `ceph osd dump` and `ceph osd crush dump` print, or several.
 
-Kept are the rules that pools use and the buckets below what they take. What no map holds is told whole, a line each, in the
-cluster's own names; what is left out without harm is told too. A map holds an OSD once: where pools take the same OSD from two
-trees, such as a pool on `default` beside pools on classes of devices, each set of pools whose trees share none is a map of its own.
+Kept are the rules that pools use and the buckets below what they take. What no map holds is told whole, a line each, in
+the cluster's own names; what is left out without harm is told too. A map holds an OSD once: where pools take the same
+OSD from two trees, such as a pool on `default` beside pools on classes of devices, each set of pools whose trees share
+none is a map of its own.
 """
 
 from __future__ import annotations
@@ -17,7 +18,22 @@ from .cluster import KINDS, Cluster, listed
 from .faults import Fault, Misuse, Refused
 from .forms import TRIES
 from .kinds import (
-    Bucket, Commands, CrushDump, DumpOsd, DumpPool, Map, Options, Osd, OsdDump, Parser, Pool, Program, Rule, Told, Shape, Tree,
+    Bucket,
+    Commands,
+    CrushDump,
+    DumpOsd,
+    DumpPool,
+    Map,
+    Options,
+    Osd,
+    OsdDump,
+    Parser,
+    Pool,
+    Program,
+    Rule,
+    Told,
+    Shape,
+    Tree,
 )
 from .monitor import Monitor, has_straw2
 from .outside import reasons, root_reasons, size_reasons, unmatched
@@ -31,7 +47,9 @@ UNMATCHED = "take OSDs that only one of the dumps has as out, and tell which"
 
 
 class Brought(NamedTuple):
-    """A cluster of two dumps, the cluster of each map that it takes, and these maps, which the program has not seen yet."""
+    """A cluster of two dumps, the cluster of each map that it takes, and these maps, which the program has not seen
+    yet.
+    """
 
     cluster: Cluster
     parts: list[Cluster]
@@ -39,7 +57,9 @@ class Brought(NamedTuple):
 
 
 def bucket_of(cluster: Cluster, number: int, is_own: bool = False) -> Bucket:
-    """A bucket in the map's form; with its own weights where those in force are of a weight set, and these are asked for."""
+    """A bucket in the map's form; with its own weights where those in force are of a weight set, and these are asked
+    for.
+    """
     bucket, items = cluster.buckets[number], [list(item) for item in cluster.held[number]]
     if is_own and cluster.has_weight_set:
         own = dict(zip(cluster.listed_in(number), map(cluster.weight, bucket["items"])))
@@ -54,51 +74,82 @@ def osd_of(osd: DumpOsd) -> Osd:
 
 def pool_of(pool: DumpPool) -> Pool:
     """A pool in the map's form."""
-    return {"id": pool["pool"], "kind": KINDS[pool["type"]], "pg_num": pool["pg_num"], "pgp_num": pool["pg_placement_num"],
-            "rule": pool["crush_rule"], "size": pool["size"]}
+    return {
+        "id": pool["pool"],
+        "kind": KINDS[pool["type"]],
+        "pg_num": pool["pg_num"],
+        "pgp_num": pool["pg_placement_num"],
+        "rule": pool["crush_rule"],
+        "size": pool["size"],
+    }
 
 
 def map_of(cluster: Cluster) -> Map:
     """The map of a cluster that is in the profile."""
-    rules: list[Rule] = [{"id": rule["rule_id"], "kind": KINDS[rule["type"]], "steps": cluster.steps_of(rule)} for rule in cluster.rules]
+    rules: list[Rule] = [
+        {"id": rule["rule_id"], "kind": KINDS[rule["type"]], "steps": cluster.steps_of(rule)} for rule in cluster.rules
+    ]
     tries = any(step[0] in TRIES for rule in rules for step in rule["steps"])
     explicit, items = cluster.exceptions
-    gone: list[Osd] = [{"exists": False, "id": osd, "up": False, "weight": min(weight, 65536)} for osd, weight in cluster.gone.items()
-                       if osd < cluster.max_osd]
-    return {"buckets": [bucket_of(cluster, number) for number in cluster.kept], "epoch": cluster.epoch,
-            "max_osd": cluster.max_osd, "osds": [osd_of(osd) for osd in cluster.osds.values()] + gone, "pg_upmap": explicit,
-            "pg_upmap_items": items, "pools": [pool_of(pool) for pool in cluster.pools], "rules": rules,
-            "version": 2 if tries else 1}
+    gone: list[Osd] = [
+        {"exists": False, "id": osd, "up": False, "weight": min(weight, 65536)}
+        for osd, weight in cluster.gone.items()
+        if osd < cluster.max_osd
+    ]
+    return {
+        "buckets": [bucket_of(cluster, number) for number in cluster.kept],
+        "epoch": cluster.epoch,
+        "max_osd": cluster.max_osd,
+        "osds": [osd_of(osd) for osd in cluster.osds.values()] + gone,
+        "pg_upmap": explicit,
+        "pg_upmap_items": items,
+        "pools": [pool_of(pool) for pool in cluster.pools],
+        "rules": rules,
+        "version": 2 if tries else 1,
+    }
 
 
 def monitor_of(value: Map, program: Program) -> Monitor:
-    """A session over a map that nothing was found against. A fault where the program refuses it: its own name for it, and the places."""
+    """A session over a map that nothing was found against. A fault where the program refuses it: its own name for
+    it, and the places.
+    """
     try:
         return Monitor(value, program)
     except Refused as refused:
-        raise Fault(f"the program refuses the map: {refused.name}", *map(str, map_places(value, has_straw2(value)))) from None
+        raise Fault(
+            f"the program refuses the map: {refused.name}", *map(str, map_places(value, has_straw2(value)))
+        ) from None
 
 
 # Dumps
+
 
 def dumped(path: str, shape: Shape) -> tuple[Told, frozenset[str], list[str]]:
     """What of the dump in a file is of its form, the keys of which something is not, and each place that is not."""
     value = json_of(path)
     found = misfits(value, shape, "")
-    faults = [f"{path}: {place}" for place in found[:MOST]] + ([f"{path}: and {len(found) - MOST} more"] if len(found) > MOST else [])
+    faults = [f"{path}: {place}" for place in found[:MOST]] + (
+        [f"{path}: and {len(found) - MOST} more"] if len(found) > MOST else []
+    )
     return *fitting(value, shape), faults
 
 
 def gone_in(tree: Tree, osd_dump: OsdDump) -> dict[int, int]:
-    """The reweights, in units of 1/65,536, of the OSDs that a tree tells not to exist any more and that the OSD dump does not list."""
+    """The reweights, in units of 1/65,536, of the OSDs that a tree tells not to exist any more and that the OSD dump
+    does not list.
+    """
     there = {osd["osd"] for osd in osd_dump["osds"]}
-    return {node["id"]: round(node["reweight"] * 65536) for node in tree["nodes"]
-            if node["id"] >= 0 and node.get("exists") == 0 and node.get("reweight", -1) >= 0 and node["id"] not in there}
+    return {
+        node["id"]: round(node["reweight"] * 65536)
+        for node in tree["nodes"]
+        if node["id"] >= 0 and node.get("exists") == 0 and node.get("reweight", -1) >= 0 and node["id"] not in there
+    }
 
 
 def both_dumps(osd_dump: str, crush_dump: str, tree: str | None = None) -> tuple[Cluster, list[str]]:
-    """The cluster of two dumps, or of three, as far as these are of their forms, and each place that is not; a fault that tells of each
-    file that is no JSON object."""
+    """The cluster of two dumps, or of three, as far as these are of their forms, and each place that is not; a fault
+    that tells of each file that is no JSON object.
+    """
     found, unread = [], []
     files: list[tuple[str, Shape]] = [(osd_dump, OSD_DUMP), (crush_dump, CRUSH_DUMP)]
     for path, shape in files if tree is None else [*files, (tree, TREE)]:
@@ -114,10 +165,14 @@ def both_dumps(osd_dump: str, crush_dump: str, tree: str | None = None) -> tuple
 
 
 def with_pools(cluster: Cluster, words: str | None) -> Cluster:
-    """A cluster with some of its pools alone, by their ids or names with a comma between them. A fault for a word that is neither."""
+    """A cluster with some of its pools alone, by their ids or names with a comma between them. A fault for a word
+    that is neither.
+    """
     if words is None:
         return cluster
-    known = {pool["pool_name"]: pool["pool"] for pool in cluster.pools} | {str(pool["pool"]): pool["pool"] for pool in cluster.pools}
+    known = {pool["pool_name"]: pool["pool"] for pool in cluster.pools} | {
+        str(pool["pool"]): pool["pool"] for pool in cluster.pools
+    }
     unknown = [word for word in words.split(",") if word not in known]
     if unknown:
         raise Fault(*(f"no pool {word}" for word in unknown))
@@ -126,6 +181,7 @@ def with_pools(cluster: Cluster, words: str | None) -> Cluster:
 
 # Clusters
 
+
 def numbers(part: Cluster) -> str:
     """The pools of a map, by their ids."""
     return ",".join(str(pool["pool"]) for pool in part.pools)
@@ -133,7 +189,11 @@ def numbers(part: Cluster) -> str:
 
 def several(parts: list[Cluster]) -> str:
     """How a cluster comes in that takes several maps."""
-    return f"it takes {len(parts)} maps: --out FOLDER writes all, " + listed([f"--pools {numbers(part)}" for part in parts]) + " one each"
+    return (
+        f"it takes {len(parts)} maps: --out FOLDER writes all, "
+        + listed([f"--pools {numbers(part)}" for part in parts])
+        + " one each"
+    )
 
 
 def parts_of(cluster: Cluster) -> list[Cluster]:
@@ -145,7 +205,9 @@ def parts_of(cluster: Cluster) -> list[Cluster]:
 def against(cluster: Cluster, faults: list[str], is_unmatched: bool, is_one: bool) -> list[str]:
     """All that is told against a cluster; where one map is asked for, what it takes several for too."""
     found = faults + reasons(cluster, is_unmatched, False)
-    apart = [line for line in root_reasons(cluster, True) + size_reasons(cluster) if line not in found] if is_one else []
+    apart = (
+        [line for line in root_reasons(cluster, True) + size_reasons(cluster) if line not in found] if is_one else []
+    )
     if cluster.is_stock:
         found = advised(found)
     if apart:
@@ -154,8 +216,9 @@ def against(cluster: Cluster, faults: list[str], is_unmatched: bool, is_one: boo
 
 
 def brought(osd_dump: str, crush_dump: str, options: Options, is_one: bool = False) -> Brought:
-    """The cluster of two dumps and its maps, or its one map; a fault that says all that keeps it out. What only one of the dumps has is
-    no fault where the options take it so, and is told on standard error."""
+    """The cluster of two dumps and its maps, or its one map; a fault that says all that keeps it out. What only one
+    of the dumps has is no fault where the options take it so, and is told on standard error.
+    """
     cluster, faults = both_dumps(osd_dump, crush_dump, options.tree)
     cluster = with_pools(cluster, options.pools)
     found = against(cluster, faults, options.unmatched, is_one)
@@ -169,9 +232,11 @@ def brought(osd_dump: str, crush_dump: str, options: Options, is_one: bool = Fal
 
 # The command
 
+
 def judged(options: Options) -> None:
-    """Tells whether a cluster comes in. A fault where it does not: each reason, and what is done about it. An error of use where files are
-    to be written too."""
+    """Tells whether a cluster comes in. A fault where it does not: each reason, and what is done about it. An error
+    of use where files are to be written too.
+    """
     if options.out is not None or options.names is not None:
         raise Misuse("--check writes no files: --out and --names do not go with it")
     cluster, faults = both_dumps(options.osd_dump, options.crush_dump, options.tree)
@@ -189,20 +254,26 @@ def told(cluster: Cluster, has_names: bool) -> list[str]:
     """What is left out of the maps, and what stands otherwise in them."""
     found = [f"left out: {line}" for line in cluster.left_out(has_names)]
     if cluster.has_weight_set:
-        found.append("taken for placement: the compat weight set (choose_args); df goes by the weights themselves over the dumps, or with "
-                     "--names, and a plan of the map would undo what the set was tuned for")
+        found.append(
+            "taken for placement: the compat weight set (choose_args); df goes by the weights themselves over the "
+            "dumps, or with "
+            "--names, and a plan of the map would undo what the set was tuned for"
+        )
     return found
 
 
 def names_of(cluster: Cluster) -> Told:
-    """What goes into the file of names: the names of what maps have; where the maps do not have all that weighs, or weigh otherwise, those
-    of all buckets and the cluster's tree too, which `df` then shows."""
+    """What goes into the file of names: the names of what maps have; where the maps do not have all that weighs, or
+    weigh otherwise, those of all buckets and the cluster's tree too, which `df` then shows.
+    """
     has_other = cluster.has_weight_set or bool(cluster.weightless())
     return {**cluster.all_names(), "tree": cluster.shown()} if has_other else dict(cluster.names())
 
 
 def put_all(folder: str, maps: Brought) -> None:
-    """Writes each map into a file of a folder, which is made where there is none, and tells the files. A fault where it cannot."""
+    """Writes each map into a file of a folder, which is made where there is none, and tells the files. A fault where
+    it cannot.
+    """
     try:
         pathlib.Path(folder).mkdir(parents=True, exist_ok=True)
     except OSError as fault:
@@ -214,7 +285,9 @@ def put_all(folder: str, maps: Brought) -> None:
 
 
 def work(options: Options) -> None:
-    """Writes the map on standard output, or all maps into a folder, the names into their file, and what is left out on standard error."""
+    """Writes the map on standard output, or all maps into a folder, the names into their file, and what is left out
+    on standard error.
+    """
     if options.check:
         judged(options)
         return
@@ -234,7 +307,11 @@ def work(options: Options) -> None:
 def add_options(own: Parser) -> None:
     """The options of a command that takes dumps."""
     own.add_argument("--unmatched", action="store_true", help=UNMATCHED)
-    own.add_argument("--tree", metavar="FILE", help="what `ceph osd tree -f json` prints: the reweights of OSDs that were removed and stand in CRUSH")
+    own.add_argument(
+        "--tree",
+        metavar="FILE",
+        help="what `ceph osd tree -f json` prints: the reweights of OSDs that were removed and stand in CRUSH",
+    )
     own.add_argument("--pools", metavar="ID|NAME,..", help="only these pools")
 
 
@@ -244,7 +321,9 @@ def add_to(commands: Commands) -> None:
     own.add_argument("osd_dump", metavar="OSD_DUMP", help="what `ceph osd dump -f json` prints")
     own.add_argument("crush_dump", metavar="CRUSH_DUMP", help="what `ceph osd crush dump` prints")
     own.add_argument("--out", metavar="FOLDER", help="write every map that the cluster takes into this folder")
-    own.add_argument("--check", action="store_true", help="only tell whether the cluster comes in, and if not why, and what to do")
+    own.add_argument(
+        "--check", action="store_true", help="only tell whether the cluster comes in, and if not why, and what to do"
+    )
     own.add_argument("--names", metavar="FILE", help="write the names of OSDs, buckets, pools and rules into this file")
     add_options(own)
     own.set_defaults(work=work)

@@ -1,4 +1,5 @@
-"""`check`: whether a map, or a change to it, is lawful, by the program's own answer; where it is not, every place at fault.
+"""`check`: whether a map, or a change to it, is lawful, by the program's own answer; where it is not, every place at
+fault.
 
 A place is a path into the text. Form and limits are told first, and what only a text of the right form can be asked for
 once these hold.
@@ -56,8 +57,15 @@ class Unlawful(Fault):
     def __init__(self, path: str, number: int, name: str, value: Any, places: list[Place], names: Names) -> None:
         """Of a file, where the places stand in a value; what it speaks of is told by its name."""
         super().__init__(f"{path}: refused: {number} {name}", *(told(value, place, names) for place in places))
-        found = [dict(place._asdict(), name=NAMES[place.number], why=with_names(place.why, names), of=owner(value, place, names))
-                 for place in places]
+        found = [
+            dict(
+                place._asdict(),
+                name=NAMES[place.number],
+                why=with_names(place.why, names),
+                of=owner(value, place, names),
+            )
+            for place in places
+        ]
         self.parts = {"refused": {"number": number, "name": name}, "places": found}
 
 
@@ -74,7 +82,9 @@ def check_map(path: str, program: Program, names: Names) -> str:
 
 
 def checked(options: Options) -> tuple[str, str | None]:
-    """The text of a map, and what the program answers to a change where there is one; `Unlawful` where it refuses either."""
+    """The text of a map, and what the program answers to a change where there is one; `Unlawful` where it refuses
+    either.
+    """
     names = names_in(options.names)
     text = check_map(options.map, options.program, names)
     if options.change is None:

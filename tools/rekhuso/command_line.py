@@ -1,4 +1,5 @@
-"""The command line: one parser with a subcommand for each module that has `add_to` and `work`, and what a command ends with.
+"""The command line: one parser with a subcommand for each module that has `add_to` and `work`, and what a command ends
+with.
 
 Status 0: the work is done. Status 1: something was refused or has failed. Status 2: the command was used wrongly.
 """
@@ -36,7 +37,9 @@ def parser() -> argparse.ArgumentParser:
     """The command line: one parser with a subcommand for each module of COMMANDS."""
     top = Parser(prog="rekhuso", description="Tools beside osdmapd, for people with a cluster.")
     top.add_argument("--version", action="version", version=f"rekhuso {__version__}")
-    top.add_argument("--program", type=pathlib.Path, help="the built program (else that of this repository, or of PATH)")
+    top.add_argument(
+        "--program", type=pathlib.Path, help="the built program (else that of this repository, or of PATH)"
+    )
     commands = top.add_subparsers(dest="command", required=True, metavar="COMMAND")
     for module in COMMANDS:
         module.add_to(commands)
@@ -46,8 +49,9 @@ def parser() -> argparse.ArgumentParser:
 
 
 def set_streams() -> None:
-    """Sets standard streams to UTF-8, the two for output so that no character stops them; an input or errors that are closed are
-    empty. A fault where the output is closed."""
+    """Sets standard streams to UTF-8, the two for output so that no character stops them; an input or errors that
+    are closed are empty. A fault where the output is closed.
+    """
     sys.stdin = sys.stdin or open(os.devnull, encoding="utf-8")
     sys.stderr = sys.stderr or open(os.devnull, "w", encoding="utf-8")
     if sys.stdout is None:
@@ -58,8 +62,9 @@ def set_streams() -> None:
 
 
 def put_out() -> None:
-    """Puts out what standard output still holds. OSError where it cannot be written; what is left is then dropped, so that it is
-    not tried again when Python ends."""
+    """Puts out what standard output still holds. OSError where it cannot be written; what is left is then dropped,
+    so that it is not tried again when Python ends.
+    """
     try:
         sys.stdout.flush()
     except OSError:

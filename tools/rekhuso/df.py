@@ -1,8 +1,8 @@
 """`df`: the tree of buckets with the columns of `ceph osd df tree`, its totals, and the pools.
 
-VAR is the ratio of an OSD's groups to its share, which is what its weight and reweight call for; DEVIATION is the difference of the
-two, in groups. Of two dumps the tree is the cluster's, without the shadow buckets of device classes, and with what weighs 0; groups
-and shares are those of all pools.
+VAR is the ratio of an OSD's groups to its share, which is what its weight and reweight call for; DEVIATION is the
+difference of the two, in groups. Of two dumps the tree is the cluster's, without the shadow buckets of device classes,
+and with what weighs 0; groups and shares are those of all pools.
 """
 
 from __future__ import annotations
@@ -28,14 +28,27 @@ def node(shares: Shares, row: Row, names: Names) -> Told:
     """What is told of an OSD or a bucket, under the keys of Ceph's own JSON, and with its share."""
     number = row["id"]
     var = ratio(row["groups"], sum(shares.wanted.get(osd, 0.0) for osd in shares.below(number)))
-    found = {"id": number, "name": named(names, "buckets" if number < 0 else "osds", number), "crush_weight": row["weight"],
-             "pgs": row["groups"], "share": row["share"], "var": None if var is None else round(var, 4)}
+    found = {
+        "id": number,
+        "name": named(names, "buckets" if number < 0 else "osds", number),
+        "crush_weight": row["weight"],
+        "pgs": row["groups"],
+        "share": row["share"],
+        "var": None if var is None else round(var, 4),
+    }
     if number < 0:
         kind = names.get("types", {}).get(str(row["type"]), f"type {row['type']}")
         return dict(found, type=kind, type_id=row["type"], reweight=-1)
     own = names.get("classes", {}).get(str(number), "")
-    return dict(found, type="osd", type_id=0, reweight=row["reweight"], deviation=row["deviation"], status=STATUS[row["state"]],
-                device_class=own)
+    return dict(
+        found,
+        type="osd",
+        type_id=0,
+        reweight=row["reweight"],
+        deviation=row["deviation"],
+        status=STATUS[row["state"]],
+        device_class=own,
+    )
 
 
 def nodes(shares: Shares, names: Names) -> list[Told]:
@@ -47,9 +60,16 @@ def summary(shares: Shares) -> Told:
     """The totals, how even the OSDs are that may have groups, and the least and the greatest ratio to a share."""
     total, even = shares.total(), spread(shares)
     ratios = [shares.counts.get(osd, 0) / share for osd, share in shares.wanted.items() if share]
-    return {"crush_weight": total["weight"], "pgs": total["groups"], "share": total["share"], "min_pgs": even["least"],
-            "max_pgs": even["greatest"], "min_var": round(min(ratios, default=0.0), 4), "max_var": round(max(ratios, default=0.0), 4),
-            "deviation": even["deviation"]}
+    return {
+        "crush_weight": total["weight"],
+        "pgs": total["groups"],
+        "share": total["share"],
+        "min_pgs": even["least"],
+        "max_pgs": even["greatest"],
+        "min_var": round(min(ratios, default=0.0), 4),
+        "max_var": round(max(ratios, default=0.0), 4),
+        "deviation": even["deviation"],
+    }
 
 
 def decimal(number: float, places: int) -> str:
@@ -62,10 +82,22 @@ def cells(own: Told, depth: int) -> list[str]:
     weight, groups, share = decimal(own["crush_weight"], 5), str(own["pgs"]), decimal(own["share"], 2)
     var = "-" if own["var"] is None else decimal(own["var"], 2)
     if own["id"] < 0:
-        name = f"{own['type']} {own['name']}" if not own["type"].startswith("type ") else f"{own['name']} of {own['type']}"
+        name = (
+            f"{own['type']} {own['name']}" if not own["type"].startswith("type ") else f"{own['name']} of {own['type']}"
+        )
         return [str(own["id"]), "", weight, "-", share, "-", var, groups, "", INDENT * depth + name]
-    return [str(own["id"]), own["device_class"], weight, decimal(own["reweight"], 5), share, f"{own['deviation']:+.2f}", var, groups,
-            own["status"], INDENT * depth + own["name"]]
+    return [
+        str(own["id"]),
+        own["device_class"],
+        weight,
+        decimal(own["reweight"], 5),
+        share,
+        f"{own['deviation']:+.2f}",
+        var,
+        groups,
+        own["status"],
+        INDENT * depth + own["name"],
+    ]
 
 
 def tree_lines(tree: list[Told], stray: list[Told], total: Told) -> list[str]:
@@ -74,7 +106,20 @@ def tree_lines(tree: list[Told], stray: list[Told], total: Told) -> list[str]:
     if stray:
         rows.append([""] * (len(COLUMNS) - 1) + ["outside every bucket"])
     rows += [cells(own, 1) for own in stray]
-    rows.append(["", "", decimal(total["crush_weight"], 5), "", decimal(total["share"], 2), "", "", str(total["pgs"]), "", "TOTAL"])
+    rows.append(
+        [
+            "",
+            "",
+            decimal(total["crush_weight"], 5),
+            "",
+            decimal(total["share"], 2),
+            "",
+            "",
+            str(total["pgs"]),
+            "",
+            "TOTAL",
+        ]
+    )
     widths = [max(len(row[at]) for row in rows) for at in range(len(COLUMNS) - 1)]
     return ["  ".join([cell.rjust(width) for cell, width in zip(row, widths)] + [row[-1]]) for row in rows]
 
@@ -92,8 +137,11 @@ def work(options: Options) -> None:
     for pool in pools:
         short = f", {pool['short']} with fewer places than its size" if pool["short"] else ""
         print(f"{pool['name']}: {pool['groups']} groups of size {pool['size']} by rule {pool['rule']}{short}")
-    print(f"an OSD has {total['min_pgs']} to {total['max_pgs']} groups; MIN/MAX VAR {total['min_var']:.2f}/{total['max_var']:.2f}; "
-          f"standard deviation from the shares {total['deviation']}")
+    print(
+        f"an OSD has {total['min_pgs']} to {total['max_pgs']} groups; MIN/MAX VAR "
+        f"{total['min_var']:.2f}/{total['max_var']:.2f}; "
+        f"standard deviation from the shares {total['deviation']}"
+    )
 
 
 def add_to(commands: Commands) -> None:

@@ -40,8 +40,9 @@ def step_words(step: Step, names: Names) -> str:
 
 
 class Group:
-    """A group of a map, with its sets at each stage: what the rule gives, after the explicit set, after pairs, and without OSDs that
-    are down."""
+    """A group of a map, with its sets at each stage: what the rule gives, after the explicit set, after pairs, and
+    without OSDs that are down.
+    """
 
     def __init__(self, value: Map, group: str, program: Program) -> None:
         """Asks the program for the sets; `Refused` where there is no such group."""
@@ -50,7 +51,12 @@ class Group:
         self.explicit: list[int] | None = dict(entries_of(value, "pg_upmap")).get(group)
         self.pairs: list[list[int]] = dict(entries_of(value, "pg_upmap_items")).get(group, [])
         up = raised(value)
-        stages = {"raw": altered(up, pg_upmap=[], pg_upmap_items=[]), "explicit": altered(up, pg_upmap_items=[]), "mapped": up, "up": value}
+        stages = {
+            "raw": altered(up, pg_upmap=[], pg_upmap_items=[]),
+            "explicit": altered(up, pg_upmap_items=[]),
+            "mapped": up,
+            "up": value,
+        }
         self.sets = {stage: up_sets(program, own, [group])[group] for stage, own in stages.items()}
         self.pool = next(own for own in value["pools"] if own["id"] == int(group.split(".")[0]))
 
@@ -60,15 +66,19 @@ class Group:
 
     def placed(self, full: Iterable[int]) -> list[int | None]:
         """What the rule gives where some OSDs have their full reweight, whatever else the OSDs are."""
-        devices = {item for bucket in self.value["buckets"] for item, _ in bucket["items"] if item >= 0} | self.osds.keys()
+        devices = {
+            item for bucket in self.value["buckets"] for item, _ in bucket["items"] if item >= 0
+        } | self.osds.keys()
         weights = {**{osd: self.weight(osd) for osd in devices}, **dict.fromkeys(full, 65536)}
         osds = [{"exists": True, "id": osd, "up": True, "weight": weight} for osd, weight in sorted(weights.items())]
         value = altered(self.value, osds=osds, pools=[self.pool], pg_upmap=[], pg_upmap_items=[])
         return up_sets(self.program, value, [self.group])[self.group].places
 
     def met(self, osds: list[int], usual: list[int | None]) -> list[int]:
-        """Which of some OSDs the rule meets and passes over. Where it meets one, it would take it if its reweight were full, and the
-        set would be another than the usual one; where it meets none of several, the set stays. So halves of them are asked for."""
+        """Which of some OSDs the rule meets and passes over. Where it meets one, it would take it if its reweight
+        were full, and the set would be another than the usual one; where it meets none of several, the set stays. So
+        halves of them are asked for.
+        """
         if not osds or self.placed(osds) == usual:
             return []
         half = len(osds) // 2
@@ -89,12 +99,21 @@ class Group:
         return next((f"osd.{osd} is out" for osd in self.explicit or [] if self.weight(osd) == 0), None)
 
     def pair_parts(self) -> list[PairParts]:
-        """What each pair did, or why it did nothing; none of a group whose explicit set does nothing, as then no pair is looked at."""
+        """What each pair did, or why it did nothing; none of a group whose explicit set does nothing, as then no
+        pair is looked at.
+        """
         parts: list[PairParts] = []
         places = list(self.sets["explicit"].places)
         for was, now in [] if self.idle_explicit() else self.pairs:
-            why = (f"osd.{was} does not stand in the set" if was not in places else f"osd.{now} stands there already" if now in places
-                   else f"osd.{now} is out" if self.weight(now) == 0 else None)
+            why = (
+                f"osd.{was} does not stand in the set"
+                if was not in places
+                else f"osd.{now} stands there already"
+                if now in places
+                else f"osd.{now} is out"
+                if self.weight(now) == 0
+                else None
+            )
             if why is None:
                 places[places.index(was)] = now
             parts.append({"was": was, "now": now, "idle": why, "places": list(places)})
@@ -104,10 +123,15 @@ class Group:
         """What each exception did, or why it did nothing."""
         lines, idle = [], self.idle_explicit()
         if self.explicit is not None:
-            lines.append(f"its explicit set {told(self.explicit)} " + (f"does nothing, nor do its pairs: {idle}" if idle
-                                                                       else "stands in place of the raw set"))
-        return lines + [f"its pair {own['was']} to {own['now']} " + (f"does nothing: {own['idle']}" if own["idle"] else
-                                                                     f"gives {told(own['places'])}") for own in self.pair_parts()]
+            lines.append(
+                f"its explicit set {told(self.explicit)} "
+                + (f"does nothing, nor do its pairs: {idle}" if idle else "stands in place of the raw set")
+            )
+        return lines + [
+            f"its pair {own['was']} to {own['now']} "
+            + (f"does nothing: {own['idle']}" if own["idle"] else f"gives {told(own['places'])}")
+            for own in self.pair_parts()
+        ]
 
     def down(self) -> list[int]:
         """The OSDs that leave the set, as they are down."""
@@ -118,27 +142,46 @@ class Group:
         passed = self.passed_over()
         lines = ["passed over as out: " + ", ".join(map(self.passed_words, passed))] if passed else []
         lines += self.exception_lines() + [f"osd.{osd} is down and leaves" for osd in self.down()]
-        return lines or ["nobody has changed the set: no OSD was passed over as out, there is no exception, and no OSD of it is down"]
+        return lines or [
+            "nobody has changed the set: no OSD was passed over as out, there is no exception, and no OSD of it is down"
+        ]
 
     def lines(self, names: Names) -> list[str]:
         """The whole story, a line a stage."""
         pool, rule = self.pool, next(own for own in self.value["rules"] if own["id"] == self.pool["rule"])
         steps, up = "; ".join(step_words(step, names) for step in rule["steps"]), self.sets["up"]
-        about = f"{pool['pg_num']} groups of {named(names, 'pools', pool['id'])}, which is {pool['kind']} of size {pool['size']}"
-        return [f"{self.group} is one of {about}", f"its rule {named(names, 'rules', rule['id'])}: {steps}",
-                f"the rule gives {told(self.sets['raw'].places)}", *self.change_lines(),
-                f"its up set is {told(up.places)}, its primary " + ("none" if up.primary is None else f"osd.{up.primary}")]
-
+        about = (
+            f"{pool['pg_num']} groups of {named(names, 'pools', pool['id'])}, which is {pool['kind']} of size "
+            f"{pool['size']}"
+        )
+        return [
+            f"{self.group} is one of {about}",
+            f"its rule {named(names, 'rules', rule['id'])}: {steps}",
+            f"the rule gives {told(self.sets['raw'].places)}",
+            *self.change_lines(),
+            f"its up set is {told(up.places)}, its primary " + ("none" if up.primary is None else f"osd.{up.primary}"),
+        ]
 
     def parts(self, names: Names) -> Told:
         """The whole story as JSON has it: the set at each stage, and what changed it."""
         rule, up = next(own for own in self.value["rules"] if own["id"] == self.pool["rule"]), self.sets["up"]
-        pairs = [{"from": own["was"], "to": own["now"], "idle": own["idle"], "set": own["places"]} for own in self.pair_parts()]
+        pairs = [
+            {"from": own["was"], "to": own["now"], "idle": own["idle"], "set": own["places"]}
+            for own in self.pair_parts()
+        ]
         explicit = None if self.explicit is None else {"set": self.explicit, "idle": self.idle_explicit()}
-        return {"group": self.group, "pool": {**self.pool, "name": named(names, "pools", self.pool["id"])},
-                "rule": {**rule, "name": named(names, "rules", rule["id"])}, "raw": self.sets["raw"].places,
-                "passed_over": [{"osd": osd, "reweight": self.weight(osd) / 65536} for osd in self.passed_over()],
-                "pg_upmap": explicit, "pg_upmap_items": pairs, "down": self.down(), "up": up.places, "up_primary": up.primary}
+        return {
+            "group": self.group,
+            "pool": {**self.pool, "name": named(names, "pools", self.pool["id"])},
+            "rule": {**rule, "name": named(names, "rules", rule["id"])},
+            "raw": self.sets["raw"].places,
+            "passed_over": [{"osd": osd, "reweight": self.weight(osd) / 65536} for osd in self.passed_over()],
+            "pg_upmap": explicit,
+            "pg_upmap_items": pairs,
+            "down": self.down(),
+            "up": up.places,
+            "up_primary": up.primary,
+        }
 
 
 def work(options: Options) -> None:

@@ -46,14 +46,21 @@ def bars(counts: dict[int, int], tops: dict[int, float], scale: float, names: Na
     parts, edge = [], SIDE if left else WIDTH - SIDE - BAR
     for host, count in counts.items():
         name = html.escape(f"{named(names, 'buckets' if host < 0 else 'osds', host)}: {count}")
-        parts.append(f'<g><title>{name}</title><rect x="{edge}" y="{tops[host]:.1f}" width="{BAR}" height="{max(count * scale, 0.5):.1f}" class="b"/></g>')
+        parts.append(
+            f'<g><title>{name}</title><rect x="{edge}" y="{tops[host]:.1f}" width="{BAR}" '
+            f'height="{max(count * scale, 0.5):.1f}" class="b"/></g>'
+        )
         if count * scale + SPACE >= LEAST:
             at, anchor = (edge - 6, "end") if left else (edge + BAR + 6, "start")
-            parts.append(f'<text x="{at}" y="{tops[host] + count * scale / 2 + 4:.1f}" text-anchor="{anchor}">{name}</text>')
+            parts.append(
+                f'<text x="{at}" y="{tops[host] + count * scale / 2 + 4:.1f}" text-anchor="{anchor}">{name}</text>'
+            )
     return parts
 
 
-def bands(pairs: dict[tuple[int, int], int], givers: dict[int, float], takers: dict[int, float], scale: float, names: Names) -> list[str]:
+def bands(
+    pairs: dict[tuple[int, int], int], givers: dict[int, float], takers: dict[int, float], scale: float, names: Names
+) -> list[str]:
     """The bands, in the order of the bars on both sides, each as wide as the places that go."""
     outs, ins, parts = dict(givers), dict(takers), []
     hues = {host: round(360 * at / max(len(givers), 1)) for at, host in enumerate(givers)}
@@ -64,9 +71,16 @@ def bands(pairs: dict[tuple[int, int], int], givers: dict[int, float], takers: d
                 wide, half = count * scale, WIDTH / 2
                 start, end = outs[was] + wide / 2, ins[now] + wide / 2
                 outs[was], ins[now] = outs[was] + wide, ins[now] + wide
-                told = html.escape(f"{count} from {named(names, 'buckets' if was < 0 else 'osds', was)} to {named(names, 'buckets' if now < 0 else 'osds', now)}")
-                parts.append(f'<path d="M{SIDE + BAR} {start:.1f}C{half} {start:.1f} {half} {end:.1f} {WIDTH - SIDE - BAR} {end:.1f}" '
-                             f'stroke="hsl({hues[was]},55%,50%)" stroke-width="{max(wide, 0.5):.1f}" class="f"><title>{told}</title></path>')
+                told = html.escape(
+                    f"{count} from {named(names, 'buckets' if was < 0 else 'osds', was)} to "
+                    f"{named(names, 'buckets' if now < 0 else 'osds', now)}"
+                )
+                parts.append(
+                    f'<path d="M{SIDE + BAR} {start:.1f}C{half} {start:.1f} {half} {end:.1f} {WIDTH - SIDE - BAR} '
+                    f'{end:.1f}" '
+                    f'stroke="hsl({hues[was]},55%,50%)" stroke-width="{max(wide, 0.5):.1f}" class="f"><title>'
+                    f"{told}</title></path>"
+                )
     return parts
 
 
@@ -78,8 +92,19 @@ def picture(value: Map, found: Flows, names: Names) -> str:
     tall = max(TALL, most * (SPACE + 2))
     scale = (tall - most * SPACE) / whole if whole else 0.0
     givers, takers = stacked(given, scale), stacked(taken, scale)
-    parts = bands(pairs, givers, takers, scale, names) + bars(given, givers, scale, names, True) + bars(taken, takers, scale, names, False)
-    height, told = TOP + tall + 16, f"{found['groups']} groups and {whole} places move; left: who gives, right: who gets"
+    parts = (
+        bands(pairs, givers, takers, scale, names)
+        + bars(given, givers, scale, names, True)
+        + bars(taken, takers, scale, names, False)
+    )
+    height, told = (
+        TOP + tall + 16,
+        f"{found['groups']} groups and {whole} places move; left: who gives, right: who gets",
+    )
     style = "text{font:11px sans-serif;fill:#333}.t{font-weight:bold}.b{fill:#555}.f{fill:none;stroke-opacity:.45}"
-    return (f'<svg xmlns="http://www.w3.org/2000/svg" width="{WIDTH}" height="{height}" viewBox="0 0 {WIDTH} {height}"><style>{style}</style>'
-            f'<rect width="100%" height="100%" fill="#fff"/><text x="{WIDTH // 2}" y="18" text-anchor="middle" class="t">{told}</text>{"".join(parts)}</svg>\n')
+    return (
+        f'<svg xmlns="http://www.w3.org/2000/svg" width="{WIDTH}" height="{height}" viewBox="0 0 {WIDTH} {height}">'
+        f"<style>{style}</style>"
+        f'<rect width="100%" height="100%" fill="#fff"/><text x="{WIDTH // 2}" y="18" text-anchor="middle" class="t">'
+        f'{told}</text>{"".join(parts)}</svg>\n'
+    )

@@ -1,7 +1,7 @@
 """The form of a map and of a change: which places of a text are at fault, each with its number.
 
-A number from 11 to 16 belongs to a place as docs/FORMATS.md has it. What only the whole map tells (17, and what a change
-is tested for against a map) is in `places`.
+A number from 11 to 16 belongs to a place as docs/FORMATS.md has it. What only the whole map tells (17, and what a
+change is tested for against a map) is in `places`.
 """
 
 from __future__ import annotations
@@ -9,9 +9,24 @@ from __future__ import annotations
 import re
 from typing import Callable, Iterator, NamedTuple
 
-NAMES = {10: "BadJson", 11: "BadField", 12: "BadLimit", 13: "BadForest", 14: "BadRule", 15: "BadPool", 16: "BadOsd", 17: "BadException",
-         20: "StaleEpoch", 21: "UnknownOsd", 22: "BadWeight", 23: "UnknownPool", 24: "PoolExists", 25: "UnknownGroup", 26: "BadException",
-         27: "DuplicatePart"}
+NAMES = {
+    10: "BadJson",
+    11: "BadField",
+    12: "BadLimit",
+    13: "BadForest",
+    14: "BadRule",
+    15: "BadPool",
+    16: "BadOsd",
+    17: "BadException",
+    20: "StaleEpoch",
+    21: "UnknownOsd",
+    22: "BadWeight",
+    23: "UnknownPool",
+    24: "PoolExists",
+    25: "UnknownGroup",
+    26: "BadException",
+    27: "DuplicatePart",
+}
 STEPS = {"take": 1, "emit": 0, "choose_firstn": 2, "choose_indep": 2, "chooseleaf_firstn": 2, "chooseleaf_indep": 2}
 TRIES = {"set_choose_tries": 1, "set_chooseleaf_tries": 1}
 # The ranges of the numbers of a step; of one that chooses, those of its count and its type.
@@ -38,12 +53,16 @@ Form = Callable[[object, str], Places]
 
 def number(low: int, high: int) -> Form:
     """A whole number from low to high."""
+
     def form(value: object, path: str) -> Places:
         """What is wrong with a value as such a number."""
-        if isinstance(value, bool) or not isinstance(value, int) or not -2 ** 63 <= value < 2 ** 64:
+        if isinstance(value, bool) or not isinstance(value, int) or not -(2**63) <= value < 2**64:
             yield Place(11, path, "no whole number of 64 bits")
         elif not low <= value <= high:
-            yield Place(12, path, f"{value:,}, at {'least' if value < low else 'most'} {low if value < low else high:,}")
+            yield Place(
+                12, path, f"{value:,}, at {'least' if value < low else 'most'} {low if value < low else high:,}"
+            )
+
     return form
 
 
@@ -55,10 +74,12 @@ def flag(value: object, path: str) -> Places:
 
 def word(*words: str) -> Form:
     """One of some words."""
+
     def form(value: object, path: str) -> Places:
         """What is wrong with a value as such a word."""
         if value not in words:
             yield Place(11, path, f"none of {', '.join(words)}")
+
     return form
 
 
@@ -67,26 +88,34 @@ def group(value: object, path: str) -> Places:
     match = GROUP.fullmatch(value) if isinstance(value, str) else None
     if match is None:
         yield Place(11, path, "no group; one is written as 1.1f")
-    elif not 1 <= int(match[1]) <= 65535 or int(match[2], 16) >= 2 ** 32:
+    elif not 1 <= int(match[1]) <= 65535 or int(match[2], 16) >= 2**32:
         yield Place(12, path, "the pool's id is outside 1 to 65,535, or the number has more than 32 bits")
 
 
 def listed(form: Form, least: int, most: int) -> Form:
     """A list of so many entries of a form."""
+
     def whole(value: object, path: str) -> Places:
         """What is wrong with a value as such a list, and with its entries."""
         if not isinstance(value, list):
             yield Place(11, path, "no list")
             return
         if not least <= len(value) <= most:
-            yield Place(12, path, f"{len(value):,} entries, at {'least' if len(value) < least else 'most'} {least if len(value) < least else most:,}")
+            yield Place(
+                12,
+                path,
+                f"{len(value):,} entries, at {'least' if len(value) < least else 'most'} "
+                f"{least if len(value) < least else most:,}",
+            )
         for at, entry in enumerate(value):
             yield from form(entry, f"{path}[{at}]")
+
     return whole
 
 
 def tupled(*forms: Form) -> Form:
     """A list with an entry of each form."""
+
     def whole(value: object, path: str) -> Places:
         """What is wrong with a value as such a list, and with its entries."""
         if not isinstance(value, list) or len(value) != len(forms):
@@ -94,6 +123,7 @@ def tupled(*forms: Form) -> Form:
             return
         for at, (form, entry) in enumerate(zip(forms, value)):
             yield from form(entry, f"{path}[{at}]")
+
     return whole
 
 
@@ -113,6 +143,7 @@ def keyed(required: dict[str, Form], optional: dict[str, Form] | None = None) ->
             yield Place(11, f"{dot}{key}", "an unknown key")
         for key in forms.keys() & value.keys():
             yield from forms[key](value[key], f"{dot}{key}")
+
     return whole
 
 
@@ -122,12 +153,23 @@ def step(has_tries: bool) -> Form:
 
     def form(value: object, path: str) -> Places:
         """What is wrong with a value as such a step."""
-        if not isinstance(value, list) or not value or not isinstance(value[0], str) or value[0] not in words or len(value) != 1 + words[value[0]]:
-            tries = "; steps of tries stand in maps of version 2" if isinstance(value, list) and value[:1] in [[op] for op in TRIES] else ""
+        if (
+            not isinstance(value, list)
+            or not value
+            or not isinstance(value[0], str)
+            or value[0] not in words
+            or len(value) != 1 + words[value[0]]
+        ):
+            tries = (
+                "; steps of tries stand in maps of version 2"
+                if isinstance(value, list) and value[:1] in [[op] for op in TRIES]
+                else ""
+            )
             yield Place(11, path, f"no step{tries}")
             return
         for at, ((low, high), entry) in enumerate(zip(RANGES.get(value[0], [(0, 10), (0, 15)]), value[1:]), 1):
             yield from number(low, high)(entry, f"{path}[{at}]")
+
     return form
 
 
@@ -139,13 +181,27 @@ def item_id(value: object, path: str) -> Places:
 def buckets(is_stock: bool) -> Form:
     """The buckets of a map; under `--stock` of kind straw2 too."""
     kinds = ("uniform", "list", "tree", "straw2") if is_stock else ("uniform", "list", "tree")
-    bucket = keyed({"id": number(-65536, -1), "type": number(1, 15), "kind": word(*kinds),
-                    "items": listed(tupled(item_id, number(1, 2 ** 32 - 1)), 1, 64)})
+    bucket = keyed(
+        {
+            "id": number(-65536, -1),
+            "type": number(1, 15),
+            "kind": word(*kinds),
+            "items": listed(tupled(item_id, number(1, 2**32 - 1)), 1, 64),
+        }
+    )
     return listed(bucket, 1, 512)
 
 
-POOL = keyed({"id": number(1, 65535), "kind": word(*KINDS), "pg_num": number(1, 4096), "pgp_num": number(1, 4096), "rule": number(0, 255),
-              "size": number(1, 10)})
+POOL = keyed(
+    {
+        "id": number(1, 65535),
+        "kind": word(*KINDS),
+        "pg_num": number(1, 4096),
+        "pgp_num": number(1, 4096),
+        "rule": number(0, 255),
+        "size": number(1, 10),
+    }
+)
 OSD = keyed({"id": number(0, 1023), "exists": flag, "up": flag, "weight": number(0, 65536)})
 OSD_ID = number(0, 1023)
 EXPLICIT = tupled(group, listed(OSD_ID, 0, 10))
@@ -160,16 +216,36 @@ def rules(has_tries: bool) -> Form:
 
 def map_form(has_tries: bool, is_stock: bool) -> Form:
     """A map."""
-    return keyed({"version": number(1, 2), "epoch": number(1, 2 ** 31), "max_osd": number(1, 1024), "buckets": buckets(is_stock),
-                  "rules": rules(has_tries), "pools": listed(POOL, 0, 32), "osds": listed(OSD, 0, 2 ** 63)},
-                 {"pg_upmap": listed(EXPLICIT, 0, MOST), "pg_upmap_items": listed(PAIRS, 0, MOST)})
+    return keyed(
+        {
+            "version": number(1, 2),
+            "epoch": number(1, 2**31),
+            "max_osd": number(1, 1024),
+            "buckets": buckets(is_stock),
+            "rules": rules(has_tries),
+            "pools": listed(POOL, 0, 32),
+            "osds": listed(OSD, 0, 2**63),
+        },
+        {"pg_upmap": listed(EXPLICIT, 0, MOST), "pg_upmap_items": listed(PAIRS, 0, MOST)},
+    )
 
 
 def change_form(is_stock: bool) -> Form:
     """A change."""
     crush = keyed({"buckets": buckets(is_stock), "rules": rules(True)})
-    return keyed({"base": number(0, 2 ** 64 - 1)}, {
-        "old_pools": listed(number(1, 65535), 0, MOST), "new_crush": crush, "new_pools": listed(POOL, 0, MOST),
-        "grow_pool": listed(tupled(number(1, 65535), number(1, 4096), number(1, 4096)), 0, MOST), "down": listed(OSD_ID, 0, MOST),
-        "up": listed(OSD_ID, 0, MOST), "weight": listed(tupled(OSD_ID, number(0, 2 ** 32 - 1)), 0, MOST), "old_upmap": listed(group, 0, MOST),
-        "old_items": listed(group, 0, MOST), "new_upmap": listed(EXPLICIT, 0, MOST), "new_items": listed(PAIRS, 0, MOST)})
+    return keyed(
+        {"base": number(0, 2**64 - 1)},
+        {
+            "old_pools": listed(number(1, 65535), 0, MOST),
+            "new_crush": crush,
+            "new_pools": listed(POOL, 0, MOST),
+            "grow_pool": listed(tupled(number(1, 65535), number(1, 4096), number(1, 4096)), 0, MOST),
+            "down": listed(OSD_ID, 0, MOST),
+            "up": listed(OSD_ID, 0, MOST),
+            "weight": listed(tupled(OSD_ID, number(0, 2**32 - 1)), 0, MOST),
+            "old_upmap": listed(group, 0, MOST),
+            "old_items": listed(group, 0, MOST),
+            "new_upmap": listed(EXPLICIT, 0, MOST),
+            "new_items": listed(PAIRS, 0, MOST),
+        },
+    )

@@ -1,8 +1,9 @@
 """The order of a greedy plan's moves, and how even a pool is after each of them.
 
-The program tells a plan as the pairs that it appends to each group. Which move came first follows from the definition: a group's
-moves come in their order, each move changes its own group's set alone, and the plan always takes the move with the greatest
-difference of deviations; of several the one from the lowest OSD, then to the lowest, then of the lowest group.
+The program tells a plan as the pairs that it appends to each group. Which move came first follows from the definition:
+a group's moves come in their order, each move changes its own group's set alone, and the plan always takes the move
+with the greatest difference of deviations; of several the one from the lowest OSD, then to the lowest, then of the
+lowest group.
 """
 
 from __future__ import annotations
@@ -19,8 +20,9 @@ Pairs = dict[str, list[list[int]]]
 
 
 class Deviations:
-    """How far the candidates of a pool are from their shares. An OSD with c groups and the weight w deviates by c * T - N * w, where T is
-    the sum of all weights and N that of all groups: T such parts are one group."""
+    """How far the candidates of a pool are from their shares. An OSD with c groups and the weight w deviates by c *
+    T - N * w, where T is the sum of all weights and N that of all groups: T such parts are one group.
+    """
 
     def __init__(self, weights: dict[int, int], counts: dict[int, int]) -> None:
         """Of candidates with these weights, and with so many groups of the pool as the counts tell, else 0."""
@@ -40,8 +42,10 @@ class Deviations:
 
 
 class Order:
-    """The moves of a plan that are still to come, the next of each group at the front, and of these the best first. A place in the heap
-    is a move as it once was: a move that has become better gets another, one that has become worse is put back when it is met."""
+    """The moves of a plan that are still to come, the next of each group at the front, and of these the best first.
+    A place in the heap is a move as it once was: a move that has become better gets another, one that has become
+    worse is put back when it is met.
+    """
 
     def __init__(self, deviations: Deviations, plan: Pairs) -> None:
         """Of a plan, where the deviations are those before it; they go on with each move."""
@@ -98,8 +102,9 @@ class Order:
 
 
 def moves_within(deviations: Deviations, plan: Pairs, most: Fraction) -> int | None:
-    """How many moves of a plan come until every candidate is within so many groups of its share; None where all of them do not do it.
-    The deviations are those before the plan, and afterwards those after these moves."""
+    """How many moves of a plan come until every candidate is within so many groups of its share; None where all of
+    them do not do it. The deviations are those before the plan, and afterwards those after these moves.
+    """
     moves, order = 0, Order(deviations, plan)
     far = deviations.far(deviations.parts, most)
     while far:

@@ -1,4 +1,5 @@
-"""The types of what the tools pass on: maps and changes of the program, what Ceph's tools dump, names, and what is told.
+"""The types of what the tools pass on: maps and changes of the program, what Ceph's tools dump, names, and what is
+told.
 
 What has keys that are not fixed, or lists of several kinds as JSON has them, stands here under a name of its own.
 """
@@ -31,6 +32,7 @@ else:
 
 
 # Maps
+
 
 class Bucket(TypedDict):
     """A bucket: its items are pairs of a number and a weight."""
@@ -89,6 +91,7 @@ class Map(Exceptions):
 
 
 # What Ceph's tools dump
+
 
 class DumpItem(TypedDict):
     """An item of a bucket, with its weight in units of 1/65,536."""
@@ -212,6 +215,7 @@ class Tree(TypedDict):
 
 # What is told of a tree
 
+
 class Below(TypedDict):
     """What is told of a bucket or an OSD."""
 
@@ -287,6 +291,7 @@ class PairParts(TypedDict):
 
 
 # What moves between two maps
+
 
 class Moved(TypedDict):
     """How many groups and places differ, and which OSDs take part."""

@@ -14,9 +14,10 @@
 
 A map with a straw2 bucket is read under `--stock`, and any other without it unless `stock` says so.
 
-The program runs until the monitor is closed, or until it lets a question wait for longer than `timeout` seconds. Each question is put
-to it as a line, and its answer is there before the next is asked; many lines at once go by `raw`, `ask` and `ups`. Sessions may
-be used by several threads at once, each of them by one; they are all at one monitor, and what one changes the others see.
+The program runs until the monitor is closed, or until it lets a question wait for longer than `timeout` seconds. Each
+question is put to it as a line, and its answer is there before the next is asked; many lines at once go by `raw`, `ask`
+and `ups`. Sessions may be used by several threads at once, each of them by one; they are all at one monitor, and what
+one changes the others see.
 """
 
 from __future__ import annotations
@@ -45,17 +46,25 @@ BUILT = CRATE / "out" / "osdmapd"
 
 
 def built() -> pathlib.Path:
-    """The program where none is named: that of the repository in which the tools stand, else `osdmapd` on the path. A fault that tells
-    where it was looked for."""
+    """The program where none is named: that of the repository in which the tools stand, else `osdmapd` on the path.
+    A fault that tells where it was looked for.
+    """
     found = str(BUILT) if BUILT.exists() else shutil.which("osdmapd")
     if found is None:
-        places = ([f"{BUILT} is not there"] if CRATE.is_dir() else []) + [f"no folder of PATH has osdmapd ({os.environ.get('PATH', '')})"]
-        raise Fault(f"no program: {', and '.join(places)}; `make run` in its repository proves and builds it, and --program FILE names it")
+        places = ([f"{BUILT} is not there"] if CRATE.is_dir() else []) + [
+            f"no folder of PATH has osdmapd ({os.environ.get('PATH', '')})"
+        ]
+        raise Fault(
+            f"no program: {', and '.join(places)}; `make run` in its repository proves and builds it, and --program "
+            f"FILE names it"
+        )
     return pathlib.Path(found)
 
 
 def has_straw2(value: object) -> bool:
-    """Whether a map has a straw2 bucket, so that the program reads it under `--stock` alone; a value, or a text that may be none."""
+    """Whether a map has a straw2 bucket, so that the program reads it under `--stock` alone; a value, or a text that
+    may be none.
+    """
     if isinstance(value, str):
         if "straw2" not in value and "\\" not in value:
             return False
@@ -114,7 +123,9 @@ def checked(answer: str) -> str:
 
 
 class Patience:
-    """Ends a program that lets somebody wait for longer than some seconds, if any are given: whoever waits stands in a `with` of it."""
+    """Ends a program that lets somebody wait for longer than some seconds, if any are given: whoever waits stands in
+    a `with` of it.
+    """
 
     def __init__(self, process: subprocess.Popen[bytes], seconds: float | None) -> None:
         """Watches a process; without seconds nobody waits for too long."""
@@ -142,8 +153,9 @@ class Patience:
 
 
 class Session:
-    """A session of a program that runs: where its lines go, where its answers come from, what tells why it has ended, and how long an
-    answer may take."""
+    """A session of a program that runs: where its lines go, where its answers come from, what tells why it has
+    ended, and how long an answer may take.
+    """
 
     def __init__(self, lines: IO[bytes], answers: IO[bytes], gone: Callable[[], NoReturn], patience: Patience) -> None:
         """Takes two open pipes, what raises the fault of a program that has ended, and who watches waits."""
@@ -256,20 +268,32 @@ class Session:
 
 
 class Monitor(Session):
-    """A run of the program over a map: a value as JSON has it, or its text; itself the first of its sessions. It is closed by
-    `with`, or by `close`. Where a timeout is given, a start, a question or an end that takes more seconds ends the program. Under
-    `stock` the map and its changes may have straw2 buckets; where nothing is said, the map tells it."""
+    """A run of the program over a map: a value as JSON has it, or its text; itself the first of its sessions. It is
+    closed by `with`, or by `close`. Where a timeout is given, a start, a question or an end that takes more seconds
+    ends the program. Under `stock` the map and its changes may have straw2 buckets; where nothing is said, the map
+    tells it.
+    """
 
-    def __init__(self, value: Map | str, program: Program = None, journal: int = 65536, sessions: int = 1,
-                 timeout: float | None = None, stock: bool | None = None) -> None:
-        """Starts the program (that of the repository, or of the path, where none is given) with 1 to 64 sessions and a journal
-        of so many changes, 1 to 65,536. ValueError for another number of sessions; a fault where there is no program or it does
-        not start, and `Refused` where it refuses the map."""
+    def __init__(
+        self,
+        value: Map | str,
+        program: Program = None,
+        journal: int = 65536,
+        sessions: int = 1,
+        timeout: float | None = None,
+        stock: bool | None = None,
+    ) -> None:
+        """Starts the program (that of the repository, or of the path, where none is given) with 1 to 64 sessions and
+        a journal of so many changes, 1 to 65,536. ValueError for another number of sessions; a fault where there is
+        no program or it does not start, and `Refused` where it refuses the map.
+        """
         if not 1 <= sessions <= 64:
             raise ValueError("1 to 64 sessions")
         self.program = pathlib.Path(program or built()).resolve()
         if not self.program.is_file() or not os.access(self.program, os.X_OK):
-            raise Fault(f"{program or self.program}: no program; `make run` proves and builds it, or --program names another")
+            raise Fault(
+                f"{program or self.program}: no program; `make run` proves and builds it, or --program names another"
+            )
         self.is_stock, self._is_closed = has_straw2(value) if stock is None else stock, False
         self._errors = tempfile.TemporaryFile()
         self._folder = tempfile.TemporaryDirectory()
@@ -288,23 +312,32 @@ class Monitor(Session):
             raise
 
     def _started(self, journal: int, names: list[tuple[str, str]]) -> subprocess.Popen[bytes]:
-        """The program in its folder, over named pipes for lines and answers, or where there are none over its standard input and
-        output. It stands in a session of its own, so that Ctrl-C at a terminal ends who asks and not the program. A fault where it
-        does not start."""
+        """The program in its folder, over named pipes for lines and answers, or where there are none over its
+        standard input and output. It stands in a session of its own, so that Ctrl-C at a terminal ends who asks and
+        not the program. A fault where it does not start.
+        """
         for name in (name for pair in names for name in pair):
             os.mkfifo(os.path.join(self._folder.name, name))
         words = [lines for lines, _ in names] + [word for _, answers in names for word in ("--to", answers)]
         end, option = subprocess.DEVNULL if names else subprocess.PIPE, ["--stock"] if self.is_stock else []
         try:
-            return subprocess.Popen([str(self.program), *option, "--journal", str(journal), "map.json", *(words or ["-"])], stdin=end,
-                                    stdout=end, stderr=self._errors, cwd=self._folder.name, start_new_session=True)
+            return subprocess.Popen(
+                [str(self.program), *option, "--journal", str(journal), "map.json", *(words or ["-"])],
+                stdin=end,
+                stdout=end,
+                stderr=self._errors,
+                cwd=self._folder.name,
+                start_new_session=True,
+            )
         except OSError as fault:
             self._errors.close()
             self._folder.cleanup()
             raise Fault(f"{self.program}: no program: {fault.strerror}") from None
 
     def _open(self, names: list[tuple[str, str]]) -> None:
-        """Opens the sessions over their pipes and reads their headings. A fault where the program has ended, or is another."""
+        """Opens the sessions over their pipes and reads their headings. A fault where the program has ended, or is
+        another.
+        """
         folder, lines, answers = pathlib.Path(self._folder.name), self._process.stdin, self._process.stdout
         pipes: list[tuple[IO[bytes], IO[bytes]]] = [(lines, answers)] if lines and answers else []
         pipes += [(self._writer(folder / one), self._reader(folder / other)) for one, other in names]
@@ -360,7 +393,9 @@ class Monitor(Session):
         raise Fault(": ".join([f"the program ended with status {status}", *error.splitlines()]))
 
     def close(self) -> None:
-        """Ends the sessions and the program: it ends once it has answered what it was asked. A second call does nothing."""
+        """Ends the sessions and the program: it ends once it has answered what it was asked. A second call does
+        nothing.
+        """
         self._is_closed = True
         for session in self.sessions:
             session._is_closed = True
@@ -395,6 +430,7 @@ def unblocked(pipe: int) -> int:
 
 
 # One session for some lines
+
 
 def raw_answers(program: Program, value: Map | str, lines: list[str], stock: bool | None = None) -> list[str]:
     """The answer of each line over a map, refusals among them."""

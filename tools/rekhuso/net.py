@@ -1,9 +1,10 @@
 """`net`: the fewest pairs that lead each group to the set that it has now.
 
-A balancer only appends pairs, so after many rounds a group's pairs may be chained over one another, or do nothing; Ceph's
-monitor cleans such pairs away, which gives other sets. Here each group with pairs gets, place by place, one pair from what
-its rule gives to what it has, and no explicit set beside them; where an OSD only changes its place (a ring, or a chain), an
-explicit set alone. Groups with a place that is empty are left as they are. The program checks that every set stays.
+A balancer only appends pairs, so after many rounds a group's pairs may be chained over one another, or do nothing;
+Ceph's monitor cleans such pairs away, which gives other sets. Here each group with pairs gets, place by place, one pair
+from what its rule gives to what it has, and no explicit set beside them; where an OSD only changes its place (a ring,
+or a chain), an explicit set alone. Groups with a place that is empty are left as they are. The program checks that
+every set stays.
 """
 
 from __future__ import annotations
@@ -44,13 +45,17 @@ def netted(value: Map, wanted: dict[str, Up], base: dict[str, Up]) -> Map:
             explicit[group] = places
         else:
             items[group] = pairs
-    return altered(value, pg_upmap=[[group, explicit[group]] for group in sorted(explicit, key=place_of)],
-                pg_upmap_items=[[group, items[group]] for group in sorted(items, key=place_of)])
+    return altered(
+        value,
+        pg_upmap=[[group, explicit[group]] for group in sorted(explicit, key=place_of)],
+        pg_upmap_items=[[group, items[group]] for group in sorted(items, key=place_of)],
+    )
 
 
 def settled(session: Session, value: Map) -> Map:
-    """A session's map with the fewest pairs, once the program has answered that the set of each group with pairs is as it was. All
-    OSDs of the session's map are up afterwards. A fault where a group would move."""
+    """A session's map with the fewest pairs, once the program has answered that the set of each group with pairs is
+    as it was. All OSDs of the session's map are up afterwards. A fault where a group would move.
+    """
     groups = [group for group, _ in value.get("pg_upmap_items", [])]
     if not groups:
         return value
@@ -59,7 +64,9 @@ def settled(session: Session, value: Map) -> Map:
     session.change(old_upmap=groups, old_items=groups)
     new = netted(value, wanted, session.ups(groups))
     own = set(groups)
-    explicit, items = ([entry for entry in entries_of(new, key) if entry[0] in own] for key in ("pg_upmap", "pg_upmap_items"))
+    explicit, items = (
+        [entry for entry in entries_of(new, key) if entry[0] in own] for key in ("pg_upmap", "pg_upmap_items")
+    )
     session.change(new_upmap=explicit, new_items=items)
     after = session.ups(groups)
     unlike = [group for group in groups if wanted[group].places != after[group].places]

@@ -11,10 +11,24 @@ from .kinds import DumpPool, DumpRule, DumpStep, Told, entries_of
 from .places import block_fault
 from .shapes import WEIGHT_SET, misfits
 
-TUNABLES = {"choose_local_tries": 0, "choose_local_fallback_tries": 0, "choose_total_tries": 50, "chooseleaf_descend_once": 1,
-            "chooseleaf_vary_r": 1, "chooseleaf_stable": 1}
-OPS = {"take", "emit", "choose_firstn", "choose_indep", "chooseleaf_firstn", "chooseleaf_indep", "set_choose_tries",
-       "set_chooseleaf_tries"}
+TUNABLES = {
+    "choose_local_tries": 0,
+    "choose_local_fallback_tries": 0,
+    "choose_total_tries": 50,
+    "chooseleaf_descend_once": 1,
+    "chooseleaf_vary_r": 1,
+    "chooseleaf_stable": 1,
+}
+OPS = {
+    "take",
+    "emit",
+    "choose_firstn",
+    "choose_indep",
+    "chooseleaf_firstn",
+    "chooseleaf_indep",
+    "set_choose_tries",
+    "set_chooseleaf_tries",
+}
 ALGS = ("uniform", "list", "tree", "straw", "straw2")
 # The exceptions of an OSD dump: the key, what one is called, and how it names OSDs.
 SETS, PAIRS = ("pg_upmap", "explicit set", "names"), ("pg_upmap_items", "pairs", "name")
@@ -39,10 +53,15 @@ def doubles(numbers: Iterable[int]) -> list[int]:
 
 # Buckets
 
+
 def kind_reasons(cluster: Cluster) -> list[str]:
     """How many buckets are straw buckets, as stock clusters had them before straw2, which no map has."""
     count = sum(cluster.buckets[number]["alg"] == "straw" for number in cluster.kept)
-    told = f"{count} straw buckets, as a stock cluster has them" if count > 1 else "1 straw bucket, as a stock cluster has it"
+    told = (
+        f"{count} straw buckets, as a stock cluster has them"
+        if count > 1
+        else "1 straw bucket, as a stock cluster has it"
+    )
     return [told] if count else []
 
 
@@ -59,15 +78,24 @@ def bucket_reasons(cluster: Cluster) -> list[str]:
             found.append(empty_reason(cluster, number))
         found += range_reason(f"bucket {name} has the id {number}", number, -65536, -1)
         found += range_reason(f"bucket {name} has the type {bucket['type_id']}", bucket["type_id"], 1, 15)
-        found += range_reason(f"bucket {name} has {len(cluster.held[number])} items", len(cluster.held[number]), 0, GREATEST["items"])
+        found += range_reason(
+            f"bucket {name} has {len(cluster.held[number])} items", len(cluster.held[number]), 0, GREATEST["items"]
+        )
         found += weight_reasons(cluster, number) + item_reasons(cluster, number)
-    found += [f"bucket {cluster.bucket_name(number)} is listed twice in the CRUSH dump"
-              for number in doubles(bucket["id"] for bucket in cluster.crush["buckets"]) if number in cluster.kept]
-    return found + range_reason(f"{len(cluster.kept)} buckets that pools use", len(cluster.kept), 0, GREATEST["buckets"])
+    found += [
+        f"bucket {cluster.bucket_name(number)} is listed twice in the CRUSH dump"
+        for number in doubles(bucket["id"] for bucket in cluster.crush["buckets"])
+        if number in cluster.kept
+    ]
+    return found + range_reason(
+        f"{len(cluster.kept)} buckets that pools use", len(cluster.kept), 0, GREATEST["buckets"]
+    )
 
 
 def empty_reason(cluster: Cluster, number: int) -> str:
-    """What an empty bucket is told as; in a stock cluster, where others are left out, with the rules that can still pick it."""
+    """What an empty bucket is told as; in a stock cluster, where others are left out, with the rules that can still
+    pick it.
+    """
     rules = [rule["rule_name"] for rule in cluster.rules if number in cluster.below_rule(rule)]
     if not cluster.is_stock or not rules:
         return f"bucket {cluster.bucket_name(number)} is empty"
@@ -75,12 +103,18 @@ def empty_reason(cluster: Cluster, number: int) -> str:
 
 
 def weight_reasons(cluster: Cluster, number: int) -> list[str]:
-    """What is wrong with the weights in a bucket: one that is 0 or no number of 32 bits, their sum, unequal ones in a uniform bucket."""
+    """What is wrong with the weights in a bucket: one that is 0 or no number of 32 bits, their sum, unequal ones in
+    a uniform bucket.
+    """
     bucket, name = cluster.buckets[number], cluster.bucket_name(number)
     weights = [weight for _, weight in cluster.held[number]]
-    found = [f"bucket {name}: the weight of {cluster.bucket_name(item)} is {weight}{', no number of 32 bits' if weight else ''}"
-             for item, weight in cluster.held[number] if not 0 < weight < 2 ** 32]
-    if not found and sum(weights) >= 2 ** 32:
+    found = [
+        f"bucket {name}: the weight of {cluster.bucket_name(item)} is "
+        f"{weight}{', no number of 32 bits' if weight else ''}"
+        for item, weight in cluster.held[number]
+        if not 0 < weight < 2**32
+    ]
+    if not found and sum(weights) >= 2**32:
         found.append(f"bucket {name}: the weights come to {sum(weights)}, more than {2 ** 32 - 1}")
     if not found and bucket["alg"] == "uniform" and len(set(weights)) > 1:
         found.append(f"bucket {name} is uniform, but its items have unequal weights")
@@ -96,7 +130,9 @@ def item_reasons(cluster: Cluster, number: int) -> list[str]:
             found.append(f"bucket {name} holds {item}, which is no bucket")
         elif own is not None and own["type_id"] >= bucket["type_id"]:
             types = [cluster.type_name(kind) for kind in (bucket["type_id"], own["type_id"])]
-            found.append(f"bucket {name} of type {types[0]} holds {own['name']} of type {types[1]}, which is not below it")
+            found.append(
+                f"bucket {name} of type {types[0]} holds {own['name']} of type {types[1]}, which is not below it"
+            )
     return found
 
 
@@ -107,8 +143,9 @@ def users(cluster: Cluster, root: int) -> list[int]:
 
 
 def root_reasons(cluster: Cluster, is_one: bool) -> list[str]:
-    """OSDs that pools take from two buckets, neither of which stands below the other: where `is_one` asks for one map, all of them, else
-    those alone that one rule takes so."""
+    """OSDs that pools take from two buckets, neither of which stands below the other: where `is_one` asks for one
+    map, all of them, else those alone that one rule takes so.
+    """
     found = []
     for root, other in combinations(cluster.roots(), 2):
         first, second = cluster.below(root), cluster.below(other)
@@ -116,7 +153,13 @@ def root_reasons(cluster: Cluster, is_one: bool) -> list[str]:
         in_one_rule = any({root, other} <= set(cluster.takes(rule)) for rule in cluster.rules)
         if shared and root not in second and other not in first and (is_one or in_one_rule or not cluster.pools):
             pools = [str(pool) for pool in sorted(set(users(cluster, root) + users(cluster, other)))]
-            which = f"the pools {listed(pools)} take" if len(pools) > 1 else f"pool {pools[0]} takes" if pools else "its rules take"
+            which = (
+                f"the pools {listed(pools)} take"
+                if len(pools) > 1
+                else f"pool {pools[0]} takes"
+                if pools
+                else "its rules take"
+            )
             names = sorted(map(cluster.bucket_name, (root, other)))
             found.append(f"{which} {some([f'osd.{osd}' for osd in shared])} from two buckets: {listed(names)}")
     return found
@@ -146,6 +189,7 @@ def twice_reasons(cluster: Cluster) -> list[str]:
 
 # Rules and tunables
 
+
 def tunable_reasons(cluster: Cluster) -> list[str]:
     """Tunables that are not those called jewel or are not told, and sets of weights for single pools."""
     own, found = cluster.crush["tunables"], []
@@ -158,8 +202,9 @@ def tunable_reasons(cluster: Cluster) -> list[str]:
 
 
 def weight_set_reasons(cluster: Cluster) -> list[str]:
-    """Weight sets that no map can take the place of: those for single pools, and a compat one that is by position, has ids of its own, or
-    does not fit a bucket that pools use."""
+    """Weight sets that no map can take the place of: those for single pools, and a compat one that is by position,
+    has ids of its own, or does not fit a bucket that pools use.
+    """
     own = cluster.crush.get("choose_args")
     if not own:
         return []
@@ -167,11 +212,18 @@ def weight_set_reasons(cluster: Cluster) -> list[str]:
         return [f"choose_args (weight sets of {len(own)})"]
     if list(own) != ["-1"]:
         names = {str(pool["pool"]): pool["pool_name"] for pool in cluster.pools}
-        return [f"choose_args (weight sets of {len(own)}): of pools {some([names.get(key, key) for key in own if key != '-1'])}"]
+        return [
+            f"choose_args (weight sets of {len(own)}): of pools "
+            f"{some([names.get(key, key) for key in own if key != '-1'])}"
+        ]
     entries = own["-1"] if isinstance(own["-1"], list) else [None]
     if any(misfits(entry, WEIGHT_SET, "") for entry in entries):
         return ["choose_args: the compat weight set is of another form"]
-    used = [entry for entry in entries if entry["bucket_id"] in cluster.kept and cluster.buckets[entry["bucket_id"]]["alg"] == "straw2"]
+    used = [
+        entry
+        for entry in entries
+        if entry["bucket_id"] in cluster.kept and cluster.buckets[entry["bucket_id"]]["alg"] == "straw2"
+    ]
     found = []
     for entry in used:
         name, rows = cluster.bucket_name(entry["bucket_id"]), entry.get("weight_set", [])
@@ -205,15 +257,22 @@ def step_reasons(cluster: Cluster, rule: DumpRule) -> list[str]:
 def negative_reasons(cluster: Cluster, rule: DumpRule, step: DumpStep) -> list[str]:
     """A negative count in a step; in a stock cluster one that is no count, or for no pool."""
     is_stated = cluster.is_stock and step["op"].startswith("choose") and cluster.sizes_of(rule)
-    return [] if is_stated else [f"rule {rule['rule_name']} has the negative count {step['num']} in a step {step['op']}"]
+    return (
+        [] if is_stated else [f"rule {rule['rule_name']} has the negative count {step['num']} in a step {step['op']}"]
+    )
 
 
 def size_reasons(cluster: Cluster) -> list[str]:
     """Negative counts in rules whose pools have several sizes, each of which takes a map of its own."""
     rules = {rule["rule_id"]: rule for rule in cluster.rules}
     sizes = {number: [str(size) for size in cluster.sizes_of(rules[number])] for number in cluster.counted_rules()}
-    return [f"rule {rules[number]['rule_name']} has the negative count {steps[0]['num']} in a step {steps[0]['op']}, and its pools have the sizes "
-            f"{listed(sizes[number])}" for number, steps in cluster.counted_rules().items() if len(sizes[number]) > 1]
+    return [
+        f"rule {rules[number]['rule_name']} has the negative count {steps[0]['num']} in a step {steps[0]['op']}, and "
+        f"its pools have the sizes "
+        f"{listed(sizes[number])}"
+        for number, steps in cluster.counted_rules().items()
+        if len(sizes[number]) > 1
+    ]
 
 
 def type_reasons(cluster: Cluster, name: str, kind: str) -> list[str]:
@@ -229,13 +288,19 @@ def rule_reasons(cluster: Cluster) -> list[str]:
     found: list[str] = []
     for rule in cluster.rules:
         name = f"rule {rule['rule_name']}"
-        found += step_reasons(cluster, rule) + range_reason(f"{name} has the id {rule['rule_id']}", rule["rule_id"], 0, 255)
+        found += step_reasons(cluster, rule) + range_reason(
+            f"{name} has the id {rule['rule_id']}", rule["rule_id"], 0, 255
+        )
         found += range_reason(f"{name} has {len(rule['steps'])} steps", len(rule["steps"]), 1, 16)
         if rule["type"] not in KINDS:
             found.append(f"{name} is of the unknown type {rule['type']}")
         elif all(step["op"] in OPS and step.get("type", "osd") in cluster.types for step in rule["steps"]):
             steps = cluster.steps_of(rule)
-            fault = block_fault(steps, KINDS[rule["type"]]) if steps or not rule["steps"] else "all its counts come to nothing"
+            fault = (
+                block_fault(steps, KINDS[rule["type"]])
+                if steps or not rule["steps"]
+                else "all its counts come to nothing"
+            )
             found += [f"{name}: its steps are not in the grammar: {fault}"] if fault else []
     found += [f"rule {number} is listed twice" for number in doubles(rule["rule_id"] for rule in cluster.rules)]
     return found + range_reason(f"{len(cluster.rules)} rules that pools use", len(cluster.rules), 0, GREATEST["rules"])
@@ -243,9 +308,12 @@ def rule_reasons(cluster: Cluster) -> list[str]:
 
 # Pools and OSDs
 
+
 def pool_rule_reasons(cluster: Cluster, pool: DumpPool) -> list[str]:
     """A pool whose rule is not there, or is for pools of the other kind."""
-    name, rule = f"pool {pool['pool']}", next((own for own in cluster.rules if own["rule_id"] == pool["crush_rule"]), None)
+    name, rule = f"pool {pool['pool']}", next(
+        (own for own in cluster.rules if own["rule_id"] == pool["crush_rule"]), None
+    )
     if rule is None:
         return [] if "rules" in cluster.torn else [f"{name} uses rule {pool['crush_rule']}, which is not there"]
     kinds = KINDS.get(pool["type"]), KINDS.get(rule["type"])
@@ -280,7 +348,7 @@ def pool_reasons(cluster: Cluster) -> list[str]:
 
 def osd_reasons(cluster: Cluster) -> list[str]:
     """The epoch, OSDs from 1,024 on or listed twice, and reweights that are no part of 1."""
-    found = range_reason(f"the epoch is {cluster.epoch}", cluster.epoch, 1, 2 ** 31)
+    found = range_reason(f"the epoch is {cluster.epoch}", cluster.epoch, 1, 2**31)
     numbers, most = sorted(set(cluster.osds) | set(cluster.devices)), cluster.osd_dump["max_osd"]
     high = [f"osd.{osd}" for osd in numbers if osd >= GREATEST["osds"]]
     if cluster.is_stock and len(high) > FEW:
@@ -288,8 +356,12 @@ def osd_reasons(cluster: Cluster) -> list[str]:
     else:
         found += [f"{osd} is at or above osd.{GREATEST['osds']}" for osd in high]
     if "max_osd" not in cluster.torn:
-        found += [f"osd.{osd} is not below max_osd, {most}" for osd in sorted(cluster.osds) if most <= osd < GREATEST["osds"]]
-    found += [f"osd.{osd} is listed twice in the OSD dump" for osd in doubles(own["osd"] for own in cluster.osd_dump["osds"])]
+        found += [
+            f"osd.{osd} is not below max_osd, {most}" for osd in sorted(cluster.osds) if most <= osd < GREATEST["osds"]
+        ]
+    found += [
+        f"osd.{osd} is listed twice in the OSD dump" for osd in doubles(own["osd"] for own in cluster.osd_dump["osds"])
+    ]
     for osd, own in cluster.osds.items():
         if osd < 0:
             found.append(f"osd.{osd} has a number below 0")
@@ -301,6 +373,7 @@ def osd_reasons(cluster: Cluster) -> list[str]:
 
 
 # Exceptions
+
 
 def size_of(cluster: Cluster, group: str) -> int:
     """The size of a group's pool, which is there."""
@@ -315,7 +388,9 @@ def targets(entry: Told) -> list[int]:
 
 def exception_reasons(cluster: Cluster) -> list[str]:
     """Exceptions of groups that are there, in a form that no map has."""
-    found, explicit = [], [entry for entry in entries_of(cluster.osd_dump, "pg_upmap") if cluster.is_group(entry["pgid"])]
+    found, explicit = [], [
+        entry for entry in entries_of(cluster.osd_dump, "pg_upmap") if cluster.is_group(entry["pgid"])
+    ]
     for entry in explicit:
         name, size, osds = f"the explicit set of {entry['pgid']}", size_of(cluster, entry["pgid"]), entry["osds"]
         if not 1 <= len(osds) <= size:
@@ -326,7 +401,9 @@ def exception_reasons(cluster: Cluster) -> list[str]:
         found += range_reason(f"the pairs of {group} are {len(pairs)}", len(pairs), 1, size_of(cluster, group))
     primaries = len(entries_of(cluster.osd_dump, "pg_upmap_primaries"))
     if primaries:
-        found.append(f"pg_upmap_primaries (of {primaries} group{'s' * (primaries > 1)}), which change the order of up sets")
+        found.append(
+            f"pg_upmap_primaries (of {primaries} group{'s' * (primaries > 1)}), which change the order of up sets"
+        )
     for key, word, _ in (SETS, PAIRS):
         groups = Counter(entry["pgid"] for entry in entries_of(cluster.osd_dump, key))
         found += [f"the OSD dump has the {word} of {group} twice" for group, count in groups.items() if count > 1]
@@ -334,14 +411,21 @@ def exception_reasons(cluster: Cluster) -> list[str]:
 
 
 def absent_reasons(cluster: Cluster, is_high: bool) -> list[str]:
-    """Exceptions that lead to OSDs which are not there: those not below max_osd, of which Ceph takes the set or pair and drops the OSD at
-    look-up; or those below it, with which it does the same unless they have kept a reweight of 0, which no dump tells."""
+    """Exceptions that lead to OSDs which are not there: those not below max_osd, of which Ceph takes the set or pair
+    and drops the OSD at look-up; or those below it, with which it does the same unless they have kept a reweight of
+    0, which no dump tells.
+    """
     found, most = [], cluster.osd_dump["max_osd"]
     one = f"which is not below max_osd, {most}" if is_high else "which the OSD dump does not list"
     many = one.replace("which is", "which are")
     for key, word, verb in (SETS, PAIRS):
-        named = [(entry["pgid"], osd) for entry in entries_of(cluster.osd_dump, key) if cluster.is_group(entry["pgid"])
-                 for osd in dict.fromkeys(targets(entry)) if osd not in cluster.osds.keys() | cluster.gone.keys() and (osd >= most) == is_high]
+        named = [
+            (entry["pgid"], osd)
+            for entry in entries_of(cluster.osd_dump, key)
+            if cluster.is_group(entry["pgid"])
+            for osd in dict.fromkeys(targets(entry))
+            if osd not in cluster.osds.keys() | cluster.gone.keys() and (osd >= most) == is_high
+        ]
         if len(named) > FEW:
             osds = [f"osd.{osd}" for osd in sorted({osd for _, osd in named})]
             found.append(f"{len(named)} {word.removesuffix('s')}s name OSDs {many}: {some(osds)}")
@@ -351,18 +435,28 @@ def absent_reasons(cluster: Cluster, is_high: bool) -> list[str]:
 
 
 def kept_reasons(cluster: Cluster) -> list[str]:
-    """Exceptions that lead to an OSD which does not exist and has kept a reweight above 0: Ceph takes them and drops the OSD at look-up."""
+    """Exceptions that lead to an OSD which does not exist and has kept a reweight above 0: Ceph takes them and drops
+    the OSD at look-up.
+    """
     kept = {osd for osd, weight in cluster.gone.items() if weight}
-    return [f"the {word} of {entry['pgid']} {verb} osd.{osd}, which does not exist and has kept the reweight {cluster.gone[osd] / 65536:.5f}"
-            for key, word, verb in (SETS, PAIRS) for entry in entries_of(cluster.osd_dump, key) if cluster.is_group(entry["pgid"])
-            for osd in dict.fromkeys(targets(entry)) if osd in kept]
+    return [
+        f"the {word} of {entry['pgid']} {verb} osd.{osd}, which does not exist and has kept the reweight "
+        f"{cluster.gone[osd] / 65536:.5f}"
+        for key, word, verb in (SETS, PAIRS)
+        for entry in entries_of(cluster.osd_dump, key)
+        if cluster.is_group(entry["pgid"])
+        for osd in dict.fromkeys(targets(entry))
+        if osd in kept
+    ]
 
 
 # Whether both dumps are of one cluster
 
+
 class Unmatched(NamedTuple):
-    """What one dump has and the other has not, in one line; how it is taken where the caller wants it so; what is asked where it is a
-    reason against the cluster; and which OSDs it is, where the line tells their number alone."""
+    """What one dump has and the other has not, in one line; how it is taken where the caller wants it so; what is
+    asked where it is a reason against the cluster; and which OSDs it is, where the line tells their number alone.
+    """
 
     line: str
     taken: str
@@ -385,14 +479,27 @@ def unlisted_devices(cluster: Cluster) -> list[Unmatched]:
     roots = listed([cluster.bucket_name(root) for root in cluster.roots() if cluster.below(root) & set(gone)] or [""])
     names = [f"osd.{device}" for device in gone]
     if len(gone) > FEW:
-        return [Unmatched(f"{len(gone)} devices stand below {roots}, but the OSD dump does not list them", OUT, QUESTION, some(names))]
-    return [Unmatched(f"{name} stands below {roots}, but the OSD dump does not list it", OUT, QUESTION) for name in names]
+        return [
+            Unmatched(
+                f"{len(gone)} devices stand below {roots}, but the OSD dump does not list them",
+                OUT,
+                QUESTION,
+                some(names),
+            )
+        ]
+    return [
+        Unmatched(f"{name} stands below {roots}, but the OSD dump does not list it", OUT, QUESTION) for name in names
+    ]
 
 
 def unlisted_osds(cluster: Cluster) -> list[Unmatched]:
     """OSDs that are up and in and that the CRUSH dump does not list among its devices; many of them in one line."""
     devices, why = {device["id"] for device in cluster.crush["devices"]}, "up and in, but the CRUSH dump does not list"
-    names = [f"osd.{osd}" for osd, own in sorted(cluster.osds.items()) if own["up"] and own["weight"] > 0 and osd not in devices]
+    names = [
+        f"osd.{osd}"
+        for osd, own in sorted(cluster.osds.items())
+        if own["up"] and own["weight"] > 0 and osd not in devices
+    ]
     if len(names) > FEW:
         return [Unmatched(f"{len(names)} OSDs are {why} them among its devices", FAR, QUESTION, some(names))]
     return [Unmatched(f"{name} is {why} it among its devices", FAR, QUESTION) for name in names]
@@ -410,10 +517,19 @@ def unmatched(cluster: Cluster) -> list[Unmatched]:
 
 
 def reasons(cluster: Cluster, is_unmatched: bool, is_one: bool = True) -> list[str]:
-    """All that keeps a cluster from being a map, or where `is_one` is false several maps, each in one line; what only one dump has is
-    none where `is_unmatched` says so."""
+    """All that keeps a cluster from being a map, or where `is_one` is false several maps, each in one line; what
+    only one dump has is none where `is_unmatched` says so.
+    """
     found = bucket_reasons(cluster) + root_reasons(cluster, is_one)
-    for part in (twice_reasons, tunable_reasons, rule_reasons, pool_reasons, osd_reasons, exception_reasons, kept_reasons):
+    for part in (
+        twice_reasons,
+        tunable_reasons,
+        rule_reasons,
+        pool_reasons,
+        osd_reasons,
+        exception_reasons,
+        kept_reasons,
+    ):
         found += part(cluster)
     if not {"osds", "max_osd"} & cluster.torn:
         found += absent_reasons(cluster, True)

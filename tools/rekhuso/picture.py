@@ -1,7 +1,8 @@
-"""`picture`: the OSDs of a map, or of two dumps, by host and rack, the share of each as its colour, as SVG; of two maps, side by side.
+"""`picture`: the OSDs of a map, or of two dumps, by host and rack, the share of each as its colour, as SVG; of two
+maps, side by side.
 
-Grey is an OSD's share, red more, blue less; in each square stands the number of its groups; a cross marks one that is out, a bar
-one that is down.
+Grey is an OSD's share, red more, blue less; in each square stands the number of its groups; a cross marks one that is
+out, a bar one that is down.
 """
 
 from __future__ import annotations
@@ -13,8 +14,12 @@ from .shares import Shares, named
 from .whole import ABOUT_FILES, add_names, is_crush_dump, usage, whole_with_sets
 
 # Squares keep their colours in the dark, and so what stands in them.
-STYLE = ("text{font:11px sans-serif;fill:#333}.r{font-weight:bold}.n{font-size:8px;text-anchor:middle;fill:#222}.g{fill:#fff}.c{stroke:#999;stroke-width:.5}"
-         ".m{stroke:#111;stroke-width:1.5;fill:none}@media (prefers-color-scheme:dark){text{fill:#ddd}.n{fill:#222}.g{fill:#181818}}")
+STYLE = (
+    "text{font:11px sans-serif;fill:#333}.r{font-weight:bold}.n{font-size:8px;text-anchor:middle;fill:#222}"
+    ".g{fill:#fff}.c{stroke:#999;stroke-width:.5}"
+    ".m{stroke:#111;stroke-width:1.5;fill:none}@media (prefers-color-scheme:dark){text{fill:#ddd}.n{fill:#222}"
+    ".g{fill:#181818}}"
+)
 CELL, GAP, ROW, LABEL, ACROSS, TALL = 18, 2, 22, 90, 32, 640
 
 
@@ -38,7 +43,10 @@ def cell(shares: Shares, osd: int, left: int, top: int) -> str:
         marks += f'<path d="M{left} {top + CELL // 2}h{CELL}" class="m"/>'
     fill = colour(row["groups"], row["share"])
     number = "" if marks else f'<text x="{left + CELL // 2}" y="{top + CELL // 2 + 3}" class="n">{row["groups"]}</text>'
-    return f'<g><title>{html.escape(told)}</title><rect x="{left}" y="{top}" width="{CELL}" height="{CELL}" fill="{fill}" class="c"/>{marks}{number}</g>'
+    return (
+        f'<g><title>{html.escape(told)}</title><rect x="{left}" y="{top}" width="{CELL}" height="{CELL}" '
+        f'fill="{fill}" class="c"/>{marks}{number}</g>'
+    )
 
 
 def hosts_of(shares: Shares) -> list[tuple[str | int, int]]:
@@ -60,22 +68,30 @@ def hosts_of(shares: Shares) -> list[tuple[str | int, int]]:
 
 
 def drawn(shares: Shares, names: Names, left: int) -> tuple[list[str], int, int]:
-    """The parts of one map's picture, where it ends on the right, and its height. A rack that would begin far down begins a column."""
+    """The parts of one map's picture, where it ends on the right, and its height. A rack that would begin far down
+    begins a column.
+    """
     hosts = hosts_of(shares)
-    widest = max((len([item for item, _ in shares.buckets[host]["items"] if item >= 0]) for _, host in hosts), default=1)
+    widest = max(
+        (len([item for item, _ in shares.buckets[host]["items"] if item >= 0]) for _, host in hosts), default=1
+    )
     column = LABEL + min(widest, ACROSS) * (CELL + GAP) + 24
     parts, top, height, last = [], 24, 24, None
     for above, host in hosts:
         if above != last and above != "":
             if top > TALL:
                 left, top = left + column, 24
-            parts.append(f'<text x="{left}" y="{top + 12}" class="r">{html.escape(named(names, "buckets", int(above)))}</text>')
+            parts.append(
+                f'<text x="{left}" y="{top + 12}" class="r">{html.escape(named(names, "buckets", int(above)))}</text>'
+            )
             top += ROW
         last = above
         parts.append(f'<text x="{left}" y="{top + 13}">{html.escape(named(names, "buckets", host))}</text>')
         devices = [item for item, _ in shares.buckets[host]["items"] if item >= 0]
         for at, osd in enumerate(devices):
-            parts.append(cell(shares, osd, left + LABEL + at % ACROSS * (CELL + GAP), top + at // ACROSS * (CELL + GAP)))
+            parts.append(
+                cell(shares, osd, left + LABEL + at % ACROSS * (CELL + GAP), top + at // ACROSS * (CELL + GAP))
+            )
         top += max(ROW, ((len(devices) + ACROSS - 1) // ACROSS) * (CELL + GAP) + GAP)
         height = max(height, top)
     return parts, left + column, height
@@ -89,11 +105,17 @@ def picture(maps: list[Shares], names: Names, titles: list[str]) -> str:
         parts += [f'<text x="{left}" y="16" class="r">{html.escape(title)}</text>'] + own
         left, height = right, max(height, tall)
     width = max(left, 660)
-    legend = "".join(f'<rect x="{8 + at * 24}" y="{height + 8}" width="24" height="10" fill="{colour(round(ratio * 100), 100)}"/>'
-                     for at, ratio in enumerate((0, 0.5, 1, 1.5, 2)))
-    return (f'<svg xmlns="http://www.w3.org/2000/svg" width="{width}" height="{height + 40}" viewBox="0 0 {width} {height + 40}">'
-            f'<style>{STYLE}</style><rect width="100%" height="100%" class="g"/>{"".join(parts)}{legend}'
-            f'<text x="136" y="{height + 17}">no groups .. the share .. twice as many; in a square its groups; cross: out; bar: down</text></svg>\n')
+    legend = "".join(
+        f'<rect x="{8 + at * 24}" y="{height + 8}" width="24" height="10" fill="{colour(round(ratio * 100), 100)}"/>'
+        for at, ratio in enumerate((0, 0.5, 1, 1.5, 2))
+    )
+    return (
+        f'<svg xmlns="http://www.w3.org/2000/svg" width="{width}" height="{height + 40}" viewBox="0 0 {width} '
+        f'{height + 40}">'
+        f'<style>{STYLE}</style><rect width="100%" height="100%" class="g"/>{"".join(parts)}{legend}'
+        f'<text x="136" y="{height + 17}">no groups .. the share .. twice as many; in a square its groups; cross: out;'
+        f" bar: down</text></svg>\n"
+    )
 
 
 def work(options: Options) -> None:
@@ -101,13 +123,17 @@ def work(options: Options) -> None:
     files: list[str] = options.files
     parts = [files] if len(files) == 2 and is_crush_dump(files[1]) else [[path] for path in files]
     wholes = [whole_with_sets(part, options) for part in parts]
-    print(picture([whole.shares(sets) for whole, sets in wholes], wholes[0][0].names, [part[0] for part in parts]), end="")
+    print(
+        picture([whole.shares(sets) for whole, sets in wholes], wholes[0][0].names, [part[0] for part in parts]), end=""
+    )
 
 
 def add_to(commands: Commands) -> None:
     """The subcommand."""
     own = commands.add_parser("picture", help="the OSDs and their shares as SVG", description=__doc__)
     own.usage = usage().replace("MAP [", "MAP [MAP ..] [")
-    own.add_argument("files", metavar="MAP .. | OSD_DUMP CRUSH_DUMP", nargs="+", help=f"{ABOUT_FILES}; of several maps, side by side")
+    own.add_argument(
+        "files", metavar="MAP .. | OSD_DUMP CRUSH_DUMP", nargs="+", help=f"{ABOUT_FILES}; of several maps, side by side"
+    )
     add_names(own)
     own.set_defaults(work=work)

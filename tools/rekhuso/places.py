@@ -28,7 +28,7 @@ def forest_places(value: Map, max_osd: int, path: str = "") -> Places:
     for at, bucket in enumerate(buckets):
         own = f"{path}buckets[{at}]"
         weights = [weight for _, weight in bucket["items"]]
-        if sum(weights) >= 2 ** 32:
+        if sum(weights) >= 2**32:
             yield Place(13, f"{own}.items", f"the weights come to {sum(weights):,}, at most 4,294,967,295")
         if bucket["kind"] == "uniform" and len(set(weights)) > 1:
             yield Place(13, f"{own}.items", "a uniform bucket with unequal weights")
@@ -63,8 +63,13 @@ def block_fault(steps: list[Step], kind: str) -> str | None:
             return f"a rule of this kind chooses by {way}"
         if any(low[2] >= high[2] for high, low in zip(chosen, chosen[1:])):
             return "the types of choose steps fall"
-        if any(own[0].startswith("chooseleaf") for own in chosen[:-1]) or chosen[-1][0].startswith("chooseleaf") != (chosen[-1][2] > 0):
-            return "the last choose step of a block is chooseleaf of a type above 0, or plain choose of type 0; those before it are plain"
+        if any(own[0].startswith("chooseleaf") for own in chosen[:-1]) or chosen[-1][0].startswith("chooseleaf") != (
+            chosen[-1][2] > 0
+        ):
+            return (
+                "the last choose step of a block is chooseleaf of a type above 0, or plain choose of type 0; "
+                "those before it are plain"
+            )
         at += 1
         if at == len(steps):
             return None
@@ -129,7 +134,9 @@ def map_exceptions(value: Map) -> Places:
 
 
 def map_places(value: object, is_stock: bool = False) -> list[Place]:
-    """All places of a map that are at fault, under `--stock` or without it: those of form and limits, or where these hold all others."""
+    """All places of a map that are at fault, under `--stock` or without it: those of form and limits, or where these
+    hold all others.
+    """
     has_tries = isinstance(value, dict) and value.get("version") == 2
     found = list(map_form(has_tries, is_stock)(value, ""))
     return found or lawless_places(cast(Map, value))
@@ -138,8 +145,13 @@ def map_places(value: object, is_stock: bool = False) -> list[Place]:
 def lawless_places(value: Map) -> list[Place]:
     """The places at fault of a map whose form and limits hold."""
     found: list[Place] = []
-    for places in (forest_places(value, value["max_osd"]), rule_places(value), twice((pool["id"] for pool in value["pools"]), "pools[{}].id", 15, "pool"),
-                   pool_places(value["pools"], value["rules"], "pools"), twice((osd["id"] for osd in value["osds"]), "osds[{}].id", 16, "OSD")):
+    for places in (
+        forest_places(value, value["max_osd"]),
+        rule_places(value),
+        twice((pool["id"] for pool in value["pools"]), "pools[{}].id", 15, "pool"),
+        pool_places(value["pools"], value["rules"], "pools"),
+        twice((osd["id"] for osd in value["osds"]), "osds[{}].id", 16, "OSD"),
+    ):
         found += places
     for at, osd in enumerate(value["osds"]):
         if osd["id"] >= value["max_osd"]:
@@ -211,13 +223,34 @@ class After:
 
     def double_places(self) -> Places:
         """Keys that come twice in a part, or in both parts of a couple."""
+
         def keys(part: str) -> list[Any]:
             """The keys of a part's entries."""
-            return [entry["id"] if isinstance(entry, dict) else entry[0] if isinstance(entry, list) else entry for entry in self.change.get(part, [])]
+            return [
+                entry["id"] if isinstance(entry, dict) else entry[0] if isinstance(entry, list) else entry
+                for entry in self.change.get(part, [])
+            ]
 
-        for part in ("old_pools", "new_pools", "grow_pool", "down", "up", "weight", "old_upmap", "old_items", "new_upmap", "new_items"):
+        for part in (
+            "old_pools",
+            "new_pools",
+            "grow_pool",
+            "down",
+            "up",
+            "weight",
+            "old_upmap",
+            "old_items",
+            "new_upmap",
+            "new_items",
+        ):
             yield from twice(keys(part), part + "[{}]", 27, "the key")
-        for left, right in (("old_pools", "new_pools"), ("new_pools", "grow_pool"), ("down", "up"), ("old_upmap", "new_upmap"), ("old_items", "new_items")):
+        for left, right in (
+            ("old_pools", "new_pools"),
+            ("new_pools", "grow_pool"),
+            ("down", "up"),
+            ("old_upmap", "new_upmap"),
+            ("old_items", "new_items"),
+        ):
             for key in sorted(set(keys(left)) & set(keys(right))):
                 yield Place(27, f"{left} and {right}", f"{key} stands in both")
 

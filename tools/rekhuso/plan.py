@@ -1,8 +1,8 @@
 """`plan`: the plan of the proved balancer as the commands that Ceph takes, group by group, on standard output.
 
 On standard error: what moves, and how even each pool is before and after. The commands are the difference of the two
-maps' exceptions, where each group has the fewest pairs that lead to its set (as `net` has them). With --deviation the plan
-ends as soon as every OSD that may have groups of the pool is within D groups of its share.
+maps' exceptions, where each group has the fewest pairs that lead to its set (as `net` has them). With --deviation the
+plan ends as soon as every OSD that may have groups of the pool is within D groups of its share.
 """
 
 from __future__ import annotations
@@ -37,8 +37,9 @@ class Cluster(NamedTuple):
 
 
 class Plan(NamedTuple):
-    """What a pool's plan is: its moves or why there are none, those that --deviation asks for (None where no number of them
-    suffices), and those of the whole plan."""
+    """What a pool's plan is: its moves or why there are none, those that --deviation asks for (None where no number
+    of them suffices), and those of the whole plan.
+    """
 
     moves: int
     refusal: str = ""
@@ -73,13 +74,17 @@ def plan_of_dumps(options: Options) -> Told:
     found = brought(options.files[0], options.files[1], options)
     if found.cluster.has_weight_set:
         raise Fault(NO_PLAN)
-    wanted = chosen(options.pool or [], [pool for value in found.maps for pool in value["pools"]], names or found.cluster.names())
+    wanted = chosen(
+        options.pool or [], [pool for value in found.maps for pool in value["pools"]], names or found.cluster.names()
+    )
     told: list[Told] = []
     for part, value in zip(found.parts, found.maps):
         pools = [pool for pool in value["pools"] if pool in wanted]
         if pools or not wanted:
             with monitor_of(value, options.program) as monitor:
-                told.append(planned(monitor, Cluster(value, part.kept_exceptions(), names or part.names()), pools, options))
+                told.append(
+                    planned(monitor, Cluster(value, part.kept_exceptions(), names or part.names()), pools, options)
+                )
     lines = sorted((line for own in told for line in own.lines), key=lambda line: place_of(line.split(" ")[3]))
     return Told(found.cluster.epoch, lines, [pool for own in told for pool in own.pools])
 
@@ -97,6 +102,7 @@ def chosen(words: list[str], pools: list[Pool], names: Names) -> list[Pool]:
 
 # Plans
 
+
 def moved(session: Session, pool: int, most: int) -> Plan:
     """Commits the plan of a pool with at most so many moves, which may be 0."""
     answer = session.raw([f"balance {pool} {most}"])[0] if most else "moved 0"
@@ -108,20 +114,27 @@ def moved(session: Session, pool: int, most: int) -> Plan:
 def appended(old: Map, new: Map, pool: int) -> Pairs:
     """The pairs that each group of a pool has in the one map beyond those in the other."""
     before = dict(old.get("pg_upmap_items", []))
-    found = {group: pairs[len(before.get(group, [])):] for group, pairs in new["pg_upmap_items"] if group.startswith(f"{pool}.")}
+    found = {
+        group: pairs[len(before.get(group, [])) :]
+        for group, pairs in new["pg_upmap_items"]
+        if group.startswith(f"{pool}.")
+    }
     return {group: pairs for group, pairs in found.items() if pairs}
 
 
 def taken_back(session: Session, old: Map, groups: list[str]) -> None:
     """Gives some groups the pairs of an older map again."""
     before = dict(old.get("pg_upmap_items", []))
-    gone, come = [group for group in groups if group not in before], [[group, before[group]] for group in groups if group in before]
+    gone, come = [group for group in groups if group not in before], [
+        [group, before[group]] for group in groups if group in before
+    ]
     session.change(old_items=gone, new_items=come)
 
 
 def shortened(session: Session, value: Map, shares: Shares, pools: list[Pool], options: Options) -> dict[int, Plan]:
-    """Commits of each pool's plan as many moves as bring every candidate within the deviation that is asked for, at most --max. A
-    fault where the program's plan is another than its whole plan's beginning."""
+    """Commits of each pool's plan as many moves as bring every candidate within the deviation that is asked for, at
+    most --max. A fault where the program's plan is another than its whole plan's beginning.
+    """
     wholes = {pool["id"]: moved(session, pool["id"], MOST) for pool in pools}
     new, found = session.dump(), {}
     plans = {pool["id"]: appended(value, new, pool["id"]) for pool in pools}
@@ -140,20 +153,29 @@ def shortened(session: Session, value: Map, shares: Shares, pools: list[Pool], o
 
 # What is told
 
+
 def spread(weights: dict[int, int], counts: dict[int, int]) -> PoolSpread:
-    """The least and greatest number of groups of a pool that a candidate has, and how far they are from their shares, in groups."""
+    """The least and greatest number of groups of a pool that a candidate has, and how far they are from their
+    shares, in groups.
+    """
     own = [counts.get(osd, 0) for osd in weights]
     groups, total = sum(own), sum(weights.values())
     away = [count - groups * weight / total for count, weight in zip(own, weights.values())]
     deviation = (sum(gap * gap for gap in away) / len(away)) ** 0.5 if away else 0.0
-    return {"least": min(own, default=0), "greatest": max(own, default=0), "farthest": max((abs(gap) for gap in away), default=0.0),
-            "deviation": deviation}
+    return {
+        "least": min(own, default=0),
+        "greatest": max(own, default=0),
+        "farthest": max((abs(gap) for gap in away), default=0.0),
+        "deviation": deviation,
+    }
 
 
 def spread_words(found: PoolSpread) -> str:
     """The same in words."""
-    return (f"{found['least']} to {found['greatest']} groups an OSD, at most {found['farthest']:.2f} from a share, "
-            f"standard deviation {found['deviation']:.2f}")
+    return (
+        f"{found['least']} to {found['greatest']} groups an OSD, at most {found['farthest']:.2f} from a share, "
+        f"standard deviation {found['deviation']:.2f}"
+    )
 
 
 def length_words(plan: Plan, options: Options) -> str:
@@ -181,16 +203,28 @@ def pool_parts(pool: Pool, name: str, plan: Plan, before: Shares, after: dict[st
         for osd in (osd for group in after for osd in sets[group].places if osd is not None):
             counts[osd] += sign
     groups = sum(before.ups[group].places != up.places for group, up in after.items())
-    return {"id": pool["id"], "name": name, "moves": plan.moves, "groups": groups, "refused": plan.refusal or None, "moves_within": plan.wanted,
-            "moves_whole": plan.whole, "before": was, "after": spread(weights, counts)}
+    return {
+        "id": pool["id"],
+        "name": name,
+        "moves": plan.moves,
+        "groups": groups,
+        "refused": plan.refusal or None,
+        "moves_within": plan.wanted,
+        "moves_whole": plan.whole,
+        "before": was,
+        "after": spread(weights, counts),
+    }
 
 
 def pool_words(parts: PlanParts, plan: Plan, options: Options) -> str:
     """The same in words."""
     if plan.refusal:
         return f"{plan.refusal}: passed over"
-    return (f"{plan.moves} moves of {parts['groups']} groups{length_words(plan, options)}; before {spread_words(parts['before'])}; "
-            f"after {spread_words(parts['after'])}")
+    return (
+        f"{plan.moves} moves of {parts['groups']} groups{length_words(plan, options)}; before "
+        f"{spread_words(parts['before'])}; "
+        f"after {spread_words(parts['after'])}"
+    )
 
 
 def planned(session: Session, cluster: Cluster, pools: list[Pool], options: Options) -> Told:
@@ -227,6 +261,7 @@ def work(options: Options) -> None:
 
 # The command line
 
+
 def limit(word: str) -> int:
     """A number of moves; an error of use where it is none."""
     number = int(word) if word.isdecimal() else 0
@@ -253,5 +288,10 @@ def add_to(commands_of: Commands) -> None:
     add_json(own)
     own.add_argument("--pool", metavar="ID|NAME", action="append", help="only this pool; as often as there are pools")
     own.add_argument("--max", metavar="N", type=limit, default=MOST, help="at most N moves a pool, 1 to 1024")
-    own.add_argument("--deviation", metavar="D", type=distance, help="only as many moves as bring each OSD within D groups of its share")
+    own.add_argument(
+        "--deviation",
+        metavar="D",
+        type=distance,
+        help="only as many moves as bring each OSD within D groups of its share",
+    )
     own.set_defaults(work=work)

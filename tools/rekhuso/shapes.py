@@ -11,20 +11,50 @@ from .kinds import Told, Shape
 # A key that may be missing begins with a question mark; a list of one shape stands for any number of such entries.
 GROUP = {"pgid": str}
 OSD_DUMP = {
-    "epoch": int, "max_osd": int,
-    "pools": [{"pool": int, "pool_name": str, "type": int, "size": int, "crush_rule": int, "pg_num": int, "pg_placement_num": int,
-               "?flags": int, "?object_hash": int}],
+    "epoch": int,
+    "max_osd": int,
+    "pools": [
+        {
+            "pool": int,
+            "pool_name": str,
+            "type": int,
+            "size": int,
+            "crush_rule": int,
+            "pg_num": int,
+            "pg_placement_num": int,
+            "?flags": int,
+            "?object_hash": int,
+        }
+    ],
     "osds": [{"osd": int, "up": int, "weight": float, "?state": [str], "?primary_affinity": float}],
-    "?pg_upmap": [dict(GROUP, osds=[int])], "?pg_upmap_items": [dict(GROUP, mappings=[{"from": int, "to": int}])],
-    "?pg_temp": [object], "?primary_temp": [object], "?pg_upmap_primaries": [object],
+    "?pg_upmap": [dict(GROUP, osds=[int])],
+    "?pg_upmap_items": [dict(GROUP, mappings=[{"from": int, "to": int}])],
+    "?pg_temp": [object],
+    "?primary_temp": [object],
+    "?pg_upmap_primaries": [object],
 }
 CRUSH_DUMP = {
-    "devices": [{"id": int, "name": str, "?class": str}], "types": [{"type_id": int, "name": str}],
-    "buckets": [{"id": int, "name": str, "type_id": int, "alg": str, "?hash": str, "items": [{"id": int, "weight": int}]}],
-    "rules": [{"rule_id": int, "rule_name": str, "type": int,
-               "steps": [{"op": str, "?item": int, "?item_name": str, "?num": int, "?type": str}]}],
-    "tunables": {"?choose_local_tries": int, "?choose_local_fallback_tries": int, "?choose_total_tries": int,
-                 "?chooseleaf_descend_once": int, "?chooseleaf_vary_r": int, "?chooseleaf_stable": int},
+    "devices": [{"id": int, "name": str, "?class": str}],
+    "types": [{"type_id": int, "name": str}],
+    "buckets": [
+        {"id": int, "name": str, "type_id": int, "alg": str, "?hash": str, "items": [{"id": int, "weight": int}]}
+    ],
+    "rules": [
+        {
+            "rule_id": int,
+            "rule_name": str,
+            "type": int,
+            "steps": [{"op": str, "?item": int, "?item_name": str, "?num": int, "?type": str}],
+        }
+    ],
+    "tunables": {
+        "?choose_local_tries": int,
+        "?choose_local_fallback_tries": int,
+        "?choose_total_tries": int,
+        "?chooseleaf_descend_once": int,
+        "?chooseleaf_vary_r": int,
+        "?chooseleaf_stable": int,
+    },
     "?choose_args": {},
 }
 # What a weight set has for a bucket.
@@ -32,8 +62,15 @@ WEIGHT_SET = {"bucket_id": int, "?weight_set": [[float]], "?ids": [int]}
 # What `ceph osd tree -f json` tells of OSDs, those that do not exist among them.
 TREE = {"nodes": [{"id": int, "?exists": int, "?reweight": float}]}
 # What a step must have beside its word.
-STEPS = {"take": ("item",), "choose_firstn": ("num", "type"), "choose_indep": ("num", "type"), "chooseleaf_firstn": ("num", "type"),
-         "chooseleaf_indep": ("num", "type"), "set_choose_tries": ("num",), "set_chooseleaf_tries": ("num",)}
+STEPS = {
+    "take": ("item",),
+    "choose_firstn": ("num", "type"),
+    "choose_indep": ("num", "type"),
+    "chooseleaf_firstn": ("num", "type"),
+    "chooseleaf_indep": ("num", "type"),
+    "set_choose_tries": ("num",),
+    "set_chooseleaf_tries": ("num",),
+}
 KINDS = {int: "whole number", float: "number", str: "text"}
 
 
@@ -71,7 +108,9 @@ def misfits(value: object, shape: object, place: str) -> list[str]:
 
 
 def fitting(value: object, shape: Shape) -> tuple[Told, frozenset[str]]:
-    """What of a dump is of its form: the entries of its lists that are, blanks for what is not; and the keys of which something is gone."""
+    """What of a dump is of its form: the entries of its lists that are, blanks for what is not; and the keys of
+    which something is gone.
+    """
     value, kept, torn = value if isinstance(value, dict) else {}, {}, set()
     for key, own in shape.items():
         name = key.removeprefix("?")

@@ -18,6 +18,7 @@ def named(names: Names, kind: str, number: int) -> str:
 
 def with_names(text: str, names: Names) -> str:
     """A text in which buckets, pools, rules and OSDs are told by their names, as far as they have some."""
+
     def name_of(found: re.Match[str]) -> str:
         """What stands in place of a kind and its number."""
         name: str | None = names.get(f"{found[1]}s", {}).get(found[2])
@@ -49,14 +50,20 @@ class Shares:
 
     def counted(self, pool: Pool) -> Counter[int]:
         """In how many groups of a pool each OSD stands."""
-        return Counter(osd for osd in chain.from_iterable(set(up.places) for up in self.ups_in(pool)) if osd is not None)
+        return Counter(
+            osd for osd in chain.from_iterable(set(up.places) for up in self.ups_in(pool)) if osd is not None
+        )
 
     def weights_for(self, pool: Pool) -> dict[int, int]:
         """The weights of the OSDs that may have groups of a pool: they are below what its rule takes, up and in."""
         steps = next(rule["steps"] for rule in self.value["rules"] if rule["id"] == pool["rule"])
         osds = {osd for step in steps if step[0] == "take" for osd in self.below(step[1])}
         own = {osd: self.osds[osd] for osd in osds if osd in self.osds}
-        return {osd: self.items[osd] * state["weight"] for osd, state in own.items() if state["exists"] and state["up"] and state["weight"]}
+        return {
+            osd: self.items[osd] * state["weight"]
+            for osd, state in own.items()
+            if state["exists"] and state["up"] and state["weight"]
+        }
 
     def shares_in(self, pool: Pool) -> dict[int, float]:
         """How many places of a pool the weights of the OSDs call for."""
@@ -74,8 +81,11 @@ class Shares:
 
     def total(self) -> Total:
         """What the tree and the OSDs outside come to: weights, groups and shares."""
-        return {"weight": sum(weight for item, weight in self.items.items() if item >= 0) / 65536, "groups": sum(self.counts.values()),
-                "share": round(sum(self.wanted.values()), 2)}
+        return {
+            "weight": sum(weight for item, weight in self.items.items() if item >= 0) / 65536,
+            "groups": sum(self.counts.values()),
+            "share": round(sum(self.wanted.values()), 2),
+        }
 
     def state(self, osd: int) -> str:
         """Whether an OSD is there, up and in."""
@@ -87,9 +97,15 @@ class Shares:
     def osd_row(self, osd: int) -> Row:
         """What is told of an OSD."""
         groups, wanted = self.counts.get(osd, 0), self.wanted.get(osd, 0.0)
-        return {"id": osd, "weight": self.items.get(osd, 0) / 65536, "reweight": (self.osds[osd]["weight"] if osd in self.osds else 0) / 65536,
-                "state": self.state(osd), "groups": groups, "share": round(wanted, 2),
-                "deviation": round(groups - wanted, 2)}
+        return {
+            "id": osd,
+            "weight": self.items.get(osd, 0) / 65536,
+            "reweight": (self.osds[osd]["weight"] if osd in self.osds else 0) / 65536,
+            "state": self.state(osd),
+            "groups": groups,
+            "share": round(wanted, 2),
+            "deviation": round(groups - wanted, 2),
+        }
 
     def below(self, number: int) -> list[int]:
         """The OSDs below an item."""
@@ -102,17 +118,32 @@ class Shares:
         if number >= 0:
             return [(depth, self.osd_row(number))]
         own = [self.osd_row(osd) for osd in self.below(number)]
-        total: Row = {"id": number, "type": self.buckets[number]["type"], "weight": sum(row["weight"] for row in own),
-                 "groups": sum(row["groups"] for row in own), "share": round(sum(self.wanted.get(row["id"], 0.0) for row in own), 2)}
-        return [(depth, total)] + [row for item, _ in self.buckets[number]["items"] for row in self.rows(item, depth + 1)]
+        total: Row = {
+            "id": number,
+            "type": self.buckets[number]["type"],
+            "weight": sum(row["weight"] for row in own),
+            "groups": sum(row["groups"] for row in own),
+            "share": round(sum(self.wanted.get(row["id"], 0.0) for row in own), 2),
+        }
+        return [(depth, total)] + [
+            row for item, _ in self.buckets[number]["items"] for row in self.rows(item, depth + 1)
+        ]
 
     def pools(self) -> list[PoolRow]:
         """What is told of each pool."""
         found: list[PoolRow] = []
         for pool in self.value["pools"]:
             full = [len(up.places) - up.places.count(None) for up in self.ups_in(pool)]
-            found.append({"id": pool["id"], "size": pool["size"], "groups": pool["pg_num"], "rule": pool["rule"],
-                          "places": sum(full), "short": sum(count < pool["size"] for count in full)})
+            found.append(
+                {
+                    "id": pool["id"],
+                    "size": pool["size"],
+                    "groups": pool["pg_num"],
+                    "rule": pool["rule"],
+                    "places": sum(full),
+                    "short": sum(count < pool["size"] for count in full),
+                }
+            )
         return found
 
 
@@ -129,4 +160,13 @@ def table_row(row: Row, name: str) -> list[str]:
     weight, groups, share = f"{row['weight']:.5f}", str(row["groups"]), f"{row['share']:.2f}"
     if row["id"] < 0:
         return [str(row["id"]), weight, "-", "-", groups, share, "-", name]
-    return [str(row["id"]), weight, f"{row['reweight']:.5f}", row["state"], groups, share, f"{row['deviation']:+.2f}", name]
+    return [
+        str(row["id"]),
+        weight,
+        f"{row['reweight']:.5f}",
+        row["state"],
+        groups,
+        share,
+        f"{row['deviation']:+.2f}",
+        name,
+    ]

@@ -67,11 +67,11 @@ def answered(monitor: Monitor, line: str) -> str | None:
 
 
 class Prompt:
-    """The prompt at a terminal. Ctrl-C drops the line that is being typed; at any other time it does nothing, so that what is begun
-    is answered and shown.
+    """The prompt at a terminal. Ctrl-C drops the line that is being typed; at any other time it does nothing, so that
+    what is begun is answered and shown.
 
-    Python sees a signal only where it ends a wait for the next key: one that comes just before that wait begins would be seen with the
-    next key. So a clock ticks while a line is typed, and it is the tick that drops the line.
+    Python sees a signal only where it ends a wait for the next key: one that comes just before that wait begins would
+    be seen with the next key. So a clock ticks while a line is typed, and it is the tick that drops the line.
     """
 
     def __enter__(self) -> Prompt:
@@ -123,6 +123,7 @@ def prompted(monitor: Monitor) -> None:
     """Reads lines from a terminal until they end."""
     try:
         import readline
+
         readline.set_completer(completer)
         readline.parse_and_bind("tab: complete")
     except ImportError:

@@ -13,7 +13,9 @@ KINDS = ("buckets", "classes", "osds", "pools", "rules", "types")
 
 
 def text_of(path: str) -> str:
-    """The text of a file, or of standard input where the path is `-`. A fault where it cannot be read or is no UTF-8."""
+    """The text of a file, or of standard input where the path is `-`. A fault where it cannot be read or is no
+    UTF-8.
+    """
     try:
         if path == "-":
             return sys.stdin.read()
@@ -57,8 +59,9 @@ def is_text(value: object) -> bool:
 
 
 def names_in(path: str | None) -> dict[str, dict[str, str]]:
-    """The names in a file as `import --names` writes it: of each kind, names by numbers as texts; none where there is no path.
-    A fault that says the first place where it has another form."""
+    """The names in a file as `import --names` writes it: of each kind, names by numbers as texts; none where there
+    is no path. A fault that says the first place where it has another form.
+    """
     names = {} if path is None else json_of(path)
     for kind in KINDS:
         own = names.get(kind, {})
@@ -73,7 +76,9 @@ def names_in(path: str | None) -> dict[str, dict[str, str]]:
 
 
 def put_json(command: str, epoch: int | None, **parts: object) -> None:
-    """Puts out what a command tells as one object: which command it is, of which epoch it tells (None where there is no lawful map), and its own parts."""
+    """Puts out what a command tells as one object: which command it is, of which epoch it tells (None where there is
+    no lawful map), and its own parts.
+    """
     print(json.dumps({"command": command, "epoch": epoch, **parts}, indent=1))
 
 

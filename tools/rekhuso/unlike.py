@@ -37,15 +37,21 @@ def pool_parts(old: Map, new: Map) -> Change:
             grown.append([number, now["pg_num"], now["pgp_num"]])
         elif was != now:
             other.append(number)
-    return {"old_pools": sorted(before.keys() - after.keys()), "new_pools": [after[n] for n in sorted(after.keys() - before.keys())],
-            "grow_pool": grown, "other": other}
+    return {
+        "old_pools": sorted(before.keys() - after.keys()),
+        "new_pools": [after[n] for n in sorted(after.keys() - before.keys())],
+        "grow_pool": grown,
+        "other": other,
+    }
 
 
 def exception_parts(old: Map, new: Map, key: str, gone: list[int]) -> tuple[list[str], list[Entry]]:
     """The groups whose exception goes, pools that go aside, and the exceptions that come or change."""
     before, after = by_key(entries_of(old, key), 0), by_key(entries_of(new, key), 0)
     lost = [group for group in before.keys() - after.keys() if place_of(group)[0] not in gone]
-    return sorted(lost, key=place_of), [after[group] for group in sorted(after, key=place_of) if before.get(group) != after[group]]
+    return sorted(lost, key=place_of), [
+        after[group] for group in sorted(after, key=place_of) if before.get(group) != after[group]
+    ]
 
 
 def change_of(old: Map, new: Map) -> tuple[Change, list[str]]:
@@ -77,11 +83,17 @@ def change_of(old: Map, new: Map) -> tuple[Change, list[str]]:
 
 
 def commands(old: Map, new: Map, kept: Exceptions | None = None) -> list[str]:
-    """What Ceph is told so that the exceptions of one map become those of the other, group by group; what goes, goes first. `kept` is
-    what Ceph has, where the old map has not all of it: an explicit set that did nothing would keep pairs that come from acting."""
+    """What Ceph is told so that the exceptions of one map become those of the other, group by group; what goes, goes
+    first. `kept` is what Ceph has, where the old map has not all of it: an explicit set that did nothing would keep
+    pairs that come from acting.
+    """
     tables = {key: [dict(entries_of(value, key)) for value in (old, new, kept or old)] for key in WORDS}
-    groups = {group for before, after, _ in tables.values() for group in before.keys() | after.keys()
-              if before.get(group) != after.get(group)}
+    groups = {
+        group
+        for before, after, _ in tables.values()
+        for group in before.keys() | after.keys()
+        if before.get(group) != after.get(group)
+    }
     found = []
     for group in sorted(groups, key=place_of):
         gone, come = [], []

@@ -48,7 +48,7 @@ def weights_in(word: str) -> list[int]:
     weights = [number_in(part) for part in word.split(",")]
     if not all(1 / 65536 <= weight < 65536 for weight in weights):
         raise Misuse(f"argument --add-host: {word}: weights are written as 1,1,2.5, each above 0 and below 65,536")
-    return [min(round(weight * 65536), 2 ** 32 - 1) for weight in weights]
+    return [min(round(weight * 65536), 2**32 - 1) for weight in weights]
 
 
 def number_in(word: str) -> float:
@@ -107,7 +107,9 @@ def change_of(options: Options, value: Map, names: Names) -> Change:
 
 
 def flows(before: dict[str, Up], after: dict[str, Up]) -> dict[tuple[int, int], int]:
-    """How many places go from each OSD to each other: those that a group loses to those that it gains, in their order."""
+    """How many places go from each OSD to each other: those that a group loses to those that it gains, in their
+    order.
+    """
     found: dict[tuple[int, int], int] = {}
     for group, was in before.items():
         now = after[group].places if group in after else []
@@ -120,7 +122,11 @@ def flows(before: dict[str, Up], after: dict[str, Up]) -> dict[tuple[int, int], 
 
 def compared(before: dict[str, Up], after: dict[str, Up], sizes: dict[int, int]) -> Flows:
     """What moves between two sets of answers: groups, places, from where to where, and what is left short."""
-    short = [group for group, up in after.items() if len([osd for osd in up.places if osd is not None]) < sizes[place_of(group)[0]]]
+    short = [
+        group
+        for group, up in after.items()
+        if len([osd for osd in up.places if osd is not None]) < sizes[place_of(group)[0]]
+    ]
     counts: dict[int, int] = {}
     for up in after.values():
         for osd in {osd for osd in up.places if osd is not None}:
@@ -128,13 +134,23 @@ def compared(before: dict[str, Up], after: dict[str, Up], sizes: dict[int, int])
     gained = sum(len(set(up.places) - set(before[group].places) - {None}) for group, up in after.items())
     fullest = max(counts, key=lambda osd: (counts[osd], -osd), default=None)
     moved = [group for group, up in after.items() if up.places != before[group].places]
-    return {"groups": len(moved), "places": gained, "short": short, "fullest": fullest,
-            "fullest_groups": 0 if fullest is None else counts[fullest], "unbalanced": [],
-            "flows": [[*pair, count] for pair, count in sorted(flows(before, after).items(), key=lambda flow: (-flow[1], flow[0]))]}
+    return {
+        "groups": len(moved),
+        "places": gained,
+        "short": short,
+        "fullest": fullest,
+        "fullest_groups": 0 if fullest is None else counts[fullest],
+        "unbalanced": [],
+        "flows": [
+            [*pair, count] for pair, count in sorted(flows(before, after).items(), key=lambda flow: (-flow[1], flow[0]))
+        ],
+    }
 
 
 class Answered(NamedTuple):
-    """The sets of a map's groups before a change and after it, and the pools that could not be balanced, each with why."""
+    """The sets of a map's groups before a change and after it, and the pools that could not be balanced, each with
+    why.
+    """
 
     before: dict[str, Up]
     after: dict[str, Up]
@@ -142,8 +158,9 @@ class Answered(NamedTuple):
 
 
 def answered(value: Map, change: Change, options: Options, grown: Map | None = None) -> Answered:
-    """What the program answers over a map and a change, or another map that has a host more; with plans where they are asked for. A
-    fault where the change is refused."""
+    """What the program answers over a map and a change, or another map that has a host more; with plans where they
+    are asked for. A fault where the change is refused.
+    """
     groups = groups_of(value)
     asked = [f"up {group}" for group in groups]
     plans = [f"balance {pool['id']} 1024" for pool in value["pools"]] if options.balance else []
@@ -154,15 +171,21 @@ def answered(value: Map, change: Change, options: Options, grown: Map | None = N
             raise Fault(f"the change is refused: {made.removeprefix('err ')}")
     else:
         answers = answers_of(options.program, value, asked) + raw_answers(options.program, grown, plans + asked)
-    planned, last = answers[len(groups):len(groups) + len(plans)], answers[len(groups) + len(plans):]
-    before = dict(zip(groups, map(up_of, answers[:len(groups)])))
+    planned, last = answers[len(groups) : len(groups) + len(plans)], answers[len(groups) + len(plans) :]
+    before = dict(zip(groups, map(up_of, answers[: len(groups)])))
     after = {group: up_of(answer) for group, answer in zip(groups, last) if answer.startswith("up ")}
-    refused = [[pool["id"], answer.removeprefix("err ")] for pool, answer in zip(value["pools"], planned) if answer.startswith("err ")]
+    refused = [
+        [pool["id"], answer.removeprefix("err ")]
+        for pool, answer in zip(value["pools"], planned)
+        if answer.startswith("err ")
+    ]
     return Answered(before, after, refused)
 
 
 def result(whole: Whole, change: Change, options: Options, grown: Map | None = None) -> Flows:
-    """What a change moves over all maps, or what another map does that has a host more, and which pools could not be balanced."""
+    """What a change moves over all maps, or what another map does that has a host more, and which pools could not be
+    balanced.
+    """
     parts = [answered(value, change_for(value, change, whole.maps), options, grown) for value in whole.maps]
     before = {group: up for part in parts for group, up in part.before.items()}
     after = {group: up for part in parts for group, up in part.after.items()}
@@ -171,8 +194,10 @@ def result(whole: Whole, change: Change, options: Options, grown: Map | None = N
 
 
 def change_for(value: Map, change: Change, maps: list[Map]) -> Change:
-    """What of a change concerns one map of several: what it says of OSDs, and of pools and groups of this map; what it says of pools that
-    are in none goes to the first, whose refusal tells it. A fault for a part that no cluster of several maps can be given."""
+    """What of a change concerns one map of several: what it says of OSDs, and of pools and groups of this map; what
+    it says of pools that are in none goes to the first, whose refusal tells it. A fault for a part that no cluster
+    of several maps can be given.
+    """
     if len(maps) == 1 or list(change_form(True)(change, "")):
         return change
     whole = [key for key in ("new_crush", "new_pools") if key in change]
@@ -183,7 +208,11 @@ def change_for(value: Map, change: Change, maps: list[Map]) -> Change:
     found = dict(change)
     for key in ("old_pools", "grow_pool", "old_upmap", "old_items", "new_upmap", "new_items"):
         if key in change:
-            mine = [entry for entry in change[key] if (number := pool_in(entry)) in own or number not in others and value is maps[0]]
+            mine = [
+                entry
+                for entry in change[key]
+                if (number := pool_in(entry)) in own or number not in others and value is maps[0]
+            ]
             found.pop(key)
             found.update({key: mine} if mine else {})
     return found
@@ -196,35 +225,49 @@ def pool_in(entry: Entry | int | str) -> int:
 
 
 def below_which(value: Map, names: Names, name: str, under: str | None) -> tuple[int, Bucket]:
-    """The bucket below which a new host comes, and a host that stands there. A fault where none, or none alone, is meant."""
+    """The bucket below which a new host comes, and a host that stands there. A fault where none, or none alone, is
+    meant.
+    """
     hosts = {bucket["id"]: bucket for bucket in value["buckets"] if any(item >= 0 for item, _ in bucket["items"])}
-    parents = {bucket["id"]: [hosts[item] for item, _ in bucket["items"] if item in hosts] for bucket in value["buckets"]}
+    parents = {
+        bucket["id"]: [hosts[item] for item, _ in bucket["items"] if item in hosts] for bucket in value["buckets"]
+    }
     there = [number for number, own in parents.items() if own]
     if not there:
         raise Fault(f"{name}: no bucket of the map holds hosts")
     meant = None if under is None else number_of(under, names.get("buckets", {}))
     chosen = [number for number in there if under is None or number == meant]
     if len(chosen) != 1:
-        raise Fault(f"{name}: below which bucket? --under one of " + ", ".join(named(names, "buckets", number) for number in there))
+        raise Fault(
+            f"{name}: below which bucket? --under one of "
+            + ", ".join(named(names, "buckets", number) for number in there)
+        )
     return chosen[0], parents[chosen[0]][0]
 
 
 def with_host(value: Map, names: Names, name: str, weights: list[int], under: str | None) -> Map:
-    """The map with a host of new OSDs, which are up and in, of these weights in the CRUSH map, in units of 1/65,536. A fault where it
-    is not said below which bucket the host comes."""
+    """The map with a host of new OSDs, which are up and in, of these weights in the CRUSH map, in units of 1/65,536.
+    A fault where it is not said below which bucket the host comes.
+    """
     way, host = below_which(value, names, name, under)
-    buckets = {bucket["id"]: altered(bucket, items=[list(item) for item in bucket["items"]]) for bucket in value["buckets"]}
+    buckets = {
+        bucket["id"]: altered(bucket, items=[list(item) for item in bucket["items"]]) for bucket in value["buckets"]
+    }
     known = [osd["id"] for osd in value["osds"]] + [item for bucket in buckets.values() for item, _ in bucket["items"]]
     first, total = max(known) + 1, sum(weights)
     items = [[first + at, own] for at, own in enumerate(weights)]
     new: Bucket = {"id": min(buckets) - 1, "items": items, "kind": host["kind"], "type": host["type"]}
     buckets[way]["items"].append([new["id"], total])
-    while (above := next((bucket for bucket in buckets.values() if way in [item for item, _ in bucket["items"]]), None)) is not None:
+    while (
+        above := next((bucket for bucket in buckets.values() if way in [item for item, _ in bucket["items"]]), None)
+    ) is not None:
         for item in above["items"]:
             item[1] += total if item[0] == way else 0
         way = above["id"]
     osds = value["osds"] + [{"exists": True, "id": osd, "up": True, "weight": 65536} for osd, _ in new["items"]]
-    return altered(value, buckets=[*buckets.values(), new], osds=osds, max_osd=max(value["max_osd"], first + len(weights)))
+    return altered(
+        value, buckets=[*buckets.values(), new], osds=osds, max_osd=max(value["max_osd"], first + len(weights))
+    )
 
 
 def fullest_words(found: Flows) -> str:
@@ -239,19 +282,28 @@ def lines(found: Flows, most: int = 20) -> list[str]:
     told = [f"{found['groups']} groups and {found['places']} places move; {fullest_words(found)}"]
     told += [f"{count} from osd.{was} to osd.{now}" for was, now, count in found["flows"][:most]]
     if len(found["flows"]) > most:
-        told.append(f"and {sum(flow[2] for flow in found['flows'][most:])} more, between {len(found['flows']) - most} pairs of OSDs")
+        told.append(
+            f"and {sum(flow[2] for flow in found['flows'][most:])} more, between {len(found['flows']) - most} pairs "
+            f"of OSDs"
+        )
     told += [f"pool {pool} is not balanced: {why}" for pool, why in found["unbalanced"]]
     short = found["short"]
-    return told + ([f"{len(short)} groups have fewer places than their pool's size: " + ", ".join(short[:10])] if short
-                   else ["no group has fewer places than its pool's size"])
+    return told + (
+        [f"{len(short)} groups have fewer places than their pool's size: " + ", ".join(short[:10])]
+        if short
+        else ["no group has fewer places than its pool's size"]
+    )
 
 
 def level_of(value: Map, names: Names, word: str) -> int:
-    """The type of buckets that a word names, by its name or its number. A fault that lists the types there are where it is none of
-    the map's."""
+    """The type of buckets that a word names, by its name or its number. A fault that lists the types there are where
+    it is none of the map's.
+    """
     types = names.get("types", {})
     named_so = next((int(number) for number, name in types.items() if name == word), None)
-    level, there = number_of(word, {}) if named_so is None else named_so, sorted({bucket["type"] for bucket in value["buckets"]})
+    level, there = number_of(word, {}) if named_so is None else named_so, sorted(
+        {bucket["type"] for bucket in value["buckets"]}
+    )
     if level is None or level not in there:
         known = [f"{number} ({types[str(number)]})" if str(number) in types else str(number) for number in there]
         raise Fault(f"{word}: no type of the map's buckets; there are " + ", ".join(known))
@@ -259,7 +311,9 @@ def level_of(value: Map, names: Names, word: str) -> int:
 
 
 def drill(whole: Whole, options: Options) -> None:
-    """Tells what each bucket of a type would move if it went out, one after the other: a line each, or a list as JSON."""
+    """Tells what each bucket of a type would move if it went out, one after the other: a line each, or a list as
+    JSON.
+    """
     value, names = whole.tree, whole.names
     level, there = level_of(value, names, options.each), {osd["id"] for osd in value["osds"] if osd["exists"]}
     rows = []
@@ -270,16 +324,23 @@ def drill(whole: Whole, options: Options) -> None:
         rows.append({"id": bucket["id"], "name": name, **found})
         if not options.json:
             unbalanced = "".join(f"; pool {pool} is not balanced: {why}" for pool, why in found["unbalanced"])
-            print(f"{name}: {found['groups']} groups and {found['places']} places move; {fullest_words(found)}; "
-                  f"{len(found['short'])} groups short{unbalanced}")
+            print(
+                f"{name}: {found['groups']} groups and {found['places']} places move; {fullest_words(found)}; "
+                f"{len(found['short'])} groups short{unbalanced}"
+            )
     if options.json:
         print(json.dumps(rows, indent=1))
 
 
 def check_together(options: Options) -> None:
     """An error of use where options stand together of which one would be passed over."""
-    parts = {"CHANGE": options.change, "--out": options.out, "--in": getattr(options, "in"), "--down": options.down,
-             "--reweight": options.reweight}
+    parts = {
+        "CHANGE": options.change,
+        "--out": options.out,
+        "--in": getattr(options, "in"),
+        "--down": options.down,
+        "--reweight": options.reweight,
+    }
     if options.each is not None:
         parts.update({"--add-host": options.add_host, "--picture": options.picture})
     given = [name for name, value in parts.items() if value not in (None, [])]
@@ -290,8 +351,9 @@ def check_together(options: Options) -> None:
 
 
 def files_and_change(words: list[str]) -> tuple[list[str], Change | None]:
-    """The files that words name, and the change behind them if there is one: a last word that is no file. An error of use where it is no
-    change either, or where there are more words."""
+    """The files that words name, and the change behind them if there is one: a last word that is no file. An error
+    of use where it is no change either, or where there are more words.
+    """
     is_change = len(words) > 1 and words[-1] != "-" and not os.path.exists(words[-1])
     files = words[:-1] if is_change else words
     if len(files) > 2:
@@ -327,14 +389,33 @@ def work(options: Options) -> None:
 def add_to(commands: Commands) -> None:
     """The subcommand."""
     own = commands.add_parser("whatif", help="what moves if a change is made", description=__doc__)
-    own.usage = usage("[CHANGE | --add-host NAME WEIGHTS [--under BUCKET] | --each TYPE]", *(f"[--{word} OSD|BUCKET].." for word in ("out", "in", "down")),
-                      "[--reweight OSD|BUCKET W]..", "[--balance]", "[--json]", "[--picture FILE]")
-    own.add_argument("words", metavar=f"{FILES} [CHANGE]", nargs="+", help=f"{ABOUT_FILES}; behind them a change as JSON, without its base or "
-                     "with it")
+    own.usage = usage(
+        "[CHANGE | --add-host NAME WEIGHTS [--under BUCKET] | --each TYPE]",
+        *(f"[--{word} OSD|BUCKET].." for word in ("out", "in", "down")),
+        "[--reweight OSD|BUCKET W]..",
+        "[--balance]",
+        "[--json]",
+        "[--picture FILE]",
+    )
+    own.add_argument(
+        "words",
+        metavar=f"{FILES} [CHANGE]",
+        nargs="+",
+        help=f"{ABOUT_FILES}; behind them a change as JSON, without its base or " "with it",
+    )
     for word, about in (("out", "takes no groups"), ("in", "takes its whole share again"), ("down", "is down")):
-        own.add_argument(f"--{word}", metavar="OSD|BUCKET", action="append", default=[], help=f"it {about}; as often as wanted")
-    own.add_argument("--reweight", metavar=("OSD|BUCKET", "W"), nargs=2, action="append", default=[], help="its reweight, 0 to 1")
-    own.add_argument("--add-host", metavar=("NAME", "WEIGHTS"), nargs=2, help="instead: a host with new OSDs of these weights, as 1,1,2.5")
+        own.add_argument(
+            f"--{word}", metavar="OSD|BUCKET", action="append", default=[], help=f"it {about}; as often as wanted"
+        )
+    own.add_argument(
+        "--reweight", metavar=("OSD|BUCKET", "W"), nargs=2, action="append", default=[], help="its reweight, 0 to 1"
+    )
+    own.add_argument(
+        "--add-host",
+        metavar=("NAME", "WEIGHTS"),
+        nargs=2,
+        help="instead: a host with new OSDs of these weights, as 1,1,2.5",
+    )
     own.add_argument("--under", metavar="BUCKET", help="the bucket below which the host comes")
     own.add_argument("--each", metavar="TYPE", help="instead: each bucket of this type out, in turn")
     own.add_argument("--balance", action="store_true", help="each pool is balanced after the change")

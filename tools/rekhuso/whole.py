@@ -1,4 +1,6 @@
-"""What a command works on: the map of a file, or a cluster of two dumps, which may take several maps and is told as one."""
+"""What a command works on: the map of a file, or a cluster of two dumps, which may take several maps and is told as
+one.
+"""
 
 from __future__ import annotations
 
@@ -16,18 +18,29 @@ from .shares import Shares
 from .texts import json_of, names_in, text_of
 
 FILES = "MAP | OSD_DUMP CRUSH_DUMP"
-ABOUT_FILES = ("a map, as `import` writes it (- is standard input); or the two dumps of a cluster, what `ceph osd dump -f json` and `ceph osd "
-               "crush dump` print")
-NO_PLAN = ("no plan: a compat weight set (choose_args) is in force, so a plan by its weights would undo what it was tuned for, and one by the "
-           "weights themselves would start from sets that are not there. Turn Ceph's balancer off, take the set away by "
-           "`ceph osd crush weight-set rm-compat`, which moves data, and dump again")
+ABOUT_FILES = (
+    "a map, as `import` writes it (- is standard input); or the two dumps of a cluster, what `ceph osd dump -f json` "
+    "and `ceph osd "
+    "crush dump` print"
+)
+NO_PLAN = (
+    "no plan: a compat weight set (choose_args) is in force, so a plan by its weights would undo what it was tuned "
+    "for, and one by the "
+    "weights themselves would start from sets that are not there. Turn Ceph's balancer off, take the set away by "
+    "`ceph osd crush weight-set rm-compat`, which moves data, and dump again"
+)
 
 
 class Files(argparse.Action):
     """One file or two; an error of use where there are more."""
 
-    def __call__(self, parser: argparse.ArgumentParser, namespace: argparse.Namespace, values: str | Sequence[object] | None,
-                 option: str | None = None) -> None:
+    def __call__(
+        self,
+        parser: argparse.ArgumentParser,
+        namespace: argparse.Namespace,
+        values: str | Sequence[object] | None,
+        option: str | None = None,
+    ) -> None:
         """Keeps the words, or ends the command with status 2."""
         if values is not None and len(values) > 2:
             parser.error(f"{parser.prog.split(' ')[-1]} takes one map, or two dumps")
@@ -37,7 +50,10 @@ class Files(argparse.Action):
 def usage(*words: str) -> str:
     """The use of a command with its own words, a line for each form: over a map, and over two dumps."""
     own = " ".join([*words, "[--names FILE]"])
-    return f"%(prog)s MAP {own}\n       %(prog)s OSD_DUMP CRUSH_DUMP {own} [--pools ID|NAME,..] [--tree FILE] [--unmatched]"
+    return (
+        f"%(prog)s MAP {own}\n       %(prog)s OSD_DUMP CRUSH_DUMP {own} [--pools ID|NAME,..] [--tree FILE] "
+        f"[--unmatched]"
+    )
 
 
 def add_map_files(own: Parser) -> None:
@@ -59,23 +75,33 @@ def add_names(own: Parser) -> None:
 
 
 class Whole:
-    """The maps of a cluster, or one map; the tree that is shown of it; its names; and the maps as its shares are reckoned, whose weights
-    are the buckets' own also where a weight set is in force."""
+    """The maps of a cluster, or one map; the tree that is shown of it; its names; and the maps as its shares are
+    reckoned, whose weights are the buckets' own also where a weight set is in force.
+    """
 
     def __init__(self, maps: list[Map], names: Names, found: Brought | None = None) -> None:
         """Of one map, or of a cluster's maps."""
         self.maps, self.names, self.found = maps, names, found
-        self.pools: list[Pool] = sorted((pool for value in maps for pool in value["pools"]), key=lambda pool: int(pool["id"]))
+        self.pools: list[Pool] = sorted(
+            (pool for value in maps for pool in value["pools"]), key=lambda pool: int(pool["id"])
+        )
         self.tree, self.is_cluster = self.tree_of(found.cluster) if found else maps[0], found is not None
         self.weighed = [own_weights(part, value) for part, value in zip(found.parts, maps)] if found else maps
 
     def tree_of(self, cluster: Cluster) -> Map:
-        """The cluster as one value: the buckets that are no shadows of device classes, each item once and with its own weight, also those
-        of weight 0; all OSDs, pools and rules."""
+        """The cluster as one value: the buckets that are no shadows of device classes, each item once and with its
+        own weight, also those of weight 0; all OSDs, pools and rules.
+        """
         osds = {osd["id"]: osd for value in self.maps for osd in value["osds"]}
         rules = {rule["id"]: rule for value in self.maps for rule in value["rules"]}
-        return {"buckets": cluster.shown(), "epoch": cluster.epoch, "osds": list(osds.values()), "pools": self.pools,
-                "rules": [rules[number] for number in sorted(rules)], "max_osd": max(value["max_osd"] for value in self.maps)}
+        return {
+            "buckets": cluster.shown(),
+            "epoch": cluster.epoch,
+            "osds": list(osds.values()),
+            "pools": self.pools,
+            "rules": [rules[number] for number in sorted(rules)],
+            "max_osd": max(value["max_osd"] for value in self.maps),
+        }
 
     def named_tree(self) -> Map:
         """The tree with every bucket of the maps beside it, in which words are looked up."""
@@ -118,19 +144,34 @@ def own_weights(part: Cluster, value: Map) -> Map:
 
 
 def tree_in(path: str | None) -> list[Bucket] | None:
-    """The cluster's tree in a file of names, where `import` has put one; a fault where it has another form. None of standard input, which
-    was read for the names."""
+    """The cluster's tree in a file of names, where `import` has put one; a fault where it has another form. None of
+    standard input, which was read for the names.
+    """
     tree = None if path in (None, "-") else json_of(str(path)).get("tree")
     if tree is None:
         return None
-    form = listed(keyed({"id": number(-2 ** 31, -1), "type": number(1, 15), "kind": word("uniform", "list", "tree", "straw", "straw2"),
-                         "items": listed(tupled(number(-2 ** 31, 2 ** 31), number(0, 2 ** 32 - 1)), 0, 2 ** 20)}), 0, 2 ** 20)
+    form = listed(
+        keyed(
+            {
+                "id": number(-(2**31), -1),
+                "type": number(1, 15),
+                "kind": word("uniform", "list", "tree", "straw", "straw2"),
+                "items": listed(tupled(number(-(2**31), 2**31), number(0, 2**32 - 1)), 0, 2**20),
+            }
+        ),
+        0,
+        2**20,
+    )
     faults = list(form(tree, "tree"))
     if faults:
         raise Fault(f"{path}: {faults[0].path}: {faults[0].why}")
     types = {bucket["id"]: bucket["type"] for bucket in tree}
     items = [(item, bucket["type"]) for bucket in tree for item, _ in bucket["items"]]
-    if len(types) < len(tree) or len(dict(items)) < len(items) or any(item < 0 and types.get(item, 16) >= above for item, above in items):
+    if (
+        len(types) < len(tree)
+        or len(dict(items)) < len(items)
+        or any(item < 0 and types.get(item, 16) >= above for item, above in items)
+    ):
         raise Fault(f"{path}: tree: its buckets are no forest")
     found: list[Bucket] = tree
     return found
@@ -144,25 +185,35 @@ def below_tree(value: Map, tree: list[Bucket]) -> dict[int, int] | None:
 
 
 def has_other_weights(value: Map, tree: list[Bucket] | None) -> bool:
-    """Whether a map has another weight for an OSD than the tree of its cluster, in which it weighs something: that of a weight set."""
+    """Whether a map has another weight for an OSD than the tree of its cluster, in which it weighs something: that
+    of a weight set.
+    """
     weights = {item: weight for bucket in tree or [] for item, weight in bucket["items"] if item >= 0}
-    return any(weights.get(item, weight) not in (0, weight) for bucket in value["buckets"] for item, weight in bucket["items"])
+    return any(
+        weights.get(item, weight) not in (0, weight) for bucket in value["buckets"] for item, weight in bucket["items"]
+    )
 
 
 def under_tree(value: Map, names: Names, tree: list[Bucket] | None) -> Whole:
-    """A map under the tree of the cluster from which it comes, where that is known and has all its OSDs: what weighs 0 stands there, and
-    shares go by the weights that it has."""
+    """A map under the tree of the cluster from which it comes, where that is known and has all its OSDs: what weighs
+    0 stands there, and shares go by the weights that it has.
+    """
     weights = below_tree(value, tree) if tree is not None else None
     if tree is None or weights is None:
         return Whole([value], names)
-    buckets = [altered(bucket, items=[[item, weights.get(item, weight)] for item, weight in bucket["items"]]) for bucket in value["buckets"]]
+    buckets = [
+        altered(bucket, items=[[item, weights.get(item, weight)] for item, weight in bucket["items"]])
+        for bucket in value["buckets"]
+    ]
     whole = Whole([value], names)
     whole.tree, whole.weighed, whole.is_cluster = altered(value, buckets=tree), [altered(value, buckets=buckets)], True
     return whole
 
 
 def whole_of(files: list[str], options: Options) -> Whole:
-    """What the files of a command are: one map, or the maps of a cluster. A fault where a map is not lawful, or the cluster stays out."""
+    """What the files of a command are: one map, or the maps of a cluster. A fault where a map is not lawful, or the
+    cluster stays out.
+    """
     if len(files) == 2:
         return cluster_of(files, options)
     check_options(options)
