@@ -148,6 +148,28 @@ def test_plans(tools):
         assert error.startswith("no pool "), error
 
 
+def test_groups_with_an_empty_place(tools):
+    """A plan leaves groups of which Ceph has a set with an empty place as they are, since its monitor takes their pairs away again (found by
+    osdmaptool --upmap-cleanup 16.2.15), and tells how many it would have moved."""
+    files, sets = dumps(tools, DRAINED), STOCK[DRAINED]["up"]
+    output, error = ran(tools, "plan", *files)
+    told = {pool["id"]: pool for pool in json.loads(ran(tools, "plan", *files, "--json")[0])["pools"]}
+    empty = {group for group, (places, _) in sets.items() if {None, 2147483647} & set(places)}
+    moved = {line.split(" ")[3] for line in output.splitlines()}
+    assert len(empty) > 20 and moved and not moved & empty, moved & empty
+    left = set(told[3]["left_out"])
+    assert left and left <= empty and not told[2]["left_out"], left
+    line = next(line for line in error.splitlines() if line.startswith("pool 3: "))
+    assert f"; {len(left)} groups with an empty place are left out" in line, line
+    value = next(value for value in maps_of(tools, DRAINED).values() if any(pool["id"] == 3 for pool in value["pools"]))
+    after = stock.sets(tools, clusters.with_commands(value, output.splitlines()))
+    counts = dict.fromkeys((osd["id"] for osd in value["osds"]), 0)
+    for group in (group for group in after if group.startswith("3.")):
+        for osd in json.loads(after[group].split(" ")[0].replace("none", "null")):
+            counts.update({osd: counts[osd] + 1} if osd is not None else {})
+    assert told[3]["after"]["greatest"] == max(counts.values()), (told[3], counts)
+
+
 def test_options_that_do_not_go_together(tools):
     """Options for dumps beside a map are an error of use, and so are three files."""
     path = tools.put("m", stock.brought(tools, "001-three-hosts")[0])

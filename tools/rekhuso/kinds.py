@@ -277,6 +277,7 @@ class PlanParts(TypedDict):
     refused: str | None
     moves_within: int | None
     moves_whole: int | None
+    left_out: list[str]
     before: PoolSpread
     after: PoolSpread
 

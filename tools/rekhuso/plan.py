@@ -38,13 +38,14 @@ class Cluster(NamedTuple):
 
 class Plan(NamedTuple):
     """What a pool's plan is: its moves or why there are none, those that --deviation asks for (None where no number
-    of them suffices), and those of the whole plan.
+    of them suffices), those of the whole plan, and the groups whose moves are left out.
     """
 
     moves: int
     refusal: str = ""
     wanted: int | None = None
     whole: int | None = None
+    left: tuple[str, ...] = ()
 
 
 class Told(NamedTuple):
@@ -131,6 +132,14 @@ def taken_back(session: Session, old: Map, groups: list[str]) -> None:
     session.change(old_items=gone, new_items=come)
 
 
+def without(plan: Plan, pairs: Pairs, left: list[str]) -> Plan:
+    """A pool's plan without the moves of groups that are left out, where these are the pairs that it appends to each
+    group.
+    """
+    own = [group for group in pairs if group in left]
+    return plan._replace(moves=plan.moves - sum(len(pairs[group]) for group in own), left=tuple(own))
+
+
 def shortened(session: Session, value: Map, shares: Shares, pools: list[Pool], options: Options) -> dict[int, Plan]:
     """Commits of each pool's plan as many moves as bring every candidate within the deviation that is asked for, at
     most --max. A fault where the program's plan is another than its whole plan's beginning.
@@ -211,6 +220,7 @@ def pool_parts(pool: Pool, name: str, plan: Plan, before: Shares, after: dict[st
         "refused": plan.refusal or None,
         "moves_within": plan.wanted,
         "moves_whole": plan.whole,
+        "left_out": list(plan.left),
         "before": was,
         "after": spread(weights, counts),
     }
@@ -223,12 +233,30 @@ def pool_words(parts: PlanParts, plan: Plan, options: Options) -> str:
     return (
         f"{plan.moves} moves of {parts['groups']} groups{length_words(plan, options)}; before "
         f"{spread_words(parts['before'])}; "
-        f"after {spread_words(parts['after'])}"
+        f"after {spread_words(parts['after'])}{left_words(plan)}"
     )
 
 
+def left_words(plan: Plan) -> str:
+    """How many groups are left out, and why, where some are."""
+    if not plan.left:
+        return ""
+    count = (
+        "1 group with an empty place is" if len(plan.left) == 1 else f"{len(plan.left)} groups with an empty place are"
+    )
+    return f"; {count} left out, as Ceph's monitor takes pairs of such a group away again"
+
+
+def with_empty_places(session: Session, groups: list[str]) -> list[str]:
+    """Those of some groups whose sets have an empty place, as long as all OSDs are up. Ceph's monitor takes pairs of
+    such a group away again: the empty place counts as an OSD that stands outside the rule's tree (Ceph 16.2,
+    CrushWrapper.cc `verify_upmap`).
+    """
+    return [group for group, up in session.ups(groups).items() if None in up.places]
+
+
 def planned(session: Session, cluster: Cluster, pools: list[Pool], options: Options) -> Told:
-    """The plans of some pools; tells on standard error what they are."""
+    """The plans of some pools, without groups that have an empty place; tells on standard error what they are."""
     part = altered(cluster.value, pools=pools)
     before = Shares(part, session.ups(groups_of(part)))
     if options.deviation is None:
@@ -236,17 +264,21 @@ def planned(session: Session, cluster: Cluster, pools: list[Pool], options: Opti
     else:
         plans = shortened(session, cluster.value, before, pools, options)
     new, found = session.dump(), []
+    ups = session.ups(changed(cluster.value, new))
+    lines = commands(cluster.value, settled(session, new), cluster.kept)
+    left = with_empty_places(session, list(ups))
     after: dict[int, dict[str, Up]] = {pool["id"]: {} for pool in pools}
-    for group, up in session.ups(changed(cluster.value, new)).items():
-        after[place_of(group)[0]][group] = up
+    for group in ups.keys() - set(left):
+        after[place_of(group)[0]][group] = ups[group]
     for pool in pools:
-        plan, name = plans[pool["id"]], named(cluster.names if options.names else {}, "pools", pool["id"])
+        plan = without(plans[pool["id"]], appended(cluster.value, new, pool["id"]), left)
+        name = named(cluster.names if options.names else {}, "pools", pool["id"])
         if plan.refusal and options.pool:
             raise Fault(f"{name}: {plan.refusal}")
         parts = pool_parts(pool, named(cluster.names, "pools", pool["id"]), plan, before, after[pool["id"]])
         print(f"{name}: {pool_words(parts, plan, options)}", file=sys.stderr)
         found.append(parts)
-    return Told(cluster.value["epoch"], commands(cluster.value, settled(session, new), cluster.kept), found)
+    return Told(cluster.value["epoch"], [line for line in lines if line.split(" ")[3] not in left], found)
 
 
 def work(options: Options) -> None:
