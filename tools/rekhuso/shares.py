@@ -104,7 +104,7 @@ class Shares:
             "state": self.state(osd),
             "groups": groups,
             "share": round(wanted, 2),
-            "deviation": round(groups - wanted, 2),
+            "deviation": round(groups - wanted, 2) + 0.0,
         }
 
     def below(self, number: int) -> list[int]:
