@@ -15,12 +15,13 @@ BENCHES = placements tables steps sessions live balancer reading cliffs tools
 
 help:
 	@echo 'make try    the example answered before any proof, by a program built with checks in place of proofs, which is not kept'
-	@echo '            MAP=my.json SCRIPT=my.txt answers yours; SCRIPT=/dev/stdin what you type, once you have ended it (Ctrl-D)'
+	@echo '            MAP=my.json SCRIPT=my.txt runs your map and script once; SCRIPT=/dev/stdin reads what you type up to Ctrl-D'
 	@echo 'make run    the program proved and built, then the example answered by it (slow the first time: every proof below it)'
 	@echo '            MAP= and SCRIPT= as above; CPU=x86-64-v3 (or another of LLVM) builds it for that processor'
-	@echo 'make test   the gate: every proof from nothing, the edits that must not prove, the tests, then runs of the built program'
+	@echo 'make test   the gate: every proof (from nothing the first time, later only what changed), the edits that must not prove,'
+	@echo '            the tests, then runs of the built program'
 	@echo 'make gate   the gate without the runs'
-	@echo 'make runs   the runs of the built program alone (a minute or two)'
+	@echo 'make runs   the runs of the built program alone (four to five minutes)'
 	@echo 'make bench  what the built program costs, as tables: placements beside plain C (cc, and valgrind for instructions), table, sessions, balancer, reading, tools for operators'
 	@echo '            OTHER=/another/osdmapd measures another build of it beside'
 
