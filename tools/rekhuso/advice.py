@@ -6,6 +6,7 @@ import re
 from typing import NamedTuple
 
 from .cluster import some
+from .forms import ITEMS, PLAIN, STOCK
 from .outside import FEW
 
 
@@ -19,22 +20,30 @@ class Advice(NamedTuple):
     many: str = ""
 
 
-POOLS, AGAIN = "--pools takes the other pools", "no monitor dumps it so: take both dumps again"
+POOLS, SOME = "--pools takes the other pools", "--pools takes some pools at a time"
+AGAIN = "no monitor dumps it so: take both dumps again"
+# What keeps a cluster out whose maps have no straw2 bucket.
+BARE = "only a map with straw2 buckets holds more"
 KINDS = (
-    Advice(
-        r"^bucket (.+) has \d+ items, more than",
-        "no map holds so many; --pools takes pools whose rules do not reach it",
-        "{count} buckets have more than 64 items: {names}",
+    *(
+        Advice(
+            rf"^bucket (.+) has \d+ items, more than {most}$",
+            f"{why}; --pools takes pools whose rules do not reach it",
+            f"{{count}} buckets have more than {most} items: {{names}}",
+        )
+        for most, why in ((ITEMS, "only a straw2 bucket holds more in a map"), (STOCK.items, "no map holds so many"))
     ),
     Advice(
         r"^bucket (.+): the weight of .+ is 0$",
         "no map holds it; `ceph osd crush reweight` gives it a weight",
         "{count} items of buckets that are not straw2 have the weight 0: in {names}",
     ),
+    Advice(rf"^pool (\d+) has \d+ groups, more than {PLAIN.groups}$", f"{BARE}; {POOLS}"),
     Advice(r"^pool (\d+) has (?:\d+ groups|size \d+), more than", f"no map holds it; {POOLS}"),
+    Advice(rf"^\d+ buckets that pools use, more than {PLAIN.buckets}$", f"{BARE}; {SOME}"),
     Advice(
-        r"^\d+ (?:pools|buckets that pools use|rules that pools use), more than",
-        "no map holds so many; --pools takes some pools at a time",
+        r"^\d+ (?:pools|buckets that pools use|rules that pools use), more than| groups together, more than",
+        f"no map holds so many; {SOME}",
     ),
     Advice(
         r"straw buckets?, as ", "`ceph osd crush set-all-straw-buckets-to-straw2` makes them straw2 (Nautilus or later)"

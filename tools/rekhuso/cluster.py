@@ -7,7 +7,7 @@ from __future__ import annotations
 from functools import cached_property
 from typing import Callable
 
-from .forms import GROUP, TRIES
+from .forms import GROUP, ITEMS, TRIES, Limits, limits_of
 from .kinds import (
     Bucket,
     CrushDump,
@@ -27,16 +27,8 @@ from .shapes import WEIGHT_SET, misfits
 
 HASHPSPOOL = 1
 KINDS = {1: "replicated", 3: "erasure"}
-GREATEST = {
-    "pools": 32,
-    "rules": 32,
-    "buckets": 512,
-    "items": 64,
-    "osds": 1024,
-    "size": 10,
-    "groups": 4096,
-    "pool": 65535,
-}
+# What a map has at most, whatever its buckets are; the other limits are in `forms`.
+GREATEST = {"pools": 32, "rules": 32, "osds": 1024, "size": 10, "pool": 65535}
 
 
 def listed(words: list[str]) -> str:
@@ -149,6 +141,17 @@ class Cluster:
         return steps
 
     # Buckets and what they hold
+
+    @cached_property
+    def limits(self) -> Limits:
+        """The limits of its maps: those of stock clusters where a map has a straw2 bucket, by which alone the program
+        is told to read it so.
+        """
+        return limits_of(any(self.buckets[number]["alg"] == "straw2" for number in self.kept))
+
+    def most_items(self, bucket: DumpBucket) -> int:
+        """How many items a bucket has at most in a map."""
+        return self.limits.items if bucket["alg"] == "straw2" else ITEMS
 
     def weights(self, bucket: DumpBucket) -> list[int]:
         """The weights by which a bucket picks: its own, or those of a weight set in force, which straw2 buckets

@@ -35,6 +35,25 @@ GROUP = re.compile(r"(0|[1-9][0-9]*)\.(0|[1-9a-f][0-9a-f]*)")
 KINDS = ("replicated", "erasure")
 
 
+class Limits(NamedTuple):
+    """What a map may have at most that has other limits under `--stock`: groups of a pool and of all pools, entries of
+    a list, items of a straw2 bucket, and buckets.
+    """
+
+    groups: int
+    total: int
+    entries: int
+    items: int
+    buckets: int
+
+
+# A plain map has no straw2 bucket, and its 32 pools never reach the total.
+PLAIN = Limits(groups=4096, total=262144, entries=131072, items=64, buckets=512)
+STOCK = Limits(groups=65536, total=262144, entries=262144, items=1024, buckets=4096)
+# The items of a bucket of another kind.
+ITEMS = 64
+
+
 class Place(NamedTuple):
     """A place that is at fault: the number of the refusal, the path to the place, and why."""
 
@@ -178,35 +197,72 @@ def item_id(value: object, path: str) -> Places:
     yield from number(-65536, 1023)(value, path)
 
 
+def limits_of(is_stock: bool) -> Limits:
+    """The limits under `--stock`, or without it."""
+    return STOCK if is_stock else PLAIN
+
+
+def bucket(is_stock: bool) -> Form:
+    """A bucket; of kind straw2 under `--stock` alone, where it may have more items."""
+    kinds, wide = ("uniform", "list", "tree") + (("straw2",) if is_stock else ()), limits_of(is_stock).items
+    plain, straw2 = (
+        keyed(
+            {
+                "id": number(-65536, -1),
+                "type": number(1, 15),
+                "kind": word(*kinds),
+                "items": listed(tupled(item_id, number(1, 2**32 - 1)), 1, most),
+            }
+        )
+        for most in (ITEMS, wide)
+    )
+
+    def form(value: object, path: str) -> Places:
+        """What is wrong with a value as such a bucket."""
+        is_wide = isinstance(value, dict) and value.get("kind") == "straw2"
+        yield from (straw2 if is_wide else plain)(value, path)
+
+    return form
+
+
 def buckets(is_stock: bool) -> Form:
-    """The buckets of a map; under `--stock` of kind straw2 too."""
-    kinds = ("uniform", "list", "tree", "straw2") if is_stock else ("uniform", "list", "tree")
-    bucket = keyed(
+    """The buckets of a map."""
+    return listed(bucket(is_stock), 1, limits_of(is_stock).buckets)
+
+
+def pool(limits: Limits) -> Form:
+    """A pool."""
+    return keyed(
         {
-            "id": number(-65536, -1),
-            "type": number(1, 15),
-            "kind": word(*kinds),
-            "items": listed(tupled(item_id, number(1, 2**32 - 1)), 1, 64),
+            "id": number(1, 65535),
+            "kind": word(*KINDS),
+            "pg_num": number(1, limits.groups),
+            "pgp_num": number(1, limits.groups),
+            "rule": number(0, 255),
+            "size": number(1, 10),
         }
     )
-    return listed(bucket, 1, 512)
 
 
-POOL = keyed(
-    {
-        "id": number(1, 65535),
-        "kind": word(*KINDS),
-        "pg_num": number(1, 4096),
-        "pgp_num": number(1, 4096),
-        "rule": number(0, 255),
-        "size": number(1, 10),
-    }
-)
+def pools(limits: Limits) -> Form:
+    """The pools of a map, with the groups of all of them."""
+    single = listed(pool(limits), 0, 32)
+
+    def form(value: object, path: str) -> Places:
+        """What is wrong with a value as such pools; their groups are added up where nothing else is."""
+        found = list(single(value, path))
+        yield from found
+        total = sum(own["pg_num"] for own in value) if isinstance(value, list) and not found else 0
+        if total > limits.total:
+            yield Place(12, path, f"{total:,} groups in all pools, at most {limits.total:,}")
+
+    return form
+
+
 OSD = keyed({"id": number(0, 1023), "exists": flag, "up": flag, "weight": number(0, 65536)})
 OSD_ID = number(0, 1023)
 EXPLICIT = tupled(group, listed(OSD_ID, 0, 10))
 PAIRS = tupled(group, listed(tupled(OSD_ID, OSD_ID), 0, 10))
-MOST = 131072
 
 
 def rules(has_tries: bool) -> Form:
@@ -216,6 +272,7 @@ def rules(has_tries: bool) -> Form:
 
 def map_form(has_tries: bool, is_stock: bool) -> Form:
     """A map."""
+    limits = limits_of(is_stock)
     return keyed(
         {
             "version": number(1, 2),
@@ -223,29 +280,31 @@ def map_form(has_tries: bool, is_stock: bool) -> Form:
             "max_osd": number(1, 1024),
             "buckets": buckets(is_stock),
             "rules": rules(has_tries),
-            "pools": listed(POOL, 0, 32),
+            "pools": pools(limits),
             "osds": listed(OSD, 0, 2**63),
         },
-        {"pg_upmap": listed(EXPLICIT, 0, MOST), "pg_upmap_items": listed(PAIRS, 0, MOST)},
+        {"pg_upmap": listed(EXPLICIT, 0, limits.entries), "pg_upmap_items": listed(PAIRS, 0, limits.entries)},
     )
 
 
 def change_form(is_stock: bool) -> Form:
     """A change."""
+    limits = limits_of(is_stock)
+    groups, most = number(1, limits.groups), limits.entries
     crush = keyed({"buckets": buckets(is_stock), "rules": rules(True)})
     return keyed(
         {"base": number(0, 2**64 - 1)},
         {
-            "old_pools": listed(number(1, 65535), 0, MOST),
+            "old_pools": listed(number(1, 65535), 0, most),
             "new_crush": crush,
-            "new_pools": listed(POOL, 0, MOST),
-            "grow_pool": listed(tupled(number(1, 65535), number(1, 4096), number(1, 4096)), 0, MOST),
-            "down": listed(OSD_ID, 0, MOST),
-            "up": listed(OSD_ID, 0, MOST),
-            "weight": listed(tupled(OSD_ID, number(0, 2**32 - 1)), 0, MOST),
-            "old_upmap": listed(group, 0, MOST),
-            "old_items": listed(group, 0, MOST),
-            "new_upmap": listed(EXPLICIT, 0, MOST),
-            "new_items": listed(PAIRS, 0, MOST),
+            "new_pools": listed(pool(limits), 0, most),
+            "grow_pool": listed(tupled(number(1, 65535), groups, groups), 0, most),
+            "down": listed(OSD_ID, 0, most),
+            "up": listed(OSD_ID, 0, most),
+            "weight": listed(tupled(OSD_ID, number(0, 2**32 - 1)), 0, most),
+            "old_upmap": listed(group, 0, most),
+            "old_items": listed(group, 0, most),
+            "new_upmap": listed(EXPLICIT, 0, most),
+            "new_items": listed(PAIRS, 0, most),
         },
     )

@@ -78,9 +78,8 @@ def bucket_reasons(cluster: Cluster) -> list[str]:
             found.append(empty_reason(cluster, number))
         found += range_reason(f"bucket {name} has the id {number}", number, -65536, -1)
         found += range_reason(f"bucket {name} has the type {bucket['type_id']}", bucket["type_id"], 1, 15)
-        found += range_reason(
-            f"bucket {name} has {len(cluster.held[number])} items", len(cluster.held[number]), 0, GREATEST["items"]
-        )
+        count = len(cluster.held[number])
+        found += range_reason(f"bucket {name} has {count} items", count, 0, cluster.most_items(bucket))
         found += weight_reasons(cluster, number) + item_reasons(cluster, number)
     found += [
         f"bucket {cluster.bucket_name(number)} is listed twice in the CRUSH dump"
@@ -88,7 +87,7 @@ def bucket_reasons(cluster: Cluster) -> list[str]:
         if number in cluster.kept
     ]
     return found + range_reason(
-        f"{len(cluster.kept)} buckets that pools use", len(cluster.kept), 0, GREATEST["buckets"]
+        f"{len(cluster.kept)} buckets that pools use", len(cluster.kept), 0, cluster.limits.buckets
     )
 
 
@@ -328,7 +327,7 @@ def pool_reasons(cluster: Cluster) -> list[str]:
     for pool in cluster.pools:
         name, groups, placed = f"pool {pool['pool']}", pool["pg_num"], pool["pg_placement_num"]
         found += pool_rule_reasons(cluster, pool)
-        found += range_reason(f"{name} has {groups} groups", groups, 1, GREATEST["groups"])
+        found += range_reason(f"{name} has {groups} groups", groups, 1, cluster.limits.groups)
         found += range_reason(f"{name} has size {pool['size']}", pool["size"], 1, GREATEST["size"])
         if pool["type"] not in KINDS:
             found.append(f"{name} is of type {pool['type']}, neither replicated (1) nor erasure (3)")
@@ -344,6 +343,19 @@ def pool_reasons(cluster: Cluster) -> list[str]:
         found += range_reason(f"{name} places {placed} groups", placed, 1, max(placed, 1))
     found += [f"pool {number} is listed twice" for number in doubles(pool["pool"] for pool in cluster.pools)]
     return found + range_reason(f"{len(cluster.pools)} pools", len(cluster.pools), 0, GREATEST["pools"])
+
+
+def total_reasons(cluster: Cluster) -> list[str]:
+    """The maps of a cluster whose pools have too many groups together, those aside that have too many alone."""
+    most = cluster.limits
+    sizes = {pool: groups for pool, groups in cluster.sizes.items() if groups <= most.groups}
+    if sum(sizes.values()) <= most.total:
+        return []
+    found = []
+    for pools in cluster.parts():
+        names, total = sorted(pools & sizes.keys()), sum(sizes.get(pool, 0) for pool in pools)
+        found += range_reason(f"pools {some(list(map(str, names)))} have {total} groups together", total, 0, most.total)
+    return found
 
 
 def osd_reasons(cluster: Cluster) -> list[str]:
@@ -526,6 +538,7 @@ def reasons(cluster: Cluster, is_unmatched: bool, is_one: bool = True) -> list[s
         tunable_reasons,
         rule_reasons,
         pool_reasons,
+        total_reasons,
         osd_reasons,
         exception_reasons,
         kept_reasons,

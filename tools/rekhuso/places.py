@@ -5,7 +5,7 @@ from __future__ import annotations
 from collections import Counter
 from typing import Any, Iterable, cast
 
-from .forms import TRIES, Place, Places, change_form, map_form
+from .forms import STOCK, TRIES, Place, Places, change_form, map_form
 from .kinds import Change, Entry, Map, Pool, Rule, Step, entries_of
 from .unlike import place_of
 
@@ -199,13 +199,23 @@ class After:
                 yield Place(15, f"grow_pool[{at}]", f"fewer groups than pool {number} has")
             if placed > groups:
                 yield Place(15, f"grow_pool[{at}][2]", f"{placed}, above pg_num, {groups}")
-        if len(self.pools) > 32:
-            yield Place(15, "new_pools", f"{len(self.pools)} pools after the change, at most 32")
+        yield from self.count_places()
         rules = self.change.get("new_crush", self.value)["rules"]
         stay = [pool for pool in self.kept.values() if "new_crush" in self.change]
         for place in pool_places(stay, rules, "the map's pools"):
             yield place
         yield from pool_places(self.change.get("new_pools", []), rules, "new_pools")
+
+    def count_places(self) -> Places:
+        """More pools, or more groups in all of them, than a map has; the groups of a pool that comes twice are not
+        added up.
+        """
+        if len(self.pools) > 32:
+            yield Place(15, "new_pools", f"{len(self.pools)} pools after the change, at most 32")
+        total, new = sum(self.sizes.values()), [pool["id"] for pool in self.change.get("new_pools", [])]
+        if total > STOCK.total and len(set(new)) == len(new):
+            path = "new_pools" if new else "grow_pool"
+            yield Place(15, path, f"{total:,} groups in all pools after the change, at most {STOCK.total:,}")
 
     def group_places(self) -> Places:
         """Groups that are not there, and exceptions that break their form."""
