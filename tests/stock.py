@@ -89,6 +89,25 @@ def maps_of(tools, name, *words):
     return {path.name: json.loads(path.read_text()) for path in sorted(folder.iterdir())}
 
 
+# Clusters that a map holds by the wider limits of stock clusters alone: the most that each has of them, and its maps.
+WIDE = {"021-flat-root": ("items of a bucket", 97, ["pools-1,2.json"]), "026-large-pool": ("groups of a pool", 8192, ["pools-1,2.json"]),
+        "027-dense-hosts": ("items of a bucket", 84, ["pools-1.json", "pools-2,3.json"]),
+        "028-many-buckets": ("buckets", 630, ["pools-1.json", "pools-2,3.json"])}
+
+
+def test_wide_clusters(tools):
+    """Every up set of a cluster that has more items, groups or buckets than a plain map is Ceph's, in one map or in two."""
+    for name, (what, most, files) in WIDE.items():
+        own = STOCK[name]
+        counts = {"items of a bucket": max(len(bucket["items"]) for bucket in own["crush_dump"]["buckets"]),
+                  "groups of a pool": max(pool["pg_num"] for pool in own["osd_dump"]["pools"]), "buckets": len(own["crush_dump"]["buckets"])}
+        assert counts[what] == most and len(own["up"]) == sum(pool["pg_num"] for pool in own["osd_dump"]["pools"]), (name, counts)
+        maps = maps_of(tools, name)
+        assert sorted(maps) == files, (name, sorted(maps))
+        is_ceph(tools, name, maps.values())
+        assert ran(tools, "import", *dumps(tools, name), "--check")[0].startswith("the cluster comes in"), name
+
+
 def test_weights_of_zero(tools):
     """Clusters with OSDs and hosts of weight 0 and empty buckets come in as one map, and what is left out is told in a line a kind."""
     lines = {"006-class-rules-only": ["left out: 3 buckets that weigh 0 or hold nothing: r1h0~ssd, r1~ssd and r1h1~ssd"],

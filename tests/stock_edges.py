@@ -171,6 +171,132 @@ def test_weights_that_do_not_add_up(tools):
     assert {bucket["kind"] for bucket in value["buckets"]} == {"straw2"} and len(STOCK["001-three-hosts"]["up"]) == 129
 
 
+def straws(items, number=-1, kind="straw2", level=15):
+    """A bucket of items that weigh one part each."""
+    return {"id": number, "items": [[item, 1] for item in items], "kind": kind, "type": level}
+
+
+def chains(count, width, kind="straw2"):
+    """So many buckets: a root over chains, which end in as many devices as it is wide."""
+    ids = [-2 - at for at in range(count - 1)]
+    made = [straws([at if at < width else ids[at - width]], own, kind, at // width + 1) for at, own in enumerate(ids)]
+    return [straws(ids[-width:], kind=kind), *made]
+
+
+def limits_map(groups, buckets=None, devices=1, **more):
+    """A map of version 1 with a pool of one copy for each number of groups, all of its devices up and in."""
+    steps = [["take", -1], ["choose_firstn", 0, 0], ["emit"]]
+    pools = [new_pool(at, count) for at, count in enumerate(groups, 1)]
+    osds = [{"exists": True, "id": osd, "up": True, "weight": 65536} for osd in range(devices)]
+    return {"buckets": buckets or [straws(range(devices))], "epoch": 1, "max_osd": devices, "osds": osds, "pools": pools,
+            "rules": [{"id": 0, "kind": "replicated", "steps": steps}], "version": 1} | more
+
+
+def new_pool(number, groups, **more):
+    """A pool of one copy."""
+    return {"id": number, "kind": "replicated", "pg_num": groups, "pgp_num": groups, "rule": 0, "size": 1} | more
+
+
+def groups_of(pools, count):
+    """The first groups of pools of 65,536 each."""
+    return [f"{pool}.{number:x}" for pool in range(1, pools + 1) for number in range(65536)][:count]
+
+
+def is_told(tools, value, change, refusal, *places):
+    """Asks that `check` tells a map, or a change to it, as lawful, or the program's refusal and these places alone."""
+    files = [tools.put("limits-map", value)] + ([tools.put("limits-change", change)] if change is not None else [])
+    status, output, error = tools.run("check", *files)
+    wanted = [f"{files[-1]}: refused: {refusal}", *(f"{place} ({refusal})" for place in places)] if refusal else []
+    assert (status, error.splitlines()) == (int(bool(refusal)), wanted), (refusal, places, error[:600])
+    assert refusal or f"{files[-1]}: lawful" in output, output[:300]
+
+
+LIMIT, POOL, TWICE, ALL = "12 BadLimit", "15 BadPool", "27 DuplicatePart", [65536] * 4
+LIST = straws(range(2), kind="list")
+
+
+def test_limits_of_stock_maps(tools):
+    """A map with straw2 buckets is lawful at each of its limits, and past it `check` tells the place, as the program refuses it."""
+    for groups, place in (([65536], ""), ([65537], "pools[0].pg_num: 65,537, at most 65,536"), (ALL, ""), ([8192] * 32, ""),
+                          ([*ALL, 1], "pools: 262,145 groups in all pools, at most 262,144"),
+                          ([8193] + [8192] * 31, "pools: 262,145 groups in all pools, at most 262,144")):
+        places = [place] if "pg_num" not in place else [place, place.replace("pg_num", "pgp_num")]
+        status, _, error = tools.run("check", tools.put("m", limits_map(groups)))
+        told = [] if not place else [f"{tools.folder / 'm'}: refused: {LIMIT}", *(f"{own} ({LIMIT})" for own in places)]
+        assert status == int(bool(place)) and sorted(error.splitlines()) == sorted(told), (groups[:5], error[:600])
+    for items, place in ((1024, ""), (1025, "buckets[0].items: 1,025 entries, at most 1,024")):
+        own = [straws([*range(1024), -2][:items]), straws([0], -2, level=1)][:2 if place else 1]
+        is_told(tools, limits_map([8], own, 1024), None, place and LIMIT, *[place][:bool(place)])
+    for count, place in ((4096, ""), (4097, "buckets: 4,097 entries, at most 4,096")):
+        is_told(tools, limits_map([8], chains(count, 1024), 1024), None, place and LIMIT, *[place][:bool(place)])
+    for kind in ("uniform", "list", "tree"):
+        for items, place in ((64, ""), (65, "buckets[1].items: 65 entries, at most 64")):
+            own = [straws([-2]), straws(range(items), -2, kind, 1)]
+            is_told(tools, limits_map([8], own, 65), None, place and LIMIT, *[place][:bool(place)])
+    for key, entry in (("pg_upmap", [0]), ("pg_upmap_items", [[0, 1]])):
+        entries = [[group, entry] for group in groups_of(4, 262144)]
+        is_told(tools, limits_map(ALL, devices=2, **{key: entries}), None, "")
+        is_told(tools, limits_map(ALL, devices=2, **{key: entries + entries[:1]}), None, LIMIT, f"{key}: 262,145 entries, at most 262,144")
+
+
+def test_limits_of_plain_maps(tools):
+    """A map without straw2 buckets has the limits that it had."""
+    for value, place in ((limits_map([4096], [LIST], 2), ""),
+                         (limits_map([4097], [LIST], 2) | {"pools": [new_pool(1, 4097, pgp_num=1)]}, "pools[0].pg_num: 4,097, at most 4,096"),
+                         (limits_map([8], [straws(range(64), kind="list")], 64), ""),
+                         (limits_map([8], [straws(range(65), kind="list")], 65), "buckets[0].items: 65 entries, at most 64"),
+                         (limits_map([8], chains(512, 64, "list"), 64), ""),
+                         (limits_map([8], chains(513, 64, "list"), 64), "buckets: 513 entries, at most 512"),
+                         (limits_map([8], [LIST], 2, pg_upmap=[["1.0", [0]]] * 131073), "pg_upmap: 131,073 entries, at most 131,072")):
+        is_told(tools, value, None, place and LIMIT, *[place][:bool(place)])
+
+
+def test_limits_of_stock_changes(tools):
+    """The groups of all pools after a change, its lists and its buckets have the limits of the map, with the program's refusals."""
+    value, full = limits_map([65536, 65536, 65536, 65534, 1]), limits_map(ALL)
+    total = "262,145 groups in all pools after the change, at most 262,144"
+    lists = groups_of(4, 262144)
+    crush = {"rules": value["rules"]}
+    for own, parts, refusal, place in (
+            (value, {"new_pools": [new_pool(6, 1)]}, "", ""), (value, {"new_pools": [new_pool(6, 2)]}, POOL, f"new_pools: {total}"),
+            (value, {"grow_pool": [[5, 2, 2]]}, "", ""), (value, {"grow_pool": [[5, 3, 3]]}, POOL, f"grow_pool: {total}"),
+            (value, {"grow_pool": [[5, 2, 2]], "new_pools": [new_pool(6, 1)]}, POOL, f"new_pools: {total}"),
+            (value, {"old_pools": [5], "new_pools": [new_pool(6, 2)]}, "", ""),
+            (value, {"new_pools": [new_pool(6, 2)] * 2}, TWICE, "new_pools[1]: the key 6 comes again"),
+            (value, {"grow_pool": [[4, 65537, 1]]}, LIMIT, "grow_pool[0][1]: 65,537, at most 65,536"),
+            (value, {"new_pools": [new_pool(6, 65537, pgp_num=1)]}, LIMIT, "new_pools[0].pg_num: 65,537, at most 65,536"),
+            (full, {"old_upmap": lists}, "", ""), (full, {"old_items": lists + ["1.0"]}, LIMIT, "old_items: 262,145 entries, at most 262,144"),
+            (full, {"new_upmap": [[group, [0]] for group in lists]}, "", ""),
+            (full, {"down": [0] * 262145}, LIMIT, "down: 262,145 entries, at most 262,144"),
+            (limits_map([8], devices=1024), {"new_crush": crush | {"buckets": chains(4096, 1024)}}, "", ""),
+            (value, {"new_crush": crush | {"buckets": chains(4097, 1024)}}, LIMIT, "new_crush.buckets: 4,097 entries, at most 4,096"),
+            (value, {"new_crush": crush | {"buckets": [straws([0] * 1025)]}}, LIMIT, "new_crush.buckets[0].items: 1,025 entries, at most 1,024")):
+        is_told(tools, own, {"base": 1} | parts, refusal, *[place][:bool(place)])
+
+
+def test_limits_of_import(tools):
+    """A stock cluster past a wide limit stays out with the number and what to do; without straw2 buckets, past a plain one."""
+    for groups, told in ((65536, ""), (65537, "pool 2 has 65537 groups, more than 65536: no map holds it; --pools takes the other pools")):
+        own = copied("001-three-hosts")
+        own["osd_dump"]["pools"][1].update(pg_num=groups, pg_placement_num=groups)
+        assert (refused(tools, own) if told else []) == [told][:bool(told)], groups
+        assert told or json.loads(ran(tools, "import", *dumps(tools, "wide", own))[0])["pools"][1]["pg_num"] == groups
+    own, many = copied("001-three-hosts"), "no map holds so many; --pools takes some pools at a time"
+    pools = [dict(own["osd_dump"]["pools"][1], pool=at, pool_name=f"p{at}", pg_num=65536, pg_placement_num=65536) for at in range(2, 6)]
+    own["osd_dump"]["pools"][1:] = pools
+    assert refused(tools, own) == [f"pools 1, 2, 3, 4 and 5 have 262145 groups together, more than 262144: {many}"]
+    assert json.loads(ran(tools, "import", *dumps(tools, "wide", own), "--pools", "2,3,4,5")[0])["pools"][3]["pg_num"] == 65536
+    for alg, most in (("list", "more than 64: only a straw2 bucket holds more in a map"), ("straw2", "")):
+        own = copied("021-flat-root")
+        bucket_of(own, "default")["alg"] = alg
+        assert (refused(tools, own) if most else []) == [f"bucket default has 97 items, {most}; --pools takes pools whose rules do not reach it"][:bool(most)]
+    own = copied("028-many-buckets")
+    for bucket in own["crush_dump"]["buckets"]:
+        bucket["alg"] = "list"
+    told = refused(tools, own, "--check")
+    assert "630 buckets that pools use, more than 512: only a map with straw2 buckets holds more; --pools takes some pools at a time" in told, told
+
+
 def tests():
     """Each test with its name."""
     return clusters.tests(globals())
