@@ -277,6 +277,28 @@ def test_add_host(tools):
     assert {flow[1] for flow in found["flows"]} >= set(range(48, 54)) and not found["short"] and found["groups"] > 100
 
 
+def test_crush_weight(tools):
+    """Another weight in the CRUSH map moves what differs between the two maps' sets; the buckets above weigh what their items do."""
+    value = tools.map("001-built")
+    holder = next(bucket for bucket in value["buckets"] if bucket["type"] == 1 and bucket["kind"] != "uniform")
+    osd, own = holder["items"][0]
+    buckets = {bucket["id"]: dict(bucket, items=[list(item) for item in bucket["items"]]) for bucket in value["buckets"]}
+    way, item = holder["id"], osd
+    while way is not None:
+        for entry in buckets[way]["items"]:
+            entry[1] += 3 * own if entry[0] == item else 0
+        way, item = next((bucket["id"] for bucket in buckets.values() if way in [entry[0] for entry in bucket["items"]]), None), way
+    before, after = tools.sets(value), tools.sets(dict(value, buckets=list(buckets.values())))
+    place = tools.put("m", value)
+    status, output, error = tools.run("whatif", place, "--weight", f"osd.{osd}={4 * own / 65536}", "--json")
+    assert status == 0, error
+    found = json.loads(output)
+    assert found["groups"] == sum(before[group] != after[group] for group in before) > 0
+    for words, want in ((["osd.1=0"], 2), (["osd.1"], 2), (["=1"], 2), (["osd.1=nan"], 2), (["osd.1=65536"], 2), (["osd.1=1", "osd.1=2"], 2), (["osd.999=1"], 1)):
+        assert tools.run("whatif", place, *(part for word in words for part in ("--weight", word)))[0] == want, words
+    assert tools.run("whatif", place, "--weight", "osd.1=1", "--out", "1")[0] == 2 and tools.run("whatif", place, "--weight", "osd.1=1", "--each", "1")[0] == 2
+
+
 def test_pictures(tools):
     """A picture has a square for each OSD, and marks those that are out; a page has all of them too, and nothing from elsewhere."""
     value = tools.map("001-built")

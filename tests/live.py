@@ -15,6 +15,7 @@ import os
 import pathlib
 import random
 import re
+import resource
 import select
 import signal
 import subprocess
@@ -32,6 +33,7 @@ import soak
 HERE = pathlib.Path(__file__).resolve().parent
 sys.path.insert(0, str(HERE.parent / "tools"))
 from rekhuso import Closed, Fault, Monitor, Refused  # noqa: E402
+from rekhuso.shell import put_whole  # noqa: E402
 
 EXAMPLE = HERE.parent / "examples" / "map.json"
 SECONDS = 60
@@ -382,6 +384,19 @@ def test_shell(program):
                                          "up PG: the up set of a group and its primary, as up 1.0", "err 33 BadCommand"])
         done = subprocess.run([*words, "after"], input="epoch\nup 1.0", capture_output=True, text=True, cwd=folder, timeout=SECONDS, check=True)
         equal(done.stdout.splitlines(), ["epoch 2", "up 2 1.0 [3,0] 3"])
+        done = subprocess.run([*words, EXAMPLE], input="save /dev/full", capture_output=True, text=True, cwd=folder, timeout=SECONDS, check=True)
+        equal(done.stdout.splitlines(), ["/dev/full: No space left on device"])
+        after = pathlib.Path(folder, "after")
+        held, (soft, hard) = after.read_text(), resource.getrlimit(resource.RLIMIT_FSIZE)
+        try:
+            resource.setrlimit(resource.RLIMIT_FSIZE, (100, hard))
+            put_whole(str(after), "x" * 101)
+            raise AssertionError("a text beyond the limit of a file is written")
+        except OSError as fault:
+            equal(fault.errno, errno.EFBIG)
+        finally:
+            resource.setrlimit(resource.RLIMIT_FSIZE, (soft, hard))
+        equal((os.listdir(folder), after.read_text()), (["after"], held))
 
 
 def shown(line):

@@ -6,6 +6,8 @@ The lines are those of a script; beside them `help`, `help COMMAND`, `save FILE`
 from __future__ import annotations
 
 import io
+import os
+import shutil
 import signal
 import sys
 
@@ -41,12 +43,31 @@ def completer(text: str, number: int) -> str | None:
     return found[number] + " " if number < len(found) else None
 
 
+def put_whole(path: str, text: str) -> None:
+    """Puts a text in place of a file at once; into what is no file (a pipe, a terminal) it is written."""
+    if os.path.exists(path) and not os.path.isfile(path):
+        with open(path, "w", encoding="utf-8") as file:
+            file.write(text)
+        return
+    place = os.path.realpath(path)
+    beside = f"{place}.{os.getpid()}"
+    try:
+        with open(beside, "x", encoding="utf-8") as file:
+            file.write(text)
+        if os.path.exists(place):
+            shutil.copymode(place, beside)
+        os.replace(beside, place)
+    except BaseException:
+        if os.path.exists(beside):
+            os.remove(beside)
+        raise
+
+
 def saved(monitor: Monitor, path: str) -> str:
-    """Writes the map to a file."""
+    """Writes the map to a file: beside it first, so that a write which fails leaves what stood there."""
     text = monitor.text()
     try:
-        with open(path, "w", encoding="utf-8") as file:
-            file.write(text + "\n")
+        put_whole(path, text + "\n")
     except OSError as fault:
         return f"{path}: {fault.strerror}"
     except ValueError:

@@ -51,6 +51,15 @@ def weights_in(word: str) -> list[int]:
     return [min(round(weight * 65536), 2**32 - 1) for weight in weights]
 
 
+def crush_weight_in(text: str) -> tuple[str, int]:
+    """What a word as osd.5=1.8 names, and the weight behind it in units of 1/65,536; else an error of use."""
+    word, _, weight = text.rpartition("=")
+    number = number_in(weight)
+    if not word or not 1 / 65536 <= number < 65536:
+        raise argparse.ArgumentTypeError(f"{text}: a weight is written as osd.5=1.8, above 0 and below 65,536")
+    return word, min(round(number * 65536), 2**32 - 1)
+
+
 def number_in(word: str) -> float:
     """The number that a word is; where it is none, one that is below and above no other."""
     try:
@@ -158,8 +167,8 @@ class Answered(NamedTuple):
 
 
 def answered(value: Map, change: Change, options: Options, grown: Map | None = None) -> Answered:
-    """What the program answers over a map and a change, or another map that has a host more; with plans where they
-    are asked for. A fault where the change is refused.
+    """What the program answers over a map and a change, or another map in its place; with plans where they are asked
+    for. A fault where the change is refused.
     """
     groups = groups_of(value)
     asked = [f"up {group}" for group in groups]
@@ -182,11 +191,14 @@ def answered(value: Map, change: Change, options: Options, grown: Map | None = N
     return Answered(before, after, refused)
 
 
-def result(whole: Whole, change: Change, options: Options, grown: Map | None = None) -> Flows:
-    """What a change moves over all maps, or what another map does that has a host more, and which pools could not be
+def result(whole: Whole, change: Change, options: Options, others: list[Map] | None = None) -> Flows:
+    """What a change moves over all maps, or what other maps do in their places, and which pools could not be
     balanced.
     """
-    parts = [answered(value, change_for(value, change, whole.maps), options, grown) for value in whole.maps]
+    parts = [
+        answered(value, change_for(value, change, whole.maps), options, None if others is None else others[at])
+        for at, value in enumerate(whole.maps)
+    ]
     before = {group: up for part in parts for group, up in part.before.items()}
     after = {group: up for part in parts for group, up in part.after.items()}
     found = compared(before, after, {pool["id"]: pool["size"] for pool in whole.pools})
@@ -270,6 +282,55 @@ def with_host(value: Map, names: Names, name: str, weights: list[int], under: st
     )
 
 
+def crush_weights_of(options: Options, value: Map, names: Names) -> dict[int, int]:
+    """The OSDs that get another weight in the CRUSH map, each with it in units of 1/65,536. An error of use where one
+    gets two, and a fault where one stands in no bucket.
+    """
+    found: dict[int, int] = {}
+    there = {item for bucket in value["buckets"] for item, _ in bucket["items"]}
+    for word, weight in options.weight:
+        for osd in osds_named(value, names, word):
+            if osd not in there:
+                raise Fault(f"osd.{osd} stands in no bucket")
+            if found.setdefault(osd, weight) != weight:
+                raise Misuse(f"osd.{osd} is given two weights")
+    return found
+
+
+def with_weights(value: Map, weights: dict[int, int]) -> Map:
+    """The map with other weights of OSDs in the CRUSH map, and with each bucket above them weighing what its items do,
+    as `ceph osd crush reweight` has it. A fault where a uniform bucket would get items of two weights.
+    """
+    buckets = {
+        bucket["id"]: altered(bucket, items=[[item, weights.get(item, own)] for item, own in bucket["items"]])
+        for bucket in value["buckets"]
+    }
+    above = {item: bucket["id"] for bucket in value["buckets"] for item, _ in bucket["items"]}
+    ways = [above[osd] for osd in weights if osd in above]
+    for way in ways:
+        total = sum(own for _, own in buckets[way]["items"])
+        if way in above:
+            for item in buckets[above[way]]["items"]:
+                item[1] = total if item[0] == way else item[1]
+            ways.append(above[way])
+    for bucket in buckets.values():
+        if bucket["kind"] == "uniform" and len({own for _, own in bucket["items"]}) > 1:
+            raise Fault(f"bucket {bucket['id']} is uniform: all its items have one weight")
+    return altered(value, buckets=list(buckets.values()))
+
+
+def weighed_anew(whole: Whole, options: Options) -> list[Map]:
+    """A cluster's maps with the weights that the options ask for. A fault where a weight set is in force."""
+    if whole.has_weight_set:
+        raise Fault("--weight: a compat weight set (choose_args) is in force, which Ceph places by in place of weights")
+    weights = crush_weights_of(options, whole.named_tree(), whole.names)
+    there = {item for value in whole.maps for bucket in value["buckets"] for item, _ in bucket["items"]}
+    missing = sorted(set(weights) - there)
+    if missing:
+        raise Fault(f"osd.{missing[0]} is in no tree from which a pool draws")
+    return [with_weights(value, weights) for value in whole.maps]
+
+
 def fullest_words(found: Flows) -> str:
     """The OSD with the most groups, in words."""
     if found["fullest"] is None:
@@ -342,10 +403,13 @@ def check_together(options: Options) -> None:
         "--reweight": options.reweight,
     }
     if options.each is not None:
-        parts.update({"--add-host": options.add_host, "--picture": options.picture})
+        parts.update({"--add-host": options.add_host, "--weight": options.weight, "--picture": options.picture})
+    elif options.weight:
+        parts.update({"--add-host": options.add_host})
     given = [name for name, value in parts.items() if value not in (None, [])]
-    if given and (options.each is not None or options.add_host):
-        raise Misuse(f"{given[0]} does not go with {'--add-host' if options.each is None else '--each'}")
+    alone = "--each" if options.each is not None else "--weight" if options.weight else "--add-host"
+    if given and (options.each is not None or options.weight or options.add_host):
+        raise Misuse(f"{given[0]} does not go with {alone}")
     if options.under is not None and not options.add_host:
         raise Misuse("--under goes with --add-host alone")
 
@@ -377,7 +441,8 @@ def work(options: Options) -> None:
         if len(whole.maps) > 1:
             raise Fault(f"{name}: the cluster takes {len(whole.maps)} maps: import one by --pools, and ask of that")
         grown = with_host(whole.maps[0], whole.names, name, weights_in(weights), options.under)
-    found = result(whole, change_of(options, whole.named_tree(), whole.names), options, grown)
+    others = weighed_anew(whole, options) if options.weight else None if grown is None else [grown]
+    found = result(whole, change_of(options, whole.named_tree(), whole.names), options, others)
     if options.picture is not None:
         put(options.picture, picture(grown or whole.tree, found, whole.names))
     if options.json:
@@ -390,7 +455,7 @@ def add_to(commands: Commands) -> None:
     """The subcommand."""
     own = commands.add_parser("whatif", help="what moves if a change is made", description=__doc__)
     own.usage = usage(
-        "[CHANGE | --add-host NAME WEIGHTS [--under BUCKET] | --each TYPE]",
+        "[CHANGE | --weight OSD|BUCKET=W.. | --add-host NAME WEIGHTS [--under BUCKET] | --each TYPE]",
         *(f"[--{word} OSD|BUCKET].." for word in ("out", "in", "down")),
         "[--reweight OSD|BUCKET W]..",
         "[--balance]",
@@ -409,6 +474,14 @@ def add_to(commands: Commands) -> None:
         )
     own.add_argument(
         "--reweight", metavar=("OSD|BUCKET", "W"), nargs=2, action="append", default=[], help="its reweight, 0 to 1"
+    )
+    own.add_argument(
+        "--weight",
+        metavar="OSD|BUCKET=W",
+        action="append",
+        default=[],
+        type=crush_weight_in,
+        help="instead: its weight in the CRUSH map (of each OSD below a bucket), as `ceph osd crush reweight` sets it",
     )
     own.add_argument(
         "--add-host",
