@@ -160,7 +160,7 @@ def test_interrupts(tools):
     begin = time.monotonic()
     while not pid.exists() and time.monotonic() < begin + SECONDS:
         time.sleep(0.05)
-    time.sleep(0.2)
+    time.sleep(2)  # The tool waits for an answer by now: on a busy machine it may come back from starting the program late.
     done.send_signal(signal.SIGINT)
     output, error = done.communicate(timeout=SECONDS)
     is_told((done.returncode, output, error), 1, "interrupted", "df")

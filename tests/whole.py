@@ -36,7 +36,7 @@ def own_tree(name):
 
 def test_tree(tools):
     """`df` over dumps shows the cluster's own tree, each OSD once, with Ceph's groups of all pools, and what weighs 0 where it stands."""
-    for name in (SEVERAL, DRAINED, "006-class-rules-only", SET):
+    for name in (SEVERAL, DRAINED, "006-class-rules-only", SET, *stock.WIDE):
         told, (buckets, weights), groups = json.loads(ran(tools, "df", *dumps(tools, name), "--json")[0]), own_tree(name), counts(name)
         rows = told["nodes"]
         assert sorted(row["id"] for row in rows) == sorted({*buckets, *weights}) and told["stray"] == [], name
@@ -179,8 +179,8 @@ def test_options_that_do_not_go_together(tools):
         _, error = ran(tools, *words, status=2)
         assert "error: " in error and len(error.splitlines()) == 1, (words, error)
     for words in (["df"], ["report"], ["explain", "1.0"], ["plan"], ["whatif", "--out", "3"]):
-        _, error = ran(tools, words[0], *dumps(tools, "021-flat-root"), *words[1:], status=1)
-        assert error.startswith("bucket default has 97 items, more than 64: ") and len(error.splitlines()) == 1, (words, error)
+        _, error = ran(tools, words[0], *dumps(tools, "025-many-pools"), *words[1:], status=1)
+        assert error.startswith("37 pools, more than 32: ") and len(error.splitlines()) == 1, (words, error)
 
 
 def tests():

@@ -83,12 +83,22 @@ def is_kind(value: object, kind: type) -> bool:
     return isinstance(value, kind) and not isinstance(value, bool)
 
 
+def fits_at_once(value: object, shape: object) -> bool:
+    """Whether a value is an object whose every key is there with a whole number or a text as it must be, which nearly
+    all entries of long lists are. False says nothing.
+    """
+    if not isinstance(value, dict) or not isinstance(shape, dict) or "op" in shape:
+        return False
+    return all(type(value.get(key)) is own and own is not float for key, own in shape.items())
+
+
 def misfits(value: object, shape: object, place: str) -> list[str]:
     """Each place below one at which a value has another form than it must have, and what is wanted there."""
     if isinstance(shape, list):
         if not isinstance(value, list):
             return [f"{place}: no list"]
-        return [found for at, entry in enumerate(value) for found in misfits(entry, shape[0], f"{place}[{at}]")]
+        doubtful = [at for at, entry in enumerate(value) if not fits_at_once(entry, shape[0])]
+        return [found for at in doubtful for found in misfits(value[at], shape[0], f"{place}[{at}]")]
     if isinstance(shape, dict):
         if not isinstance(value, dict):
             return [f"{place}: no object"]
@@ -125,7 +135,11 @@ def fitting(value: object, shape: Shape) -> tuple[Told, frozenset[str]]:
 def parts_of(value: object, shape: object) -> object:
     """The entries of a list or an object that are of their form; 1 in place of a number."""
     if isinstance(shape, list):
-        return [entry for entry in value if not misfits(entry, shape[0], "")] if isinstance(value, list) else []
+        return (
+            [entry for entry in value if fits_at_once(entry, shape[0]) or not misfits(entry, shape[0], "")]
+            if isinstance(value, list)
+            else []
+        )
     if isinstance(shape, dict):
         return fitting(value, shape)[0]
     return 1
