@@ -170,6 +170,16 @@ def test_groups_with_an_empty_place(tools):
     assert told[3]["after"]["greatest"] == max(counts.values()), (told[3], counts)
 
 
+def test_crush_weights(tools):
+    """Another weight in the CRUSH map moves as many groups as Ceph's tools say (osdmaptool --adjust-crush-weight 16.2.15)."""
+    for name, pool, weight, groups in (("001-three-hosts", 2, "0=2.5", 16), ("006-class-rules-only", 3, "51=0.25", 16), ("009-racks", 2, "71=0.25", 74),
+                                       ("015-ec-osd-domain", 2, "0=2.5", 68), ("016-by-utilization", 2, "79=0.25", 46), ("019-two-roots", 3, "24=2.5", 25)):
+        told = json.loads(ran(tools, "whatif", *dumps(tools, name), "--pools", str(pool), "--weight", f"osd.{weight}", "--json")[0])
+        assert told["groups"] == groups, (name, pool, weight, told["groups"])
+    _, error = ran(tools, "whatif", *dumps(tools, SET), "--weight", "osd.0=2", status=1)
+    assert error.startswith("--weight: a compat weight set (choose_args) is in force"), error
+
+
 def test_options_that_do_not_go_together(tools):
     """Options for dumps beside a map are an error of use, and so are three files."""
     path = tools.put("m", stock.brought(tools, "001-three-hosts")[0])
