@@ -109,7 +109,7 @@ module _ (m : ClusterMap) (items : List (Exception Pair)) where
       few_groups : (n : ℕ) → n ≤ 262144 → nat_le n 262144 ≡ true
       few_groups n h = grind (arith, nat_tests)
 
-      few_pools : (n : ℕ) → n ≤ 32 → nat_le n 32 ≡ true
+      few_pools : (n : ℕ) → n ≤ 256 → nat_le n 256 ≡ true
       few_pools n h = grind (arith, nat_tests)
 
   groups_named : IsSoundAll → names_groups m change ≡ true

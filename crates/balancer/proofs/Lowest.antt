@@ -1,23 +1,22 @@
 -- The lowest group that passes a test, sought among those that are known to stand on an OSD.
-use Rattle.std.proofs.Common.{◌≡◌, ◌∙◌, refl, sym, ap, ℕ, suc, ◌+◌, ◌<◌, ◌≤◌, Bool, true, false, not, ◌&&◌, cond, List, [], ◌∷◌, length, get_or, take, position, Option, Some, None, eqb, inl, inr, arith}
+use Rattle.std.proofs.Common.{◌≡◌, ◌∙◌, refl, sym, ap, ℕ, ◌+◌, ◌<◌, ◌≤◌, Bool, true, false, not, ◌&&◌, List, [], ◌∷◌, length, get_or, take, position, Option, Some, None, eqb, inl, inr, arith}
 use mathlib.Core.Bool.{false≢true}
 use Rattle.std.specs.Prelude.{◌⊎◌, nat_lt, IfSome, IsSomeAnd}
-use Rattle.std.specs.List.{All, list_any, count_by}
-use Rattle.std.proofs.lemmas.Bool.{cases_Bool, cases_lt, false_from_ne_true, and_parts, and_from, eqb-true}
+use Rattle.std.specs.List.{list_any, count_by}
+use Rattle.std.proofs.lemmas.Bool.{cases_Bool, cases_lt, false_from_ne_true, and_parts, and_from}
 use Rattle.std.proofs.lemmas.Bool.Decides.{nat_tests}
 use Rattle.std.proofs.lemmas.List.{take_all, length-take-le, get_or-take, get_or_default}
-use Rattle.std.proofs.lemmas.List.Folds.{list_any_at, list_any_none}
+use Rattle.std.proofs.lemmas.List.Folds.{list_any_none}
 use Rattle.std.proofs.lemmas.List.Quantifiers.{position-Some}
 use Rattle.stated.specs.Pools.{PoolFacts}
 use Rattle.stated.specs.Sets.{is_of, stands}
 use Rattle.osdmap.specs.Maps.{ClusterMap}
-use Rattle.osdmap.specs.Placement.{steps_of}
 use Rattle.keylist.proofs.Counts.{count_by-cons}
 use Rattle.balancer.specs.declared.group.Group.{Group}
-use Rattle.balancer.specs.Moves.{last_level, levels_of, has_way}
 use Rattle.balancer.specs.Boards.{may_go}
 use Rattle.balancer.specs.Leaving.{may_leave}
-use Rattle.balancer.specs.Standing.{row_of, sooner, is_lower, IsIn, AreRowsOf}
+use Rattle.balancer.specs.Standing.{row_of, sooner, IsIn, AreRowsOf}
+use Rattle.balancer.proofs.Closed.{goer_leaves}
 use Rattle.balancer.proofs.Listing.{place_in}
 use Rattle.balancer.proofs.Marking.{none_found}
 
@@ -149,15 +148,7 @@ leaver_stands p from g leaves =
 
 -- so does one that may go from there
 pub goer_stands : (m : ClusterMap) (p : PoolFacts) (from to : ℕ) (g : Group) → may_go m p from to g ≡ true → stands from g.places ≡ true
-unfolding may_go
-goer_stands m p from to g goes =
-    let moves = not g.is_fixed in
-    let once = eqb (count_by (is_of from) g.places) 1 in
-    let room = nat_lt (length g.pairs) p.size in
-    let a = and_parts (moves && once && not (stands to g.places) && room) (has_way m (last_level (levels_of (steps_of m p))) from to g.places) goes in
-    let b = and_parts (moves && once && not (stands to g.places)) room a.0 in
-    let c = and_parts (moves && once) (not (stands to g.places)) b.0 in
-    counted_there (is_of from) g.places (and_parts moves once c.0).1
+goer_stands m p from to g goes = leaver_stands p from g (goer_leaves m p from to g goes)
 
 -- where none of those known at an OSD may leave it, none may
 pub none_of_row : (p : PoolFacts) (from : ℕ) (gs : List Group) (rows : List (List ℕ)) → AreRowsOf gs rows → from < length rows

@@ -20,6 +20,7 @@ sorts_none key ys sorts = sorted_same key [] ys (none_rises key) sorts
 -- a change of pairs that rise is its own order
 pub ordered_same : (items : List (Exception Pair)) (c : ChangeParts) → IsRising key_of items → IsOrdered (change_of items) c → c ≡ change_of items
 ordered_same items c rises ordered = λ i. record {
+  profile = ordered.profile i;
   old_pools = sorts_none (λ id. id) c.old_pools ordered.old_pools i;
   new_crush = ordered.new_crush i;
   new_pools = sorts_none (λ p. p.id) c.new_pools ordered.new_pools i;

@@ -9,6 +9,7 @@ use Rattle.stated.specs.declared.change.ChangeParts.{ChangeParts}
 use Rattle.stated.specs.declared.exception.Exception.{Exception}
 use Rattle.stated.specs.declared.exception.Pair.{Pair}
 use Rattle.stated.specs.Pools.{PoolFacts}
+use Rattle.stated.specs.declared.profile.Profile.TheVariants.{Stock}
 use Rattle.osdmap.specs.Maps.{ClusterMap, pool_at}
 use Rattle.osdmap.specs.Placement.{group_of, steps_of}
 use Rattle.pgtable.specs.Patches.{changed_map}
@@ -41,9 +42,10 @@ items_at m p n = record { pg = group_of p n; entries = pairs_in m (group_of p n)
 unfoldable pub moved_items : ClusterMap → PoolFacts → List Move → List (Exception Pair)
 moved_items m p moves = map (items_at (after_moves m p moves) p) (filter (is_moved moves) (range_with_len 0 p.pg_num))
 
--- the change that gives these groups their pairs, and does nothing else
+-- the change that gives these groups their pairs, and does nothing else: as many pools stay as a stock cluster may have
 abbrev pub change_of : List (Exception Pair) → ChangeParts
 change_of items = record {
+  profile = Stock;
   old_pools = [];
   new_crush = None;
   new_pools = [];

@@ -1,16 +1,29 @@
 -- Where a plan stands.
-use Rattle.std.specs.Prelude.{◌≡◌, ℕ, true, false, ℤ, int_lt, List, Option, Some, All, map}
+use Rattle.std.specs.Prelude.{◌≡◌, ℕ, Bool, true, false, ℤ, int_lt, List, Option, Some, All, map}
 use Rattle.std.specs.List.Sorted.{IsPermutation}
 use Rattle.osdmap.specs.Maps.{ClusterMap}
 use Rattle.balancer.specs.declared.board.Board.{Board}
 use Rattle.balancer.specs.Shares.{is_candidate, candidate_osds, deviation}
 use Rattle.balancer.specs.Greedy.{after_moves, gap}
 use Rattle.balancer.specs.Boards.{IsOrder}
+use Rattle.balancer.specs.Marks.{IsMarked}
 use Rattle.balancer.specs.Reaches.{bound_of}
+
+-- the map that the plan goes by
+abbrev pub cluster : Board → ClusterMap
+cluster b = b.frame.map.now.map
 
 -- the map after the moves so far
 abbrev pub reached : Board → ClusterMap
 reached b = after_moves b.frame.map.now.map b.frame.pool b.moves.items
+
+-- an OSD is one of those that the plan moves groups between
+abbrev pub takes_part : Board → ℕ → Bool
+takes_part b osd = is_candidate b.frame.map.now.map b.frame.pool osd
+
+-- what is marked holds of the groups as they stand
+abbrev pub IsMarkedOn : Board → List (List Bool) → Type 0
+IsMarkedOn b marks = IsMarked b.frame.map.now.map b.frame.pool b.groups.items marks
 
 -- each candidate once, in any order
 abbrev pub AreAll : Board → List (ℤ × ℕ) → Type 0

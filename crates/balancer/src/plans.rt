@@ -19,7 +19,7 @@ use crate::board::Board;
 use crate::frame::Frame;
 use crush::Step;
 use keylist::Entries;
-use osdmap::{Change, ChangeParts, Items, OsdMap, Pool};
+use osdmap::{Change, ChangeParts, Items, OsdMap, Pool, Profile};
 use pgtable::PgTable;
 use refusal::{Memory, Refusal};
 use std::alloc::Global;
@@ -73,6 +73,7 @@ fn change_of(alloc: Global, items: Vec<Items>) -> Result<Change, Memory>
     ensures { IfOk result (λ change. change ≡ change_of items.items) }
 {
     let parts = ChangeParts {
+        profile: Profile::Stock,
         old_pools: nothing(alloc),
         new_crush: None,
         new_pools: nothing(alloc),

@@ -32,22 +32,22 @@ fn is_lower(number: u32, lowest: Option<u32>) -> bool
 
 impl Board<'_> {
     ghost use Rattle.std.specs.Prelude.{◌≡◌, ◌<◌, ℕ, pos, neg_ℤ, int_lt, ◌<ℤ◌, ◌^◌, ◌==◌, [], ◌∷◌, ◌++◌, length, slice_index_or, position, true, false, Some, IfSome, IfOk, MatchOption, OnOk};
-    ghost use Rattle.balancer.specs.Shares.{is_candidate, total_weight, deviation};
+    ghost use Rattle.balancer.specs.Shares.{total_weight, deviation};
     ghost use Rattle.balancer.specs.Moves.{are_beside, last_level, levels_of};
     ghost use Rattle.balancer.specs.Greedy.{gap, beats, good_moves, greedy, after_moves};
-    ghost use Rattle.balancer.specs.Reached.{reached, AreAll, AreMeasured, IsOrderOf, AreWidened};
+    ghost use Rattle.balancer.specs.Reached.{cluster, reached, takes_part, IsMarkedOn, AreAll, AreMeasured, IsOrderOf, AreWidened};
     ghost use Rattle.std.specs.List.{list_any};
     ghost use Rattle.balancer.specs.Leaving.{may_leave};
     ghost use Rattle.balancer.specs.Standing.{sooner};
     ghost use Rattle.balancer.specs.declared.group.Group.{Group};
-    ghost use Rattle.balancer.specs.Marks.{is_shut, NoneGoes, IsMarked, IsLookedAt};
+    ghost use Rattle.balancer.specs.Marks.{is_shut, NoneGoes, IsLookedAt};
     ghost use Rattle.stated.specs.Sets.{stands};
     ghost use Rattle.balancer.specs.Reaches.{bound_of, IsBound, AreBounds, reach_of};
     ghost use Rattle.balancer.specs.Boards.{may_go, is_wanted, IsGood, IsBest, IsBetter, CoversPair, CoversFrom};
 
     /// The deviation of an OSD.
     fn deviation(&self, osd: u32) -> i128
-        requires { is_candidate self.now.frame.map.now.map self.now.frame.pool osd ≡ true }
+        requires { takes_part self.now osd ≡ true }
         ensures value { result ≡ deviation (reached self.now) self.now.frame.pool osd }
         ensures high { result <ℤ pos (2 ^ 100) }
         ensures low { neg_ℤ (pos (2 ^ 100)) <ℤ result }
@@ -57,8 +57,8 @@ impl Board<'_> {
 
     /// The difference of the deviations of two OSDs.
     fn gap(&self, from: u32, to: u32) -> i128
-        requires from { is_candidate self.now.frame.map.now.map self.now.frame.pool from ≡ true }
-        requires to { is_candidate self.now.frame.map.now.map self.now.frame.pool to ≡ true }
+        requires from { takes_part self.now from ≡ true }
+        requires to { takes_part self.now to ≡ true }
         ensures { result ≡ gap (reached self.now) self.now.frame.pool from to }
     {
         self.deviation(from) - self.deviation(to)
@@ -67,10 +67,10 @@ impl Board<'_> {
     /// Whether a move between candidates is taken rather than another.
     #[tactic(auto, unfolding(crate::specs::Greedy::beats))]
     fn beats(&self, u: Move, v: Move) -> bool
-        requires u_from { is_candidate self.now.frame.map.now.map self.now.frame.pool u.from ≡ true }
-        requires u_to { is_candidate self.now.frame.map.now.map self.now.frame.pool u.to ≡ true }
-        requires v_from { is_candidate self.now.frame.map.now.map self.now.frame.pool v.from ≡ true }
-        requires v_to { is_candidate self.now.frame.map.now.map self.now.frame.pool v.to ≡ true }
+        requires u_from { takes_part self.now u.from ≡ true }
+        requires u_to { takes_part self.now u.to ≡ true }
+        requires v_from { takes_part self.now v.from ≡ true }
+        requires v_to { takes_part self.now v.to ≡ true }
         ensures { result ≡ beats (reached self.now) self.now.frame.pool u v }
     {
         let gap = self.gap(u.from, u.to);
@@ -80,8 +80,8 @@ impl Board<'_> {
 
     /// Whether the difference of the deviations of two candidates is above the weight of all candidates.
     fn is_wide(&self, from: u32, to: u32) -> bool
-        requires from { is_candidate self.now.frame.map.now.map self.now.frame.pool from ≡ true }
-        requires to { is_candidate self.now.frame.map.now.map self.now.frame.pool to ≡ true }
+        requires from { takes_part self.now from ≡ true }
+        requires to { takes_part self.now to ≡ true }
         ensures { result ≡ int_lt (pos (total_weight (reached self.now) self.now.frame.pool))
             (gap (reached self.now) self.now.frame.pool from to) }
     {
@@ -90,8 +90,8 @@ impl Board<'_> {
 
     /// Whether some move between two candidates could be taken rather than the best one so far.
     fn is_wanted(&self, from: u32, to: u32, best: Option<Move>) -> bool
-        requires from { is_candidate self.now.frame.map.now.map self.now.frame.pool from ≡ true }
-        requires to { is_candidate self.now.frame.map.now.map self.now.frame.pool to ≡ true }
+        requires from { takes_part self.now from ≡ true }
+        requires to { takes_part self.now to ≡ true }
         requires best { IfSome best (λ v. IsGood (reached self.now) self.now.frame.pool v) }
         ensures { result ≡ is_wanted (reached self.now) self.now.frame.pool from to best }
     {
@@ -105,7 +105,7 @@ impl Board<'_> {
     fn sooner(&self, from: u32, to: u32, number: u32, lowest: Option<u32>) -> Option<u32>
         requires { number < length self.now.groups.items }
         ensures { (g : Group) → slice_index_or self.now.groups.items number g ≡ g
-            → result ≡ sooner (may_go self.now.frame.map.now.map self.now.frame.pool from to g) number lowest }
+            → result ≡ sooner (may_go (cluster self.now) self.now.frame.pool from to g) number lowest }
     {
         if is_lower(number, lowest) && self.frame.may_go(from, to, &self.groups[number as usize]) {
             Some(number)
@@ -116,8 +116,8 @@ impl Board<'_> {
 
     /// The first group that may go from one candidate to another beside it.
     fn first_group(&self, from: u32, to: u32) -> Option<u32>
-        requires { is_candidate self.now.frame.map.now.map self.now.frame.pool from ≡ true }
-        ensures { result ≡ position (may_go self.now.frame.map.now.map self.now.frame.pool from to)
+        requires { takes_part self.now from ≡ true }
+        ensures { result ≡ position (may_go (cluster self.now) self.now.frame.pool from to)
             self.now.groups.items }
     {
         let mut lowest = None;
@@ -129,7 +129,7 @@ impl Board<'_> {
 
     /// Whether some group may leave an OSD.
     fn some_leaves(&self, from: u32) -> bool
-        requires { is_candidate self.now.frame.map.now.map self.now.frame.pool from ≡ true }
+        requires { takes_part self.now from ≡ true }
         ensures { result ≡ list_any (may_leave self.now.frame.pool from) self.now.groups.items }
     {
         for number in self.standing.at(from) {
@@ -143,9 +143,9 @@ impl Board<'_> {
     /// No group may go from one OSD to another: nor to any candidate in that one's failure domain.
     fn shut_domain(&self, from: u32, to: u32, marks: &mut Marks)
         requires apart { (to == from) ≡ false }
-        requires none { NoneGoes self.now.frame.map.now.map self.now.frame.pool self.now.groups.items from to }
-        requires marks { IsMarked self.now.frame.map.now.map self.now.frame.pool self.now.groups.items marks.old }
-        ensures { IsMarked self.now.frame.map.now.map self.now.frame.pool self.now.groups.items marks.new }
+        requires none { NoneGoes (cluster self.now) self.now.frame.pool self.now.groups.items from to }
+        requires marks { IsMarkedOn self.now marks.old }
+        ensures { IsMarkedOn self.now marks.new }
     {
         let domain = self.frame.domain(to);
         for other in &self.frame.osds {
@@ -160,8 +160,8 @@ impl Board<'_> {
     #[inline(never)]
     fn shut_all(&self, from: u32, marks: &mut Marks)
         requires none { list_any (may_leave self.now.frame.pool from) self.now.groups.items ≡ false }
-        requires marks { IsMarked self.now.frame.map.now.map self.now.frame.pool self.now.groups.items marks.old }
-        ensures { IsMarked self.now.frame.map.now.map self.now.frame.pool self.now.groups.items marks.new }
+        requires marks { IsMarkedOn self.now marks.old }
+        ensures { IsMarkedOn self.now marks.new }
     {
         for other in &self.frame.osds {
             marks.shut(from, *other);
@@ -171,11 +171,11 @@ impl Board<'_> {
     /// No group may go from one OSD to another: nor to any candidate in that one's failure domain; and where none may
     /// leave the first at all, to any candidate.
     fn shut(&self, from: u32, to: u32, marks: &mut Marks)
-        requires from { is_candidate self.now.frame.map.now.map self.now.frame.pool from ≡ true }
+        requires from { takes_part self.now from ≡ true }
         requires apart { (to == from) ≡ false }
-        requires none { NoneGoes self.now.frame.map.now.map self.now.frame.pool self.now.groups.items from to }
-        requires marks { IsMarked self.now.frame.map.now.map self.now.frame.pool self.now.groups.items marks.old }
-        ensures { IsMarked self.now.frame.map.now.map self.now.frame.pool self.now.groups.items marks.new }
+        requires none { NoneGoes (cluster self.now) self.now.frame.pool self.now.groups.items from to }
+        requires marks { IsMarkedOn self.now marks.old }
+        ensures { IsMarkedOn self.now marks.new }
     {
         if self.some_leaves(from) {
             self.shut_domain(from, to, marks);
@@ -187,14 +187,14 @@ impl Board<'_> {
     /// The best move so far, or a better one between two candidates, where one would be taken rather than it; where no
     /// group may go, that is marked.
     fn better(&self, from: u32, to: u32, best: Option<Move>, marks: &mut Marks) -> Option<Move>
-        requires from { is_candidate self.now.frame.map.now.map self.now.frame.pool from ≡ true }
-        requires to { is_candidate self.now.frame.map.now.map self.now.frame.pool to ≡ true }
+        requires from { takes_part self.now from ≡ true }
+        requires to { takes_part self.now to ≡ true }
         requires best { IfSome best (λ v. IsGood (reached self.now) self.now.frame.pool v) }
         requires wanted { is_wanted (reached self.now) self.now.frame.pool from to best ≡ true }
-        requires marks { IsMarked self.now.frame.map.now.map self.now.frame.pool self.now.groups.items marks.old }
+        requires marks { IsMarkedOn self.now marks.old }
         ensures better { IsBetter (reached self.now) self.now.frame.pool best result }
         ensures covers { CoversPair (reached self.now) self.now.frame.pool result from to }
-        ensures marks { IsMarked self.now.frame.map.now.map self.now.frame.pool self.now.groups.items marks.new }
+        ensures marks { IsMarkedOn self.now marks.new }
     {
         if !self.frame.are_beside(from, to) {
             return best;
@@ -250,13 +250,13 @@ impl Board<'_> {
         best: Option<Move>,
         marks: &mut Marks,
     ) -> Option<Move>
-        requires from { is_candidate self.now.frame.map.now.map self.now.frame.pool from ≡ true }
+        requires from { takes_part self.now from ≡ true }
         requires order { IsOrderOf self.now order.now }
         requires best { IfSome best (λ v. IsGood (reached self.now) self.now.frame.pool v) }
-        requires marks { IsMarked self.now.frame.map.now.map self.now.frame.pool self.now.groups.items marks.old }
+        requires marks { IsMarkedOn self.now marks.old }
         ensures better { IsBetter (reached self.now) self.now.frame.pool best result }
         ensures covers { CoversFrom (reached self.now) self.now.frame.pool result from self.now.frame.osds.items }
-        ensures marks { IsMarked self.now.frame.map.now.map self.now.frame.pool self.now.groups.items marks.new }
+        ensures marks { IsMarkedOn self.now marks.new }
     {
         let mut best = best;
         for (_, to) in order {
@@ -306,14 +306,13 @@ impl Board<'_> {
         reaches: &mut Reaches,
         order: &mut Vec<(i128, u32)>,
     ) -> Result<Option<Move>, Memory>
-        requires marks { IsMarked self.now.frame.map.now.map self.now.frame.pool self.now.groups.items marks.old }
+        requires marks { IsMarkedOn self.now marks.old }
         requires reaches { AreBounds (reached self.now) self.now.frame.pool reaches.old }
         requires order { AreAll self.now order.old.items }
         ensures order { OnOk result (AreAll self.now order.new.items) }
         ensures best { IfOk result (λ best. MatchOption best (good_moves (reached self.now) self.now.frame.pool ≡ [])
             (λ v. IsBest (reached self.now) self.now.frame.pool v)) }
-        ensures marks { OnOk result (IsMarked self.now.frame.map.now.map self.now.frame.pool self.now.groups.items
-            marks.new) }
+        ensures marks { OnOk result (IsMarkedOn self.now marks.new) }
         ensures reaches { OnOk result (AreBounds (reached self.now) self.now.frame.pool reaches.new) }
     {
         self.order(order)?;
@@ -330,7 +329,7 @@ impl Board<'_> {
 
     /// Moves to an OSD that has become emptier may go further than was known.
     fn widen(&self, emptier: u32, reaches: &mut Reaches)
-        requires { is_candidate self.now.frame.map.now.map self.now.frame.pool emptier ≡ true }
+        requires { takes_part self.now emptier ≡ true }
         ensures { AreWidened self.now emptier reaches.old reaches.new }
     {
         for from in &self.frame.osds {
@@ -341,7 +340,7 @@ impl Board<'_> {
     /// Looks again at what is known to be shut from the OSD of a place, for a group on it: where that may go, it is
     /// open.
     fn look_again(&self, place: Option<u32>, group: &Group, marks: &mut Marks)
-        ensures { IsLookedAt self.now.frame.map.now.map self.now.frame.pool place group.now marks.old marks.new }
+        ensures { IsLookedAt (cluster self.now) self.now.frame.pool place group.now marks.old marks.new }
     {
         let Some(from) = place else {
             return;
@@ -365,10 +364,10 @@ impl Board<'_> {
 
     /// The same for each OSD on which the group stands.
     fn look_again_at(&self, group: &Group, marks: &mut Marks)
-        ensures { (from to : ℕ) → to < length self.now.frame.map.now.map.presences → is_shut marks.new from to ≡ true
+        ensures { (from to : ℕ) → to < length (cluster self.now).presences → is_shut marks.new from to ≡ true
             → (is_shut marks.old from to ≡ true)
             × (stands from group.now.places ≡ true
-            → may_go self.now.frame.map.now.map self.now.frame.pool from to group.now ≡ false) }
+            → may_go (cluster self.now) self.now.frame.pool from to group.now ≡ false) }
     {
         for place in group.places.as_slice() {
             self.look_again(*place, group, marks);
@@ -378,15 +377,15 @@ impl Board<'_> {
     /// Makes a good move, and looks again at what was known of the OSDs on which its group then stands; or `Memory`
     /// (30).
     fn go(&mut self, step: Move, marks: &mut Marks, reaches: &mut Reaches) -> Result<(), Memory>
-        requires good { IsGood (after_moves self.old.frame.map.now.map self.old.frame.pool self.old.moves.items)
+        requires good { IsGood (reached self.old)
             self.old.frame.pool step }
-        requires marks { IsMarked self.old.frame.map.now.map self.old.frame.pool self.old.groups.items marks.old }
+        requires marks { IsMarkedOn self.old marks.old }
         requires reaches { AreBounds (reached self.old) self.old.frame.pool reaches.old }
         ensures moves { OnOk result (self.new.moves.items ≡ self.old.moves.items ++ step ∷ []) }
-        ensures map { self.new.frame.map.now.map ≡ self.old.frame.map.now.map }
+        ensures map { cluster self.new ≡ cluster self.old }
         ensures pool { self.new.frame.pool ≡ self.old.frame.pool }
         ensures marks { OnOk result
-            (IsMarked self.new.frame.map.now.map self.new.frame.pool self.new.groups.items marks.new) }
+            (IsMarkedOn self.new marks.new) }
         ensures reaches { OnOk result (AreBounds (reached self.new) self.new.frame.pool reaches.new) }
     {
         self.make(step)?;
@@ -402,11 +401,11 @@ impl Board<'_> {
     pub fn run(&mut self, alloc: Global, limit: u32) -> Result<(), Memory>
         requires { self.old.moves.items ≡ [] }
         ensures moves { OnOk result (self.new.moves.items
-            ≡ greedy self.old.frame.map.now.map self.old.frame.pool limit) }
+            ≡ greedy (cluster self.old) self.old.frame.pool limit) }
         ensures done { OnOk result (length self.new.moves.items < limit →
-            good_moves (after_moves self.old.frame.map.now.map self.old.frame.pool self.new.moves.items)
+            good_moves (after_moves (cluster self.old) self.old.frame.pool self.new.moves.items)
             self.old.frame.pool ≡ []) }
-        ensures map { self.new.frame.map.now.map ≡ self.old.frame.map.now.map }
+        ensures map { cluster self.new ≡ cluster self.old }
         ensures pool { self.new.frame.pool ≡ self.old.frame.pool }
     {
         let mut marks = Marks::new(alloc, self.frame.map.max_osd())?;

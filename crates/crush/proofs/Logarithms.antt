@@ -40,6 +40,7 @@ shifted x s some few e =
           rw none (omega arith, omega arith))
     ]
 
+-- the second table has 256 entries
 ll_length : length ll ≡ 256
 unfolding ll
 ll_length = refl

@@ -60,10 +60,11 @@ impl Forest {
 
     /// The forest of these buckets over the devices from 0 up to below `max_osd`, its buckets by id from -1 downwards.
     /// It is refused with 12 (`BadLimit`) where it has no bucket or more than 4,096, `max_osd` is not in 1 to 1,024, or
-    /// a bucket has an id outside -1 to -65,536, a type outside 1 to 15, no item or more than 64 (1,024 in a straw2 bucket), or an item
-    /// outside -65,536 to 1,023 or of weight 0; else with 13 (`BadForest`) where two buckets have one id, an item is no bucket
-    /// of the forest and no device below `max_osd`, an item's type is not below its bucket's, an item stands in the
-    /// forest twice, or the weights of a bucket come to more than 4,294,967,295 or differ in a uniform bucket.
+    /// a bucket has an id outside -1 to -65,536, a type outside 1 to 15, no item or more than 64 (in a straw2 bucket
+    /// 1,024), or an item outside -65,536 to 1,023 or of weight 0; else with 13 (`BadForest`) where two buckets have one
+    /// id, an item is no bucket of the forest and no device below `max_osd`, an item's type is not below its bucket's, an
+    /// item stands in the forest twice, or the weights of a bucket come to more than 4,294,967,295 or differ in a
+    /// uniform bucket.
     pub fn stock(buckets: Vec<Bucket>, max_osd: u32) -> Result<Self, Refusal>
         ensures value { Judges result (forest_fault buckets.items max_osd) (λ f. f ≡ by_id buckets.items) }
         ensures same { IfOk result (IsPermutation buckets.items) }

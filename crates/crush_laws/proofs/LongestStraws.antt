@@ -5,6 +5,7 @@ use Rattle.crush.specs.Pick.{place_by}
 use Rattle.crush.proofs.Straws.{least_below, least_is}
 use Rattle.crush_laws.specs.Picks.{IsFirstLongest, Straw2PicksFirstLongest}
 
+-- the place of the least shortfall is that of the first longest straw
 pub straw2_picks_first_longest : Straw2PicksFirstLongest
 unfolding place_by
 straw2_picks_first_longest b x r e p =

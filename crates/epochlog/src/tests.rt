@@ -4,7 +4,7 @@ ghost use Rattle.std.specs.Prelude.{◌≡◌, IfSome};
 use crate::{Pass, Row};
 use keylist::Entries;
 use refusal::Refusal;
-use stated::{Change, ChangeParts, Incremental};
+use stated::{Change, ChangeParts, Incremental, Profile};
 use std::alloc::Global;
 use std::test::Fail;
 
@@ -13,6 +13,7 @@ fn incremental(alloc: Global, epoch: u64) -> Option<Box<Incremental>>
     ensures { IfSome result (λ made. made.value.epoch ≡ epoch) }
 {
     let change = Change::new(ChangeParts {
+        profile: Profile::Plain,
         old_pools: Entries::new(Vec::new(alloc)),
         new_crush: None,
         new_pools: Entries::new(Vec::new(alloc)),

@@ -62,9 +62,10 @@ change_is_plain c =
 abbrev pub reweight_within : RawReweight → Reweight
 reweight_within w = record { osd = nat_abs w.osd; weight = nat_abs w.weight }
 
--- the parts of a change that is within the limits, beside its CRUSH map
-abbrev pub parts_within : RawChange → Option CrushFacts → ChangeParts
-parts_within c crush = record {
+-- the parts of a change that is within the limits, beside its profile and its CRUSH map
+abbrev pub parts_within : Profile → RawChange → Option CrushFacts → ChangeParts
+parts_within profile c crush = record {
+  profile = profile;
   old_pools = map nat_abs c.old_pools;
   new_crush = crush;
   new_pools = map pool_of c.new_pools;
@@ -103,11 +104,11 @@ abbrev pub change_fault_in : Profile → RawChange → Option Refusal
 change_fault_in profile c =
     if is_stock profile || change_is_plain c then raw_change_fault c else Some BadLimit
 
--- the base and the parts are those of a change
-pub record IsChangeOf (c : RawChange) (base : ℕ) (parts : ChangeParts) : Type 0 where
+-- the base and the parts are those of a change by a profile
+pub record IsChangeOf (profile : Profile) (c : RawChange) (base : ℕ) (parts : ChangeParts) : Type 0 where
   pub base_is : base ≡ nat_abs c.base
   pub crush : IsCrushStated c.new_crush parts.new_crush
-  pub parts_are : parts ≡ parts_within c parts.new_crush
+  pub parts_are : parts ≡ parts_within profile c parts.new_crush
 
 -- a text that states no change, or one with a fault
 abbrev pub fault_of_stated_change : Profile → Result RawChange Refusal → Option Refusal
@@ -119,12 +120,12 @@ abbrev pub change_text_fault : Profile → List ℕ → Option Refusal
 change_text_fault profile bytes = fault_of_stated_change profile (stated_by (change_in profile) bytes)
 
 -- the base is the one that a change states, and the parts are those that it states, in order
-pub record IsChangeStated (c : RawChange) (base : ℕ) (parts : ChangeParts) : Type 0 where
+pub record IsChangeStated (profile : Profile) (c : RawChange) (base : ℕ) (parts : ChangeParts) : Type 0 where
   pub base_is : base ≡ nat_abs c.base
   pub crush : IsCrushStated c.new_crush parts.new_crush
-  pub ordered : IsOrdered (parts_within c parts.new_crush) parts
+  pub ordered : IsOrdered (parts_within profile c parts.new_crush) parts
 
 -- so are those that a text states
 abbrev pub StatesChange : Profile → List ℕ → ℕ × ChangeParts → Type 0
 StatesChange profile bytes answer =
-    IfOk (stated_by (change_in profile) bytes) (λ c. IsChangeStated c answer.0 answer.1)
+    IfOk (stated_by (change_in profile) bytes) (λ c. IsChangeStated profile c answer.0 answer.1)

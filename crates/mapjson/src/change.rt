@@ -11,7 +11,7 @@ use partjson::RawChange;
 use refusal::Refusal;
 use stated::{ChangeParts, Profile};
 use std::alloc::Global;
-use within::{base_within, crush_within, parts_within, pools_within};
+use within::{base_within, crush_within, parts_within};
 
 /// The base and the parts of a change that a text states: `BadLimit` (12) where a number or a length is outside its
 /// limits; else `BadForest` (13) or `BadRule` (14) where its forest is not well formed over 1,024 devices, or a rule is
@@ -21,23 +21,26 @@ pub(crate) fn change_within(
     change: &RawChange,
     profile: Profile,
 ) -> Result<(u64, ChangeParts), Refusal>
-    ensures { Makes result (change_fault_in profile change.now) (λ r. IsChangeOf change.now r.0 r.1) }
+    ensures { Makes result (change_fault_in profile change.now) (λ r. IsChangeOf profile change.now r.0 r.1) }
 {
     if !(profile.is_stock() || change_is_plain(change)) {
         return Err(Refusal::BadLimit);
     }
-    change_of(alloc, change)
+    change_of(alloc, change, profile)
 }
 
 /// The same within the limits of all changes.
-fn change_of(alloc: Global, change: &RawChange) -> Result<(u64, ChangeParts), Refusal>
-    ensures { Makes result (raw_change_fault change.now) (λ r. IsChangeOf change.now r.0 r.1) }
+fn change_of(
+    alloc: Global,
+    change: &RawChange,
+    profile: Profile,
+) -> Result<(u64, ChangeParts), Refusal>
+    ensures { Makes result (raw_change_fault change.now) (λ r. IsChangeOf profile change.now r.0 r.1) }
 {
     if !change_fits(change) {
         return Err(Refusal::BadLimit);
     }
     let new_crush = crush_within(alloc, &change.new_crush)?;
-    let (new_pools, grow_pool) = pools_within(alloc, change)?;
-    let parts = parts_within(alloc, change, new_crush, new_pools, grow_pool)?;
+    let parts = parts_within(alloc, change, new_crush, profile)?;
     Ok((base_within(change), parts))
 }

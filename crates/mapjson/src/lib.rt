@@ -25,7 +25,7 @@ use std::alloc::Global;
 
 /// The map that a text states: `BadJson` (10) where the text is not UTF-8, is no JSON or nests deeper than 127;
 /// `BadField` (11) where it does not state a map of the kinds of buckets that the profile has; else what
-/// [`OsdMap::new`] answers for the parts that it states. `Memory` (30).
+/// [`OsdMap::new`], or under `Stock` [`OsdMap::stock`], answers for the parts that it states. `Memory` (30).
 pub fn read_map(alloc: Global, bytes: &[u8], profile: Profile) -> Result<OsdMap, Refusal>
     ensures { Makes result (map_text_fault profile bytes.now) (λ m. StatesMap profile bytes.now m.map) }
 {
@@ -48,7 +48,8 @@ fn map_of(alloc: Global, parts: MapParts, profile: Profile) -> Result<OsdMap, Re
 /// `BadLimit` (12) where a number or a length is outside its limits: a base of 0 to 2^64 - 1, ids of pools of 1 to
 /// 65,535, OSDs of 0 to 1,023, reweights of 0 to 4,294,967,295, groups' numbers of at most 32 bits, at most 10 OSDs or
 /// pairs of a group, lists of at most 262,144 entries, of a new pool what [`osdmap::Pool`] has, of a growth what
-/// [`osdmap::Grow`] has, and of a new CRUSH map what a map's buckets and rules have; `BadForest` (13) where the new
+/// [`osdmap::Grow`] has, of a new CRUSH map what a map's buckets and rules have, and under `Plain` also the limits of
+/// plain clusters ([`stated::plain`], lists of at most 131,072 entries among them); `BadForest` (13) where the new
 /// buckets are no well-formed forest over 1,024 devices; `BadRule` (14) where a new rule is outside the grammar, takes
 /// a bucket that is not among them, or has the id of another; `BadPool` (15) where the `pgp_num` of a new or growing
 /// pool is above its `pg_num`. Each is tested over the whole text before the next. `Memory` (30).

@@ -1,7 +1,7 @@
 -- A map that was built has what its parts state, and holds together.
 use Rattle.std.proofs.Common.{cond, ◌≡◌, ◌∙◌, ℕ, ◌≤◌, Bool, true, false, not, ◌==◌, nat_lt, List, [], ◌∷◌, map, length, Option, Some, None, pos, nat_abs, refl, sym, ap, arith}
 use Rattle.std.specs.Prelude.{◌||◌, nat_le, int_le}
-use Rattle.std.specs.List.{list_all, range_with_len, sum_by, All}
+use Rattle.std.specs.List.{list_all, range_with_len, All}
 use Rattle.std.specs.Option.{option_map, option_map_or}
 use Rattle.std.proofs.lemmas.Bool.Decides.{nat_tests}
 use Rattle.std.proofs.lemmas.List.{length-map}
@@ -42,8 +42,8 @@ pub record PartsFit (p : MapParts) : Type 0 where
   pub epoch : is_between (pos 1) (pos 2147483648) p.epoch ≡ true
   pub max_osd : is_between (pos 1) (pos 1024) p.max_osd ≡ true
   pub count : has_between 1 4096 p.buckets ≡ true
-  pub rule_count : has_between 1 32 p.rules ≡ true
-  pub pool_count : has_between 0 32 p.pools ≡ true
+  pub rule_count : has_between 1 256 p.rules ≡ true
+  pub pool_count : has_between 0 256 p.pools ≡ true
   pub buckets : list_all bucket_fits p.buckets ≡ true
   pub rules : list_all rule_fits p.rules ≡ true
   pub pools : list_all pool_fits p.pools ≡ true
@@ -297,8 +297,8 @@ weigh_little p m built fit =
 
 -- ---- all of it
 
--- and there are at most 32 pools
-few_pools : (p : MapParts) (m : ClusterMap) → IsBuilt p m → has_between 0 32 p.pools ≡ true → length m.pools ≤ 32
+-- and there are at most 256 pools
+few_pools : (p : MapParts) (m : ClusterMap) → IsBuilt p m → has_between 0 256 p.pools ≡ true → length m.pools ≤ 256
 unfolding has_between
 few_pools p m built few =
     let made = length_permutation _ _ built.pools.same ∙ length-map p.pools pool_of in

@@ -1,5 +1,5 @@
 -- Pools that stay, and pools after a change, by id.
-use Rattle.std.proofs.Common.{◌≡◌, ◌∙◌, refl, arith, ℕ, ◌+◌, ◌-◌, ◌≤◌, leb, Bool, true, false, not, List, [], ◌∷◌, length, Some, None, reverse}
+use Rattle.std.proofs.Common.{◌≡◌, ◌∙◌, refl, arith, ℕ, ◌+◌, ◌-◌, ◌≤◌, ◌<◌, leb, Bool, true, false, not, List, [], ◌∷◌, length, Some, None, reverse}
 use Rattle.std.specs.Prelude.{◌||◌, ◌==◌}
 use Rattle.std.specs.List.{list_all, filter, fold}
 use Rattle.std.proofs.lemmas.Bool.Decides.{nat_tests}
@@ -78,7 +78,12 @@ kept-few m c =
     let stays : PoolFacts → Bool = λ q. not (has_key (λ k. k) c.old_pools q.id) in
     omega (arith, length-filter_both stays (λ q. not (stays q)) (λ q. refl) m.pools)
 
--- there are at most 32 pools where no more come than have room
-pub rightly-counted : (m : ClusterMap) (c : ChangeParts) (k n : ℕ) → IsRising (λ p. p.id) m.pools → brings_new m c ≡ true
-    → k ≡ length (pools_kept m c) → n ≡ length (fold (put (λ p. p.id)) [] c.new_pools) → k ≤ 32 → leb n (32 - k) ≡ leb (length (pools_there m c)) 32
-rightly-counted m c k n rises new kept come few = rw (length-after m c rises new, ← kept, ← come) (grind (arith, nat_tests))
+-- there are at most so many pools where no more come than have room
+pub rightly-counted : (m : ClusterMap) (c : ChangeParts) (most k n : ℕ) → IsRising (λ p. p.id) m.pools → brings_new m c ≡ true
+    → k ≡ length (pools_kept m c) → n ≡ length (fold (put (λ p. p.id)) [] c.new_pools) → k ≤ most → leb n (most - k) ≡ leb (length (pools_there m c)) most
+rightly-counted m c most k n rises new kept come few = rw (length-after m c rises new, ← kept, ← come) (grind (arith, nat_tests))
+
+-- and more than so many where more stay
+pub many-counted : (m : ClusterMap) (c : ChangeParts) (most k : ℕ) → IsRising (λ p. p.id) m.pools → brings_new m c ≡ true
+    → k ≡ length (pools_kept m c) → most < k → leb k most ≡ leb (length (pools_there m c)) most
+many-counted m c most k rises new kept many = rw (length-after m c rises new, ← kept) (grind (arith, nat_tests))

@@ -1,9 +1,9 @@
 -- How many groups pools have together, where some come and some grow.
-use Rattle.std.proofs.Common.{◌≡◌, ◌∙◌, sym, ap, refl, arith, ℕ, ◌+◌, ◌≤◌, ◌==◌, Bool, true, false, not, ◌&&◌, List, [], ◌∷◌, map, length, inl, inr}
+use Rattle.std.proofs.Common.{◌≡◌, ◌∙◌, sym, refl, arith, ℕ, ◌+◌, ◌≤◌, ◌==◌, Bool, true, false, not, List, [], ◌∷◌, map, length, inl, inr}
 use mathlib.Core.Bool.{false≢true}
-use Rattle.std.specs.Prelude.{nat_le, ◌||◌}
+use Rattle.std.specs.Prelude.{nat_le}
 use Rattle.std.specs.List.{list_all, list_any, filter, fold, sum_by}
-use Rattle.std.proofs.lemmas.Bool.{cases_Bool, cases_order, ne_eqb, eqb-true, eq-eqb, false_from_ne_true}
+use Rattle.std.proofs.lemmas.Bool.{cases_Bool, cases_order, ne_eqb, eqb-true, eq-eqb}
 use Rattle.std.proofs.lemmas.Bool.Decides.{nat_tests}
 use Rattle.std.proofs.lemmas.List.Sums.{sum_by-cons}
 use Rattle.stated.specs.declared.change.ChangeParts.{ChangeParts}
@@ -14,9 +14,9 @@ use Rattle.keylist.specs.Keys.{is_distinct, has_key}
 use Rattle.keylist.specs.Puts.{put}
 use Rattle.keylist.proofs.Tests.{and_first, and_second, not_true}
 use Rattle.keylist.proofs.KeyedMaps.{has-put}
-use Rattle.keylist.proofs.KeyedPuts.{put_past, put_over, put_before}
+use Rattle.keylist.proofs.KeyedPuts.{put_past, put_before}
 use Rattle.osdmap.specs.Maps.{ClusterMap}
-use Rattle.osdmap.specs.Changes.{pools_kept, pools_there, pools_after, brings_new, leaves_few_groups, names_once}
+use Rattle.osdmap.specs.Changes.{pools_kept, pools_there, pools_after, brings_new, leaves_few_groups}
 
 module _ {X : Type 0} (key : X → ℕ) (f : X → ℕ) where
   -- an entry of a key that is not there adds its own
@@ -80,3 +80,31 @@ pub few-groups-after : (m : ClusterMap) (c : ChangeParts) → leaves_few_groups 
     → total_groups (pools_after m c) ≤ 262144
 unfolding leaves_few_groups
 few-groups-after m c few once = let fits : nat_le (total_groups (pools_after m c)) 262144 ≡ true = rw once at few in grind (arith, nat_tests, fits)
+
+-- ---- without pools that come or grow
+
+-- a list without some entries does not add up to more
+sum-filter : {X : Type 0} (f : X → ℕ) (p : X → Bool) (xs : List X) → sum_by f (filter p xs) ≤ sum_by f xs
+sum-filter f p [] = omega arith
+sum-filter f p (x ∷ xs) = elim (cases_Bool (p x)) [
+  | inl stays ↦ rw (stays, sum_by-cons f x (filter p xs), sum_by-cons f x xs) (omega (arith, sum-filter f p xs))
+  | inr goes ↦ rw (goes, sum_by-cons f x xs) (omega (arith, sum-filter f p xs))
+]
+
+-- a list of length 0 is empty
+pub empty : {X : Type 0} (xs : List X) (b : Bool) → b ≡ (length xs == 0) → b ≡ true → xs ≡ []
+empty [] b is true_is = refl
+empty (x ∷ xs) b is true_is = let none : length (x ∷ xs) ≡ 0 = eqb-true _ _ (sym is ∙ true_is) in absurd (omega (arith, none))
+
+-- where none grows, all stay as they are
+none-grown : (ps : List PoolFacts) → map (grown []) ps ≡ ps
+unfolding grown
+none-grown [] = refl
+none-grown (p ∷ ps) = rw (none-grown ps) refl
+
+-- where none comes or grows, there are as few groups as before
+pub few_stay : (m : ClusterMap) (c : ChangeParts) → c.new_pools ≡ [] → c.grow_pool ≡ [] → total_groups m.pools ≤ 262144 → leaves_few_groups m c ≡ true
+unfolding leaves_few_groups pools_after pools_there pools_kept is_distinct
+few_stay m c none same few =
+    let less = sum-filter (λ (p : PoolFacts). p.pg_num) (λ p. not (has_key (λ (id : ℕ). id) c.old_pools p.id)) m.pools in
+    rw (none, same, none-grown (filter (λ p. not (has_key (λ (id : ℕ). id) c.old_pools p.id)) m.pools)) (grind (arith, nat_tests, few, less))

@@ -18,6 +18,9 @@ use Rattle.stated.specs.declared.change.Reweight.{Reweight}
 use Rattle.stated.specs.CrushMaps.{CrushFacts, IsCrushMap}
 use Rattle.stated.specs.Growth.{IsGrowth, grown}
 use Rattle.stated.specs.Pools.{PoolFacts, total_groups, IsWithinLimits}
+use Rattle.stated.specs.Profiles.{most_pools}
+use Rattle.stated.specs.declared.profile.Profile.{Profile}
+use Rattle.stated.specs.declared.profile.Profile.TheVariants.{Plain, Stock}
 use Rattle.keylist.specs.Keys.{is_distinct, has_key, entry_at}
 use Rattle.keylist.specs.Order.{IsRising}
 use Rattle.keylist.specs.Puts.{put}
@@ -180,7 +183,7 @@ module _ {E : Type 0} (names : E → List ℕ) (sound : List E → Bool) (m : Cl
 record Rightly (m : ClusterMap) (c : ChangeParts) : Type 0 where
   pub kept : list_all (has_rule (rules_after m c)) (pools_kept m c) ≡ true
   pub new : list_all (has_rule (rules_after m c)) c.new_pools ≡ true
-  pub few : nat_le (length (pools_there m c)) 32 ≡ true
+  pub few : nat_le (length (pools_there m c)) (most_pools c.profile) ≡ true
   pub grow : list_all (grows_from (pools_there m c)) c.grow_pool ≡ true
   pub groups : leaves_few_groups m c ≡ true
 
@@ -189,10 +192,15 @@ rightly-each : (m : ClusterMap) (c : ChangeParts) → brings_rightly m c ≡ tru
 unfolding brings_rightly
 rightly-each m c h = record { kept = grind (arith, h); new = grind (arith, h); few = grind (arith, h); grow = grind (arith, h); groups = grind (arith, h) }
 
--- then at most 32 are there
-few-after : (m : ClusterMap) (c : ChangeParts) → Rightly m c → length (pools_after m c) ≤ 32
+-- no profile allows more than 256 pools
+most_few : (profile : Profile) (n : ℕ) → nat_le n (most_pools profile) ≡ true → n ≤ 256
+most_few Plain n few = grind (arith, nat_tests)
+most_few Stock n few = grind (arith, nat_tests)
+
+-- then at most 256 are there
+few-after : (m : ClusterMap) (c : ChangeParts) → Rightly m c → length (pools_after m c) ≤ 256
 unfolding pools_after
-few-after m c rightly = rw length-map (grind (arith, nat_tests, rightly.few))
+few-after m c rightly = rw length-map (most_few c.profile (length (pools_there m c)) rightly.few)
 
 -- and they have at most 262,144 groups together
 groups-after : (m : ClusterMap) (c : ChangeParts) → Rightly m c → names_once c ≡ true → total_groups (pools_after m c) ≤ 262144

@@ -12,7 +12,8 @@ use Rattle.stated.specs.Growth.{Growth, grown}
 use Rattle.refusal.specs.declared.refused.Refusal.TheVariants.{UnknownOsd, BadWeight, UnknownPool, PoolExists, BadForest, BadPool, UnknownGroup, BadNewException, DuplicatePart}
 use Rattle.stated.specs.declared.pg.Pg.{Pg}
 use Rattle.stated.specs.Incrementals.{Step}
-use Rattle.stated.specs.Limits.{max_pools, max_total_groups}
+use Rattle.stated.specs.Limits.{max_total_groups}
+use Rattle.stated.specs.Profiles.{most_pools}
 use Rattle.crush.specs.Limits.{full_weight}
 use Rattle.stated.specs.Pools.{PoolFacts, total_groups}
 use Rattle.keylist.specs.Keys.{is_distinct, has_key}
@@ -86,12 +87,13 @@ unfoldable pub leaves_few_groups : ClusterMap → ChangeParts → Bool
 leaves_few_groups m c =
     not (is_distinct (map (λ p. p.id) c.new_pools)) || nat_le (total_groups (pools_after m c)) max_total_groups
 
--- each pool that stays or comes has a rule of its kind then, there are at most 32 pools, none gets fewer groups, and
--- all together do not get too many
+-- each pool that stays or comes has a rule of its kind then, there are no more pools than the profile allows, none gets
+-- fewer groups, and all together do not get too many
 unfoldable pub brings_rightly : ClusterMap → ChangeParts → Bool
 brings_rightly m c =
     list_all (has_rule (rules_after m c)) (pools_kept m c) && list_all (has_rule (rules_after m c)) c.new_pools
-    && nat_le (length (pools_there m c)) max_pools && list_all (grows_from (pools_there m c)) c.grow_pool && leaves_few_groups m c
+    && nat_le (length (pools_there m c)) (most_pools c.profile) && list_all (grows_from (pools_there m c)) c.grow_pool
+    && leaves_few_groups m c
 
 -- each group that is named is there then
 unfoldable pub names_groups : ClusterMap → ChangeParts → Bool

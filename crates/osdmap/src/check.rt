@@ -1,4 +1,4 @@
-//! What a map refuses of a change: each number in a file of its own.
+//! What a map refuses of a change: where each number is looked for.
 
 mod devices;
 mod groups;
@@ -23,10 +23,11 @@ impl OsdMap {
     /// (23): an old pool is not there, or once the old pools went and the new ones came a pool that grows or that of a
     /// group that is named. `PoolExists` (24): a new pool's id stays. `BadForest` (13): a device of the forest that
     /// comes is not below `max_osd`. `BadPool` (15): a pool that stays or comes has no rule of its kind then, there are
-    /// more than 32 pools, or one gets fewer groups than it has. `UnknownGroup` (25): a group that is named is not
-    /// there then. `BadNewException` (26): an explicit set or a list of pairs is empty, longer than its pool's size,
-    /// has an OSD twice or a pair with equal sides. `DuplicatePart` (27): a key twice in a part, or in both parts of a
-    /// couple. It takes no memory.
+    /// more than 32 pools (256 by the stock profile) or 262,144 groups, or a pool gets fewer groups than it has, or
+    /// fewer for placement. `UnknownGroup` (25): a group that is named is not there then. `BadNewException` (26): an
+    /// explicit set is empty, longer than its pool's size or has an OSD twice; or there are no pairs, more than the
+    /// pool's size, or one with equal sides. `DuplicatePart` (27): a key twice in a part, or in both parts of a couple.
+    /// It takes no memory.
     pub fn check(&self, change: &Change) -> Result<(), Refusal>
         ensures { result_err result ≡ change_fault self.now.map change.now }
     {

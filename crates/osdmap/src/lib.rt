@@ -15,6 +15,6 @@ pub use map::OsdMap;
 pub use placement::{Placing, stable_mod};
 pub use stated::{
     Change, ChangeParts, CrushMap, Exception, Explicit, Grow, Incremental, Items, MapParts,
-    NumberedRule, OsdState, Pair, Pg, Pool, Presence, Reweight,
+    NumberedRule, OsdState, Pair, Pg, Pool, Presence, Profile, Reweight,
 };
 pub use up_set::UpSet;

@@ -145,8 +145,8 @@ few_evals m c (p ∷ ps) within =
     let sum = sum_by-cons (evals_in m c) p ps in
     omega (arith, here.groups_most)
 
--- all pools have at most 2,097,152
-pub evals_whole : (m : ClusterMap) (c : ChangeParts) → HoldsTogether m → sum_by (evals_in m c) m.pools ≤ 2097152
+-- all pools have at most 16,777,216
+pub evals_whole : (m : ClusterMap) (c : ChangeParts) → HoldsTogether m → sum_by (evals_in m c) m.pools ≤ 16777216
 evals_whole m c holds = omega (arith, few_evals m c m.pools holds.pools_within, holds.few_pools)
 
 -- the evaluations of the pools so far, at the end, are all

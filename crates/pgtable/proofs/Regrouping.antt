@@ -314,7 +314,7 @@ evals_regrouped t m c i is s past =
     ap (sum_by of) (take_all i t.pools past ∙ is.pools) ∙ evals_of_tables m (changed_map m c) c m.pools ∙ ap (sum_by (evals_in (changed_map m c) c)) (sym (pools_stay m c s))
 
 -- which are few
-pub evals_of_regrouped : (t : TableFacts) (m : ClusterMap) (c : ChangeParts) → IsTableOf t m → LeavesRawSets c → HoldsTogether (changed_map m c) → sum_by (λ (q : PoolTable). evals_in (changed_map m c) c q.pool) t.pools ≤ 2097152
+pub evals_of_regrouped : (t : TableFacts) (m : ClusterMap) (c : ChangeParts) → IsTableOf t m → LeavesRawSets c → HoldsTogether (changed_map m c) → sum_by (λ (q : PoolTable). evals_in (changed_map m c) c q.pool) t.pools ≤ 16777216
 evals_of_regrouped t m c is s holds =
     let of = λ (q : PoolTable). evals_in (changed_map m c) c q.pool in
     let all : sum_by of t.pools ≡ sum_by (evals_in (changed_map m c) c) (changed_map m c).pools =

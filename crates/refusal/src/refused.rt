@@ -22,7 +22,8 @@ pub enum Refusal {
     /// 14: a rule's id twice, steps outside the grammar, or a take of an unknown bucket.
     BadRule,
     /// 15: a pool's id twice, no such rule, a rule of the other kind, or more groups for placement than groups; in a
-    /// change also more than 32 pools after it, or a pool that would grow to fewer groups than it has.
+    /// change also more pools or groups after it than a map may have, or a pool that would grow to fewer groups, or to
+    /// fewer for placement, than it has.
     BadPool,
     /// 16: an OSD's id twice, an id not below `max_osd`, or an OSD that is up but does not exist.
     BadOsd,
@@ -50,15 +51,15 @@ pub enum Refusal {
     JournalFull,
     /// 29: the pool's rule has more than one block.
     BalanceRule,
-    /// 30: a growth was refused.
+    /// 30: out of memory.
     Memory,
     /// 31: the seat has made all its draws.
     SeatSpent,
-    /// 32: the epoch's cell did not take or show the value.
+    /// 32: the epoch's cell did not take the change.
     NotSealed,
     /// 33: a line that is no command.
     BadCommand,
-    /// 34: a million turns without the epoch.
+    /// 34: the epoch was not there in a million looks.
     AwaitSpent,
 }
 

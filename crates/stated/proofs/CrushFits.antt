@@ -87,14 +87,14 @@ rules_over buckets parts rules fit good rises =
     ∙ all_both rule_fits (is_lawful buckets) (λ r. is_rule_over buckets (rule_of r)) (rule_over buckets) parts fit lawful
 
 -- how many rules there are
-counted : (parts : List RulePart) (rules : List NumberedRule) → has_between 1 32 parts ≡ true → Rises (λ r. r.id) (map rule_of parts) rules → (1 ≤ length rules) × (length rules ≤ 32)
+counted : (parts : List RulePart) (rules : List NumberedRule) → has_between 1 256 parts ≡ true → Rises (λ r. r.id) (map rule_of parts) rules → (1 ≤ length rules) × (length rules ≤ 256)
 unfolding has_between
 counted parts rules few rises =
     let made = length_permutation _ _ rises.same ∙ length-map parts rule_of in
     (grind (arith, nat_tests, made), grind (arith, nat_tests, made))
 
 -- all of it
-pub is_crush_map : (buckets : List Bucket) (parts : List RulePart) (rules : List NumberedRule) → IsForest buckets → list_all rule_fits parts ≡ true → has_between 1 32 parts ≡ true
+pub is_crush_map : (buckets : List Bucket) (parts : List RulePart) (rules : List NumberedRule) → IsForest buckets → list_all rule_fits parts ≡ true → has_between 1 256 parts ≡ true
     → rules_fit buckets parts ≡ true → Rises (λ r. r.id) (map rule_of parts) rules → IsCrushMap (record { buckets = buckets; rules = rules })
 is_crush_map buckets parts rules forest fit few good rises = record {
   forest = forest;

@@ -27,7 +27,7 @@ unfolding rule_ids_fit
 ids_fit rules h = grind arith
 
 -- how many rules there are
-counted : (rules sorted : List NumberedRule) → rule_ids_fit rules ≡ true → Rises (λ r. r.id) rules sorted → (1 ≤ length sorted) × (length sorted ≤ 32)
+counted : (rules sorted : List NumberedRule) → rule_ids_fit rules ≡ true → Rises (λ r. r.id) rules sorted → (1 ≤ length sorted) × (length sorted ≤ 256)
 unfolding rule_ids_fit has_between
 counted rules sorted h rises =
     let same = length_permutation _ _ rises.same in

@@ -19,14 +19,14 @@ max_item_weight = 4294967295
 
 -- how many rules a map has at most, and the greatest id of one
 abbrev pub max_rules : ℕ
-max_rules = 32
+max_rules = 256
 
 abbrev pub max_rule_id : ℕ
 max_rule_id = 255
 
 -- how many pools a map has at most, the greatest id of one, and how many groups it has at most
 abbrev pub max_pools : ℕ
-max_pools = 32
+max_pools = 256
 
 abbrev pub max_pool_id : ℕ
 max_pool_id = 65535

@@ -32,6 +32,7 @@ pub record IsChange (c : ChangeParts) : Type 0 where
 
 -- each part is put in order, entries of one key in theirs
 pub record IsOrdered (given ordered : ChangeParts) : Type 0 where
+  pub profile : ordered.profile ≡ given.profile
   pub old_pools : SortsBy (λ id. id) given.old_pools ordered.old_pools
   pub new_crush : ordered.new_crush ≡ given.new_crush
   pub new_pools : SortsBy (λ p. p.id) given.new_pools ordered.new_pools

@@ -12,7 +12,7 @@ use Rattle.stated.specs.declared.parts.GrowPart.{GrowPart}
 use Rattle.stated.specs.Parts.{has_between, pool_fault}
 use Rattle.stated.specs.Growth.{growth_fault}
 
--- how many groups a pool has at most, how many items a bucket, how many buckets and pools a map, and how many
+-- how many groups a pool has at most, how many items a bucket, how many buckets, rules and pools a map, and how many
 -- exceptions of one kind or entries of a list a map or a change
 abbrev pub plain_groups : ℕ
 plain_groups = 4096
@@ -22,6 +22,9 @@ plain_items = 64
 
 abbrev pub plain_buckets : ℕ
 plain_buckets = 512
+
+abbrev pub plain_rules : ℕ
+plain_rules = 32
 
 abbrev pub plain_pools : ℕ
 plain_pools = 32
@@ -46,13 +49,14 @@ buckets_are_plain buckets = has_between 0 plain_buckets buckets && list_all buck
 
 -- nor has a CRUSH map, where there is one
 abbrev pub crush_is_plain : Option CrushParts → Bool
-crush_is_plain crush = option_map_or (λ c. buckets_are_plain c.buckets) crush true
+crush_is_plain crush = option_map_or (λ c. buckets_are_plain c.buckets && has_between 0 plain_rules c.rules) crush true
 
 -- no more of anything in a map, the first thing that is looked at in one of a plain cluster
 unfoldable pub map_is_plain : MapParts → Bool
 map_is_plain p =
-    buckets_are_plain p.buckets && has_between 0 plain_pools p.pools && list_all pool_is_plain p.pools
-    && has_between 0 plain_entries p.pg_upmap && has_between 0 plain_entries p.pg_upmap_items
+    buckets_are_plain p.buckets && has_between 0 plain_rules p.rules && has_between 0 plain_pools p.pools
+    && list_all pool_is_plain p.pools && has_between 0 plain_entries p.pg_upmap
+    && has_between 0 plain_entries p.pg_upmap_items
 
 -- of a pool and of a growth by themselves: a number outside the limits of plain clusters, else what is wrong anyway
 abbrev pub plain_pool_fault : PoolPart → Option Refusal

@@ -1,16 +1,23 @@
 -- Profiles: which kinds of buckets (Ceph, crush.h) the texts of maps and changes may state, and whose limits hold.
-use Rattle.std.specs.Prelude.{Bool, true, false, List}
+use Rattle.std.specs.Prelude.{ℕ, Bool, true, false, List}
 use Rattle.std.specs.List.{list_all}
 use Rattle.crush.specs.declared.bucket.BucketKind.{BucketKind}
 use Rattle.crush.specs.declared.bucket.BucketKind.TheVariants.{Uniform, List as Listed, Tree, Straw2}
 use Rattle.stated.specs.declared.parts.BucketPart.{BucketPart}
 use Rattle.stated.specs.declared.profile.Profile.{Profile}
 use Rattle.stated.specs.declared.profile.Profile.TheVariants.{Plain, Stock}
+use Rattle.stated.specs.Limits.{max_pools}
+use Rattle.stated.specs.Plain.{plain_pools}
 
 -- whether the limits are those of stock clusters
 abbrev pub is_stock : Profile → Bool
 is_stock Plain = false
 is_stock Stock = true
+
+-- how many pools a cluster has at most
+abbrev pub most_pools : Profile → ℕ
+most_pools Plain = plain_pools
+most_pools Stock = max_pools
 
 -- whether each profile has buckets of this kind
 abbrev pub is_plain_kind : BucketKind → Bool

@@ -12,6 +12,7 @@ use crate::exception::{Explicit, Items};
 use crate::grow::Grow;
 use crate::pg::Pg;
 use crate::pool::Pool;
+use crate::profile::Profile;
 use keylist::{Entries, Keyed, ordered};
 use refusal::Memory;
 use std::marker::Model;
@@ -19,6 +20,8 @@ use std::marker::Model;
 /// The parts of a change, each list in any order. They act in the order in which they stand here.
 #[derive(Debug, Drop)]
 pub struct ChangeParts {
+    /// By whose limit the pools after the change are counted: there may be 32, in a stock cluster 256.
+    pub profile: Profile,
     /// The ids of the pools that are taken away, with their exceptions.
     pub old_pools: Entries<u32>,
     /// The forest and the rules that come in place of those of the map.
@@ -138,6 +141,7 @@ impl Change {
         is_crush_map(&parts.new_crush);
         Ok(Change {
             parts: ChangeParts {
+                profile: parts.profile,
                 old_pools,
                 new_crush: parts.new_crush,
                 new_pools,

@@ -76,8 +76,8 @@ impl Grow {
         Grow::stock(part)
     }
 
-    /// What a pool of a stock cluster grows to: `BadLimit` (12) where a number is outside its limits, else `BadPool` (15)
-    /// where `pgp_num` is above `pg_num`.
+    /// What a pool of a stock cluster grows to: `BadLimit` (12) where a number is outside its limits, else `BadPool`
+    /// (15) where `pgp_num` is above `pg_num`.
     pub fn stock(part: GrowPart) -> Result<Grow, Refusal>
         ensures { Judges result (growth_fault part) (λ g. g ≡ growth_of part) }
     {

@@ -16,7 +16,7 @@ pub const MAX_LEVEL: i128 = limits::MAX_LEVEL as i128;
 /// The greatest weight of an item.
 pub const MAX_ITEM_WEIGHT: i128 = u32::MAX as i128;
 /// How many rules a map has at most.
-pub const MAX_RULES: usize = 32;
+pub const MAX_RULES: usize = 256;
 /// The greatest id of a rule.
 pub const MAX_RULE_ID: i128 = 255;
 /// The greatest count of a choose step.
@@ -28,7 +28,7 @@ pub const MAX_SIZE: i128 = limits::MAX_SIZE as i128;
 /// How many places a set of a group has at most, and so how many entries an exception.
 pub const MAX_PLACES: usize = limits::MAX_SIZE;
 /// How many pools a map has at most.
-pub const MAX_POOLS: usize = 32;
+pub const MAX_POOLS: usize = 256;
 /// The greatest id of a pool.
 pub const MAX_POOL_ID: i128 = 65_535;
 /// How many groups a pool has at most.

@@ -15,6 +15,8 @@ pub const PLAIN_GROUPS: i128 = 4_096;
 pub const PLAIN_ITEMS: usize = 64;
 /// How many buckets a plain cluster has at most.
 pub const PLAIN_BUCKETS: usize = 512;
+/// How many rules a plain cluster has at most.
+pub const PLAIN_RULES: usize = 32;
 /// How many pools a plain cluster has at most.
 pub const PLAIN_POOLS: usize = 32;
 /// How many exceptions of one kind a plain cluster has at most, and how many entries a list of a change of one.
@@ -76,12 +78,14 @@ fn buckets_are_plain(buckets: &[BucketPart]) -> bool
     has_between(0, PLAIN_BUCKETS, buckets) && all_buckets_are_plain(buckets)
 }
 
-/// Whether a CRUSH map, if there is one, has no more of either.
+/// Whether a CRUSH map, if there is one, has no more of either, nor more rules.
 pub fn crush_is_plain(crush: &Option<CrushParts>) -> bool
     ensures { result ≡ crush_is_plain crush.now }
 {
     match crush {
-        Some(crush) => buckets_are_plain(&crush.buckets),
+        Some(crush) => {
+            buckets_are_plain(&crush.buckets) && has_between(0, PLAIN_RULES, &crush.rules)
+        }
         None => true,
     }
 }
@@ -92,6 +96,7 @@ pub fn map_is_plain(parts: &MapParts) -> bool
     ensures { result ≡ map_is_plain parts.now }
 {
     buckets_are_plain(&parts.buckets)
+        && has_between(0, PLAIN_RULES, &parts.rules)
         && has_between(0, PLAIN_POOLS, &parts.pools)
         && pools_are_plain(&parts.pools)
         && is_plain_list(&parts.pg_upmap)

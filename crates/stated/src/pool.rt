@@ -107,7 +107,6 @@ impl Pool {
     ghost use Rattle.refusal.specs.Outcomes.{Judges, refused_unless};
     ghost use Rattle.refusal.specs.declared.refused.Refusal.TheVariants.{BadPool};
     ghost use Rattle.stated.specs.Limits.{max_groups};
-    ghost use Rattle.stated.specs.Limits.{max_groups};
     ghost use Rattle.stated.specs.Pools.{IsWithinLimits};
     ghost use Rattle.stated.specs.Parts.{pool_fits, has_enough_groups, pool_fault, pool_of};
     ghost use Rattle.stated.specs.Plain.{plain_pool_fault};

@@ -4,7 +4,9 @@ ghost use Rattle.std.specs.Prelude.{◌≡◌};
 ghost use Rattle.std.specs.List.{list_all};
 ghost use Rattle.stated.specs.Profiles.{is_plain_kind, are_plain_kinds};
 
+use crate::limits::MAX_POOLS;
 use crate::parts::BucketPart;
+use crate::plain::PLAIN_POOLS;
 use crush::BucketKind;
 
 /// Which maps and changes texts may state.
@@ -35,7 +37,7 @@ fn are_plain_kinds(buckets: &[BucketPart]) -> bool
 
 impl Profile {
     ghost use Rattle.std.specs.Prelude.{◌≡◌};
-    ghost use Rattle.stated.specs.Profiles.{is_stock, has_kinds};
+    ghost use Rattle.stated.specs.Profiles.{is_stock, most_pools, has_kinds};
 
     /// Whether the limits are those of stock clusters.
     pub fn is_stock(self) -> bool
@@ -44,6 +46,16 @@ impl Profile {
         match self {
             Profile::Plain => false,
             Profile::Stock => true,
+        }
+    }
+
+    /// How many pools a cluster has at most: 32, a stock one 256.
+    pub fn max_pools(self) -> usize
+        ensures { result ≡ most_pools self }
+    {
+        match self {
+            Profile::Plain => PLAIN_POOLS,
+            Profile::Stock => MAX_POOLS,
         }
     }
 

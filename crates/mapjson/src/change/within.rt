@@ -17,8 +17,8 @@ use partjson::{RawChange, RawReweight};
 use refusal::{Memory, Refusal};
 use stated::numbers::word;
 use stated::{
-    ChangeParts, CrushMap, CrushParts, Grow, GrowPart, Pg, PgParts, Pool, PoolPart, Reweight,
-    exceptions_of,
+    ChangeParts, CrushMap, CrushParts, Grow, GrowPart, Pg, PgParts, Pool, PoolPart, Profile,
+    Reweight, exceptions_of,
 };
 use std::alloc::{AllocError, Global};
 
@@ -109,35 +109,22 @@ fn crush_stated(alloc: Global, parts: &CrushParts) -> Result<CrushMap, Refusal>
     CrushMap::stated(alloc, &parts.buckets, &parts.rules, MAX_DEVICES)
 }
 
-/// The pools that come with a change that is within the limits, and those that grow: `BadPool` (15) where one of them
-/// has more groups for placement than groups.
-pub(super) fn pools_within(
-    alloc: Global,
-    change: &RawChange,
-) -> Result<(Vec<Pool>, Vec<Grow>), Refusal>
-    requires { change_fits change.now ≡ true }
-    ensures { Makes result (refused_unless (are_even change.now) BadPool)
-        (λ r. (r.0.items ≡ map pool_of change.now.new_pools) × (r.1.items ≡ map growth_of change.now.grow_pool)) }
-{
-    let pools = pools(alloc, &change.new_pools)?;
-    let growths = growths(alloc, &change.grow_pool)?;
-    Ok((pools, growths))
-}
-
-/// The parts of a change that is within the limits; or `Memory` (30).
+/// The parts of a change that is within the limits, of a profile and with a CRUSH map: `BadPool` (15) where a pool that
+/// comes or grows has more groups for placement than groups; or `Memory` (30).
 pub(super) fn parts_within(
     alloc: Global,
     change: &RawChange,
     new_crush: Option<CrushMap>,
-    new_pools: Vec<Pool>,
-    grow_pool: Vec<Grow>,
-) -> Result<ChangeParts, Memory>
-    requires fits { change_fits change.now ≡ true }
-    requires pools { new_pools.items ≡ map pool_of change.now.new_pools }
-    requires growths { grow_pool.items ≡ map growth_of change.now.grow_pool }
-    ensures { IfOk result (λ parts. parts ≡ parts_within change.now new_crush) }
+    profile: Profile,
+) -> Result<ChangeParts, Refusal>
+    requires { change_fits change.now ≡ true }
+    ensures { Makes result (refused_unless (are_even change.now) BadPool)
+        (λ parts. parts ≡ parts_within profile change.now new_crush) }
 {
+    let new_pools = pools(alloc, &change.new_pools)?;
+    let grow_pool = growths(alloc, &change.grow_pool)?;
     Ok(ChangeParts {
+        profile,
         old_pools: Entries::new(words(alloc, &change.old_pools)?),
         new_crush,
         new_pools: Entries::new(new_pools),

@@ -12,7 +12,7 @@ use crate::build::has_rule;
 use crate::in_place::grown;
 use crate::map::OsdMap;
 use keylist::{are_distinct, has, put_count};
-use stated::limits::{MAX_POOLS, MAX_TOTAL_GROUPS};
+use stated::limits::MAX_TOTAL_GROUPS;
 use stated::{Change, Grow, NumberedRule, Pool};
 
 /// Whether each of some pools has a rule of its kind among some.
@@ -40,7 +40,7 @@ impl OsdMap {
     ghost use Rattle.stated.specs.Growth.{grown};
     ghost use Rattle.stated.specs.Pools.{total_groups};
     ghost use Rattle.std.specs.List.{list_all};
-    ghost use Rattle.stated.specs.Limits.{max_pools};
+    ghost use Rattle.stated.specs.Profiles.{most_pools};
     ghost use Rattle.osdmap.specs.Maps.{has_rule};
     ghost use Rattle.osdmap.specs.Changes.{pools_kept, pools_there, rules_after, brings_new, grows_from, leaves_few_groups, brings_rightly};
 
@@ -95,14 +95,16 @@ impl OsdMap {
             .count()
     }
 
-    /// Whether there are at most 32 pools once the old ones went and the new ones came.
+    /// Whether there are no more pools than the profile allows once the old ones went and the new ones came.
     fn are_few(&self, change: &Change) -> bool
         requires { brings_new self.now.map change.now ≡ true }
-        ensures { result ≡ nat_le (length (pools_there self.now.map change.now)) max_pools }
+        ensures { result ≡ nat_le (length (pools_there self.now.map change.now)) (most_pools change.now.profile) }
     {
         let _ = &self.pools;
         let new: &[Pool] = &change.parts().new_pools;
-        put_count(&[], new) <= MAX_POOLS - self.count_kept(change)
+        let most = change.parts().profile.max_pools();
+        let kept = self.count_kept(change);
+        kept <= most && put_count(&[], new) <= most - kept
     }
 
     /// How many groups the pools that stay have after a change.
@@ -129,16 +131,21 @@ impl OsdMap {
         requires { brings_new self.now.map change.now ≡ true }
         ensures { result ≡ leaves_few_groups self.now.map change.now }
     {
+        let _ = &self.pools;
         let new: &[Pool] = &change.parts().new_pools;
+        let growths: &[Grow] = &change.parts().grow_pool;
+        if new.is_empty() && growths.is_empty() {
+            return true;
+        }
         if !are_distinct(new) {
             return true;
         }
-        let total = self.groups_kept(change) + total_groups(new, &change.parts().grow_pool);
+        let total = self.groups_kept(change) + total_groups(new, growths);
         total <= MAX_TOTAL_GROUPS
     }
 
-    /// Whether each pool that stays or comes has a rule of its kind, there are at most 32 pools then, none gets fewer
-    /// groups, and all have at most 262,144.
+    /// Whether each pool that stays or comes has a rule of its kind, there are no more pools then than the profile
+    /// allows, none gets fewer groups, and all have at most 262,144.
     #[tactic(auto, unfolding(crate::specs::Changes::brings_rightly))]
     pub(crate) fn brings_rightly(&self, change: &Change) -> bool
         requires { brings_new self.now.map change.now ≡ true }

@@ -1,6 +1,7 @@
 use Rattle.std.proofs.Common.{None, subst}
 use Rattle.stated.specs.declared.change.ChangeParts.{ChangeParts}
 use Rattle.stated.specs.Ordered.{IsOrdered}
+use Rattle.stated.specs.declared.profile.Profile.TheVariants.{Stock}
 use Rattle.balancer.proofs.Ordering.{ordered_same}
 use Rattle.balancer.proofs.plans.change_of.Goals as goal
 
@@ -9,6 +10,7 @@ returns c =
     ordered_same c.args.items.items c.in_ok-change.change c.requires
     (subst (λ (given : ChangeParts). IsOrdered given c.in_ok-change.change)
     (λ i. record {
+      profile = Stock;
       old_pools = c.nothing.ensures i;
       new_crush = None;
       new_pools = c.nothing-2.ensures i;

@@ -1,4 +1,4 @@
-use Rattle.std.proofs.Common.{sym, arith, ap, length}
+use Rattle.std.proofs.Common.{arith, ap, length}
 use Rattle.balancer.specs.Boards.{may_go}
 use Rattle.balancer.proofs.Deviating.{candidate_below}
 use Rattle.balancer.proofs.Lowest.{lowest_next, lowest_of_all, goer_stands}

@@ -1,4 +1,4 @@
-use Rattle.std.proofs.Common.{ap, ◌∙◌, ◌+◌}
+use Rattle.std.proofs.Common.{ap, ◌∙◌}
 use Rattle.osdmap.specs.Changes.{apply}
 use Rattle.osdmap.proofs.map.OsdMap.apply.Goals as goal
 
