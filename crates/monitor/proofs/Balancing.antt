@@ -111,7 +111,7 @@ module _ (old : Kept) (pool limit : ℕ) (led : IsLed old) where
         )
   ]
   balanced_by new (Err e) leads done =
-      let same : old ≡ new = sym done.1 in (
+      let same : record old { runs = new.runs } ≡ new = sym done.1 in (
         record {
           begins = subst (λ (k : Kept). Begins old.pass.history k.pass.history) same (begins_itself old.pass.history);
           lawful = subst (λ (k : Kept). IsLawful old.first k.pass.history) same led.lawful;

@@ -9,7 +9,7 @@ use Rattle.osdmap.specs.Evals.{evals_of}
 use Rattle.osdmap.specs.Changes.{IsLawful, after, epoch_after, change_fault, names_osds, weighs_rightly, names_pools, brings_new, brings_forest, brings_rightly, names_groups, excepts_soundly, names_once}
 use Rattle.epochlog.specs.Epochs.{Begins}
 use Rattle.sealed.proofs.Beginnings.{begins_itself, begins_on}
-use Rattle.state.specs.States.{Kept, committed, next_step, commit_fault, fault_in, unless, IsRefusedBy, Commits as TakesCommit}
+use Rattle.state.specs.States.{Kept, ran, committed, next_step, commit_fault, fault_in, unless, IsRefusedBy, Commits as TakesCommit}
 use Rattle.state.proofs.Journals.{accepted}
 use Rattle.monitor.specs.Histories.{AnswersCommit, AddsChange}
 
@@ -54,7 +54,7 @@ pub committed_by : (old new : Kept) (base : ℕ) (change : ChangeParts) (r : Res
     → AnswersCommit old.first (length old.pass.row.cells) old.pass.history new.pass.history base change r
 committed_by old new base change (Ok ok) led leads done =
     let fine = accepted old base change done.0.0 in
-    let is : new ≡ committed old change = done.0.1.0 in
+    let is : new ≡ ran ok.1 (committed old change) = done.0.1.0 in
     let more : new.pass.history ≡ old.pass.history ++ next_step old.map change ∷ [] =
     ap (λ (k : Kept). k.pass.history) is in
     let first : new.first ≡ old.first = ap (λ (k : Kept). k.first) is in
@@ -79,7 +79,7 @@ committed_by old new base change (Ok ok) led leads done =
       },
     )
 committed_by old new base change (Err e) led leads done =
-    let same : old ≡ new = sym done.1 in
+    let same : record old { runs = new.runs } ≡ new = sym done.1 in
     let most = length old.pass.row.cells in
     let fault : fault_in old base change
     ≡ commit_fault (after old.first new.pass.history) (length new.pass.history) most base change =

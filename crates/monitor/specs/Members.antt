@@ -16,7 +16,7 @@ use Rattle.monitor.specs.declared.locked.Locked.{Locked}
 use Rattle.monitor.specs.declared.member.Member.{Member}
 
 -- what callers see of a monitor: the first map, the row of epochs, the words of the lock from which its seats draw, the
--- state that the lock was made with, which kinds of buckets the texts of its changes may state, and whether there is one
+-- state that the lock was made with, by which profile the texts of its changes are read, and whether there is one
 -- member
 pub record Monitored : Type 0 where
   pub first : ClusterMap

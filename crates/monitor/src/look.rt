@@ -22,9 +22,9 @@ pub struct Look<'a> {
 }
 
 impl Monitor {
-    ghost use Rattle.std.specs.Prelude.{◌≡◌, IfOk, IfErr, OnOk};
+    ghost use Rattle.std.specs.Prelude.{◌≡◌, [], ◌+◌, IfOk, IfErr, OnOk};
     ghost use Rattle.monitor.specs.Histories.{GoesOn};
-    ghost use Rattle.monitor.specs.Members.{IsMemberOf, IsSpent, StaysAlone};
+    ghost use Rattle.monitor.specs.Members.{IsMemberOf, IsSpent, StaysAlone, draws_made};
     ghost use Rattle.monitor.specs.Looking.{IsLookOf};
 
     /// Shares the lock, to look at the state. `Err` (31, `SeatSpent`), once the member's seat has made its draws and
@@ -37,6 +37,9 @@ impl Monitor {
             IsMemberOf self.now back × IsSpent self.now back × (back.pass ≡ member.pass)) }
         ensures refused { OnOk result (¬ IsSpent self.now member) }
         ensures alone { IfOk result (λ look. StaysAlone self.now member.pass look.pass) }
+        ensures once { IfOk result (λ look.
+            member.pass.history ≡ [] → look.guard.turn.place.draws ≡ draws_made member + 1) }
+        ensures spent_before { IfErr result (λ _. member.pass.history ≡ [] → IsSpent self.now member) }
     {
         let mut member = member;
         match self.share(rt, &mut member) {
@@ -51,7 +54,7 @@ impl Monitor {
 
 impl<'a> Look<'a> {
     ghost use Rattle.std.specs.Prelude.{◌≡◌};
-    ghost use Rattle.monitor.specs.Members.{Monitored, IsMemberOf};
+    ghost use Rattle.monitor.specs.Members.{Monitored, IsMemberOf, draws_made};
     ghost use Rattle.monitor.specs.Looking.{IsLookOf, first_of_look};
 
     /// The state, the same at each call: its first map is the monitor's, and it has seen what the member has.
@@ -66,6 +69,7 @@ impl<'a> Look<'a> {
     pub fn leave(self) -> Member
         ensures member { (monitor : Monitored) → IsLookOf monitor self.entry → IsMemberOf monitor result }
         ensures pass { result.pass ≡ self.entry.pass }
+        ensures draws { draws_made result ≡ self.entry.guard.turn.place.draws }
     {
         let Look { guard, pass } = self;
         Member {

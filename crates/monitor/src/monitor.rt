@@ -11,7 +11,7 @@ use std::alloc::Global;
 use std::marker::Model;
 use ticketlock::Lock;
 
-/// A monitor: a state that its members share by a lock, and beside the lock the row of sealed epochs, the first map, and
+/// A monitor: a state that its members share by a lock, and beside the lock the row of sealed epochs, the first map and
 /// which kinds of buckets the texts of its changes may state. Many threads may use it.
 #[derive(Drop)]
 pub struct Monitor {
@@ -68,5 +68,6 @@ impl Model for Monitor {
 
     ghost view = { λ m. monitored m.first.map m.row m.lock.words (first_of m.lock).state.value m.profile m.alone };
 
-    ghost invariant = { λ m. IsOpened (monitored m.first.map m.row m.lock.words (first_of m.lock).state.value m.profile m.alone) };
+    ghost invariant = { λ m.
+        IsOpened (monitored m.first.map m.row m.lock.words (first_of m.lock).state.value m.profile m.alone) };
 }

@@ -1,5 +1,5 @@
 -- Events by which one seat makes a change and looks at it, and a follower reads it.
-use Rattle.std.proofs.Common.{◌≡◌, ℕ, ◌+◌, List, [], ◌∷◌, ◌++◌, None, slice_set, refl, arith}
+use Rattle.std.proofs.Common.{◌≡◌, ℕ, List, [], ◌∷◌, None, slice_set, refl, arith}
 use Rattle.ticketlock.specs.declared.view.View.{View}
 use Rattle.ticketlock.specs.declared.view.Kind.TheVariants.{Read, Write}
 use Rattle.ticketlock.specs.Rule.{LockWorld, draws, reader_looks, writer_looks, reader_enters, writer_closes, writer_leaves, newcomer, drawn_for, looked_at, gone_in, gone_out, with_view, draw_word_up, reader_word_up, writer_word_up}
@@ -7,11 +7,12 @@ use Rattle.ticketlock.specs.Law.{start}
 use Rattle.stated.specs.Incrementals.{Step}
 use Rattle.stated.specs.declared.change.ChangeParts.{ChangeParts}
 use Rattle.osdmap.specs.Maps.{ClusterMap}
+use Rattle.osdmap.specs.Evals.{evals_of}
 use Rattle.osdmap.specs.Changes.{IsLawful, after, change_fault}
 use Rattle.epochlog.specs.Epochs.{Line}
 use Rattle.pgtable.specs.Tables.{TableFacts, IsTableOf}
-use Rattle.state.specs.States.{Kept, next_step}
-use Rattle.monitor_laws.specs.World.{MonitorWorld, IsPresent, Event, at_lock, looks, makes, seals, acts, follows, look, change, with_look, with_sealed}
+use Rattle.state.specs.States.{Kept, opened as begun, ran, committed, next_step}
+use Rattle.monitor_laws.specs.World.{MonitorWorld, IsPresent, Event, at_lock, looks, makes, seals, acts, follows, with_look, with_sealed}
 use Rattle.monitor_laws.specs.Law.{opening, RunsTo, HasEvents}
 
 -- the views of the one seat on its way
@@ -61,11 +62,7 @@ module _ (first : ClusterMap) (row : Line) (table other : TableFacts) (parts : C
   step = next_step first parts
 
   abbrev present : Kept
-  present = record {
-    first = first;
-    pass = record { row = row; history = step ∷ [] };
-    map = after first (step ∷ []);
-  }
+  present = ran (evals_of (after first (step ∷ [])) parts) (committed (begun first row) parts)
 
   -- the worlds after the events
   abbrev opened : MonitorWorld

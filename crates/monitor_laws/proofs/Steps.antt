@@ -1,5 +1,5 @@
 -- Each event keeps what holds.
-use Rattle.std.proofs.Common.{◌≡◌, ◌≢◌, ℕ, zero, suc, ◌+◌, ◌<◌, ◌≤◌, List, [], ◌∷◌, ◌++◌, length, replicate, Option, Some, None, slice_get, ◌⊎◌, inl, inr, sym, refl, ap, subst, ◌∙◌, set, arith, append_assoc}
+use Rattle.std.proofs.Common.{◌≡◌, ℕ, zero, suc, ◌+◌, ◌≤◌, List, [], ◌∷◌, ◌++◌, length, replicate, Some, slice_get, ◌⊎◌, inl, inr, sym, refl, ap, subst, ◌∙◌, set, arith}
 use mathlib.Core.Option.{some, some-injective}
 use mathlib.Core.Logic.{dite}
 use native.Mathlib.Decide.{ℕ_discrete}
@@ -21,7 +21,6 @@ use Rattle.std.proofs.lemmas.Option.{same_Some}
 use Rattle.epochlog.specs.Epochs.{Line, Begins}
 use Rattle.pgtable.specs.Tables.{TableFacts, IsTableOf}
 use Rattle.pgtable.proofs.Shows.{up_shown, groups_shown, count_shown}
-use Rattle.state.specs.States.{opened, IsKept}
 use Rattle.state.proofs.Journals.{last-shown}
 use Rattle.monitor_laws.specs.World.{MonitorWorld, Act, at_lock, looks, makes, seals, Event, acts, follows, Told, look, change, Acts, Happens, IsPresent, PutsBack}
 use Rattle.monitor_laws.specs.Law.{opening, RunsTo, NoneWrites, IsOneHistory, ShowsMap, IsSound}

@@ -1,5 +1,5 @@
 -- What every list of events keeps.
-use Rattle.std.specs.Prelude.{◌≡◌, ℕ, ◌+◌, ◌≤◌, List, [], ◌∷◌, ◌++◌, length, replicate, Option, Some, None, slice_get}
+use Rattle.std.specs.Prelude.{◌≡◌, ℕ, ◌+◌, ◌≤◌, List, [], ◌∷◌, ◌++◌, length, replicate, Some, None, slice_get}
 use mathlib.Core.Option.{some}
 use lib.ListN.{get_elem?}
 use Rattle.ticketlock.specs.declared.view.View.{View}
@@ -8,11 +8,12 @@ use Rattle.stated.specs.Incrementals.{Step}
 use Rattle.stated.specs.declared.pg.Pg.{Pg}
 use Rattle.stated.specs.declared.change.ChangeParts.{ChangeParts}
 use Rattle.osdmap.specs.Maps.{ClusterMap}
+use Rattle.osdmap.specs.Evals.{evals_of}
 use Rattle.osdmap.specs.Changes.{IsLawful, after, change_fault}
 use Rattle.epochlog.specs.Epochs.{Line, Begins}
 use Rattle.pgtable.specs.Tables.{TableFacts, IsTableOf, shown_at, shown_groups, shown_in}
 use Rattle.pgtable.specs.Index.{up_at, index_of, count_of, count_in}
-use Rattle.state.specs.States.{opened, next_step, IsKept}
+use Rattle.state.specs.States.{opened, next_step, ran, committed, IsKept}
 use Rattle.monitor_laws.specs.World.{MonitorWorld, Event, Told, look, change, Happens}
 
 -- a monitor as it is opened, with so many seats that are idle and so many followers that have read nothing: the state
@@ -86,9 +87,7 @@ HasEvents = (first : ClusterMap) (row : Line) (table other : TableFacts) (parts 
     → IsTableOf other (after first (next_step first parts ∷ []))
     → (events : List (Event × ℕ)) × (last : MonitorWorld) × RunsTo first (opening first row table 1 1) events last
     × (last.sealed ≡ next_step first parts ∷ [])
-    × (last.told ≡ look 0 (record {
-      first = first;
-      pass = record { row = row; history = next_step first parts ∷ [] };
-      map = after first (next_step first parts ∷ []);
-    }) other ∷ change 0 [] (next_step first parts) ∷ [])
+    × (last.told ≡ look 0
+    (ran (evals_of (after first (next_step first parts ∷ [])) parts) (committed (opened first row) parts)) other
+    ∷ change 0 [] (next_step first parts) ∷ [])
     × (last.followers ≡ (next_step first parts ∷ []) ∷ [])

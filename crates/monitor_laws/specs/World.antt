@@ -1,6 +1,6 @@
 -- A monitor as a world: the words and views of its lock, the state behind it, the row of sealed epochs, what was told
 -- of its history so far, and how far each follower has read; and what its seats and followers do.
-use Rattle.std.specs.Prelude.{◌≡◌, ℕ, List, [], ◌∷◌, ◌++◌, length, Option, Some, slice_get, slice_set}
+use Rattle.std.specs.Prelude.{◌≡◌, ℕ, List, [], ◌∷◌, ◌++◌, length, Some, slice_get, slice_set}
 use mathlib.Core.Option.{some}
 use lib.ListN.{get_elem?}
 use Rattle.ticketlock.specs.declared.view.View.{View}

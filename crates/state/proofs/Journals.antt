@@ -68,14 +68,18 @@ pass-epoch k t kept =
     ap (λ e. last_epoch e k.pass.history) kept.begins ∙ last_epoch-lawful k.first k.pass.history kept.lawful ∙ ap (λ (m : ClusterMap). m.epoch) (sym kept.map)
 
 -- the fact of a state holds at its beginning
-pub IsKept-opened : (m : ClusterMap) (row : Line) (t : TableFacts) → row.first ≡ m.epoch → IsTableOf t m → IsKept (opened m row) t
+pub IsKept-opened : (m : ClusterMap) (row : Line) (t : TableFacts) (runs : ℕ) → row.first ≡ m.epoch → IsTableOf t m → IsKept (record (opened m row) { runs = runs }) t
 unfolding IsLawful
-IsKept-opened m row t begins table = record { lawful = tt; begins = begins; map = refl; table = table }
+IsKept-opened m row t runs begins table = record { lawful = tt; begins = begins; map = refl; table = table }
+
+-- the fact of a state does not look at its runs
+pub IsKept-ran : (k : Kept) (t : TableFacts) (runs : ℕ) → IsKept k t → IsKept (record k { runs = runs }) t
+IsKept-ran k t runs kept = record { lawful = kept.lawful; begins = kept.begins; map = kept.map; table = kept.table }
 
 -- the fact of a state is kept by a commit that nothing refuses
-pub IsKept-committed : (k : Kept) (t t2 : TableFacts) (change : ChangeParts) → IsKept k t → change_fault k.map change ≡ None
-    → IsTableOf t2 (apply k.map (next_step k.map change)) → IsKept (committed k change) t2
-IsKept-committed k t t2 change kept accepted table = record {
+pub IsKept-committed : (k : Kept) (t t2 : TableFacts) (change : ChangeParts) (runs : ℕ) → IsKept k t → change_fault k.map change ≡ None
+    → IsTableOf t2 (apply k.map (next_step k.map change)) → IsKept (record (committed k change) { runs = runs }) t2
+IsKept-committed k t t2 change runs kept accepted table = record {
   lawful = IsLawful-snoc k.first k.pass.history (next_step k.map change) kept.lawful (ap (λ (m : ClusterMap). m.epoch + 1) kept.map)
       (subst (λ (m : ClusterMap). change_fault m change ≡ None) kept.map accepted);
   begins = kept.begins;
@@ -126,11 +130,6 @@ pub step_is : (k : Kept) (base : ℕ) (change : ChangeParts) (step : Step) → b
     → step ≡ next_step k.map change
 step_is k base change step current is = rw current at is
 
--- a state with another pass and map
-abbrev pub with_parts : Kept → Seen → ClusterMap → Kept
-with_parts k pass m = record k { pass = pass; map = m }
-
--- the state after a commit, part by part
-pub committed_is : (k : Kept) (change : ChangeParts) (pass : Seen) (m : ClusterMap) (step : Step) → step ≡ next_step k.map change
-    → pass ≡ longer_by k.pass step → m ≡ apply k.map step → with_parts k pass m ≡ committed k change
-committed_is k change pass m step is sees map = rw (map, sees, is) refl
+-- a state with another pass and map, and other runs
+abbrev pub with_parts : Kept → Seen → ClusterMap → ℕ → Kept
+with_parts k pass m runs = record k { pass = pass; map = m; runs = runs }

@@ -3,8 +3,9 @@ use Rattle.std.specs.Prelude.{◌≡◌, ◌≢◌, ◌⊎◌, ℕ, ◌+◌, Non
 use Rattle.refusal.specs.declared.refused.Refusal.{Refusal}
 use Rattle.refusal.specs.declared.refused.Refusal.TheVariants.{Memory as OutOfMemory}
 use Rattle.osdmap.specs.Maps.{ClusterMap}
+use Rattle.osdmap.specs.Evals.{evals_of}
 use Rattle.balancer.specs.Plans.{plan_fault, plan_change, plan_moves}
-use Rattle.state.specs.States.{Kept, fault_in, committed, IsRefusedBy}
+use Rattle.state.specs.States.{Kept, fault_in, ran, committed, IsUnchanged, IsRefusedBy}
 
 -- how many moves the greedy plan has
 abbrev pub moves_in : ClusterMap → ℕ → ℕ → ℕ
@@ -16,7 +17,7 @@ IsBalanced old new pool limit epoch =
     ((moves_in old.map pool limit ≡ 0) × (epoch ≡ old.map.epoch) × (new ≡ old))
     ⊎ ((moves_in old.map pool limit ≢ 0) × (fault_in old old.map.epoch (plan_change old.map pool limit) ≡ None)
     × (epoch ≡ old.map.epoch + 1)
-    × (new ≡ committed old (plan_change old.map pool limit)))
+    × (new ≡ ran (evals_of new.map (plan_change old.map pool limit)) (committed old (plan_change old.map pool limit))))
 
 -- why there is no answer: what refuses the plan; else that memory was short, or where a move is good what refuses its
 -- commit
@@ -35,4 +36,4 @@ Balances old new pool limit r =
     MatchResult r (λ ok. (plan_fault old.map pool ≡ None) × (ok.1 ≡ moves_in old.map pool limit)
     × IsBalanced old new pool limit ok.0)
     (IsUnbalanced old pool limit)
-    × OnErr r (new ≡ old)
+    × OnErr r (IsUnchanged old new)

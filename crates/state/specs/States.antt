@@ -1,10 +1,11 @@
 -- The state of a monitor: the object of one thread, whose answers a monitor gives to many.
-use Rattle.std.specs.Prelude.{◌≡◌, ℕ, ◌+◌, ◌==◌, not, [], ◌∷◌, ◌++◌, length, nat_lt, Option, Some, None, Result, OnErr, ◌⊎◌, MatchResult, if◌then◌else◌}
+use Rattle.std.specs.Prelude.{◌≡◌, ℕ, ◌+◌, ◌-◌, ◌^◌, ◌==◌, min, not, [], ◌∷◌, ◌++◌, length, nat_lt, Option, Some, None, Result, OnErr, ◌⊎◌, MatchResult, if◌then◌else◌}
 use Rattle.refusal.specs.declared.refused.Refusal.{Refusal}
 use Rattle.refusal.specs.declared.refused.Refusal.TheVariants.{StaleEpoch, JournalFull, Memory as OutOfMemory, NotSealed}
 use Rattle.stated.specs.declared.change.ChangeParts.{ChangeParts}
 use Rattle.stated.specs.Incrementals.{Step}
 use Rattle.stated.specs.Limits.{max_first_epoch}
+use Rattle.stated.specs.Pools.{total_groups}
 use Rattle.osdmap.specs.Maps.{ClusterMap}
 use Rattle.osdmap.specs.Evals.{evals_of}
 use Rattle.osdmap.specs.Changes.{change_fault, apply, after, IsLawful}
@@ -18,11 +19,13 @@ use Rattle.pgtable.specs.Tables.{TableFacts, IsTableOf}
 abbrev pub max_epoch : ℕ
 max_epoch = max_first_epoch + max_capacity
 
--- what callers see of a state: the first map, what its pass has seen, whose history is the journal, and the present map
+-- what callers see of a state: the first map, what its pass has seen, whose history is the journal, the present map,
+-- and how often rules were run for its tables
 pub record Kept : Type 0 where
   pub first : ClusterMap
   pub pass : Seen
   pub map : ClusterMap
+  pub runs : ℕ
 
 -- the fact of every state: its journal is lawful from the first map, after whose epoch its row begins; its map is the
 -- first map with the journal applied in the order of epochs, without gaps; and its table is that of its map
@@ -32,9 +35,22 @@ pub record IsKept (k : Kept) (t : TableFacts) : Type 0 where
   pub map : k.map ≡ after k.first k.pass.history
   pub table : IsTableOf t k.map
 
--- a state at its beginning
+-- a count of runs, which stays at the greatest number
+abbrev pub counted : ℕ → ℕ
+counted n = min n (2 ^ 64 - 1)
+
+-- a state at its beginning: its table took a run for each group
 abbrev pub opened : ClusterMap → Line → Kept
-opened m row = record { first = m; pass = record { row = row; history = [] }; map = m }
+opened m row =
+    record { first = m; pass = record { row = row; history = [] }; map = m; runs = counted (total_groups m.pools) }
+
+-- a state after so many runs more
+abbrev pub ran : ℕ → Kept → Kept
+ran n k = record k { runs = counted (k.runs + n) }
+
+-- nothing is changed but the count of runs
+abbrev pub IsUnchanged : Kept → Kept → Type 0
+IsUnchanged old new = new ≡ record old { runs = new.runs }
 
 -- ---- commits
 
@@ -62,7 +78,7 @@ fault_in k base change = commit_fault k.map (length k.pass.history) (length k.pa
 abbrev pub longer_by : Seen → Step → Seen
 longer_by pass step = record pass { history = pass.history ++ step ∷ [] }
 
--- the state after a commit
+-- the state after a commit, but for its runs
 abbrev pub committed : Kept → ChangeParts → Kept
 committed k change =
     record k { pass = longer_by k.pass (next_step k.map change); map = apply k.map (next_step k.map change) }
@@ -77,13 +93,13 @@ abbrev pub IsDoneUnless : {X : Type 0} → Result X Refusal → Option Refusal �
 IsDoneUnless r fault P =
     MatchResult r (λ x. (fault ≡ None) × P x) (IsRefusedBy fault)
 
--- what a commit answers and leaves: where there is no fault the new epoch and the evaluations, with the journal longer
--- by the change; else the fault; and after a refusal nothing is changed
+-- what a commit answers and leaves: where there is no fault the new epoch and the evaluations, a run for each, with the
+-- journal longer by the change; else the fault; and after a refusal nothing is changed
 abbrev pub Commits : Kept → Kept → ℕ → ChangeParts → Result (ℕ × ℕ) Refusal → Type 0
 Commits old new base change r =
-    IsDoneUnless r (fault_in old base change) (λ ok. (new ≡ committed old change) × (ok.0 ≡ base + 1)
+    IsDoneUnless r (fault_in old base change) (λ ok. (new ≡ ran ok.1 (committed old change)) × (ok.0 ≡ base + 1)
     × (ok.1 ≡ evals_of new.map change))
-    × OnErr r (new ≡ old)
+    × OnErr r (IsUnchanged old new)
 
 -- all that a commit needs is ready: room in the map, a patch that makes of the table that of the map after the change
 -- and tells the evaluations, and the incremental

@@ -5,7 +5,8 @@ ghost use Rattle.osdmap.specs.Changes.{change_fault, apply};
 ghost use Rattle.pgtable.specs.Tables.{IsTableOf, RunsMore};
 ghost use Rattle.pgtable.specs.Patches.{LeadsTo};
 ghost use Rattle.osdmap.specs.Stored.{HasRoomFor};
-ghost use Rattle.state.specs.States.{IsReady};
+ghost use Rattle.stated.specs.Pools.{total_groups};
+ghost use Rattle.state.specs.States.{counted, IsReady};
 
 use crush::Work;
 use epochlog::{Pass, Row};
@@ -31,14 +32,16 @@ impl Model for State {
 
     ghost Value = { Kept };
 
-    ghost view = { λ s. record { first = s.first.map; pass = s.pass; map = s.map.map } };
+    ghost view = { λ s. record { first = s.first.map; pass = s.pass; map = s.map.map; runs = s.work.runs } };
 
-    ghost invariant = { λ s. IsKept (record { first = s.first.map; pass = s.pass; map = s.map.map }) s.table };
+    ghost invariant = { λ s.
+        IsKept (record { first = s.first.map; pass = s.pass; map = s.map.map; runs = s.work.runs }) s.table };
 }
 
-/// The table of a map, and the room for runs of its rules.
+/// The table of a map, and the work that ran a rule for each group of it.
 fn table_of(alloc: Global, map: &OsdMap) -> Result<(PgTable, Work), Memory>
-    ensures { IfOk result (λ made. IsTableOf made.0 map.now.map) }
+    ensures table { IfOk result (λ made. IsTableOf made.0 map.now.map) }
+    ensures runs { IfOk result (λ made. made.1.runs ≡ counted (total_groups map.now.map.pools)) }
 {
     let mut work = Work::new(alloc, map.forest())?;
     let table = PgTable::build(alloc, map, &mut work)?;

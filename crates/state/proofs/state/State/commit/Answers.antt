@@ -4,7 +4,7 @@ use Rattle.osdmap.specs.Evals.{evals_of}
 use Rattle.osdmap.specs.Changes.{apply}
 use Rattle.stated.specs.Incrementals.{Step}
 use Rattle.epochlog.specs.Epochs.{Seen, epoch_of}
-use Rattle.state.specs.States.{Kept, fault_in, committed, next_step, longer_by}
+use Rattle.state.specs.States.{Kept, fault_in, counted, ran, committed, next_step, longer_by}
 use Rattle.state.proofs.Journals.{IsAccepted, accepted, IsKept-committed, pass-epoch, with_parts}
 use Rattle.state.proofs.Committing.{early_fits, sealed}
 use Rattle.state.proofs.state.State.commit.Goals as goal
@@ -24,14 +24,14 @@ seal-requires-clause-room c =
 
 pub seal-requires-clause-next : goal.seal-requires-clause-next
 seal-requires-clause-next c =
-    let k : Kept = record { first = c.self.inside.first.map; pass = c.self.inside.pass; map = c.self.inside.map.map } in
+    let k : Kept = record { first = c.self.inside.first.map; pass = c.self.inside.pass; map = c.self.inside.map.map; runs = c.self.inside.work.runs } in
     let mine : c.args.pass.now ≡ k.pass = c.requires.pass ∙ ap (λ (s : Kept). s.pass) (sym c.self.view_is) in
     let step : c.in_ok-patch.step.value ≡ next_step k.map c.args.change = rw c.prepared.ensures.same at c.in_ok-patch.ensures.ready.step in
     ap (λ (s : Step). s.epoch) step ∙ ap (λ n. n + 1) (sym (pass-epoch k c.self.inside.table c.self.invariant) ∙ ap (λ (s : Seen). epoch_of s) (sym mine))
 
 pub at-requires-clause-after : goal.at-requires-clause-after
 at-requires-clause-after c =
-    let k : Kept = record { first = c.self.inside.first.map; pass = c.self.inside.pass; map = c.self.inside.map.map } in
+    let k : Kept = record { first = c.self.inside.first.map; pass = c.self.inside.pass; map = c.self.inside.map.map; runs = c.self.inside.work.runs } in
     let fine : fault_in c.args.self.now c.args.base c.args.change ≡ None = search rules in
     let ok : IsAccepted k c.args.base c.args.change = rw (← c.self.view_is) at (accepted c.args.self.now c.args.base c.args.change fine) in
     let mine : c.args.pass.now ≡ k.pass = c.requires.pass ∙ ap (λ (s : Kept). s.pass) (sym c.self.view_is) in
@@ -45,7 +45,7 @@ at-requires-clause-after c =
 
 pub at-requires-clause-seen : goal.at-requires-clause-seen
 at-requires-clause-seen c =
-    let k : Kept = record { first = c.self.inside.first.map; pass = c.self.inside.pass; map = c.self.inside.map.map } in
+    let k : Kept = record { first = c.self.inside.first.map; pass = c.self.inside.pass; map = c.self.inside.map.map; runs = c.self.inside.work.runs } in
     let fine : fault_in c.args.self.now c.args.base c.args.change ≡ None = search rules in
     let ok : IsAccepted k c.args.base c.args.change = rw (← c.self.view_is) at (accepted c.args.self.now c.args.base c.args.change fine) in
     let mine : c.args.pass.now ≡ k.pass = c.requires.pass ∙ ap (λ (s : Kept). s.pass) (sym c.self.view_is) in
@@ -59,7 +59,7 @@ at-requires-clause-seen c =
 
 pub make-requires-clause-next : goal.make-requires-clause-next
 make-requires-clause-next c =
-    let k : Kept = record { first = c.self.inside.first.map; pass = c.self.inside.pass; map = c.self.inside.map.map } in
+    let k : Kept = record { first = c.self.inside.first.map; pass = c.self.inside.pass; map = c.self.inside.map.map; runs = c.self.inside.work.runs } in
     let fine : fault_in c.args.self.now c.args.base c.args.change ≡ None = search rules in
     let ok : IsAccepted k c.args.base c.args.change = rw (← c.self.view_is) at (accepted c.args.self.now c.args.base c.args.change fine) in
     let mine : c.args.pass.now ≡ k.pass = c.requires.pass ∙ ap (λ (s : Kept). s.pass) (sym c.self.view_is) in
@@ -74,7 +74,7 @@ make-requires-clause-next c =
 
 pub make-requires-clause-lawful : goal.make-requires-clause-lawful
 make-requires-clause-lawful c =
-    let k : Kept = record { first = c.self.inside.first.map; pass = c.self.inside.pass; map = c.self.inside.map.map } in
+    let k : Kept = record { first = c.self.inside.first.map; pass = c.self.inside.pass; map = c.self.inside.map.map; runs = c.self.inside.work.runs } in
     let fine : fault_in c.args.self.now c.args.base c.args.change ≡ None = search rules in
     let ok : IsAccepted k c.args.base c.args.change = rw (← c.self.view_is) at (accepted c.args.self.now c.args.base c.args.change fine) in
     let mine : c.args.pass.now ≡ k.pass = c.requires.pass ∙ ap (λ (s : Kept). s.pass) (sym c.self.view_is) in
@@ -89,7 +89,7 @@ make-requires-clause-lawful c =
 
 pub make-requires-clause-room : goal.make-requires-clause-room
 make-requires-clause-room c =
-    let k : Kept = record { first = c.self.inside.first.map; pass = c.self.inside.pass; map = c.self.inside.map.map } in
+    let k : Kept = record { first = c.self.inside.first.map; pass = c.self.inside.pass; map = c.self.inside.map.map; runs = c.self.inside.work.runs } in
     let fine : fault_in c.args.self.now c.args.base c.args.change ≡ None = search rules in
     let ok : IsAccepted k c.args.base c.args.change = rw (← c.self.view_is) at (accepted c.args.self.now c.args.base c.args.change fine) in
     let mine : c.args.pass.now ≡ k.pass = c.requires.pass ∙ ap (λ (s : Kept). s.pass) (sym c.self.view_is) in
@@ -104,7 +104,7 @@ make-requires-clause-room c =
 
 pub make-requires-clause-leads : goal.make-requires-clause-leads
 make-requires-clause-leads c =
-    let k : Kept = record { first = c.self.inside.first.map; pass = c.self.inside.pass; map = c.self.inside.map.map } in
+    let k : Kept = record { first = c.self.inside.first.map; pass = c.self.inside.pass; map = c.self.inside.map.map; runs = c.self.inside.work.runs } in
     let fine : fault_in c.args.self.now c.args.base c.args.change ≡ None = search rules in
     let ok : IsAccepted k c.args.base c.args.change = rw (← c.self.view_is) at (accepted c.args.self.now c.args.base c.args.change fine) in
     let mine : c.args.pass.now ≡ k.pass = c.requires.pass ∙ ap (λ (s : Kept). s.pass) (sym c.self.view_is) in
@@ -119,7 +119,7 @@ make-requires-clause-leads c =
 
 pub invariant_of-self-2 : goal.invariant_of-self-2
 invariant_of-self-2 c =
-    let k : Kept = record { first = c.self.inside.first.map; pass = c.self.inside.pass; map = c.self.inside.map.map } in
+    let k : Kept = record { first = c.self.inside.first.map; pass = c.self.inside.pass; map = c.self.inside.map.map; runs = c.self.inside.work.runs } in
     let fine : fault_in c.args.self.now c.args.base c.args.change ≡ None = search rules in
     let ok : IsAccepted k c.args.base c.args.change = rw (← c.self.view_is) at (accepted c.args.self.now c.args.base c.args.change fine) in
     let mine : c.args.pass.now ≡ k.pass = c.requires.pass ∙ ap (λ (s : Kept). s.pass) (sym c.self.view_is) in
@@ -131,11 +131,11 @@ invariant_of-self-2 c =
     let row : k.pass.row ≡ c.args.row.now = ap (λ (s : Kept). s.pass.row) c.self.view_is ∙ c.requires.row in
     let shown : c.at.result.now ≡ next_step k.map c.args.change = done.shown _ (rw (number, ← row) at c.at.ensures.place) in
     let made : c.make.new.map.map ≡ apply k.map (next_step k.map c.args.change) = rw (shown, c.prepared.ensures.same) at c.make.ensures.map in
-    rw (done.joined, made) (IsKept-committed k c.self.inside.table c.make.new.table c.args.change c.self.invariant ok.fine (rw (shown, c.prepared.ensures.same) at c.make.ensures.table))
+    rw (done.joined, made) (IsKept-committed k c.self.inside.table c.make.new.table c.args.change _ c.self.invariant ok.fine (rw (shown, c.prepared.ensures.same) at c.make.ensures.table))
 
 pub returns-clause-commits : goal.returns-clause-commits
 returns-clause-commits c =
-    let k : Kept = record { first = c.self.inside.first.map; pass = c.self.inside.pass; map = c.self.inside.map.map } in
+    let k : Kept = record { first = c.self.inside.first.map; pass = c.self.inside.pass; map = c.self.inside.map.map; runs = c.self.inside.work.runs } in
     let fine : fault_in c.args.self.now c.args.base c.args.change ≡ None = search rules in
     let ok : IsAccepted k c.args.base c.args.change = rw (← c.self.view_is) at (accepted c.args.self.now c.args.base c.args.change fine) in
     let mine : c.args.pass.now ≡ k.pass = c.requires.pass ∙ ap (λ (s : Kept). s.pass) (sym c.self.view_is) in
@@ -147,5 +147,8 @@ returns-clause-commits c =
     let row : k.pass.row ≡ c.args.row.now = ap (λ (s : Kept). s.pass.row) c.self.view_is ∙ c.requires.row in
     let shown : c.at.result.now ≡ next_step k.map c.args.change = done.shown _ (rw (number, ← row) at c.at.ensures.place) in
     let made : c.make.new.map.map ≡ apply k.map (next_step k.map c.args.change) = rw (shown, c.prepared.ensures.same) at c.make.ensures.map in
-    let counted : c.in_ok-patch.patch.evals ≡ evals_of (apply k.map (next_step k.map c.args.change)) c.args.change = rw c.prepared.ensures.same at c.in_ok-patch.ensures.ready.counted in
-    ((fine, (ap (λ (p : Seen). with_parts k p c.make.new.map.map) done.joined ∙ ap (λ (m : ClusterMap). with_parts k (longer_by k.pass (next_step k.map c.args.change)) m) made ∙ ap (λ (s : Kept). committed s c.args.change) c.self.view_is, number, c.evals-evals.ensures ∙ counted ∙ ap (λ (m : ClusterMap). evals_of m c.args.change) (sym made))), tt)
+    let evaluated : c.in_ok-patch.patch.evals ≡ evals_of (apply k.map (next_step k.map c.args.change)) c.args.change = rw c.prepared.ensures.same at c.in_ok-patch.ensures.ready.counted in
+    let runs : c.prepared.new.work.runs ≡ counted (k.runs + c.evals-evals.result) = c.in_ok-patch.ensures.runs ∙ ap (λ n. counted (k.runs + n)) (sym c.evals-evals.ensures) in
+    let map_then = apply k.map (next_step k.map c.args.change) in
+    let pass_then = longer_by k.pass (next_step k.map c.args.change) in
+    ((fine, (ap (λ (p : Seen). with_parts k p c.make.new.map.map c.prepared.new.work.runs) done.joined ∙ ap (λ (m : ClusterMap). with_parts k pass_then m c.prepared.new.work.runs) made ∙ ap (with_parts k pass_then map_then) runs ∙ ap (λ (s : Kept). ran c.evals-evals.result (committed s c.args.change)) c.self.view_is, number, c.evals-evals.ensures ∙ evaluated ∙ ap (λ (m : ClusterMap). evals_of m c.args.change) (sym made))), tt)

@@ -6,7 +6,7 @@ use Rattle.state.proofs.state.State.is_full.Goals as goal
 
 pub returns-clause-early : goal.returns-clause-early
 returns-clause-early c =
-    let k : Kept = record { first = c.self.inside.first.map; pass = c.self.inside.pass; map = c.self.inside.map.map } in
+    let k : Kept = record { first = c.self.inside.first.map; pass = c.self.inside.pass; map = c.self.inside.map.map; runs = c.self.inside.work.runs } in
     let row : k.pass.row ≡ c.args.row.now = ap (λ (s : Kept). s.pass.row) c.self.view_is ∙ c.requires in
     let limits : IsRowSize k.pass.row.first c.capacity.result = rw row c.capacity.ensures.limits in
     let cells = ap (λ (l : Line). length l.cells) row in
