@@ -232,8 +232,8 @@ fn taken(alloc: Global, matches: &ArgMatches<'_>) -> Result<Options, LineError>
 /// are those that the parser finds in the words, exactly where it has nothing against them and the numbers are so;
 /// `Help` where help was asked for, `Usage` for what else the parser has against the words, `TooMany` where there are
 /// more scripts, `Unpaired` where there are files of answers but another number of them, else `Memory`. So where MAP
-/// and the scripts begin with no hyphen, they are the map and the scripts, there is no file of answers, the journal is N
-/// or 1,024, and the profile is stock with `--stock` and else plain.
+/// and the scripts begin with no hyphen, they are the map and the scripts, there is no file of answers, the journal is
+/// N or 1,024, and the profile is stock with `--stock` and else plain.
 pub fn options(alloc: Global, words: &[String]) -> Result<Options, LineError>
     ensures least { IfOk result (λ o. 1 ≤ o.journal) }
     ensures most { IfOk result (λ o. o.journal ≤ max_capacity) }

@@ -333,7 +333,7 @@ fn join_seen(all: &mut Pass, monitor: &Monitor, lefts: &[Left])
 /// one of the members, who have seen nothing. What the members have seen at the end is of one history. All threads are
 /// started before one is joined, and all have ended when it returns. The one error is that memory is short, or that a
 /// thread cannot be made.
-pub fn lefts<R: Threads + Wait + Eprint + Sync>(
+pub fn play_all<R: Threads + Wait + Eprint + Sync>(
     system: (&R, &HostRuntime),
     monitor: Monitor,
     members: Vec<Member>,

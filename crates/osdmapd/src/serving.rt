@@ -10,7 +10,7 @@ ghost use Rattle.osdmapd.specs.Serving.{Serves, has_output_failed, text_left};
 
 use crate::fault::Fault;
 use crate::part::Part;
-use crate::playing::{Left, lefts};
+use crate::playing::{Left, play_all};
 use mapjson::read_map;
 use monitor::{Member, Monitor};
 use osdmap::OsdMap;
@@ -91,7 +91,8 @@ pub fn serve<R: AllocGlobal + Threads + Wait + Eprint + Sync, W: Sink>(
     requires some { 1 ≤ length parts.now }
     requires few { length parts.now ≤ max_scripts }
     requires unfailed { W.has_failed out.old ≡ false }
-    ensures served { Serves terms.journal terms.profile map.now parts.now (W.written out.old) (W.written out.new) result }
+    ensures served { Serves terms.journal terms.profile map.now parts.now
+        (W.written out.old) (W.written out.new) result }
     ensures failed { W.has_failed out.new ≡ has_output_failed result }
 {
     let alloc = system.0.alloc();
@@ -102,7 +103,7 @@ pub fn serve<R: AllocGlobal + Threads + Wait + Eprint + Sync, W: Sink>(
     let Ok((monitor, members)) = opened(alloc, map, terms, parts.len()) else {
         return Err(Fault::Memory);
     };
-    let lefts = lefts(system, monitor, members, parts)?;
+    let lefts = play_all(system, monitor, members, parts)?;
     put(out, &lefts)?;
     if have_told(&lefts) {
         return Err(Fault::Told);

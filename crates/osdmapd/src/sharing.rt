@@ -1,12 +1,13 @@
-//! What no clause says of members: that questions go on beside a look, that a gate is asked once for a line, and that
-//! there is memory for as many seats as there may be.
+//! What no clause says of members: that questions go on beside a look, that a call draws once for a member that has
+//! seen a change, that a gate is asked once for a line, and that there is memory for as many seats as there may be.
 ghost use Rattle.std.specs.Prelude.{IfSome};
 ghost use Rattle.monitor.specs.Members.{IsMemberOf};
 
-use crate::tests::{FOUR_DEVICES, opened};
-use mapjson::read_map;
+use crate::tests::{DOWN, FOUR_DEVICES, commit_now, opened};
+use crossbeam_utils::Backoff;
+use mapjson::{read_change, read_map};
 use monitor::{Member, Monitor};
-use osdmap::Pg;
+use osdmap::{Change, Pg};
 use refusal::Refusal;
 use session::{Buffer, Desk, Gate};
 use stated::Profile;
@@ -14,6 +15,8 @@ use std::alloc::Global;
 use std::sync::Wait;
 use std::sync::atomic::{AtomicU64, Ordering};
 use std::test::Fail;
+use std::thread;
+use std::thread::Threads;
 
 /// How many of the five questions a member is answered.
 fn answered<R: Wait>(rt: &R, alloc: Global, monitor: &Monitor, member: Member) -> u32
@@ -29,8 +32,61 @@ fn answered<R: Wait>(rt: &R, alloc: Global, monitor: &Monitor, member: Member) -
     u32::from(up) + u32::from(count) + u32::from(groups) + u32::from(epoch) + u32::from(dump)
 }
 
-/// The same while another member holds a look.
-fn answered_beside<R: Wait>(
+/// How many turns one of two threads waits for a sign of the other.
+const MAX_TURNS: u32 = 1_000_000;
+
+/// The signs of two threads: that a look is held, and that the questions beside it are answered.
+#[derive(Clone, Copy)]
+struct Signs<'a> {
+    held: &'a AtomicU64,
+    done: &'a AtomicU64,
+}
+
+/// Whether a sign is given before so many turns have gone by.
+fn is_given(sign: &AtomicU64) -> bool {
+    let backoff = Backoff::new();
+    for _ in 0..MAX_TURNS {
+        if sign.load(Ordering::SeqCst) > 0 {
+            return true;
+        }
+        backoff.snooze();
+    }
+    false
+}
+
+/// Holds a look until the questions beside it are answered, but only for so long; whether they are by then.
+fn holds_a_look<R: Wait>(rt: &R, monitor: &Monitor, member: Member, signs: Signs<'_>) -> bool
+    requires { IsMemberOf monitor.now member }
+{
+    match monitor.look(rt, member) {
+        Ok(look) => {
+            signs.held.store(1, Ordering::SeqCst);
+            let is_done = is_given(signs.done);
+            let _ = look.leave();
+            is_done
+        }
+        Err(_) => false,
+    }
+}
+
+/// How many of the five questions a member is answered once a look is held.
+fn answered_then<R: Wait>(
+    rt: &R,
+    alloc: Global,
+    monitor: &Monitor,
+    member: Member,
+    signs: Signs<'_>,
+) -> Option<u32>
+    requires { IsMemberOf monitor.now member }
+{
+    let is_held = is_given(signs.held);
+    let answers = answered(rt, alloc, monitor, member);
+    signs.done.store(1, Ordering::SeqCst);
+    if is_held { Some(answers) } else { None }
+}
+
+/// The same while another member holds a look in a thread of its own; `None` where the look was not held until then.
+fn answered_beside<R: Wait + Threads + Sync>(
     rt: &R,
     alloc: Global,
     monitor: &Monitor,
@@ -40,26 +96,122 @@ fn answered_beside<R: Wait>(
     requires one { IsMemberOf monitor.now one }
     requires other { IsMemberOf monitor.now other }
 {
-    match monitor.look(rt, one) {
-        Ok(look) => {
-            let answers = answered(rt, alloc, monitor, other);
-            let _ = look.leave();
-            Some(answers)
-        }
-        Err(_) => None,
-    }
+    let held = &AtomicU64::new(0);
+    let done = &AtomicU64::new(0);
+    let (lasted, answers) = thread::join(
+        rt,
+        move ||
+            requires { IsMemberOf monitor.now one }
+        { holds_a_look(rt, monitor, one, Signs { held, done }) },
+        move ||
+            requires { IsMemberOf monitor.now other }
+        { answered_then(rt, alloc, monitor, other, Signs { held, done }) },
+    );
+    if lasted { answers } else { None }
 }
 
 /// The same of a new monitor.
-fn answered_by<R: Wait>(rt: &R, alloc: Global) -> Option<u32> {
+fn answered_by<R: Wait + Threads + Sync>(rt: &R, alloc: Global) -> Option<u32> {
     let (monitor, one, other) = opened(alloc, FOUR_DEVICES, 1024)?;
     answered_beside(rt, alloc, &monitor, one, other)
 }
 
-/// A question that took its turn to write would wait for good.
+/// A question that took its turn to write would wait for the look, which is left after a while.
 #[test]
 fn five_questions_are_answered_beside_a_look(rt: HostRuntime) -> Result<(), Fail> {
     assert!(rt; answered_by(&rt, rt.alloc()) == Some(5));
+    Ok(())
+}
+
+/// Whether one draw was made since so many were left, which are then those that are left now.
+fn drew_once(monitor: &Monitor, member: &Member, left: &mut u64) -> bool
+    requires { IsMemberOf monitor.now member.now }
+{
+    let before = *left;
+    *left = monitor.draws_left(member);
+    before == left.saturating_add(1)
+}
+
+/// Whether each of the five questions of a member draws once.
+fn ask_once<R: Wait>(rt: &R, alloc: Global, monitor: &Monitor, member: &mut Member) -> bool
+    requires { IsMemberOf monitor.now member.old }
+    ensures { IsMemberOf monitor.now member.new }
+{
+    let pg = Pg { pool: 1, number: 0 };
+    let mut left = monitor.draws_left(member);
+    let _ = monitor.up(rt, member, pg);
+    let up = drew_once(monitor, member, &mut left);
+    let _ = monitor.count(rt, member, 0);
+    let count = drew_once(monitor, member, &mut left);
+    let _ = monitor.groups(rt, alloc, member, 0);
+    let groups = drew_once(monitor, member, &mut left);
+    let _ = monitor.epoch(rt, member);
+    let epoch = drew_once(monitor, member, &mut left);
+    let _ = monitor.dump(rt, alloc, member);
+    let dump = drew_once(monitor, member, &mut left);
+    up && count && groups && epoch && dump
+}
+
+/// Whether a change of the base 2, and a plan, of a member draw once each.
+fn change_once<R: Wait>(rt: &R, monitor: &Monitor, member: &mut Member, change: Change) -> bool
+    requires { IsMemberOf monitor.now member.old }
+    ensures { IsMemberOf monitor.now member.new }
+{
+    let mut left = monitor.draws_left(member);
+    let _ = monitor.commit(rt, member, 2, change);
+    let committed = drew_once(monitor, member, &mut left);
+    let _ = monitor.balance(rt, member, 1, 1);
+    let planned = drew_once(monitor, member, &mut left);
+    committed && planned
+}
+
+/// Whether a look of a member draws once.
+fn look_once<R: Wait>(rt: &R, monitor: &Monitor, member: Member) -> bool
+    requires { IsMemberOf monitor.now member }
+{
+    let mut left = monitor.draws_left(&member);
+    match monitor.look(rt, member) {
+        Ok(look) => {
+            let member = look.leave();
+            drew_once(monitor, &member, &mut left)
+        }
+        Err(_) => false,
+    }
+}
+
+/// Whether each call of a member draws once.
+fn call_once<R: Wait>(
+    rt: &R,
+    alloc: Global,
+    monitor: &Monitor,
+    member: Member,
+    change: Change,
+) -> bool
+    requires { IsMemberOf monitor.now member }
+{
+    let mut member = member;
+    let asked = ask_once(rt, alloc, monitor, &mut member);
+    let changed = change_once(rt, monitor, &mut member, change);
+    let looked = look_once(rt, monitor, member);
+    asked && changed && looked
+}
+
+/// The same for two members once they have seen a change that one of them made.
+fn called_once<R: Wait>(rt: &R, alloc: Global) -> Option<bool> {
+    let (_, first) = read_change(alloc, DOWN.as_bytes(), Profile::Plain).ok()?;
+    let (_, second) = read_change(alloc, DOWN.as_bytes(), Profile::Plain).ok()?;
+    let (monitor, mut one, mut other) = opened(alloc, FOUR_DEVICES, 1024)?;
+    let made = commit_now(rt, alloc, &monitor, &mut one, DOWN).is_ok();
+    let seen = monitor.epoch(rt, &mut other) == Ok(2);
+    let own = call_once(rt, alloc, &monitor, one, first);
+    let others = call_once(rt, alloc, &monitor, other, second);
+    Some(made && seen && own && others)
+}
+
+/// A member that has seen nothing draws once by a clause.
+#[test]
+fn each_call_draws_once_after_a_change(rt: HostRuntime) -> Result<(), Fail> {
+    assert!(rt; called_once(&rt, rt.alloc()) == Some(true));
     Ok(())
 }
 

@@ -300,19 +300,20 @@ fn no_hold_lasts_over_a_gate(rt: HostRuntime) -> Result<(), Fail> {
     Ok(())
 }
 
-/// So many questions for the epoch, which is 1.
-fn questions(alloc: Global, count: usize) -> Result<String, AllocError> {
+/// A beginning, and so many questions for the epoch.
+fn questions(alloc: Global, first: &str, count: usize) -> Result<String, AllocError> {
     let mut script = String::new(alloc);
+    script.push_str(first)?;
     for _ in 0..count {
         script.push_str("epoch\n")?;
     }
     Ok(script)
 }
 
-/// What 40 questions answer by a seat that may draw so often.
-fn drawn<R: Wait>(rt: &R, alloc: Global, draws: u64) -> Option<Buffer> {
+/// What a change, where there is one, and 40 questions answer by a seat that may draw so often.
+fn drawn<R: Wait>(rt: &R, alloc: Global, draws: u64, change: &str) -> Option<Buffer> {
     let (monitor, mut member, _) = opened(alloc, FOUR_DEVICES, draws)?;
-    let script = questions(alloc, 40).ok()?;
+    let script = questions(alloc, change, 40).ok()?;
     let mut answers = Buffer::new(alloc);
     let desk = Desk {
         alloc,
@@ -336,7 +337,28 @@ fn a_seat_is_spent_at_its_line(rt: HostRuntime) -> Result<(), Fail> {
                 "err 31 SeatSpent\n"
             })?;
         }
-        match drawn(&rt, rt.alloc(), draws as u64) {
+        match drawn(&rt, rt.alloc(), draws as u64, "") {
+            Some(answers) => assert_eq!(rt; answers.bytes(), wanted.as_bytes(), "{draws}"),
+            None => assert!(rt; false, "{draws}"),
+        }
+    }
+    Ok(())
+}
+
+/// The same where the first draw is that of a change, which the member has then seen.
+#[test]
+fn a_seat_is_spent_at_its_line_after_a_change(rt: HostRuntime) -> Result<(), Fail> {
+    for draws in 1..21usize {
+        let mut wanted = String::new(rt.alloc());
+        wanted.push_str("ok 2 evals 0\n")?;
+        for line in 1..41usize {
+            wanted.push_str(if line < draws {
+                "epoch 2\n"
+            } else {
+                "err 31 SeatSpent\n"
+            })?;
+        }
+        match drawn(&rt, rt.alloc(), draws as u64, "change {\"base\":1}\n") {
             Some(answers) => assert_eq!(rt; answers.bytes(), wanted.as_bytes(), "{draws}"),
             None => assert!(rt; false, "{draws}"),
         }
@@ -351,7 +373,7 @@ fn asked<R: Wait>(
     calls: usize,
 ) -> Option<(Result<(), SessionError>, Slow, bool)> {
     let (monitor, mut member, mut other) = opened(alloc, FOUR_DEVICES, MAX_DRAWS)?;
-    let script = questions(alloc, 40).ok()?;
+    let script = questions(alloc, "", 40).ok()?;
     let mut slow = Slow {
         bytes: Vec::new(alloc),
         calls,
@@ -399,7 +421,7 @@ fn a_run_of_questions_ends_at_each_failed_write(rt: HostRuntime) -> Result<(), F
 }
 
 /// An OSD goes down.
-const DOWN: &str = r#"{"base":1,"down":[0]}"#;
+pub const DOWN: &str = r#"{"base":1,"down":[0]}"#;
 
 /// Commits the change of a text at the present epoch; or why it is refused.
 pub fn commit_now<R: Wait>(

@@ -1,10 +1,11 @@
 -- A follower for which there is no memory.
-use Rattle.std.proofs.Common.{◌≡◌, List, [], refl, inl, Result, Ok, Err}
+use Rattle.std.proofs.Common.{◌≡◌, List, [], refl, sym, subst, inl, Result, Ok, Err}
 use Rattle.refusal.specs.declared.refused.Refusal.TheVariants.{Memory as OutOfMemory}
 use Rattle.refusal.specs.declared.refused.Refusal.{Refusal}
 use Rattle.stated.specs.Incrementals.{Step}
 use Rattle.std.specs.Result.{IsErrAnd}
 use Rattle.osdmap.specs.Maps.{ClusterMap}
+use Rattle.epochlog.specs.Epochs.{OneBegins}
 use Rattle.session.specs.declared.command.Task.{Task}
 use Rattle.session.specs.declared.command.Task.TheVariants.{CatchUp, Up, Dump}
 use Rattle.session.specs.declared.reply.Reply.{Reply}
@@ -24,3 +25,7 @@ pub no_follower_told : (first : ClusterMap) (task : Task) (before now : List Ste
     → IsErrAnd r (λ e. e ≡ OutOfMemory) → Tells first before now task (line_of reply_text r)
 no_follower_told first task before now (Ok reply) none still is = absurd is
 no_follower_told first task before now (Err e) none still is = rw (none, still, is) (no_follower first task)
+
+-- where nothing has been followed, that begins all
+pub none_begins : (followed history : List Step) → followed ≡ [] → OneBegins followed history
+none_begins followed history none = subst (λ f. OneBegins f history) (sym none) (inl (history, refl))

@@ -11,6 +11,7 @@ use Rattle.refusal.specs.Outcomes.{Makes}
 use Rattle.osdmap.specs.Maps.{ClusterMap}
 use Rattle.osdmap.specs.Placement.{group_fault}
 use Rattle.osdmap.specs.Changes.{after}
+use Rattle.epochlog.specs.Epochs.{OneBegins}
 use Rattle.pgtable.specs.Index.{up_at}
 use Rattle.stated.specs.declared.profile.Profile.{Profile}
 use Rattle.mapjson.specs.ChangeTexts.{change_text_fault, StatesChange}
@@ -87,7 +88,8 @@ Tells first before now task.Dump answer =
 -- ---- lines
 
 -- what a command answers to a session of a monitor with this first map, a journal for so many changes, and texts of
--- changes that may state these kinds of buckets, and what it has seen then; none is a line that is no command
+-- changes that may state these kinds of buckets, and what it has seen then: of the member's history and the follower's
+-- one begins the other where the follower has answered; none is a line that is no command
 abbrev pub Does : ClusterMap → ℕ → Profile → Sight → Option Command → List ℕ → Sight → Type 0
 Does first most profile before None answer now = (answer ≡ refusal_text BadCommand) × (now ≡ before)
 Does first most profile before (Some (ask question)) answer now =
@@ -103,6 +105,7 @@ Does first most profile before (Some (balance pool limit)) answer now =
     × (now.follower ≡ before.follower)
 Does first most profile before (Some (follower t)) answer now =
     Tells first before.follower now.follower t answer × (now.member ≡ before.member)
+    × OneBegins now.follower now.member
 
 -- a history stays, or is longer by one incremental, whose epoch an answer tells
 abbrev pub AddsTold : List Step → List ℕ → List Step → Type 0

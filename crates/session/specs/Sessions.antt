@@ -1,9 +1,11 @@
 -- A session and its monitor.
-use Rattle.std.specs.Prelude.{List, [], length, Option, Some, None, IfSome, Bool, ℕ}
+use Rattle.std.specs.Prelude.{◌≡◌, ◌++◌, List, [], length, Option, Some, None, IfSome, Bool, ℕ}
 use Rattle.stated.specs.Incrementals.{Step}
 use Rattle.monitor.specs.Members.{Monitored}
 use Rattle.monitor.specs.Followers.{Followed, Follows}
 use Rattle.monitor.specs.declared.member.Member.{Member}
+use Rattle.session.specs.declared.desk.Desk.{Desk}
+use Rattle.session.specs.declared.lines.Room.{Room}
 use Rattle.session.specs.Transcripts.{Manner}
 use Rattle.session.specs.Answers.{Sight, session_with}
 
@@ -27,3 +29,15 @@ sight_of member = seen_by member None
 -- how a session of this monitor goes behind a gate
 abbrev pub session_of : Monitored → (ℕ → Bool → Type 0) → Manner Sight
 session_of monitor lets = session_with monitor.first (length monitor.row.cells) monitor.profile monitor.alone lets
+
+-- how a session goes at a desk, whose gate lets these lines through
+abbrev pub session_at : {R G : Type 0} → Desk R G → (G → ℕ → Bool → Type 0) → Manner Sight
+session_at desk lets = session_of desk.monitor.now (lets desk.gate.now)
+
+-- what a session has seen by its member and its room
+abbrev pub sees : Member → Room → Sight
+sees member room = seen_by member room.follower
+
+-- some bytes of this kind were put
+abbrev pub Puts : List ℕ → List ℕ → (List ℕ → Type 0) → Type 0
+Puts before after is = (put : List ℕ) × is put × (after ≡ before ++ put)

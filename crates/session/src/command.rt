@@ -77,6 +77,13 @@ pub(crate) enum Command<'a> {
     Follower(Task),
 }
 
+/// The first line that ends in a text, and what stands behind its newline.
+#[derive(Clone, Copy)]
+pub(crate) struct FirstLine<'t> {
+    pub line: &'t [u8],
+    pub rest: &'t [u8],
+}
+
 /// The place of the first newline.
 fn newline(text: &[u8]) -> Option<usize>
     ensures place { result ≡ position is_newline text.now }
@@ -85,13 +92,16 @@ fn newline(text: &[u8]) -> Option<usize>
     memchr(b'\n', text)
 }
 
-/// The first line that ends in a text, and what stands behind its newline. `None` where no line ends in it.
-pub(crate) fn cut(text: &[u8]) -> Option<(&[u8], &[u8])>
+/// The first line that ends in a text. `None` where no line ends in it.
+pub(crate) fn cut(text: &[u8]) -> Option<FirstLine<'_>>
     ensures { MatchOption result (IsPart text.now)
-        (λ found. IsPart found.0.now × (text.now ≡ found.0.now ++ 10 ∷ found.1.now)) }
+        (λ found. IsPart found.line.now × (text.now ≡ found.line.now ++ 10 ∷ found.rest.now)) }
 {
     match newline(text) {
-        Some(end) => Some((&text[..end], &text[end + 1..])),
+        Some(end) => Some(FirstLine {
+            line: &text[..end],
+            rest: &text[end + 1..],
+        }),
         None => None,
     }
 }
@@ -211,7 +221,7 @@ pub(crate) fn read_command(line: &[u8]) -> Option<Command<'_>>
 pub(crate) fn first_question(text: &[u8]) -> Option<(Question, &[u8])>
     ensures { IfSome result (λ found. BeginsWith text.now found.0 found.1.now) }
 {
-    let (line, others) = cut(text)?;
+    let FirstLine { line, rest: others } = cut(text)?;
     match read_command(line) {
         Some(Command::Ask(question)) => Some((question, others)),
         _ => None,

@@ -43,6 +43,7 @@ impl<'a, R, G> Desk<'a, R, G> {
     ghost use Rattle.osdmap.specs.Placement.{group_fault};
     ghost use Rattle.pgtable.specs.Index.{up_at};
     ghost use Rattle.mapjson.specs.Written.{written};
+    ghost use Rattle.epochlog.specs.Epochs.{OneBegins};
     ghost use Rattle.monitor.specs.Histories.{GoesOn};
     ghost use Rattle.monitor.specs.Followers.{Follows};
     ghost use Rattle.session.specs.Texts.{line_of};
@@ -126,17 +127,30 @@ impl<'a, R, G> Desk<'a, R, G> {
         }
     }
 
-    /// What the session's follower, which is made where there is none yet, answers to a task.
-    fn follow(&self, follower: &mut Option<Follower>, task: Task) -> Result<Reply, Refusal>
-        requires { IsFollowerOf self.now.monitor.now follower.old }
+    /// What the session's follower, which is made where there is none yet, answers to a task. After it the follower's
+    /// history is known to begin the member's, or the member's the follower's.
+    fn follow(
+        &self,
+        member: &mut Member,
+        follower: &mut Option<Follower>,
+        task: Task,
+    ) -> Result<Reply, Refusal>
+        requires member { member.old.pass.row ≡ self.now.monitor.now.row }
+        requires follower { IsFollowerOf self.now.monitor.now follower.old }
+        ensures member { member.new ≡ member.old }
         ensures follower { IsFollowerOf self.now.monitor.now follower.new }
         ensures tells { Tells self.now.monitor.now.first (followed_history follower.old)
             (followed_history follower.new) task
             (line_of reply_text result) }
+        ensures meets { OneBegins (followed_history follower.new) member.new.pass.history }
     {
         self.need_follower(follower)?;
         match follower {
-            Some(follower) => self.tell(follower, task),
+            Some(follower) => {
+                let answer = self.tell(follower, task);
+                follower.meet(member);
+                answer
+            }
             None => unreachable!(),
         }
     }
@@ -250,7 +264,7 @@ impl<'a, R: Wait, G> Desk<'a, R, G> {
     }
 
     /// Does a command; `None` is a line that is no command.
-    pub(crate) fn obey(
+    pub(crate) fn do_command(
         &self,
         member: &mut Member,
         follower: &mut Option<Follower>,
@@ -282,7 +296,7 @@ impl<'a, R: Wait, G> Desk<'a, R, G> {
                 let (epoch, moves) = self.balance(member, plan)?;
                 Ok(Reply::Moved { moves, epoch })
             }
-            Some(Command::Follower(task)) => self.follow(follower, task),
+            Some(Command::Follower(task)) => self.follow(member, follower, task),
         }
     }
 }

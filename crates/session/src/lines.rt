@@ -5,7 +5,7 @@ ghost use Rattle.session.specs.Texts.{line_of};
 ghost use Rattle.session.specs.Replies.{reply_text};
 ghost use Rattle.session.specs.Ends.{IsOut, has_sink_failed};
 
-use crate::command::{Command, Question, cut, first_question, read_command};
+use crate::command::{Command, FirstLine, Question, cut, first_question, read_command};
 use crate::desk::Desk;
 use crate::error::SessionError;
 use crate::gate::Gate;
@@ -31,6 +31,14 @@ pub(crate) struct Room {
     pub(crate) follower: Option<Follower>,
     pub(crate) text: String,
     pub(crate) number: u64,
+}
+
+/// The first line of a text, which asks a question, and what stands behind its newline.
+#[derive(Clone, Copy)]
+struct Asking<'t> {
+    line: &'t [u8],
+    question: Question,
+    rest: &'t [u8],
 }
 
 /// As how many lines an answer counts.
@@ -72,7 +80,7 @@ pub(crate) fn flush<W: Sink>(sink: &mut W) -> Result<(), SessionError>
 }
 
 /// Has all out where the sink is full, so that a write need not wait for that while the lock is held.
-fn relieve<W: Sink>(sink: &mut W) -> Result<(), SessionError>
+fn flush_if_full<W: Sink>(sink: &mut W) -> Result<(), SessionError>
     requires { W.has_failed sink.old ≡ false }
     ensures same { W.written sink.new ≡ W.written sink.old }
     ensures failed { W.has_failed sink.new ≡ has_sink_failed result }
@@ -89,7 +97,7 @@ impl<'a, R: Wait, G: Gate> Desk<'a, R, G> {
     ghost use Rattle.monitor.specs.Members.{IsMemberOf};
     ghost use Rattle.monitor.specs.Sharing.{IsSharing};
     ghost use Rattle.session.specs.Commands.{ask, command_in, lines_in};
-    ghost use Rattle.session.specs.Sessions.{seen_by, session_of, IsFollowerOf};
+    ghost use Rattle.session.specs.Sessions.{session_at, sees, Puts, IsFollowerOf};
     ghost use Rattle.session.specs.Transcripts.{IsTranscript, TakesLine, StopsFrom};
     ghost use Rattle.session.specs.Readings.{IsPart, Passes, StopsAt, Halted};
     ghost use Rattle.session.specs.Ends.{Halts, has_sink_failed};
@@ -108,14 +116,13 @@ impl<'a, R: Wait, G: Gate> Desk<'a, R, G> {
         ensures member { IsMemberOf self.now.monitor.now member.new }
         ensures follower { IsFollowerOf self.now.monitor.now room.new.follower }
         ensures number { room.new.number ≡ room.old.number }
-        ensures ok { OnOk result ((answer : List ℕ)
-            × TakesLine (session_of self.now.monitor.now (G.lets self.now.gate.now)) room.old.number
-            (seen_by member.old room.old.follower) line.now answer (seen_by member.new room.new.follower)
-            × (W.written sink.new ≡ W.written sink.old ++ answer)) }
+        ensures ok { OnOk result (Puts (W.written sink.old) (W.written sink.new) (λ answer.
+            TakesLine (session_at self.now G.lets) room.old.number (sees member.old room.old) line.now answer
+            (sees member.new room.new))) }
         ensures err { IfErr result (λ error. (part : List ℕ)
             × (W.written sink.new ≡ W.written sink.old ++ part)
-            × StopsAt (session_of self.now.monitor.now (G.lets self.now.gate.now)) error room.old.number
-            (seen_by member.old room.old.follower) line.now part (seen_by member.new room.new.follower)) }
+            × StopsAt (session_at self.now G.lets) error room.old.number
+            (sees member.old room.old) line.now part (sees member.new room.new)) }
         ensures failed { W.has_failed sink.new ≡ has_sink_failed result }
     {
         if line.is_empty() {
@@ -124,7 +131,7 @@ impl<'a, R: Wait, G: Gate> Desk<'a, R, G> {
         if !self.gate.pass(room.number) {
             return Err(SessionError::Held);
         }
-        let answer = self.obey(member, &mut room.follower, read_command(line));
+        let answer = self.do_command(member, &mut room.follower, read_command(line));
         put_answer(answer, &mut room.text, sink)
     }
 
@@ -145,16 +152,12 @@ impl<'a, R: Wait, G: Gate> Desk<'a, R, G> {
         ensures follower { room.new.follower ≡ room.old.follower }
         ensures fewer { IfOk result (λ rest. room.new.number + length rest.now ≤ room.old.number + length text.now) }
         ensures shorter { IfOk result (λ rest. length rest.now ≤ length text.now) }
-        ensures ok { IfOk result (λ rest. (put : List ℕ)
-            × Passes (session_of self.now.monitor.now (G.lets self.now.gate.now)) room.old.number
-            (seen_by held.entry.1.now room.old.follower) text.now put room.new.number
-            (seen_by held.entry.1.now room.old.follower) rest.now
-            × (W.written sink.new ≡ W.written sink.old ++ put)) }
-        ensures err { IfErr result (λ error. (out : List ℕ)
-            × Halted (session_of self.now.monitor.now (G.lets self.now.gate.now)) error room.old.number
-            (seen_by held.entry.1.now room.old.follower) text.now out
-            (seen_by held.entry.1.now room.old.follower)
-            × (W.written sink.new ≡ W.written sink.old ++ out)) }
+        ensures ok { IfOk result (λ rest. Puts (W.written sink.old) (W.written sink.new) (λ put.
+            Passes (session_at self.now G.lets) room.old.number (sees held.entry.1.now room.old) text.now put
+            room.new.number (sees held.entry.1.now room.old) rest.now)) }
+        ensures err { IfErr result (λ error. Puts (W.written sink.old) (W.written sink.new) (λ out.
+            Halted (session_at self.now G.lets) error room.old.number (sees held.entry.1.now room.old) text.now
+            out (sees held.entry.1.now room.old))) }
         ensures failed { W.has_failed sink.new ≡ has_sink_failed result }
     {
         let mut rest = text;
@@ -192,7 +195,7 @@ impl<'a, R: Wait, G: Gate> Desk<'a, R, G> {
         &self,
         member: &mut Member,
         room: &mut Room,
-        first: (&'t [u8], Question, &'t [u8]),
+        asking: Asking<'t>,
         sink: &mut W,
     ) -> Result<&'t [u8], SessionError>
         requires member { IsMemberOf self.now.monitor.now member.old }
@@ -200,24 +203,21 @@ impl<'a, R: Wait, G: Gate> Desk<'a, R, G> {
         requires unfailed { W.has_failed sink.old ≡ false }
         requires open { (line : ℕ) → G.lets self.now.gate.now line true }
         requires ready { W.waits sink.old ≡ false }
-        requires line { IsPart first.0.now }
-        requires asks { command_in first.0.now ≡ Some (ask first.1) }
-        requires few { room.old.number + length (first.0.now ++ 10 ∷ first.2.now) < 2 ^ 64 }
+        requires line { IsPart asking.line.now }
+        requires asks { command_in asking.line.now ≡ Some (ask asking.question) }
+        requires few { room.old.number + length (asking.line.now ++ 10 ∷ asking.rest.now) < 2 ^ 64 }
         ensures member { IsMemberOf self.now.monitor.now member.new }
         ensures follower { IsFollowerOf self.now.monitor.now room.new.follower }
         ensures fewer { IfOk result (λ rest. room.new.number + length rest.now
-            ≤ room.old.number + (length first.entry.2.now + 1)) }
-        ensures shorter { IfOk result (λ rest. length rest.now ≤ length first.entry.2.now) }
-        ensures ok { IfOk result (λ rest. (put : List ℕ)
-            × Passes (session_of self.now.monitor.now (G.lets self.now.gate.now)) room.old.number
-            (seen_by member.old room.old.follower) (first.entry.0.now ++ 10 ∷ first.entry.2.now) put
-            room.new.number (seen_by member.new room.new.follower) rest.now
-            × (W.written sink.new ≡ W.written sink.old ++ put)) }
-        ensures err { IfErr result (λ error. (out : List ℕ)
-            × Halted (session_of self.now.monitor.now (G.lets self.now.gate.now)) error room.old.number
-            (seen_by member.old room.old.follower) (first.entry.0.now ++ 10 ∷ first.entry.2.now) out
-            (seen_by member.new room.new.follower)
-            × (W.written sink.new ≡ W.written sink.old ++ out)) }
+            ≤ room.old.number + (length asking.entry.rest.now + 1)) }
+        ensures shorter { IfOk result (λ rest. length rest.now ≤ length asking.entry.rest.now) }
+        ensures ok { IfOk result (λ rest. Puts (W.written sink.old) (W.written sink.new) (λ put.
+            Passes (session_at self.now G.lets) room.old.number (sees member.old room.old)
+            (asking.entry.line.now ++ 10 ∷ asking.entry.rest.now) put room.new.number (sees member.new room.new)
+            rest.now)) }
+        ensures err { IfErr result (λ error. Puts (W.written sink.old) (W.written sink.new) (λ out.
+            Halted (session_at self.now G.lets) error room.old.number (sees member.old room.old)
+            (asking.entry.line.now ++ 10 ∷ asking.entry.rest.now) out (sees member.new room.new))) }
         ensures failed { W.has_failed sink.new ≡ has_sink_failed result }
     {
         let shared = match self.monitor.share(self.rt, member) {
@@ -225,14 +225,14 @@ impl<'a, R: Wait, G: Gate> Desk<'a, R, G> {
             Err(refusal) => {
                 put_answer(Err(refusal), &mut room.text, sink)?;
                 room.number += 1;
-                return Ok(first.2);
+                return Ok(asking.rest);
             }
         };
-        let answer = self.answer_of(&shared, member, first.1);
+        let answer = self.answer_of(&shared, member, asking.question);
         let done = match put_answer(answer, &mut room.text, sink) {
             Ok(()) => {
                 room.number += 1;
-                self.answer_shared((&shared, member), room, first.2, sink)
+                self.answer_shared((&shared, member), room, asking.rest, sink)
             }
             Err(error) => Err(error),
         };
@@ -245,39 +245,42 @@ impl<'a, R: Wait, G: Gate> Desk<'a, R, G> {
         &self,
         member: &mut Member,
         room: &mut Room,
-        first: (&'t [u8], &'t [u8]),
+        first: FirstLine<'t>,
         sink: &mut W,
     ) -> Result<&'t [u8], SessionError>
         requires member { IsMemberOf self.now.monitor.now member.old }
         requires follower { IsFollowerOf self.now.monitor.now room.old.follower }
         requires unfailed { W.has_failed sink.old ≡ false }
-        requires line { IsPart first.0.now }
-        requires few { room.old.number + length (first.0.now ++ 10 ∷ first.1.now) < 2 ^ 64 }
+        requires line { IsPart first.line.now }
+        requires few { room.old.number + length (first.line.now ++ 10 ∷ first.rest.now) < 2 ^ 64 }
         ensures member { IsMemberOf self.now.monitor.now member.new }
         ensures follower { IsFollowerOf self.now.monitor.now room.new.follower }
         ensures fewer { IfOk result (λ rest. room.new.number + length rest.now
-            ≤ room.old.number + (length first.entry.1.now + 1)) }
-        ensures shorter { IfOk result (λ rest. length rest.now ≤ length first.entry.1.now) }
-        ensures ok { IfOk result (λ rest. (put : List ℕ)
-            × Passes (session_of self.now.monitor.now (G.lets self.now.gate.now)) room.old.number
-            (seen_by member.old room.old.follower) (first.entry.0.now ++ 10 ∷ first.entry.1.now) put
-            room.new.number (seen_by member.new room.new.follower) rest.now
-            × (W.written sink.new ≡ W.written sink.old ++ put)) }
-        ensures err { IfErr result (λ error. (out : List ℕ)
-            × Halted (session_of self.now.monitor.now (G.lets self.now.gate.now)) error room.old.number
-            (seen_by member.old room.old.follower) (first.entry.0.now ++ 10 ∷ first.entry.1.now) out
-            (seen_by member.new room.new.follower)
-            × (W.written sink.new ≡ W.written sink.old ++ out)) }
+            ≤ room.old.number + (length first.entry.rest.now + 1)) }
+        ensures shorter { IfOk result (λ rest. length rest.now ≤ length first.entry.rest.now) }
+        ensures ok { IfOk result (λ rest. Puts (W.written sink.old) (W.written sink.new) (λ put.
+            Passes (session_at self.now G.lets) room.old.number (sees member.old room.old)
+            (first.entry.line.now ++ 10 ∷ first.entry.rest.now) put room.new.number (sees member.new room.new)
+            rest.now)) }
+        ensures err { IfErr result (λ error. Puts (W.written sink.old) (W.written sink.new) (λ out.
+            Halted (session_at self.now G.lets) error room.old.number (sees member.old room.old)
+            (first.entry.line.now ++ 10 ∷ first.entry.rest.now) out (sees member.new room.new))) }
         ensures failed { W.has_failed sink.new ≡ has_sink_failed result }
     {
-        if let Some(Command::Ask(question)) = read_command(first.0) {
-            if self.may_share(member, first.1, sink) {
-                return self.answer_run(member, room, (first.0, question, first.1), sink);
+        if let Some(Command::Ask(question)) = read_command(first.line) {
+            if self.may_share(member, first.rest, sink) {
+                let FirstLine { line, rest } = first;
+                let asking = Asking {
+                    line,
+                    question,
+                    rest,
+                };
+                return self.answer_run(member, room, asking, sink);
             }
         }
-        self.answer(member, room, first.0, sink)?;
+        self.answer(member, room, first.line, sink)?;
         room.number += 1;
-        Ok(first.1)
+        Ok(first.rest)
     }
 
     /// Answers each line that ends in a text: what is left of the text, in which no line ends.
@@ -295,20 +298,17 @@ impl<'a, R: Wait, G: Gate> Desk<'a, R, G> {
         ensures member { IsMemberOf self.now.monitor.now member.new }
         ensures follower { IsFollowerOf self.now.monitor.now room.new.follower }
         ensures part { IfOk result (λ rest. IsPart rest.now) }
-        ensures ok { IfOk result (λ rest. (put : List ℕ)
-            × Passes (session_of self.now.monitor.now (G.lets self.now.gate.now)) room.old.number
-            (seen_by member.old room.old.follower) text.now put room.new.number
-            (seen_by member.new room.new.follower) rest.now
-            × (W.written sink.new ≡ W.written sink.old ++ put)) }
-        ensures err { IfErr result (λ error. (out : List ℕ)
-            × Halted (session_of self.now.monitor.now (G.lets self.now.gate.now)) error room.old.number
-            (seen_by member.old room.old.follower) text.now out (seen_by member.new room.new.follower)
-            × (W.written sink.new ≡ W.written sink.old ++ out)) }
+        ensures ok { IfOk result (λ rest. Puts (W.written sink.old) (W.written sink.new) (λ put.
+            Passes (session_at self.now G.lets) room.old.number (sees member.old room.old) text.now put
+            room.new.number (sees member.new room.new) rest.now)) }
+        ensures err { IfErr result (λ error. Puts (W.written sink.old) (W.written sink.new) (λ out.
+            Halted (session_at self.now G.lets) error room.old.number (sees member.old room.old) text.now out
+            (sees member.new room.new))) }
         ensures failed { W.has_failed sink.new ≡ has_sink_failed result }
     {
         let mut rest = text;
         while let Some(first) = cut(rest) {
-            relieve(sink)?;
+            flush_if_full(sink)?;
             rest = self.answer_first(member, room, first, sink)?;
         }
         Ok(rest)
@@ -328,17 +328,12 @@ impl<'a, R: Wait, G: Gate> Desk<'a, R, G> {
         requires line { IsPart line.now }
         ensures member { IsMemberOf self.now.monitor.now member.new }
         ensures follower { IsFollowerOf self.now.monitor.now room.new.follower }
-        ensures ok { OnOk result ((put : List ℕ)
-            × IsTranscript (session_of self.now.monitor.now (G.lets self.now.gate.now)) room.old.number
-            (seen_by member.old room.old.follower) (lines_in line.now) put
-            (seen_by member.new room.new.follower)
-            × (W.written sink.new ≡ W.written sink.old ++ put)) }
-        ensures err { IfErr result (λ error. (out : List ℕ)
-            × StopsFrom (session_of self.now.monitor.now (G.lets self.now.gate.now))
-            (Halts (session_of self.now.monitor.now (G.lets self.now.gate.now)) error) room.old.number
-            (seen_by member.old room.old.follower) (lines_in line.now) out
-            (seen_by member.new room.new.follower)
-            × (W.written sink.new ≡ W.written sink.old ++ out)) }
+        ensures ok { OnOk result (Puts (W.written sink.old) (W.written sink.new) (λ put.
+            IsTranscript (session_at self.now G.lets) room.old.number (sees member.old room.old)
+            (lines_in line.now) put (sees member.new room.new))) }
+        ensures err { IfErr result (λ error. Puts (W.written sink.old) (W.written sink.new) (λ out.
+            StopsFrom (session_at self.now G.lets) (Halts (session_at self.now G.lets) error) room.old.number
+            (sees member.old room.old) (lines_in line.now) out (sees member.new room.new))) }
         ensures failed { W.has_failed sink.new ≡ has_sink_failed result }
     {
         if line.is_empty() {

@@ -77,7 +77,7 @@ impl<'a, R: Wait, G: Gate> Desk<'a, R, G> {
     ghost use Rattle.monitor.specs.Members.{IsMemberOf};
     ghost use Rattle.session.specs.Commands.{lines_in};
     ghost use Rattle.session.specs.Answers.{Sight};
-    ghost use Rattle.session.specs.Sessions.{seen_by, sight_of, session_of, IsFollowerOf};
+    ghost use Rattle.session.specs.Sessions.{session_at, sees, Puts, sight_of, IsFollowerOf};
     ghost use Rattle.session.specs.Transcripts.{TakesLine, IsTranscript, StopsFrom};
     ghost use Rattle.session.specs.Readings.{IsPart, Passes, StopsAt, Halted, StopsTaking, StopsReading};
     ghost use Rattle.session.specs.Ends.{Halts, has_sink_failed};
@@ -98,16 +98,14 @@ impl<'a, R: Wait, G: Gate> Desk<'a, R, G> {
         ensures follower { IsFollowerOf self.now.monitor.now reading.new.room.follower }
         ensures number { OnOk result (reading.new.room.number ≡ reading.old.room.number + 1) }
         ensures none { OnOk result (reading.new.begun.items ≡ []) }
-        ensures ok { OnOk result ((answer : List ℕ)
-            × TakesLine (session_of self.now.monitor.now (G.lets self.now.gate.now)) reading.old.room.number
-            (seen_by member.old reading.old.room.follower) (reading.old.begun.items ++ end.now) answer
-            (seen_by member.new reading.new.room.follower)
-            × (W.written sink.new ≡ W.written sink.old ++ answer)) }
+        ensures ok { OnOk result (Puts (W.written sink.old) (W.written sink.new) (λ answer.
+            TakesLine (session_at self.now G.lets) reading.old.room.number (sees member.old reading.old.room)
+            (reading.old.begun.items ++ end.now) answer (sees member.new reading.new.room))) }
         ensures err { IfErr result (λ error. (part : List ℕ)
             × (W.written sink.new ≡ W.written sink.old ++ part)
-            × StopsAt (session_of self.now.monitor.now (G.lets self.now.gate.now)) error
-            reading.old.room.number (seen_by member.old reading.old.room.follower)
-            (reading.old.begun.items ++ end.now) part (seen_by member.new reading.new.room.follower)) }
+            × StopsAt (session_at self.now G.lets) error
+            reading.old.room.number (sees member.old reading.old.room)
+            (reading.old.begun.items ++ end.now) part (sees member.new reading.new.room)) }
         ensures failed { W.has_failed sink.new ≡ has_sink_failed result }
     {
         keep(&mut reading.begun, end)?;
@@ -133,23 +131,20 @@ impl<'a, R: Wait, G: Gate> Desk<'a, R, G> {
         ensures member { IsMemberOf self.now.monitor.now member.new }
         ensures follower { IsFollowerOf self.now.monitor.now reading.new.room.follower }
         ensures begun { OnOk result (IsPart reading.new.begun.items) }
-        ensures ok { OnOk result ((put : List ℕ)
-            × Passes (session_of self.now.monitor.now (G.lets self.now.gate.now)) reading.old.room.number
-            (seen_by member.old reading.old.room.follower) (reading.old.begun.items ++ text.now) put
-            reading.new.room.number (seen_by member.new reading.new.room.follower) reading.new.begun.items
-            × (W.written sink.new ≡ W.written sink.old ++ put)) }
-        ensures err { IfErr result (λ error. (out : List ℕ)
-            × Halted (session_of self.now.monitor.now (G.lets self.now.gate.now)) error
-            reading.old.room.number (seen_by member.old reading.old.room.follower)
-            (reading.old.begun.items ++ text.now) out (seen_by member.new reading.new.room.follower)
-            × (W.written sink.new ≡ W.written sink.old ++ out)) }
+        ensures ok { OnOk result (Puts (W.written sink.old) (W.written sink.new) (λ put.
+            Passes (session_at self.now G.lets) reading.old.room.number (sees member.old reading.old.room)
+            (reading.old.begun.items ++ text.now) put reading.new.room.number (sees member.new reading.new.room)
+            reading.new.begun.items)) }
+        ensures err { IfErr result (λ error. Puts (W.written sink.old) (W.written sink.new) (λ out.
+            Halted (session_at self.now G.lets) error reading.old.room.number (sees member.old reading.old.room)
+            (reading.old.begun.items ++ text.now) out (sees member.new reading.new.room))) }
         ensures failed { W.has_failed sink.new ≡ has_sink_failed result }
     {
-        let Some((end, others)) = cut(text) else {
+        let Some(first) = cut(text) else {
             return keep(&mut reading.begun, text);
         };
-        self.answer_begun(member, reading, end, sink)?;
-        let rest = self.answer_lines(member, &mut reading.room, others, sink)?;
+        self.answer_begun(member, reading, first.line, sink)?;
+        let rest = self.answer_lines(member, &mut reading.room, first.rest, sink)?;
         keep(&mut reading.begun, rest)
     }
 
@@ -172,16 +167,14 @@ impl<'a, R: Wait, G: Gate> Desk<'a, R, G> {
         ensures ended { IfOk result (λ ended. ended ≡ true → IsAtEnd (B.remaining reader.new)) }
         ensures ok { OnOk result ((text : List ℕ) × (put : List ℕ)
             × Consumes (B.remaining reader.old) (B.remaining reader.new) text
-            × Passes (session_of self.now.monitor.now (G.lets self.now.gate.now)) reading.old.room.number
-            (seen_by member.old reading.old.room.follower) (reading.old.begun.items ++ text) put
-            reading.new.room.number (seen_by member.new reading.new.room.follower) reading.new.begun.items
+            × Passes (session_at self.now G.lets) reading.old.room.number
+            (sees member.old reading.old.room) (reading.old.begun.items ++ text) put
+            reading.new.room.number (sees member.new reading.new.room) reading.new.begun.items
             × (W.written sink.new ≡ W.written sink.old ++ put)) }
-        ensures err { IfErr result (λ error. (out : List ℕ)
-            × StopsTaking (session_of self.now.monitor.now (G.lets self.now.gate.now))
-            (B.remaining reader.old) (B.remaining reader.new) error reading.old.room.number
-            (seen_by member.old reading.old.room.follower) reading.old.begun.items out
-            (seen_by member.new reading.new.room.follower)
-            × (W.written sink.new ≡ W.written sink.old ++ out)) }
+        ensures err { IfErr result (λ error. Puts (W.written sink.old) (W.written sink.new) (λ out.
+            StopsTaking (session_at self.now G.lets) (B.remaining reader.old) (B.remaining reader.new) error
+            reading.old.room.number (sees member.old reading.old.room) reading.old.begun.items out
+            (sees member.new reading.new.room))) }
         ensures failed { W.has_failed sink.new ≡ has_sink_failed result }
     {
         flush(sink)?;
@@ -211,17 +204,13 @@ impl<'a, R: Wait, G: Gate> Desk<'a, R, G> {
         ensures member { IsMemberOf self.now.monitor.now member.new }
         ensures follower { IsFollowerOf self.now.monitor.now reading.new.room.follower }
         ensures out { OnOk result (W.holds_back sink.new ≡ false) }
-        ensures ok { OnOk result ((put : List ℕ)
-            × IsTranscript (session_of self.now.monitor.now (G.lets self.now.gate.now))
-            reading.old.room.number (seen_by member.old reading.old.room.follower)
-            (lines_in reading.old.begun.items) put (seen_by member.new reading.new.room.follower)
-            × (W.written sink.new ≡ W.written sink.old ++ put)) }
-        ensures err { IfErr result (λ error. (out : List ℕ)
-            × StopsFrom (session_of self.now.monitor.now (G.lets self.now.gate.now))
-            (Halts (session_of self.now.monitor.now (G.lets self.now.gate.now)) error)
-            reading.old.room.number (seen_by member.old reading.old.room.follower)
-            (lines_in reading.old.begun.items) out (seen_by member.new reading.new.room.follower)
-            × (W.written sink.new ≡ W.written sink.old ++ out)) }
+        ensures ok { OnOk result (Puts (W.written sink.old) (W.written sink.new) (λ put.
+            IsTranscript (session_at self.now G.lets) reading.old.room.number (sees member.old reading.old.room)
+            (lines_in reading.old.begun.items) put (sees member.new reading.new.room))) }
+        ensures err { IfErr result (λ error. Puts (W.written sink.old) (W.written sink.new) (λ out.
+            StopsFrom (session_at self.now G.lets) (Halts (session_at self.now G.lets) error)
+            reading.old.room.number (sees member.old reading.old.room) (lines_in reading.old.begun.items) out
+            (sees member.new reading.new.room))) }
         ensures failed { W.has_failed sink.new ≡ has_sink_failed result }
     {
         self.answer_last(member, &mut reading.room, &reading.begun, sink)?;
@@ -248,11 +237,11 @@ impl<'a, R: Wait, G: Gate> Desk<'a, R, G> {
         ensures out { OnOk result (W.holds_back sink.new ≡ false) }
         ensures ok { OnOk result ((read : List ℕ) × (bytes : List ℕ) × (last : Sight)
             × IfSome (B.remaining reader.old) (λ xs. xs ≡ read)
-            × IsTranscript (session_of self.now.monitor.now (G.lets self.now.gate.now)) 1 (sight_of member.old)
+            × IsTranscript (session_at self.now G.lets) 1 (sight_of member.old)
             (lines_in read) bytes last
             × (last.member ≡ member.new.pass.history) × (W.written sink.new ≡ W.written sink.old ++ bytes)) }
         ensures err { IfErr result (λ error. (out : List ℕ) × (last : Sight)
-            × StopsReading (session_of self.now.monitor.now (G.lets self.now.gate.now))
+            × StopsReading (session_at self.now G.lets)
             (B.remaining reader.old) (B.remaining reader.new) error (sight_of member.old) out last
             × (last.member ≡ member.new.pass.history) × (W.written sink.new ≡ W.written sink.old ++ out)) }
         ensures failed { W.has_failed sink.new ≡ has_sink_failed result }

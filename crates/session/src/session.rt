@@ -12,7 +12,7 @@ impl<'a, R: Wait, G: Gate> Desk<'a, R, G> {
     ghost use Rattle.monitor.specs.Members.{IsMemberOf};
     ghost use Rattle.session.specs.Commands.{lines_in};
     ghost use Rattle.session.specs.Answers.{Sight};
-    ghost use Rattle.session.specs.Sessions.{sight_of, session_of};
+    ghost use Rattle.session.specs.Sessions.{sight_of, session_at};
     ghost use Rattle.session.specs.Transcripts.{IsTranscript, Stops};
     ghost use Rattle.session.specs.Ends.{Halts, has_sink_failed};
 
@@ -40,12 +40,12 @@ impl<'a, R: Wait, G: Gate> Desk<'a, R, G> {
         requires unfailed { W.has_failed sink.old ≡ false }
         ensures member { IsMemberOf self.now.monitor.now member.new }
         ensures ok { OnOk result ((bytes : List ℕ) × (last : Sight)
-            × IsTranscript (session_of self.now.monitor.now (G.lets self.now.gate.now)) 1 (sight_of member.old)
+            × IsTranscript (session_at self.now G.lets) 1 (sight_of member.old)
             (lines_in script.now) bytes last
             × (last.member ≡ member.new.pass.history) × (W.written sink.new ≡ W.written sink.old ++ bytes)) }
         ensures err { IfErr result (λ error. (out : List ℕ) × (last : Sight)
-            × Stops (session_of self.now.monitor.now (G.lets self.now.gate.now))
-            (Halts (session_of self.now.monitor.now (G.lets self.now.gate.now)) error)
+            × Stops (session_at self.now G.lets)
+            (Halts (session_at self.now G.lets) error)
             (sight_of member.old) (lines_in script.now) out last
             × (last.member ≡ member.new.pass.history) × (W.written sink.new ≡ W.written sink.old ++ out)) }
         ensures failed { W.has_failed sink.new ≡ has_sink_failed result }

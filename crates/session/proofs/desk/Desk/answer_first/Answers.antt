@@ -12,8 +12,8 @@ returns-clause-ok g c =
     let before = seen_by c.args.member.now c.args.room.now.follower in
     let now = seen_by c.answer.new.member c.answer.new.room.follower in
     let (answer, taken, out) = c.in_ok-answer.ensures.ok in
-    let line = c.args.first.0.now in
-    let others = c.args.first.1.now in (
+    let line = c.args.first.line.now in
+    let others = c.args.first.rest.now in (
       answer,
       subst (λ n. Passes m number before (line ++ 10 ∷ others) answer (n + 1) now others) (sym c.answer.ensures.number)
           (passes_line m number before now line others answer c.requires.line taken),
@@ -26,8 +26,8 @@ returns-in_err-answer-clause-err g c =
     let number = c.args.room.now.number in
     let before = seen_by c.args.member.now c.args.room.now.follower in
     let now = seen_by c.answer.new.member c.answer.new.room.follower in
-    let line = c.args.first.0.now in
-    let others = c.args.first.1.now in
+    let line = c.args.first.line.now in
+    let others = c.args.first.rest.now in
     let error = c.in_err-answer.field-0.0 in
     let out = g.W.Sink.written c.args.sink.now in
     let after = g.W.Sink.written c.answer.new.sink in

@@ -19,8 +19,8 @@ loop-first-init g c =
 
 pub loop-first-smaller : goal.loop-first-smaller
 loop-first-smaller g c =
-    let line = c.in-Some.first.0.now in
-    let others = c.in-Some.first.1.now in
+    let line = c.in-Some.first.line.now in
+    let others = c.in-Some.first.rest.now in
     let lens : length c.loop-first.rest.now ≡ length line + suc (length others) = ap length c.in-Some.ensures.1 ∙ length-append line (10 ∷ others) in
     let less = c.in_ok-rest.ensures.shorter in
     let smaller : length c.in_ok-rest.rest.now < length c.loop-first.rest.now = omega (arith, lens) in
@@ -36,8 +36,8 @@ loop-first-preserved g c =
     let between = seen_by c.loop-first.member c.loop-first.room.follower in
     let rest = c.loop-first.rest.now in
     let (put, passed, out) = c.loop-first.invariant.0 in
-    let line = c.in-Some.first.0.now in
-    let others = c.in-Some.first.1.now in
+    let line = c.in-Some.first.line.now in
+    let others = c.in-Some.first.rest.now in
     let after = c.answer_first.new.room.number in
     let last = seen_by c.answer_first.new.member c.answer_first.new.room.follower in
     let end = c.in_ok-rest.rest.now in
@@ -48,7 +48,7 @@ loop-first-preserved g c =
       (
         put ++ more,
         passes_more m number next after first between last text put rest more end passed here,
-        on ∙ ap (λ o. o ++ more) (c.relieve.ensures.same ∙ out) ∙ append_assoc (g.W.Sink.written c.args.sink.now) put more,
+        on ∙ ap (λ o. o ++ more) (c.flush_if_full.ensures.same ∙ out) ∙ append_assoc (g.W.Sink.written c.args.sink.now) put more,
       ),
       c.in_ok-rest.ensures.failed,
       omega (arith, lens, fewer, c.loop-first.invariant.2),
@@ -76,11 +76,11 @@ returns-in_err-rest-clause-err g c =
     c.from_residual-in_err-rest.result error c.from_residual-in_err-rest.ensures.1 (
       put ++ part,
       halted_behind m error number next first between last text put rest part passed here,
-      on ∙ ap (λ o. o ++ part) (c.relieve.ensures.same ∙ out) ∙ append_assoc before put part,
+      on ∙ ap (λ o. o ++ part) (c.flush_if_full.ensures.same ∙ out) ∙ append_assoc before put part,
     )
 
-pub returns-in_err-relieve-clause-err : goal.returns-in_err-relieve-clause-err
-returns-in_err-relieve-clause-err g c =
+pub returns-in_err-flush_if_full-clause-err : goal.returns-in_err-flush_if_full-clause-err
+returns-in_err-flush_if_full-clause-err g c =
     let m = session_of c.args.self.now.monitor.now (g.G.Gate.lets c.args.self.now.gate.now) in
     let number = c.args.room.now.number in
     let first = seen_by c.args.member.now c.args.room.now.follower in
@@ -90,11 +90,11 @@ returns-in_err-relieve-clause-err g c =
     let rest = c.loop-first.rest.now in
     let (put, passed, out) = c.loop-first.invariant.0 in
     let before = g.W.Sink.written c.args.sink.now in
-    let after = g.W.Sink.written c.relieve.new.sink in
+    let after = g.W.Sink.written c.flush_if_full.new.sink in
     let P = λ (e : SessionError). (x : List ℕ) × Halted m e number first text x between × (after ≡ before ++ x) in
     let halted = halted_behind m Write number next first between between text put rest [] passed (halted_before m next between rest) in
-    handed_on P c.from_residual.result c.in_err-relieve.field-0.0 c.from_residual.ensures.1 (subst P (sym c.in_err-relieve.ensures.write) (
+    handed_on P c.from_residual.result c.in_err-flush_if_full.field-0.0 c.from_residual.ensures.1 (subst P (sym c.in_err-flush_if_full.ensures.write) (
       put ++ [],
       halted,
-      c.relieve.ensures.same ∙ out ∙ ap (λ o. before ++ o) (sym (append-nil put)),
+      c.flush_if_full.ensures.same ∙ out ∙ ap (λ o. before ++ o) (sym (append-nil put)),
     ))

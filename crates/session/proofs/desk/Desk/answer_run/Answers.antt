@@ -16,12 +16,12 @@ returns-in-Err-clause-ok g c =
     let number = c.args.room.now.number in
     let before = seen_by c.args.member.now c.args.room.now.follower in
     let now = seen_by c.share.new.member c.args.room.now.follower in
-    let line = c.args.first.0.now in
+    let line = c.args.asking.line.now in
     let answer = refusal_text c.in-Err.refusal in
     let own = own_same monitor.alone c.args.member.now.pass c.share.new.member.pass answer c.share.ensures.alone in
-    let asked = asks_refused monitor.first before.member now.member c.args.first.1 c.in-Err.refusal c.share.ensures.goes_on c.in-Err.ensures.spent.0 in
-    let taken = takes_question monitor.first (length monitor.row.cells) monitor.profile monitor.alone lets number before now line c.args.first.1 answer c.requires.open c.requires.asks asked refl own in
-    (answer, passes_line (session_of monitor lets) number before now line c.args.first.2.now answer c.requires.line taken, c.in_ok-put_answer-in-Err.ensures.out)
+    let asked = asks_refused monitor.first before.member now.member c.args.asking.question c.in-Err.refusal c.share.ensures.goes_on c.in-Err.ensures.spent.0 in
+    let taken = takes_question monitor.first (length monitor.row.cells) monitor.profile monitor.alone lets number before now line c.args.asking.question answer c.requires.open c.requires.asks asked refl own in
+    (answer, passes_line (session_of monitor lets) number before now line c.args.asking.rest.now answer c.requires.line taken, c.in_ok-put_answer-in-Err.ensures.out)
 
 pub returns-in_err-put_answer-in-Err-clause-err : goal.returns-in_err-put_answer-in-Err-clause-err
 returns-in_err-put_answer-in-Err-clause-err g c =
@@ -31,16 +31,16 @@ returns-in_err-put_answer-in-Err-clause-err g c =
     let number = c.args.room.now.number in
     let before = seen_by c.args.member.now c.args.room.now.follower in
     let now = seen_by c.share.new.member c.args.room.now.follower in
-    let line = c.args.first.0.now in
-    let others = c.args.first.2.now in
+    let line = c.args.asking.line.now in
+    let others = c.args.asking.rest.now in
     let answer = refusal_text c.in-Err.refusal in
     let error = c.in_err-put_answer-in-Err.field-0.0 in
     let out = g.W.Sink.written c.args.sink.now in
     let after = g.W.Sink.written c.put_answer.new.sink in
     let own = own_same monitor.alone c.args.member.now.pass c.share.new.member.pass answer c.share.ensures.alone in
-    let asked = asks_refused monitor.first before.member now.member c.args.first.1 c.in-Err.refusal c.share.ensures.goes_on c.in-Err.ensures.spent.0 in
+    let asked = asks_refused monitor.first before.member now.member c.args.asking.question c.in-Err.refusal c.share.ensures.goes_on c.in-Err.ensures.spent.0 in
     let (cut, more, stopped) = cut_line m number before now line answer out after (Err error)
-    (some_line line c.args.first.1 c.requires.asks) (c.requires.open number) (rw c.requires.asks (asked, refl), own) c.in_err-put_answer-in-Err.ensures.out in
+    (some_line line c.args.asking.question c.requires.asks) (c.requires.open number) (rw c.requires.asks (asked, refl), own) c.in_err-put_answer-in-Err.ensures.out in
     handed_on (λ (e : SessionError). (x : List ℕ) × Halted m e number before (line ++ 10 ∷ others) x now × (after ≡ out ++ x))
     c.from_residual.result error c.from_residual.ensures.1
     (cut, halted_line m error number before now line others cut c.requires.line stopped, more)
@@ -53,12 +53,12 @@ returns-clause-ok g c =
     let number = c.args.room.now.number in
     let before = seen_by c.args.member.now c.args.room.now.follower in
     let now = seen_by c.share.new.member c.args.room.now.follower in
-    let line = c.args.first.0.now in
-    let others = c.args.first.2.now in
+    let line = c.args.asking.line.now in
+    let others = c.args.asking.rest.now in
     let answer = line_of reply_text c.answer_of-answer.result in
     let own = own_same monitor.alone c.args.member.now.pass c.share.new.member.pass answer c.share.ensures.alone in
-    let asked = asks_from monitor.first before.member now.member c.args.first.1 answer c.share.ensures.goes_on c.answer_of-answer.ensures in
-    let taken = takes_question monitor.first (length monitor.row.cells) monitor.profile monitor.alone lets number before now line c.args.first.1 answer c.requires.open c.requires.asks asked refl own in
+    let asked = asks_from monitor.first before.member now.member c.args.asking.question answer c.share.ensures.goes_on c.answer_of-answer.ensures in
+    let taken = takes_question monitor.first (length monitor.row.cells) monitor.profile monitor.alone lets number before now line c.args.asking.question answer c.requires.open c.requires.asks asked refl own in
     elim c.match-put_answer.branch [
       | in-Ok-put_answer w ↦
           let same = same_sight c.give_back.new.member c.share.new.member w.answer_shared-done.new.room.follower c.args.room.now.follower
@@ -78,12 +78,12 @@ returns-clause-err g c =
     let number = c.args.room.now.number in
     let before = seen_by c.args.member.now c.args.room.now.follower in
     let now = seen_by c.share.new.member c.args.room.now.follower in
-    let line = c.args.first.0.now in
-    let others = c.args.first.2.now in
+    let line = c.args.asking.line.now in
+    let others = c.args.asking.rest.now in
     let answer = line_of reply_text c.answer_of-answer.result in
     let own = own_same monitor.alone c.args.member.now.pass c.share.new.member.pass answer c.share.ensures.alone in
-    let asked = asks_from monitor.first before.member now.member c.args.first.1 answer c.share.ensures.goes_on c.answer_of-answer.ensures in
-    let taken = takes_question monitor.first (length monitor.row.cells) monitor.profile monitor.alone lets number before now line c.args.first.1 answer c.requires.open c.requires.asks asked refl own in
+    let asked = asks_from monitor.first before.member now.member c.args.asking.question answer c.share.ensures.goes_on c.answer_of-answer.ensures in
+    let taken = takes_question monitor.first (length monitor.row.cells) monitor.profile monitor.alone lets number before now line c.args.asking.question answer c.requires.open c.requires.asks asked refl own in
     let put = g.W.Sink.written c.args.sink.now in
     let mid = g.W.Sink.written c.put_answer-2.new.sink in
     elim c.match-put_answer.branch [
@@ -98,6 +98,6 @@ returns-clause-err g c =
           let same = same_sight c.give_back.new.member c.share.new.member c.args.room.now.follower c.args.room.now.follower c.give_back.ensures.pass refl in
           let error = w.in-Err-put_answer.error in
           let (cut, more, stopped) = cut_line m number before now line answer put mid (Err error)
-          (some_line line c.args.first.1 c.requires.asks) (c.requires.open number) (rw c.requires.asks (asked, refl), own) w.in-Err-put_answer.ensures.out in
+          (some_line line c.args.asking.question c.requires.asks) (c.requires.open number) (rw c.requires.asks (asked, refl), own) w.in-Err-put_answer.ensures.out in
           rw (w.done-is, w.room-is, w.sink-is, same) (cut, halted_line m error number before now line others cut c.requires.line stopped, more)
     ]
