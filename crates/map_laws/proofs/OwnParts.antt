@@ -1,0 +1,291 @@
+-- The parts of a map in which all holds state that map, and nothing is wrong with them.
+use Rattle.std.proofs.Common.{◌≡◌, ◌∙◌, ℕ, suc, ◌≤◌, ◌==◌, pos, nat_abs, Bool, true, false, cond, ◌&&◌, nat_lt, List, [], ◌∷◌, map, length, Option, Some, None, refl, sym, ap, arith}
+use mathlib.Core.Bool.{false≢true}
+use Rattle.std.specs.Prelude.{nat_le, int_le}
+use Rattle.std.specs.List.{list_all, list_any, All}
+use Rattle.std.proofs.lemmas.Bool.Decides.{nat_tests}
+use Rattle.std.proofs.lemmas.List.Folds.{list_all-map}
+use Rattle.std.proofs.lemmas.List.Sorted.{IsPermutation-refl}
+use Rattle.std.proofs.lemmas.List.Sums.{AllPass-from_list_all}
+use Rattle.crush.specs.declared.bucket.Bucket.{Bucket}
+use Rattle.crush.specs.declared.bucket.Item.{Item}
+use Rattle.crush.specs.declared.step.Step.{Step as RuleStep}
+use Rattle.crush.specs.declared.step.Step.TheVariants as step
+use Rattle.crush.specs.WellFormed.{forest_ok}
+use Rattle.crush.specs.Grammar.{sets_tries, rule_ok}
+use Rattle.keylist.proofs.Counts.{find-place}
+use Rattle.stated.specs.declared.exception.Exception.{Exception}
+use Rattle.stated.specs.declared.exception.Pair.{Pair}
+use Rattle.stated.specs.declared.parts.PoolPart.{PoolPart}
+use Rattle.stated.specs.declared.parts.RulePart.{RulePart}
+use Rattle.stated.specs.declared.rules.NumberedRule.{NumberedRule}
+use Rattle.stated.specs.Exceptions.{key_of, has_group, all_named, is_sound, is_exception, target, sides, is_set, are_pairs}
+use Rattle.keylist.specs.Keys.{is_distinct, entry_at}
+use Rattle.keylist.specs.Order.{IsRising}
+use Rattle.stated.specs.CrushMaps.{is_rule_over}
+use Rattle.osdmap.specs.Maps.{ClusterMap, osd_exists, has_rule, HoldsTogether}
+use Rattle.stated.specs.Parts.{is_between, pg_fits, is_osd_id, pair_fits, exception_fits, exceptions_fit, head_fits, lists_fit, parts_fit, item_of, bucket_of, step_of, pool_of, pair_of, exception_of}
+use Rattle.osdmap.specs.PartsOf.{item_part, bucket_part, step_part, rule_part, pool_part, pair_part, exception_part, version_of, parts_of}
+use Rattle.stated.specs.Incrementals.{Step}
+use Rattle.osdmap.specs.Changes.{change_fault, apply}
+use Rattle.map_laws.specs.Laws.{IsTextEpoch, StatesItself}
+use Rattle.stated.specs.Pools.{PoolFacts, IsWithinLimits}
+use Rattle.stated.specs.CrushMaps.{rule_of}
+use Rattle.osdmap.specs.Stated.{buckets_of, rules_ok, pool_ok, pools_ok, osds_ok, is_listed, exceptions_ok, explicit_of, items_of, all_exceptions_ok, map_fault, IsStated}
+use Rattle.keylist.proofs.Tests.{and_first, and_second}
+use Rattle.osdmap.proofs.Named.{below_max}
+use Rattle.keylist.proofs.Distinct.{rising_distinct}
+use Rattle.osdmap.proofs.Excepted.{exists_same, exceptions_same}
+use Rattle.stated.specs.Ordered.{IsChange}
+use Rattle.osdmap.proofs.Kept.{HoldsTogether-after}
+use Rattle.map_laws.proofs.FewExceptions.{few_exceptions}
+use Rattle.map_laws.proofs.OwnFits.{natural_fits, count_fits, buckets_fine, rules_fine, pools_fine, groups_fine}
+use Rattle.map_laws.proofs.OwnOsds.{own_distinct, own_ok, own_fit, own_presences, own_weights}
+use Rattle.keylist.proofs.Each.{all_more, map_twice}
+
+-- ---- values that state themselves
+
+-- what is stated entry by entry is read back so
+map_own : {X Y : Type 0} (f : Y → X) (g : X → Y) → ((x : X) → f (g x) ≡ x) → (xs : List X) → map f (map g xs) ≡ xs
+map_own f g own [] = refl
+map_own f g own (x ∷ xs) = rw (own x, map_own f g own xs) refl
+
+-- the version of a map's own parts is one that a map may have
+version_fine : (rules : List NumberedRule) → is_between (pos 1) (pos 2) (version_of rules) ≡ true
+version_fine rules = by_tries (list_any (λ r. list_any sets_tries r.rule.steps) rules)
+  where
+    by_tries : (set : Bool) → is_between (pos 1) (pos 2) (cond set (pos 2) (pos 1)) ≡ true
+    by_tries true = natural_fits 1 2 2 (omega arith) (omega arith)
+    by_tries false = natural_fits 1 2 1 (omega arith) (omega arith)
+
+-- an item is the one that its part states
+item_own : (i : Item) → item_of (item_part i) ≡ i
+item_own i = refl
+
+-- so is a bucket
+bucket_own : (b : Bucket) → bucket_of (bucket_part b) ≡ b
+bucket_own b = rw (map_own item_of item_part item_own b.items) refl
+
+-- a step
+step_own : (s : RuleStep) → step_of (step_part s) ≡ s
+step_own (step.SetChooseTries n) = refl
+step_own (step.SetChooseleafTries n) = refl
+step_own (step.Take id) = refl
+step_own (step.Choose c) = refl
+step_own step.Emit = refl
+
+-- a rule
+rule_own : (r : NumberedRule) → rule_of (rule_part r) ≡ r
+rule_own r = rw (map_own step_of step_part step_own r.rule.steps) refl
+
+-- a pool
+pool_own : (p : PoolFacts) → pool_of (pool_part p) ≡ p
+pool_own p = refl
+
+-- a number
+number_own : (n : ℕ) → nat_abs (pos n) ≡ n
+number_own n = refl
+
+-- a pair
+pair_own : (p : Pair) → pair_of (pair_part p) ≡ p
+pair_own p = refl
+
+-- and an exception
+exception_own : {E P : Type 0} (entry_of : P → E) (entry_part : E → P) → ((e : E) → entry_of (entry_part e) ≡ e) → (e : Exception E) → exception_of entry_of (exception_part entry_part e) ≡ e
+exception_own entry_of entry_part own e = rw (map_own entry_of entry_part own e.entries) refl
+
+module _ (m : ClusterMap) where
+  buckets_own : buckets_of (parts_of m) ≡ m.buckets
+  unfolding parts_of
+  buckets_own = map_own bucket_of bucket_part bucket_own m.buckets
+
+  rules_own : map rule_of (parts_of m).rules ≡ m.rules
+  unfolding parts_of
+  rules_own = map_own rule_of rule_part rule_own m.rules
+
+  pools_own : map pool_of (parts_of m).pools ≡ m.pools
+  unfolding parts_of
+  pools_own = map_own pool_of pool_part pool_own m.pools
+
+  explicit_own : explicit_of (parts_of m) ≡ m.explicit
+  unfolding parts_of
+  explicit_own = map_own (exception_of nat_abs) (exception_part pos) (exception_own nat_abs pos number_own) m.explicit
+
+  items_own : items_of (parts_of m) ≡ m.items
+  unfolding parts_of
+  items_own = map_own (exception_of pair_of) (exception_part pair_part) (exception_own pair_of pair_part pair_own) m.items
+
+-- ---- exceptions within their limits
+
+module _ (m : ClusterMap) (holds : HoldsTogether m) where
+  module _ {E P : Type 0} (names : E → List ℕ) (sound : List E → Bool) (entry_part : E → P) (fits : P → Bool) (each : (entry : E) → list_all (osd_exists m) (names entry) ≡ true → fits (entry_part entry) ≡ true) where
+    -- of a pool that is there
+    record IsOfPool (e : Exception E) : Type 0 where
+      some : 1 ≤ e.pg.pool
+      most : e.pg.pool ≤ 65535
+      few : length e.entries ≤ 10
+
+    of_pool : (e : Exception E) → is_exception names sound m.pools (osd_exists m) e ≡ true → IsOfPool e
+    of_pool e h = by_pool (entry_at (λ (q : PoolFacts). q.id) m.pools e.pg.pool) refl (and_second (has_group m.pools e.pg && all_named names (osd_exists m) e) (is_sound sound m.pools e) h)
+      where
+        by_pool : (o : Option PoolFacts) → entry_at (λ (q : PoolFacts). q.id) m.pools e.pg.pool ≡ o → is_sound sound m.pools e ≡ true → IsOfPool e
+        by_pool None is soundly = absurd (false≢true (rw is at soundly))
+        by_pool (Some p) is soundly =
+            let there = find-place (λ (q : PoolFacts). q.id == e.pg.pool) m.pools p is in
+            let within : IsWithinLimits p = rw there.2 at (holds.pools_within there.0 p there.1) in
+            let same : (p.id == e.pg.pool) ≡ true = there.3 in
+            let says : (nat_lt 0 (length e.entries) && nat_le (length e.entries) p.size && sound e.entries) ≡ true = rw is at soundly in
+            record {
+              some = grind (arith, nat_tests, same, within.id_some);
+              most = grind (arith, nat_tests, same, within.id_most);
+              few = grind (arith, nat_tests, says, within.size_most);
+            }
+
+    one_fits : (e : Exception E) → is_exception names sound m.pools (osd_exists m) e ≡ true → exception_fits fits (exception_part entry_part e) ≡ true
+    unfolding exception_fits pg_fits
+    one_fits e h =
+        let pool = of_pool e h in
+        let named = and_second (has_group m.pools e.pg) (all_named names (osd_exists m) e) (and_first (has_group m.pools e.pg && all_named names (osd_exists m) e) (is_sound sound m.pools e) h) in
+        let count = count_fits entry_part 0 10 e.entries (omega arith) pool.few in
+        let entries = list_all-map fits entry_part e.entries ∙ all_more (λ entry. list_all (osd_exists m) (names entry)) (λ entry. fits (entry_part entry)) e.entries each named in
+        rw (count, entries) (grind (arith, nat_tests, pool.some, pool.most))
+
+    exceptions_fine : (es : List (Exception E)) → IsRising key_of es → list_all (is_exception names sound m.pools (osd_exists m)) es ≡ true → exceptions_fit fits (map (exception_part entry_part) es) ≡ true
+    unfolding exceptions_fit
+    exceptions_fine es rises all =
+        let there = AllPass-from_list_all (λ e. has_group m.pools e.pg) es
+        (all_more (is_exception names sound m.pools (osd_exists m)) (λ e. has_group m.pools e.pg) es
+        (λ e h. and_first (has_group m.pools e.pg) (all_named names (osd_exists m) e) (and_first (has_group m.pools e.pg && all_named names (osd_exists m) e) (is_sound sound m.pools e) h)) all) in
+        let few = few_exceptions m.pools es holds.pools_within rises there in
+        let count = count_fits (exception_part entry_part) 0 262144 es (omega arith) (omega (arith, few, holds.few_groups)) in
+        let entries = list_all-map (exception_fits fits) (exception_part entry_part) es ∙ all_more (is_exception names sound m.pools (osd_exists m)) (λ e. exception_fits fits (exception_part entry_part e)) es one_fits all in
+        rw (count, entries) refl
+
+  osd_fine : (osd : ℕ) → osd_exists m osd ≡ true → is_osd_id (pos osd) ≡ true
+  unfolding is_osd_id
+  osd_fine osd there =
+      let below = below_max m osd (length m.presences) (omega arith) there in
+      natural_fits 0 1023 osd (omega arith) (grind (arith, nat_tests, below, holds.few))
+
+  target_fine : (osd : ℕ) → list_all (osd_exists m) (target osd) ≡ true → is_osd_id (pos osd) ≡ true
+  target_fine osd there = osd_fine osd (and_first (osd_exists m osd) true there)
+
+  pair_fine : (p : Pair) → list_all (osd_exists m) (sides p) ≡ true → pair_fits (pair_part p) ≡ true
+  unfolding pair_fits
+  pair_fine p there =
+      rw (
+        osd_fine p.from (and_first (osd_exists m p.from) (osd_exists m p.to && true) there),
+        osd_fine p.to (and_first (osd_exists m p.to) true (and_second (osd_exists m p.from) (osd_exists m p.to && true) there)),
+      ) refl
+
+  -- ---- each test
+
+  own_limits : 1 ≤ m.epoch → m.epoch ≤ 2147483648 → parts_fit (parts_of m) ≡ true
+  unfolding parts_fit head_fits lists_fit parts_of
+  own_limits some most =
+      rw (
+        version_fine m.rules,
+        natural_fits 1 2147483648 m.epoch some most,
+        natural_fits 1 1024 (length m.presences) holds.some holds.few,
+        count_fits bucket_part 1 4096 m.buckets (grind (arith, nat_tests, holds.forest.limits)) (grind (arith, nat_tests, holds.forest.limits)),
+        count_fits rule_part 1 256 m.rules holds.some_rules holds.few_rules,
+        count_fits pool_part 0 256 m.pools (omega arith) holds.few_pools,
+        buckets_fine m.buckets (grind (arith, holds.forest.limits)) (grind (arith, holds.over_osds)),
+        rules_fine m.buckets m.rules holds.rules_over,
+        pools_fine m.pools holds.pools_within,
+        groups_fine m.pools holds.few_groups,
+        own_fit m holds,
+        exceptions_fine target is_set pos is_osd_id target_fine m.explicit holds.explicit_rise holds.explicit_sound,
+        exceptions_fine sides are_pairs pair_part pair_fits pair_fine m.items holds.items_rise holds.items_sound,
+      ) refl
+
+  own_forest : forest_ok (buckets_of (parts_of m)) (nat_abs (parts_of m).max_osd) ≡ true
+  unfolding parts_of
+  own_forest = rw (buckets_own m) holds.over_osds
+
+  one_rule : (r : NumberedRule) → is_rule_over m.buckets r ≡ true → rule_ok r.rule.kind (map step_of (map step_part r.rule.steps)) (buckets_of (parts_of m)) ≡ true
+  unfolding is_rule_over
+  one_rule r h = rw (map_own step_of step_part step_own r.rule.steps, buckets_own m) (grind (arith, h))
+
+  own_rules : rules_ok (parts_of m) ≡ true
+  unfolding rules_ok parts_of
+  own_rules =
+      let distinct = ap is_distinct (map_twice (λ (r : RulePart). nat_abs r.id) rule_part m.rules) ∙ rising_distinct (λ (r : NumberedRule). r.id) m.rules holds.rules_rise in
+      let lawful = list_all-map (λ (r : RulePart). rule_ok r.kind (map step_of r.steps) (buckets_of (parts_of m))) rule_part m.rules ∙ all_more (is_rule_over m.buckets) _ m.rules one_rule holds.rules_over in
+      rw (distinct, lawful) refl
+
+  each_pool : (pools : List PoolFacts) → All IsWithinLimits pools → list_all (has_rule m.rules) pools ≡ true → list_all (pool_ok (map rule_of (parts_of m).rules)) (map pool_part pools) ≡ true
+  unfolding pool_ok
+  each_pool [] within ruled = refl
+  each_pool (p ∷ ps) within ruled =
+      let here : IsWithinLimits p = within 0 p (omega arith) in
+      let rest = each_pool ps (λ k d inside. within (suc k) d (omega arith)) (and_second (has_rule m.rules p) (list_all (has_rule m.rules) ps) ruled) in
+      let few : int_le (pos p.pgp_num) (pos p.pg_num) ≡ true = grind (arith, nat_tests, here.groups_few) in
+      let served : has_rule (map rule_of (parts_of m).rules) p ≡ true = rw (rules_own m) (and_first (has_rule m.rules p) (list_all (has_rule m.rules) ps) ruled) in
+      rw (few, served, rest) refl
+
+  own_pools : pools_ok (parts_of m) ≡ true
+  unfolding pools_ok parts_of
+  own_pools =
+      let distinct = ap is_distinct (map_twice (λ (q : PoolPart). nat_abs q.id) pool_part m.pools) ∙ rising_distinct (λ (p : PoolFacts). p.id) m.pools holds.pools_rise in
+      rw (distinct, each_pool m.pools holds.pools_within holds.ruled) refl
+
+  own_osds : osds_ok (parts_of m) ≡ true
+  unfolding osds_ok parts_of
+  own_osds = rw (own_distinct m, own_ok m holds) refl
+
+  listed_same : (n : ℕ) → is_listed (parts_of m).osds n ≡ osd_exists m n
+  unfolding parts_of
+  listed_same n = sym (exists_same (parts_of m).osds (length m.presences) m (own_presences m holds) (own_ok m holds) n)
+
+  each_exception : {E : Type 0} (names : E → List ℕ) (sound : List E → Bool) (es : List (Exception E)) → IsRising key_of es → list_all (is_exception names sound m.pools (osd_exists m)) es ≡ true
+      → exceptions_ok names sound m.pools (is_listed (parts_of m).osds) es ≡ true
+  each_exception names sound es rises all =
+      exceptions_same names sound m.pools m.pools (is_listed (parts_of m).osds) (osd_exists m) (λ k. refl) listed_same es
+      ∙ rw (rising_distinct key_of es rises, all) refl
+
+  own_exceptions : all_exceptions_ok (parts_of m) ≡ true
+  unfolding all_exceptions_ok
+  own_exceptions =
+      rw (
+        pools_own m,
+        explicit_own m,
+        items_own m,
+        each_exception target is_set m.explicit holds.explicit_rise holds.explicit_sound,
+        each_exception sides are_pairs m.items holds.items_rise holds.items_sound,
+      ) refl
+
+  -- ---- all of it
+
+  own_faultless : 1 ≤ m.epoch → m.epoch ≤ 2147483648 → map_fault (parts_of m) ≡ None
+  unfolding map_fault
+  own_faultless some most = rw (own_limits some most, own_forest, own_rules, own_pools, own_osds, own_exceptions) refl
+
+  own_stated : IsStated (parts_of m) m
+  unfolding parts_of
+  own_stated = record {
+    epoch = refl;
+    buckets = rw (buckets_own m) (IsPermutation-refl m.buckets);
+    falling = holds.forest.descending;
+    rules = rw (rules_own m) (IsPermutation-refl m.rules);
+    rules_rise = holds.rules_rise;
+    pools = rw (pools_own m) (IsPermutation-refl m.pools);
+    pools_rise = holds.pools_rise;
+    presences = own_presences m holds;
+    weights = own_weights m holds;
+    explicit = rw (explicit_own m) (IsPermutation-refl m.explicit);
+    explicit_rise = holds.explicit_rise;
+    items = rw (items_own m) (IsPermutation-refl m.items);
+    items_rise = holds.items_rise;
+  }
+
+  pub states_itself : IsTextEpoch m.epoch → StatesItself m
+  states_itself within = record { faultless = own_faultless within.0 within.1; stated = own_stated }
+
+-- the map after a change that is not refused is the one that its own parts state
+pub states_itself_after : (m : ClusterMap) (step : Step) → HoldsTogether m → IsChange step.change → change_fault m step.change ≡ None → IsTextEpoch step.epoch → StatesItself (apply m step)
+unfolding apply
+states_itself_after m step holds is lawful epoch = states_itself (apply m step) (HoldsTogether-after m step lawful is holds) (epoch_is epoch)
+  where
+    epoch_is : IsTextEpoch step.epoch → IsTextEpoch (apply m step).epoch
+    epoch_is e = e

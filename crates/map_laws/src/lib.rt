@@ -1,0 +1,11 @@
+//! What follows from the definitions of maps, of changes and of the texts of maps: each law is the contract of a
+//! function that does nothing, or of one that writes a map and reads it back.
+//!
+//! - `changes`: the order of a change's parts
+//! - `maps`: what holds in every map holds in those that lawful changes lead to
+//! - `texts`: the text of a map states that map
+#![tactic(auto)]
+
+pub mod changes;
+pub mod maps;
+pub mod texts;

@@ -1,5 +1,0 @@
-use Rattle.osdmap_laws.proofs.OrderLaw.{up_after_down}
-use Rattle.osdmap_laws.proofs.changes.up_after_down.Goals as goal
-
-pub returns : goal.returns
-returns c = up_after_down

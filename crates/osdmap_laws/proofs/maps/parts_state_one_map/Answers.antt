@@ -1,5 +1,0 @@
-use Rattle.osdmap_laws.proofs.OneMap.{states_one_map}
-use Rattle.osdmap_laws.proofs.maps.parts_state_one_map.Goals as goal
-
-pub returns : goal.returns
-returns c = states_one_map
