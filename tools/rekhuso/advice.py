@@ -40,7 +40,11 @@ KINDS = (
     ),
     Advice(rf"^pool (\d+) has \d+ groups, more than {PLAIN.groups}$", f"{BARE}; {POOLS}"),
     Advice(r"^pool (\d+) has (?:\d+ groups|size \d+), more than", f"no map holds it; {POOLS}"),
-    Advice(rf"^\d+ buckets that pools use, more than {PLAIN.buckets}$", f"{BARE}; {SOME}"),
+    Advice(
+        rf"^\d+ (?:buckets that pools use, more than {PLAIN.buckets}|pools, more than {PLAIN.pools}|"
+        rf"rules that pools use, more than {PLAIN.rules})$",
+        f"{BARE}; {SOME}",
+    ),
     Advice(
         r"^\d+ (?:pools|buckets that pools use|rules that pools use), more than| groups together, more than",
         f"no map holds so many; {SOME}",

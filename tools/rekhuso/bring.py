@@ -16,7 +16,7 @@ from typing import NamedTuple, cast
 from .advice import advised
 from .cluster import KINDS, Cluster, listed
 from .faults import Fault, Misuse, Refused
-from .forms import TRIES
+from .forms import PLAIN, TRIES
 from .kinds import (
     Bucket,
     Commands,
@@ -36,7 +36,7 @@ from .kinds import (
     Tree,
 )
 from .monitor import Monitor, has_straw2
-from .outside import reasons, root_reasons, size_reasons, unmatched
+from .outside import count_reasons, reasons, root_reasons, size_reasons, unmatched
 from .places import map_places
 from .shapes import CRUSH_DUMP, OSD_DUMP, TREE, fitting, misfits
 from .texts import json_of, put, written
@@ -128,6 +128,9 @@ def dumped(path: str, shape: Shape) -> tuple[Told, frozenset[str], list[str]]:
     """What of the dump in a file is of its form, the keys of which something is not, and each place that is not."""
     value = json_of(path)
     found = misfits(value, shape, "")
+    if not found:
+        names = [key.removeprefix("?") for key in shape]
+        return {name: value[name] for name in names if name in value}, frozenset(), []
     faults = [f"{path}: {place}" for place in found[:MOST]] + (
         [f"{path}: and {len(found) - MOST} more"] if len(found) > MOST else []
     )
@@ -202,6 +205,20 @@ def parts_of(cluster: Cluster) -> list[Cluster]:
     return [cluster] if len(pools) == 1 else [cluster.of_pools(own) for own in pools]
 
 
+def plain_reasons(cluster: Cluster) -> list[str]:
+    """What keeps those maps of a cluster out that have no straw2 bucket, where others have one: such a map has the
+    limits of plain ones, by which the program reads it. Each with what is done about it.
+    """
+    kinds = {cluster.buckets[number]["alg"] for number in cluster.kept}
+    parts = parts_of(cluster) if "straw2" in kinds and len(kinds) > 1 else []
+    return [
+        f"the map of the pools {numbers(part)} has no straw2 bucket: {line}"
+        for part in parts
+        if part.limits == PLAIN
+        for line in advised(count_reasons(part))
+    ]
+
+
 def against(cluster: Cluster, faults: list[str], is_unmatched: bool, is_one: bool) -> list[str]:
     """All that is told against a cluster; where one map is asked for, what it takes several for too."""
     found = faults + reasons(cluster, is_unmatched, False)
@@ -209,7 +226,7 @@ def against(cluster: Cluster, faults: list[str], is_unmatched: bool, is_one: boo
         [line for line in root_reasons(cluster, True) + size_reasons(cluster) if line not in found] if is_one else []
     )
     if cluster.is_stock:
-        found = advised(found)
+        found = advised(found) + plain_reasons(cluster)
     if apart:
         apart[-1] += f"; {several(parts_of(cluster))}"
     return found + apart
@@ -241,7 +258,7 @@ def judged(options: Options) -> None:
         raise Misuse("--check writes no files: --out and --names do not go with it")
     cluster, faults = both_dumps(options.osd_dump, options.crush_dump, options.tree)
     cluster = with_pools(cluster, options.pools)
-    found = advised(faults + reasons(cluster, options.unmatched, False))
+    found = advised(faults + reasons(cluster, options.unmatched, False)) + plain_reasons(cluster)
     if found:
         raise Fault(*found, f"the cluster stays out, for {len(found)} reason{'s' * (len(found) > 1)}")
     parts = parts_of(cluster)

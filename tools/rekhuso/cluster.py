@@ -28,7 +28,7 @@ from .shapes import WEIGHT_SET, misfits
 HASHPSPOOL = 1
 KINDS = {1: "replicated", 3: "erasure"}
 # What a map has at most, whatever its buckets are; the other limits are in `forms`.
-GREATEST = {"pools": 32, "rules": 32, "osds": 1024, "size": 10, "pool": 65535}
+GREATEST = {"osds": 1024, "size": 10, "pool": 65535}
 
 
 def listed(words: list[str]) -> str:
@@ -180,13 +180,14 @@ class Cluster:
 
     @staticmethod
     def reached(root: int, items_of: Callable[[int], list[int]]) -> set[int]:
-        """An item with all that stands below it, where a function tells the items of each."""
-        found, left = set(), [root]
+        """An item with all that stands below it, where a function tells the items of each; below a device stands
+        nothing.
+        """
+        found, left = {root}, [root] if root < 0 else []
         while left:
-            number = left.pop()
-            if number not in found:
-                found.add(number)
-                left += items_of(number)
+            items = items_of(left.pop())
+            left += {item for item in items if item < 0} - found
+            found.update(items)
         return found
 
     def below(self, root: int) -> set[int]:

@@ -10,7 +10,7 @@ from __future__ import annotations
 
 from .kinds import Commands, Names, Options, Row, Told
 from .shares import Shares, named, spread
-from .texts import add_json, put_json
+from .texts import add_json, aligned, put_json
 from .whole import add_files, whole_with_sets
 
 COLUMNS = ["ID", "CLASS", "WEIGHT", "REWEIGHT", "SHARE", "DEVIATION", "VAR", "PGS", "STATUS", "TYPE NAME"]
@@ -120,8 +120,7 @@ def tree_lines(tree: list[Told], stray: list[Told], total: Told) -> list[str]:
             "TOTAL",
         ]
     )
-    widths = [max(len(row[at]) for row in rows) for at in range(len(COLUMNS) - 1)]
-    return ["  ".join([cell.rjust(width) for cell, width in zip(row, widths)] + [row[-1]]) for row in rows]
+    return aligned(rows)
 
 
 def work(options: Options) -> None:

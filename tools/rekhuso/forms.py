@@ -37,7 +37,7 @@ KINDS = ("replicated", "erasure")
 
 class Limits(NamedTuple):
     """What a map may have at most that has other limits under `--stock`: groups of a pool and of all pools, entries of
-    a list, items of a straw2 bucket, and buckets.
+    a list, items of a straw2 bucket, buckets, pools, and rules.
     """
 
     groups: int
@@ -45,11 +45,13 @@ class Limits(NamedTuple):
     entries: int
     items: int
     buckets: int
+    pools: int
+    rules: int
 
 
 # A plain map has no straw2 bucket, and its 32 pools never reach the total.
-PLAIN = Limits(groups=4096, total=262144, entries=131072, items=64, buckets=512)
-STOCK = Limits(groups=65536, total=262144, entries=262144, items=1024, buckets=4096)
+PLAIN = Limits(groups=4096, total=262144, entries=131072, items=64, buckets=512, pools=32, rules=32)
+STOCK = Limits(groups=65536, total=262144, entries=262144, items=1024, buckets=4096, pools=256, rules=256)
 # The items of a bucket of another kind.
 ITEMS = 64
 
@@ -246,7 +248,7 @@ def pool(limits: Limits) -> Form:
 
 def pools(limits: Limits) -> Form:
     """The pools of a map, with the groups of all of them."""
-    single = listed(pool(limits), 0, 32)
+    single = listed(pool(limits), 0, limits.pools)
 
     def form(value: object, path: str) -> Places:
         """What is wrong with a value as such pools; their groups are added up where nothing else is."""
@@ -265,9 +267,10 @@ EXPLICIT = tupled(group, listed(OSD_ID, 0, 10))
 PAIRS = tupled(group, listed(tupled(OSD_ID, OSD_ID), 0, 10))
 
 
-def rules(has_tries: bool) -> Form:
+def rules(has_tries: bool, limits: Limits) -> Form:
     """The rules of a map."""
-    return listed(keyed({"id": number(0, 255), "kind": word(*KINDS), "steps": listed(step(has_tries), 1, 16)}), 1, 32)
+    rule = keyed({"id": number(0, 255), "kind": word(*KINDS), "steps": listed(step(has_tries), 1, 16)})
+    return listed(rule, 1, limits.rules)
 
 
 def map_form(has_tries: bool, is_stock: bool) -> Form:
@@ -279,7 +282,7 @@ def map_form(has_tries: bool, is_stock: bool) -> Form:
             "epoch": number(1, 2**31),
             "max_osd": number(1, 1024),
             "buckets": buckets(is_stock),
-            "rules": rules(has_tries),
+            "rules": rules(has_tries, limits),
             "pools": pools(limits),
             "osds": listed(OSD, 0, 2**63),
         },
@@ -291,7 +294,7 @@ def change_form(is_stock: bool) -> Form:
     """A change."""
     limits = limits_of(is_stock)
     groups, most = number(1, limits.groups), limits.entries
-    crush = keyed({"buckets": buckets(is_stock), "rules": rules(True)})
+    crush = keyed({"buckets": buckets(is_stock), "rules": rules(True, limits)})
     return keyed(
         {"base": number(0, 2**64 - 1)},
         {

@@ -267,6 +267,34 @@ class PoolSpread(Spread):
     farthest: float
 
 
+class Moving(TypedDict):
+    """What a plan, or a part of it, moves; bytes and their share of the data of all pools are None where nobody tells
+    how much the pools hold.
+    """
+
+    groups: int
+    places: int
+    bytes: int | None
+    share: float | None
+
+
+class PoolMoving(Moving):
+    """The same of one pool, which has so many groups."""
+
+    id: int
+    of: int
+
+
+class OsdMoving(TypedDict):
+    """How many places come to an OSD and go from it, and where it is known their bytes."""
+
+    id: int
+    come: int
+    go: int
+    bytes_come: int | None
+    bytes_go: int | None
+
+
 class PlanParts(TypedDict):
     """What is told of a pool's plan."""
 

@@ -28,12 +28,14 @@ import os
 import pathlib
 import select
 import shutil
+import signal
 import subprocess
 import tempfile
 import threading
 import time
 from collections.abc import Callable
 from itertools import islice
+from types import FrameType
 from typing import IO, NamedTuple, NoReturn
 
 from .faults import Closed, Fault, Refused
@@ -150,6 +152,42 @@ class Patience:
     def __exit__(self, *_: object) -> None:
         """This thread waits no longer."""
         self.since.pop(threading.get_ident(), None)
+
+
+class Held:
+    """Keeps Ctrl-C back while a program is being started, in a `with`: an exception then would leave it running with
+    nobody who holds it. It comes once it is let go. Only the main thread has it come. Blocking the signal would not do:
+    another thread would take it, and the program would be started with the signal blocked.
+    """
+
+    def __init__(self) -> None:
+        """Keeps nothing back yet."""
+        self.has_come = False
+        self.before: Callable[[int, FrameType | None], object] | None = None
+
+    def __enter__(self) -> Held:
+        """Begins to keep it back, where somebody has it come as an exception, or otherwise as a call."""
+        before = signal.getsignal(signal.SIGINT) if threading.current_thread() is threading.main_thread() else None
+        if callable(before):
+            self.before = before
+            signal.signal(signal.SIGINT, self.came)
+        return self
+
+    def came(self, *_: object) -> None:
+        """It has come."""
+        self.has_come = True
+
+    def let_go(self) -> None:
+        """Keeps it back no longer: it comes now, where it has come meanwhile."""
+        if self.before is not None:
+            signal.signal(signal.SIGINT, self.before)
+            self.before = None
+            if self.has_come:
+                signal.raise_signal(signal.SIGINT)
+
+    def __exit__(self, *_: object) -> None:
+        """Keeps it back no longer."""
+        self.let_go()
 
 
 class Session:
@@ -301,15 +339,17 @@ class Monitor(Session):
         text = value if isinstance(value, str) else written(value)
         pathlib.Path(self._folder.name, "map.json").write_text(text, encoding="utf-8")
         names = [(f"lines-{k}", f"answers-{k}") for k in range(1, sessions + 1)] if sessions > 1 else []
-        self._process = self._started(journal, names)
-        self._patience = Patience(self._process, timeout)
-        try:
-            with self._patience:
-                self._open(names)
-        except BaseException:
-            self._process.kill()
-            self.close()
-            raise
+        with Held() as held:
+            self._process = self._started(journal, names)
+            self._patience = Patience(self._process, timeout)
+            try:
+                held.let_go()
+                with self._patience:
+                    self._open(names)
+            except BaseException:
+                self._process.kill()
+                self.close()
+                raise
 
     def _started(self, journal: int, names: list[tuple[str, str]]) -> subprocess.Popen[bytes]:
         """The program in its folder, over named pipes for lines and answers, or where there are none over its

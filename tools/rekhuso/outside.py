@@ -3,7 +3,7 @@
 from __future__ import annotations
 
 from collections import Counter
-from itertools import combinations
+from itertools import chain, combinations
 from typing import Iterable, NamedTuple
 
 from .cluster import GREATEST, HASHPSPOOL, KINDS, Cluster, listed, some
@@ -51,6 +51,35 @@ def doubles(numbers: Iterable[int]) -> list[int]:
     return sorted(number for number, count in Counter(numbers).items() if count > 1)
 
 
+# How many there are
+
+
+def buckets_reason(cluster: Cluster) -> list[str]:
+    """More buckets than a map has."""
+    return range_reason(f"{len(cluster.kept)} buckets that pools use", len(cluster.kept), 0, cluster.limits.buckets)
+
+
+def rules_reason(cluster: Cluster) -> list[str]:
+    """More rules than a map has."""
+    return range_reason(f"{len(cluster.rules)} rules that pools use", len(cluster.rules), 0, cluster.limits.rules)
+
+
+def pools_reason(cluster: Cluster) -> list[str]:
+    """More pools than a map has."""
+    return range_reason(f"{len(cluster.pools)} pools", len(cluster.pools), 0, cluster.limits.pools)
+
+
+def groups_reason(cluster: Cluster, pool: DumpPool) -> list[str]:
+    """More groups than a pool has in a map, or none."""
+    return range_reason(f"pool {pool['pool']} has {pool['pg_num']} groups", pool["pg_num"], 1, cluster.limits.groups)
+
+
+def count_reasons(cluster: Cluster) -> list[str]:
+    """More of anything than a map has whose limits depend on its buckets."""
+    groups = [line for pool in cluster.pools if pool["pg_num"] > 0 for line in groups_reason(cluster, pool)]
+    return buckets_reason(cluster) + rules_reason(cluster) + groups + pools_reason(cluster)
+
+
 # Buckets
 
 
@@ -86,9 +115,7 @@ def bucket_reasons(cluster: Cluster) -> list[str]:
         for number in doubles(bucket["id"] for bucket in cluster.crush["buckets"])
         if number in cluster.kept
     ]
-    return found + range_reason(
-        f"{len(cluster.kept)} buckets that pools use", len(cluster.kept), 0, cluster.limits.buckets
-    )
+    return found + buckets_reason(cluster)
 
 
 def empty_reason(cluster: Cluster, number: int) -> str:
@@ -164,16 +191,24 @@ def root_reasons(cluster: Cluster, is_one: bool) -> list[str]:
     return found
 
 
+def holders_of_doubles(cluster: Cluster, root: int) -> list[tuple[int, list[int]]]:
+    """The items that stand twice or more below a bucket, ascending, each with the buckets that hold it."""
+    numbers = sorted((number for number in cluster.below(root) if number < 0), reverse=True)
+    counts = Counter(chain.from_iterable(map(cluster.holds, numbers)))
+    holders: dict[int, list[int]] = {item: [] for item in sorted(counts) if counts[item] > 1}
+    for number in numbers if holders else []:
+        for item in cluster.holds(number):
+            if item in holders:
+                holders[item].append(number)
+    return list(holders.items())
+
+
 def twice_reasons(cluster: Cluster) -> list[str]:
     """Items that stand twice below one bucket that a rule takes, each with the buckets that hold it."""
     found: list[str] = []
     seen: set[tuple[int, ...]] = set()
     for root in cluster.roots():
-        holders: dict[int, list[int]] = {}
-        for number in sorted(cluster.below(root), reverse=True):
-            for item in cluster.holds(number):
-                holders.setdefault(item, []).append(number)
-        for item, holding in sorted(holders.items()):
+        for item, holding in holders_of_doubles(cluster, root):
             if (item, *holding) in seen:
                 continue
             seen.add((item, *holding))
@@ -302,7 +337,7 @@ def rule_reasons(cluster: Cluster) -> list[str]:
             )
             found += [f"{name}: its steps are not in the grammar: {fault}"] if fault else []
     found += [f"rule {number} is listed twice" for number in doubles(rule["rule_id"] for rule in cluster.rules)]
-    return found + range_reason(f"{len(cluster.rules)} rules that pools use", len(cluster.rules), 0, GREATEST["rules"])
+    return found + rules_reason(cluster)
 
 
 # Pools and OSDs
@@ -327,7 +362,7 @@ def pool_reasons(cluster: Cluster) -> list[str]:
     for pool in cluster.pools:
         name, groups, placed = f"pool {pool['pool']}", pool["pg_num"], pool["pg_placement_num"]
         found += pool_rule_reasons(cluster, pool)
-        found += range_reason(f"{name} has {groups} groups", groups, 1, cluster.limits.groups)
+        found += groups_reason(cluster, pool)
         found += range_reason(f"{name} has size {pool['size']}", pool["size"], 1, GREATEST["size"])
         if pool["type"] not in KINDS:
             found.append(f"{name} is of type {pool['type']}, neither replicated (1) nor erasure (3)")
@@ -342,7 +377,7 @@ def pool_reasons(cluster: Cluster) -> list[str]:
             found.append(f"{name} places {placed} groups, more than it has, {groups}")
         found += range_reason(f"{name} places {placed} groups", placed, 1, max(placed, 1))
     found += [f"pool {number} is listed twice" for number in doubles(pool["pool"] for pool in cluster.pools)]
-    return found + range_reason(f"{len(cluster.pools)} pools", len(cluster.pools), 0, GREATEST["pools"])
+    return found + pools_reason(cluster)
 
 
 def total_reasons(cluster: Cluster) -> list[str]:

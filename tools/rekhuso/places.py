@@ -5,7 +5,7 @@ from __future__ import annotations
 from collections import Counter
 from typing import Any, Iterable, cast
 
-from .forms import STOCK, TRIES, Place, Places, change_form, map_form
+from .forms import TRIES, Limits, Place, Places, change_form, limits_of, map_form
 from .kinds import Change, Entry, Map, Pool, Rule, Step, entries_of
 from .unlike import place_of
 
@@ -164,9 +164,9 @@ def lawless_places(value: Map) -> list[Place]:
 class After:
     """What a change is tested against: a map, and its pools after the change."""
 
-    def __init__(self, value: Map, change: Change) -> None:
-        """Takes a lawful map, and a change of the right form."""
-        self.value, self.change = value, change
+    def __init__(self, value: Map, change: Change, limits: Limits) -> None:
+        """Takes a lawful map, a change of the right form, and the limits of the map."""
+        self.value, self.change, self.limits = value, change, limits
         self.there = {osd["id"] for osd in value["osds"] if osd["exists"]}
         self.before = {pool["id"]: pool for pool in value["pools"]}
         self.kept = {number: pool for number, pool in self.before.items() if number not in change.get("old_pools", [])}
@@ -210,12 +210,13 @@ class After:
         """More pools, or more groups in all of them, than a map has; the groups of a pool that comes twice are not
         added up.
         """
-        if len(self.pools) > 32:
-            yield Place(15, "new_pools", f"{len(self.pools)} pools after the change, at most 32")
+        count, most = len(self.pools), self.limits
+        if count > most.pools:
+            yield Place(15, "new_pools", f"{count} pools after the change, at most {most.pools}")
         total, new = sum(self.sizes.values()), [pool["id"] for pool in self.change.get("new_pools", [])]
-        if total > STOCK.total and len(set(new)) == len(new):
+        if total > most.total and len(set(new)) == len(new):
             path = "new_pools" if new else "grow_pool"
-            yield Place(15, path, f"{total:,} groups in all pools after the change, at most {STOCK.total:,}")
+            yield Place(15, path, f"{total:,} groups in all pools after the change, at most {most.total:,}")
 
     def group_places(self) -> Places:
         """Groups that are not there, and exceptions that break their form."""
@@ -268,18 +269,18 @@ class After:
 def change_places(value: Map, change: object, is_stock: bool = False) -> list[Place]:
     """All places of a change to a lawful map that are at fault, under `--stock` or without it."""
     found = list(change_form(is_stock)(change, ""))
-    return found or unfit_places(value, cast(Change, change))
+    return found or unfit_places(value, cast(Change, change), limits_of(is_stock))
 
 
-def unfit_places(value: Map, change: Change) -> list[Place]:
-    """The places at fault of a change whose form and limits hold."""
+def unfit_places(value: Map, change: Change, limits: Limits) -> list[Place]:
+    """The places at fault of a change whose form holds, and whose lists and numbers are within the limits."""
     found: list[Place] = []
     if "new_crush" in change:
         crush = change["new_crush"]
         found += list(forest_places(crush, value["max_osd"], "new_crush.")) + list(rule_places(crush, "new_crush."))
     if change["base"] != value["epoch"]:
         found.append(Place(20, "base", f"{change['base']}, the map's epoch is {value['epoch']}"))
-    after = After(value, change)
+    after = After(value, change, limits)
     for places in (after.osd_places(), after.pool_places(), after.group_places(), after.double_places()):
         found += places
     return found

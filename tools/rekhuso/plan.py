@@ -1,8 +1,11 @@
 """`plan`: the plan of the proved balancer as the commands that Ceph takes, group by group, on standard output.
 
-On standard error: what moves, and how even each pool is before and after. The commands are the difference of the two
-maps' exceptions, where each group has the fewest pairs that lead to its set (as `net` has them). With --deviation the
-plan ends as soon as every OSD that may have groups of the pool is within D groups of its share.
+Comments above the commands tell what one must know before they are run, and a table below them what moves, by pool and
+by OSD. On standard error: how even each pool is before and after. The commands are the difference of the two maps'
+exceptions, where each group has the fewest pairs that lead to its set (as `net` has them). With --deviation the plan
+ends as soon as every OSD that may have groups of the pool is within D groups of its share. With --undo the same words
+give the commands that take the exceptions of these groups back to what they are now, whichever part of the plan was
+run. With --batch the commands go into files that are run one after the other.
 """
 
 from __future__ import annotations
@@ -20,12 +23,16 @@ from .greedy import Deviations, Pairs, moves_within
 from .kinds import Commands, Exceptions, Map, Names, Options, Pool, PoolSpread, PlanParts, altered
 from .monitor import Monitor, Session, Up, groups_of
 from .net import settled
+from .scripts import Data, Script, Step, Weights, batches, data_in, file_of, put_batches, steps_by_pool, weights_of
 from .shares import Shares, named
 from .texts import add_json, names_in, put_json, text_of
 from .unlike import commands, place_of
 from .whole import NO_PLAN, add_files, has_other_weights, tree_in
 
 MOST = 1024
+# What is told above a plan of its other forms.
+PARTS = "parts:  the same words with --batch N --to FOLDER write files of N commands each, with what each moves"
+UNDO = "undo:   the same words with --undo, over the same files, which are to be kept"
 
 
 class Cluster(NamedTuple):
@@ -49,15 +56,19 @@ class Plan(NamedTuple):
 
 
 class Told(NamedTuple):
-    """What is told of plans: the epoch of the map, the commands, and the parts of each pool."""
+    """What is told of plans: the epoch of the map, what is done to each group, the parts of each pool, what the
+    groups weigh, and names.
+    """
 
     epoch: int
-    lines: list[str]
+    steps: list[Step]
     pools: list[PlanParts]
+    weights: Weights
+    names: Names
 
 
-def plan_of_map(options: Options) -> Told:
-    """The plans of a map in a file."""
+def plan_of_map(options: Options, data: Data | None) -> Told:
+    """The plans of a map in a file, and what is known of the data of its pools."""
     if options.tree is not None or options.pools is not None:
         raise Misuse("--tree and --pools go with two dumps alone")
     names, text = names_in(options.names), text_of(options.files[0])
@@ -65,11 +76,13 @@ def plan_of_map(options: Options) -> Told:
         value = json.loads(text)
         if has_other_weights(value, tree_in(options.names)):
             raise Fault(NO_PLAN)
-        cluster = Cluster(value, value, names)
-        return planned(monitor, cluster, chosen(options.pool or [], value["pools"], names), options)
+        wanted = chosen(options.pool or [], value["pools"], names)
+        weights = weights_of(wanted, data)
+        steps, pools = planned(monitor, Cluster(value, value, names), wanted, options)
+    return Told(value["epoch"], steps, pools, weights, names)
 
 
-def plan_of_dumps(options: Options) -> Told:
+def plan_of_dumps(options: Options, data: Data | None) -> Told:
     """The plans of two dumps, map by map where the cluster takes several. A fault where a weight set is in force."""
     names = names_in(options.names) if options.names else {}
     found = brought(options.files[0], options.files[1], options)
@@ -78,16 +91,18 @@ def plan_of_dumps(options: Options) -> Told:
     wanted = chosen(
         options.pool or [], [pool for value in found.maps for pool in value["pools"]], names or found.cluster.names()
     )
-    told: list[Told] = []
+    weights = weights_of(wanted, data)
+    steps: list[Step] = []
+    parts: list[PlanParts] = []
     for part, value in zip(found.parts, found.maps):
         pools = [pool for pool in value["pools"] if pool in wanted]
         if pools or not wanted:
             with monitor_of(value, options.program) as monitor:
-                told.append(
-                    planned(monitor, Cluster(value, part.kept_exceptions(), names or part.names()), pools, options)
-                )
-    lines = sorted((line for own in told for line in own.lines), key=lambda line: place_of(line.split(" ")[3]))
-    return Told(found.cluster.epoch, lines, [pool for own in told for pool in own.pools])
+                cluster = Cluster(value, part.kept_exceptions(), names or part.names())
+                own, told = planned(monitor, cluster, pools, options)
+            steps, parts = steps + own, parts + told
+    steps.sort(key=lambda step: place_of(step.group))
+    return Told(found.cluster.epoch, steps, parts, weights, names or found.cluster.names())
 
 
 def chosen(words: list[str], pools: list[Pool], names: Names) -> list[Pool]:
@@ -255,7 +270,30 @@ def with_empty_places(session: Session, groups: list[str]) -> list[str]:
     return [group for group, up in session.ups(groups).items() if None in up.places]
 
 
-def planned(session: Session, cluster: Cluster, pools: list[Pool], options: Options) -> Told:
+def by_group(lines: list[str]) -> dict[str, list[str]]:
+    """The commands of each group."""
+    found: dict[str, list[str]] = {}
+    for line in lines:
+        found.setdefault(line.split(" ")[3], []).append(line)
+    return found
+
+
+def steps_of(cluster: Cluster, new: Map, before: dict[str, Up], after: dict[str, Up]) -> list[Step]:
+    """What is done to each group on the way to another map, and what takes it back to the exceptions that act now:
+    those that do nothing name OSDs that are not there, and Ceph takes no such command. The sets before and after are
+    those of groups that may move.
+    """
+    back, steps = by_group(commands(new, cluster.value)), []
+    for group, lines in by_group(commands(cluster.value, new, cluster.kept)).items():
+        was = before[group].places if group in before else []
+        now = after[group].places if group in after else was
+        steps.append(Step(group, lines, back.get(group, []), was, now))
+    return steps
+
+
+def planned(
+    session: Session, cluster: Cluster, pools: list[Pool], options: Options
+) -> tuple[list[Step], list[PlanParts]]:
     """The plans of some pools, without groups that have an empty place; tells on standard error what they are."""
     part = altered(cluster.value, pools=pools)
     before = Shares(part, session.ups(groups_of(part)))
@@ -265,7 +303,7 @@ def planned(session: Session, cluster: Cluster, pools: list[Pool], options: Opti
         plans = shortened(session, cluster.value, before, pools, options)
     new, found = session.dump(), []
     ups = session.ups(changed(cluster.value, new))
-    lines = commands(cluster.value, settled(session, new), cluster.kept)
+    steps = steps_of(cluster, settled(session, new), before.ups, ups)
     left = with_empty_places(session, list(ups))
     after: dict[int, dict[str, Up]] = {pool["id"]: {} for pool in pools}
     for group in ups.keys() - set(left):
@@ -278,17 +316,72 @@ def planned(session: Session, cluster: Cluster, pools: list[Pool], options: Opti
         parts = pool_parts(pool, named(cluster.names, "pools", pool["id"]), plan, before, after[pool["id"]])
         print(f"{name}: {pool_words(parts, plan, options)}", file=sys.stderr)
         found.append(parts)
-    return Told(cluster.value["epoch"], [line for line in lines if line.split(" ")[3] not in left], found)
+    return [step for step in steps if step.group not in left], found
+
+
+# What is put out
+
+
+def check_words(options: Options) -> None:
+    """An error of use for options of which one would be passed over."""
+    if (options.batch is None) != (options.to is None):
+        raise Misuse("--batch and --to go together: files of so many commands, and their folder")
+    if options.json and (options.batch is not None or options.undo):
+        raise Misuse("--json tells the plan and its undoing at once: --batch and --undo do not go with it")
+
+
+def put_plan_json(told: Told) -> None:
+    """Puts out the plan, its undoing, and what moves as one object."""
+    weights, steps, pools = told.weights, steps_by_pool(told.steps), []
+    for parts in told.pools:
+        own = weights.moving(steps.get(parts["id"], []))
+        pools.append(altered(parts, places=own["places"], bytes=own["bytes"], share=own["share"]))
+    put_json(
+        "plan",
+        told.epoch,
+        commands=[line for step in told.steps for line in step.commands],
+        undo=[line for step in told.steps for line in step.undo],
+        moving=weights.moving(told.steps),
+        osds=weights.by_osd(told.steps),
+        pools=pools,
+    )
+
+
+def script_of(told: Told, options: Options, number: int = 1, count: int = 1) -> Script:
+    """What stands round the commands of a plan or of one of several parts of it, or of what takes these back."""
+    part = f", part {number} of {count}" if options.batch is not None else ""
+    if options.undo:
+        title = f"The way back from a plan over epoch {told.epoch}{part}"
+        end = "after:  these groups have the exceptions of that epoch again, whichever part of the plan was run"
+        return Script(title, [end], told.weights, told.names)
+    order = [f"order:  part {number - 1} is run before, and its groups have moved"] if number > 1 else []
+    undo = UNDO + (f", write {file_of('undo', number, count)}" if part else "")
+    notes = [*order, undo] if part else [PARTS, undo]
+    return Script(f"A plan over epoch {told.epoch}{part}", notes, told.weights, told.names)
+
+
+def put_parts(told: Told, options: Options) -> None:
+    """Writes the plan, or the way back from it, in parts of so many commands of the plan."""
+    parts, found = batches(told.steps, options.batch), []
+    for number, part in enumerate(parts, 1):
+        steps = [step.undone() for step in part] if options.undo else part
+        found.append(script_of(told, options, number, len(parts)).text(steps))
+    put_batches(options.to, "undo" if options.undo else "plan", found)
 
 
 def work(options: Options) -> None:
     """Asks the program for its plans, in one session a map, and tells them."""
-    told = plan_of_map(options) if len(options.files) == 1 else plan_of_dumps(options)
+    check_words(options)
+    data = data_in(options.df)
+    told = plan_of_map(options, data) if len(options.files) == 1 else plan_of_dumps(options, data)
     if options.json:
-        put_json("plan", told.epoch, commands=told.lines, pools=told.pools)
+        put_plan_json(told)
         return
-    for line in told.lines:
-        print(line)
+    if options.batch is not None:
+        put_parts(told, options)
+        return
+    steps = [step.undone() for step in told.steps] if options.undo else told.steps
+    print(script_of(told, options).text(steps) if steps else "", end="")
 
 
 # The command line
@@ -299,6 +392,14 @@ def limit(word: str) -> int:
     number = int(word) if word.isdecimal() else 0
     if not 1 <= number <= MOST:
         raise argparse.ArgumentTypeError(f"{word}: no number of moves from 1 to {MOST}")
+    return number
+
+
+def commands_a_file(word: str) -> int:
+    """A number of commands; an error of use where it is none."""
+    number = int(word) if word.isdecimal() else 0
+    if not 1 <= number <= 2**31:
+        raise argparse.ArgumentTypeError(f"{word}: no number of commands from 1 on")
     return number
 
 
@@ -316,7 +417,8 @@ def distance(word: str) -> Fraction:
 def add_to(commands_of: Commands) -> None:
     """The subcommand."""
     own = commands_of.add_parser("plan", help="a balancer's plan as Ceph's commands", description=__doc__)
-    add_files(own, "[--pool ID|NAME]..", "[--max N]", "[--deviation D]", "[--json]")
+    forms = ["[--pool ID|NAME]..", "[--max N]", "[--deviation D]", "[--undo]", "[--batch N --to FOLDER]", "[--df FILE]"]
+    add_files(own, *forms, "[--json]")
     add_json(own)
     own.add_argument("--pool", metavar="ID|NAME", action="append", help="only this pool; as often as there are pools")
     own.add_argument("--max", metavar="N", type=limit, default=MOST, help="at most N moves a pool, 1 to 1024")
@@ -325,5 +427,20 @@ def add_to(commands_of: Commands) -> None:
         metavar="D",
         type=distance,
         help="only as many moves as bring each OSD within D groups of its share",
+    )
+    own.add_argument(
+        "--undo",
+        action="store_true",
+        help="the commands that take the groups of the plan back to the exceptions that they have in the files given",
+    )
+    own.add_argument(
+        "--batch",
+        metavar="N",
+        type=commands_a_file,
+        help="write files of at most N commands each, to be run one after the other; those of one group stay together",
+    )
+    own.add_argument("--to", metavar="FOLDER", help="the folder of these files: plan-001.sh, .. or undo-001.sh, ..")
+    own.add_argument(
+        "--df", metavar="FILE", help="what `ceph df --format json` prints: how much of the data the moves are"
     )
     own.set_defaults(work=work)

@@ -61,6 +61,8 @@ CRUSH_DUMP = {
 WEIGHT_SET = {"bucket_id": int, "?weight_set": [[float]], "?ids": [int]}
 # What `ceph osd tree -f json` tells of OSDs, those that do not exist among them.
 TREE = {"nodes": [{"id": int, "?exists": int, "?reweight": float}]}
+# What `ceph df --format json` tells of the data of pools: bytes on all OSDs.
+DF = {"pools": [{"id": int, "stats": {"bytes_used": int}}]}
 # What a step must have beside its word.
 STEPS = {
     "take": ("item",),
@@ -83,13 +85,19 @@ def is_kind(value: object, kind: type) -> bool:
     return isinstance(value, kind) and not isinstance(value, bool)
 
 
-def fits_at_once(value: object, shape: object) -> bool:
-    """Whether a value is an object whose every key is there with a whole number or a text as it must be, which nearly
-    all entries of long lists are. False says nothing.
+def doubtful(entries: list[object], shape: object) -> list[int]:
+    """Where entries of a list may have another form than a shape. Nearly all of long lists are objects whose every key
+    is there with a whole number or a text as it must be, which is seen at once.
     """
-    if not isinstance(value, dict) or not isinstance(shape, dict) or "op" in shape:
-        return False
-    return all(type(value.get(key)) is own and own is not float for key, own in shape.items())
+    is_plain = isinstance(shape, dict) and all(kind in (int, str) and key[0] != "?" for key, kind in shape.items())
+    if not isinstance(shape, dict) or not is_plain:
+        return list(range(len(entries)))
+    keys, kinds = list(shape), list(shape.values())
+    return [
+        at
+        for at, entry in enumerate(entries)
+        if not isinstance(entry, dict) or [type(entry.get(key)) for key in keys] != kinds
+    ]
 
 
 def misfits(value: object, shape: object, place: str) -> list[str]:
@@ -97,8 +105,8 @@ def misfits(value: object, shape: object, place: str) -> list[str]:
     if isinstance(shape, list):
         if not isinstance(value, list):
             return [f"{place}: no list"]
-        doubtful = [at for at, entry in enumerate(value) if not fits_at_once(entry, shape[0])]
-        return [found for at in doubtful for found in misfits(value[at], shape[0], f"{place}[{at}]")]
+        places = doubtful(value, shape[0])
+        return [found for at in places for found in misfits(value[at], shape[0], f"{place}[{at}]")]
     if isinstance(shape, dict):
         if not isinstance(value, dict):
             return [f"{place}: no object"]
@@ -135,11 +143,9 @@ def fitting(value: object, shape: Shape) -> tuple[Told, frozenset[str]]:
 def parts_of(value: object, shape: object) -> object:
     """The entries of a list or an object that are of their form; 1 in place of a number."""
     if isinstance(shape, list):
-        return (
-            [entry for entry in value if fits_at_once(entry, shape[0]) or not misfits(entry, shape[0], "")]
-            if isinstance(value, list)
-            else []
-        )
+        entries = value if isinstance(value, list) else []
+        wrong = {at for at in doubtful(entries, shape[0]) if misfits(entries[at], shape[0], "")}
+        return [entry for at, entry in enumerate(entries) if at not in wrong]
     if isinstance(shape, dict):
         return fitting(value, shape)[0]
     return 1

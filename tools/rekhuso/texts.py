@@ -87,6 +87,12 @@ def add_json(own: Parser) -> None:
     own.add_argument("--json", action="store_true", help="tell all of it as one JSON object")
 
 
+def aligned(rows: list[list[str]]) -> list[str]:
+    """The lines of a table whose columns end below one another; the last column begins so."""
+    widths = [max(len(row[at]) for row in rows) for at in range(len(rows[0]) - 1)]
+    return ["  ".join([cell.rjust(width) for cell, width in zip(row, widths)] + [row[-1]]) for row in rows]
+
+
 def written(value: object) -> str:
     """The written form of a value: compact JSON, keys in byte order."""
     return json.dumps(value, separators=(",", ":"), sort_keys=True)
