@@ -9,7 +9,7 @@ SCRIPT = $(EXAMPLE)/script.txt
 CPU =
 # Another build of the program, which `bench` puts beside this one.
 OTHER =
-BENCHES = placements tables steps sessions live balancer reading cliffs tools
+BENCHES = placements tables steps sessions live balancer reading cliffs tools wide
 
 .PHONY: help try prove run test gate runs bench
 

@@ -22,7 +22,7 @@ import time
 
 import ceph
 from running import found, heading, in_folder, output, table
-from tools import with_commands, words
+from tools import commands, with_commands, words
 
 HERE = os.path.dirname(os.path.abspath(__file__))
 STOCK = os.path.join(os.path.dirname(HERE), "tests", "stock.json.gz")
@@ -246,7 +246,7 @@ def compared(runs, name, own, pool):
     told, seconds = ran(*words(runs, "plan", *files, "--pools", number, "--deviation", "1", "--unmatched"))
     if told is None:
         return "no plan"
-    after = dict(zip(("pg_upmap", "pg_upmap_items"), with_commands(value, told.splitlines())))
+    after = dict(zip(("pg_upmap", "pg_upmap_items"), with_commands(value, commands(told))))
     made.put(*after.values())
     ours, taken = made.sets(), len(ceph.taken_back(made.path))
     unlike = sum(ours[group] != places for group, places in program_sets(runs, dict(value, **after)).items())

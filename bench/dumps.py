@@ -1,6 +1,6 @@
 """A map as the two dumps that Ceph's tools would print of it, with the keys that make them long."""
 
-TYPES = {0: "osd", 1: "host", 2: "rack", 10: "root"}
+TYPES = dict(enumerate("osd host chassis rack row pdu pod room datacenter zone region root".split()))
 TUNABLES = {"choose_local_tries": 0, "choose_local_fallback_tries": 0, "choose_total_tries": 50, "chooseleaf_descend_once": 1,
             "chooseleaf_vary_r": 1, "chooseleaf_stable": 1, "straw_calc_version": 1, "allowed_bucket_algs": 54, "profile": "jewel"}
 ADDRESSES = ("public", "cluster", "heartbeat_back", "heartbeat_front")
@@ -43,6 +43,8 @@ def step_entry(step, names):
     """A step of a rule of a CRUSH dump."""
     if step[0] == "take":
         return {"op": "take", "item": step[1], "item_name": names[step[1]]}
+    if step[0].startswith("set_"):
+        return {"op": step[0], "num": step[1]}
     return {"op": "emit"} if step[0] == "emit" else {"op": step[0], "num": step[1], "type": TYPES[step[2]]}
 
 

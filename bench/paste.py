@@ -3,9 +3,10 @@
 
     make bench | tee /dev/stderr | python3 bench/paste.py docs/SPEEDS.md
 
-A heading, the line that says when it was measured, and its table are put in place of what the page has under the same heading, up to the next line that
-begins no table; and the first line, which tells the machine and the day, in place of the one below `Measured on:`. Where the page has no such heading,
-that is said and nothing is lost of it; so is each table of the page that was not printed.
+A heading, the line that says when it was measured, and its table are put in place of what the page has under the same
+heading, up to the next line that begins no table; and the first line, which tells the machine and the day, in place of
+the one below `Measured on:`. The output of one bench alone has no such line, and that of the page stays. Where the page
+has no such heading, that is said and nothing is lost of it; so is each table of the page that was not printed.
 """
 
 import re
@@ -35,7 +36,8 @@ def main():
         if heading not in tables:
             print(f"not measured anew: {heading}", file=sys.stderr)
     machine = printed.split("\n", 1)[0]
-    page = re.sub(r"(^Measured on:\n\n).*$", lambda found: found.group(1) + machine, page, count=1, flags=re.M)
+    if machine:
+        page = re.sub(r"(^Measured on:\n\n).*$", lambda found: found.group(1) + machine, page, count=1, flags=re.M)
     with open(sys.argv[1], "w", encoding="utf-8") as out:
         out.write(page)
 

@@ -41,9 +41,13 @@ class Folder:
             out.write(text)
         return path
 
+    def value(self, value):
+        """A new file with a value as JSON."""
+        return self.file(json.dumps(value, separators=(",", ":")))
+
     def map(self, stated):
         """A file with a map."""
-        path = self.file(json.dumps(stated, separators=(",", ":")))
+        path = self.value(stated)
         if any(bucket["kind"] == "straw2" for bucket in stated["buckets"]):
             self.stock.add(path)
         return path

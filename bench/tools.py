@@ -56,7 +56,7 @@ def brought_and_told(runs, dumps):
 def speed_rows(runs):
     """What bringing in, telling and planning the greatest cluster takes."""
     stated = levels("list", GROUPS, POOLS, racks=16, hosts=256)
-    dumps = runs.map(osd_dump(stated)), runs.map(crush_dump(stated))
+    dumps = runs.value(osd_dump(stated)), runs.value(crush_dump(stated))
     yield goal_row("import, then df", lambda: brought_and_told(runs, dumps), "s", 3)
     yield goal_row("import alone", lambda: spent(words(runs, "import", *dumps)), "s", None)
     yield goal_row("plan", lambda: spent(words(runs, "plan", *dumps)), "s", 5)
@@ -64,6 +64,11 @@ def speed_rows(runs):
 
 
 # Ceph's judgement
+
+def commands(output):
+    """The commands of a plan's output, without the comments round them."""
+    return [line for line in output.splitlines() if not line.startswith("#")]
+
 
 def with_commands(stated, lines):
     """The explicit sets and the pairs of a map once Ceph's commands are given."""
@@ -86,7 +91,7 @@ def pinned(kind, groups):
 
 def judged_plan(runs, stated, given):
     """The commands of a plan, the groups that Ceph places otherwise after them, and the commands that it would take back."""
-    lines = said(words(runs, "plan", runs.map(stated), *given)).splitlines()
+    lines = commands(said(words(runs, "plan", runs.map(stated), *given)))
     explicit, items = with_commands(stated, lines)
     path = ceph.osdmap(stated, runs.folder)
     ceph.with_exceptions(path, explicit, items)

@@ -24,6 +24,8 @@ CHANGES = 12
 KINDS = ("uniform", "list", "tree")
 # Of the kinds under `--stock` half are straw2, so that most changes of the forest bring or take such buckets.
 STOCK = (*KINDS, *["straw2"] * 3)
+# What each rule serves.
+KIND_OF = ("replicated", "erasure", "replicated", "replicated", "replicated")
 
 
 def loosened(rng, bucket):
@@ -34,7 +36,7 @@ def loosened(rng, bucket):
 
 
 def random_forest(rng, osds, kinds):
-    """Hosts of two or three OSDs under one root, and rules of both kinds over hosts and over OSDs."""
+    """Hosts of two or three OSDs under one root, and rules over them."""
     hosts, buckets = [], []
     free = rng.sample(range(osds), osds)
     while free:
@@ -44,16 +46,25 @@ def random_forest(rng, osds, kinds):
         buckets.append(loosened(rng, {"id": -2 - len(hosts), "items": items, "kind": rng.choice(kinds), "type": 1}))
         hosts.append(-2 - len(hosts))
     root = loosened(rng, {"id": -1, "items": [[host, 65536] for host in hosts], "kind": rng.choice(kinds), "type": 10})
-    rules = [{"id": 0, "kind": "replicated", "steps": [["take", -1], ["chooseleaf_firstn", 0, 1], ["emit"]]},
-             {"id": 1, "kind": "erasure", "steps": [["take", -1], ["chooseleaf_indep", 0, 1], ["emit"]]},
-             {"id": 2, "kind": "replicated", "steps": [["take", rng.choice(hosts)], ["choose_firstn", 0, 0], ["emit"]]}]
-    return [root] + buckets, rules
+    return [root] + buckets, random_rules(rng, hosts, kinds)
+
+
+def random_rules(rng, hosts, kinds):
+    """Rules of both kinds over hosts and over OSDs. One takes twice; one sets tries first, where no model follows."""
+    def block(host, count):
+        return [["take", host], ["choose_firstn", count, 0], ["emit"]]
+
+    tries = [] if "straw2" in kinds else [["set_choose_tries", rng.randint(1, 60)]]
+    one, other, third, fourth = (rng.choice(hosts) for _ in range(4))
+    steps = [[["take", -1], [step, 0, 1], ["emit"]] for step in ("chooseleaf_firstn", "chooseleaf_indep")]
+    steps += [block(one, 0), block(other, 1) + block(third, 0), tries + block(fourth, 0)]
+    return [{"id": rule, "kind": KIND_OF[rule], "steps": own} for rule, own in enumerate(steps)]
 
 
 def random_pool(rng, number):
-    rule = rng.choice([0, 1, 2])
+    rule = rng.randrange(len(KIND_OF))
     groups = rng.randint(1, 12)
-    return {"id": number, "kind": "erasure" if rule == 1 else "replicated", "pg_num": groups, "pgp_num": rng.randint(1, groups),
+    return {"id": number, "kind": KIND_OF[rule], "pg_num": groups, "pgp_num": rng.randint(1, groups),
             "rule": rule, "size": rng.randint(1, 4)}
 
 
@@ -63,7 +74,7 @@ def random_map(rng, kinds):
     pools = [random_pool(rng, number) for number in rng.sample(range(1, 9), rng.randint(1, 3))]
     states = [{"exists": True, "id": osd, "up": rng.random() < 0.8, "weight": rng.choice([65536, 65536, 32768, 0])} for osd in range(osds)]
     return {"buckets": buckets, "epoch": 1, "max_osd": osds, "osds": states, "pools": sorted(pools, key=lambda p: p["id"]),
-            "rules": rules, "version": 1}
+            "rules": rules, "version": 1 if "straw2" in kinds else 2}
 
 
 def some(rng, values, most):

@@ -168,6 +168,50 @@ def test_interrupts(tools):
     assert time.monotonic() < begin + 30 and "sleep" not in gone, (time.monotonic() - begin, gone)
 
 
+# Has Ctrl-C come exactly when a program has been started and before who has started it knows it; tells the program's number, and what came.
+STARTED = """
+import signal, subprocess, sys, threading
+sys.path.insert(0, sys.argv[1])
+from rekhuso import Monitor
+
+class Started(subprocess.Popen):
+    def __init__(self, *words, **more):
+        super().__init__(*words, **more)
+        print(self.pid, flush=True)
+        if sys.argv[4] == "here":
+            signal.raise_signal(signal.SIGINT)
+        else:
+            other = threading.Thread(target=lambda: signal.pthread_kill(threading.get_ident(), signal.SIGINT))
+            other.start()
+            other.join()
+
+subprocess.Popen = Started
+before = signal.getsignal(signal.SIGINT)
+try:
+    Monitor("{}", sys.argv[2], sessions=int(sys.argv[3]))
+except KeyboardInterrupt:
+    print("interrupted", signal.getsignal(signal.SIGINT) is before)
+"""
+
+
+def test_interrupts_at_the_start(tools):
+    """Ctrl-C that comes while a program is being started ends it too, whichever thread takes it, and comes through."""
+    slow = tools.put("slow", "#!/bin/sh\nexec sleep 60\n")
+    slow.chmod(0o755)
+    for sessions in (1, 2):
+        for thread in ("here", "other"):
+            words = [sys.executable, "-B", "-c", STARTED, TOOLS.parent, slow, str(sessions), thread]
+            done = subprocess.run(words, capture_output=True, text=True, timeout=SECONDS, check=False)
+            pid, told = done.stdout.split("\n", 1)
+            left = subprocess.run(["ps", "-o", "args=", "-p", pid], capture_output=True, text=True, check=False).stdout
+            if left:
+                os.kill(int(pid), signal.SIGKILL)
+            assert (told, done.stderr, left) == ("interrupted True\n", "", ""), (sessions, thread, done, left)
+    with clusters.Monitor(json.loads(EXAMPLE.read_text()), tools.program) as monitor:
+        blocked = next(line for line in open(f"/proc/{monitor._process.pid}/status") if line.startswith("SigBlk"))
+        assert int(blocked.split()[1], 16) >> (signal.SIGINT - 1) & 1 == 0, blocked
+
+
 class Terminal:
     """A shell of the tools at a terminal of its own."""
 

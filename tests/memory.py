@@ -8,8 +8,10 @@ does, of a script in which the line that answers `err 30 Memory` is left out. Th
 In a second round each line that may find no memory stands twice, so that after a refusal the same line has its exact answer. In a
 third the script is a live session, whose answers before the refusal are out; in a fourth its session's answers go to a file, which
 is standard output. A map of straw2 buckets and a change that brings others are run in the first two ways under `--stock`. Then 63
-sessions await what one changes that says each change twice, so that it comes whatever is refused. At the end `groups` answers an OSD
-that stands in 131,072 groups, with each growth refused that this line asks for.
+sessions await what one changes that says each change twice, so that it comes whatever is refused. Then `groups` answers
+an OSD that stands in 131,072 groups, and under `--stock` one in 262,144, with each growth refused that this line asks
+for; and a change brings a straw2 bucket of 1,024 items and 65,535 groups. At the end are lines that are refused: where
+nothing needs memory before its number is known, a line answers that number whatever growth is refused.
 """
 
 import json
@@ -31,6 +33,8 @@ WAYS = ("a script", "lines twice", "typed", "to a file")
 REFUSED = b"err 30 Memory\n"
 SECONDS = 60
 TWICE = (b"change ", b"balance ", b"groups ", b"follow", b"dump")
+# What may find no memory; `up`, `count`, `epoch` and `await` take none.
+NEEDS = (*TWICE, b"fup ", b"fdump")
 
 
 def refuser(folder):
@@ -87,7 +91,8 @@ class Example:
         if got == (0, self.whole, b"") or (came and begun and (got[0], got[2]) == (4, b"memory\n")):
             return None, came
         answers = done.stdout.splitlines(keepends=True)
-        if came and REFUSED in answers and got == (0, self.without[answers.index(REFUSED) - 1], b""):
+        place = answers.index(REFUSED) - 1 if REFUSED in answers else None
+        if came and place is not None and self.lines[place].startswith(NEEDS) and got == (0, self.without[place], b""):
             return None, came
         return f"status {got[0]}, output {got[1][:200]}, error {got[2][:200]}", came
 
@@ -118,27 +123,22 @@ class Stock(Example):
         super().__init__(command, library, folder, folder, way)
 
 
-class Everywhere(Example):
-    """`groups` of the one OSD of 32 pools of 4,096 groups. The growths before the line are those of a script without it."""
-
-    POOLS, GROUPS = range(1, 33), range(4096)
+class Written(Example):
+    """An example that is written here. The growths before its lines are those of an empty script."""
 
     def __init__(self, command, library, folder):
         self.written(folder)
+        (folder / "nothing").write_text("")
         super().__init__(command, library, folder, folder, "a script")
-        self.first = self.growths(self.folder / "without-0")
+        self.first = self.growths(folder / "nothing")
 
     def written(self, folder):
         """Writes the map, the script, and its answers by their definition."""
-        pool = {"kind": "replicated", "pg_num": len(self.GROUPS), "pgp_num": len(self.GROUPS), "rule": 0, "size": 1}
-        stated = {"version": 1, "epoch": 1, "max_osd": 1, "buckets": [{"id": -1, "type": 10, "kind": "uniform", "items": [[0, 65536]]}],
-                  "rules": [{"id": 0, "kind": "replicated", "steps": [["take", -1], ["choose_firstn", 0, 0], ["emit"]]}],
-                  "pools": [{"id": number, **pool} for number in self.POOLS],
-                  "osds": [{"id": 0, "exists": True, "up": True, "weight": 65536}]}
-        groups = ",".join(f"{number}.{group:x}" for number in self.POOLS for group in self.GROUPS)
+        stated, lines = self.stated()
+        script, answers = zip(*lines)
         (folder / "map.json").write_text(json.dumps(stated))
-        (folder / "script.txt").write_text("groups 0\n")
-        (folder / "answers.txt").write_text(f"session 1\ngroups 1 0 [{groups}]\n")
+        for name, said in (("script.txt", script), ("answers.txt", ("session 1", *answers))):
+            (folder / name).write_text("".join(f"{line}\n" for line in said))
 
     def growths(self, script):
         """How many growths a run over a script asks for, by halves."""
@@ -149,6 +149,143 @@ class Everywhere(Example):
             middle = (least + most) // 2
             least, most = (middle, most) if self.run(script, middle)[1] else (least, middle)
         return least
+
+
+class Everywhere(Written):
+    """`groups` of the one OSD of 32 pools of 4,096 groups."""
+
+    POOLS, GROUPS = range(1, 33), range(4096)
+
+    def stated(self):
+        pool = {"kind": "replicated", "pg_num": len(self.GROUPS), "pgp_num": len(self.GROUPS), "rule": 0, "size": 1}
+        steps = [["take", -1], ["choose_firstn", 0, 0], ["emit"]]
+        stated = {"version": 1, "epoch": 1, "max_osd": 1,
+                  "buckets": [{"id": -1, "type": 10, "kind": "uniform", "items": [[0, 65536]]}],
+                  "rules": [{"id": 0, "kind": "replicated", "steps": steps}],
+                  "pools": [{"id": number, **pool} for number in self.POOLS],
+                  "osds": [{"id": 0, "exists": True, "up": True, "weight": 65536}]}
+        groups = ",".join(f"{number}.{group:x}" for number in self.POOLS for group in self.GROUPS)
+        return stated, [("groups 0", f"groups 1 0 [{groups}]")]
+
+
+class EverywhereWide(Everywhere):
+    """The same of 4 pools of 65,536 groups, under `--stock`."""
+
+    OPTIONS = ("--stock",)
+    POOLS, GROUPS = range(1, 5), range(65536)
+
+
+class Grown(Written):
+    """A change that brings a straw2 bucket of 1,024 items, and has a pool grow to 65,536 groups, all of which but two
+    are on the last OSD."""
+
+    OPTIONS = ("--stock",)
+    GROUPS, OSDS = 65536, 1024
+
+    def forest(self, weight):
+        """All OSDs but the last in a straw2 bucket, with a bucket for the last, which the rule takes."""
+        last = self.OSDS - 1
+        items = [[osd, weight] for osd in range(last)] + [[-2, weight]]
+        buckets = [{"id": -1, "items": items, "kind": "straw2", "type": 10},
+                   {"id": -2, "items": [[last, weight]], "kind": "straw2", "type": 1}]
+        steps = [["take", -2], ["choose_firstn", 0, 0], ["emit"]]
+        return {"buckets": buckets, "rules": [{"id": 0, "kind": "replicated", "steps": steps}]}
+
+    def stated(self):
+        pool = {"id": 1, "kind": "replicated", "pg_num": 1, "pgp_num": 1, "rule": 0, "size": 1}
+        osds = [{"exists": True, "id": osd, "up": True, "weight": 65536} for osd in range(self.OSDS)]
+        stated = {**self.forest(1), "version": 1, "epoch": 1, "max_osd": self.OSDS, "osds": osds, "pools": [pool]}
+        last, end = self.OSDS - 1, f"{self.GROUPS - 1:x}"
+        change = {"base": 1, "new_crush": self.forest(2), "grow_pool": [[1, self.GROUPS, self.GROUPS]],
+                  "new_upmap": [[f"1.{end}", [0]]], "new_items": [["1.0", [[last, 1]]]]}
+        names = ",".join(f"1.{number:x}" for number in range(1, self.GROUPS - 1))
+        return stated, [(f"change {json.dumps(change)}", f"ok 2 evals {self.GROUPS}"), ("up 1.0", "up 2 1.0 [1] 1"),
+                        (f"up 1.{end}", f"up 2 1.{end} [0] 0"), (f"count {last}", f"count 2 {last} {self.GROUPS - 2}"),
+                        (f"groups {last}", f"groups 2 {last} [{names}]")]
+
+
+def two_blocks():
+    """Two OSDs, a pool that can be balanced, and one that cannot, since its rule takes twice."""
+    steps = [["take", -1], ["choose_firstn", 1, 0], ["emit"]]
+    pool = {"kind": "replicated", "pg_num": 2, "pgp_num": 2, "size": 2}
+    return {"buckets": [{"id": -1, "items": [[0, 65536], [1, 65536]], "kind": "list", "type": 10}],
+            "epoch": 1, "max_osd": 2, "version": 1,
+            "osds": [{"exists": True, "id": osd, "up": True, "weight": 65536} for osd in range(2)],
+            "pools": [{"id": number, "rule": number, **pool} for number in (1, 2)],
+            "rules": [{"id": number, "kind": "replicated", "steps": steps * number} for number in (1, 2)]}
+
+
+class Refused(Written):
+    """Lines that are refused and need no memory: whatever growth is refused, each answers its own number."""
+
+    def stated(self):
+        return two_blocks(), [("up 1.2", "err 25 UnknownGroup"), ("up 3.0", "err 23 UnknownPool"),
+                              ("count 2", "err 21 UnknownOsd"), ("groups 2", "err 21 UnknownOsd"),
+                              ("balance 3 1", "err 23 UnknownPool"), ("balance 2 1", "err 29 BalanceRule"),
+                              ("none", "err 33 BadCommand")]
+
+    def difference(self, number):
+        """What is wrong with the run in which a growth is refused, or None; and whether it came to that growth."""
+        done, came = self.run(self.script, number)
+        got = (done.returncode, done.stdout, done.stderr)
+        fine = got == (0, self.whole, b"") or came and got == (4, b"", b"memory\n")
+        return None if fine else f"status {got[0]}, output {got[1][:400]}, error {got[2][:200]}", came
+
+
+class Judged(Written):
+    """Changes, which need memory to be read, and from then on none until their refusal is known. So each finds no
+    memory just where one like it does that is refused sooner: for its text, or, with the same lists, for its base."""
+
+    OPTIONS = ("--journal", "1")
+    MADE, STALE = 'change {"base":1}\n', "20 StaleEpoch 1"
+    ENDS = {"its answer", "no memory", "no memory at all"}
+    # A run has two threads, whose growths do not always come in the same order: what differs each time counts.
+    TIMES = 3
+
+    def stated(self):
+        return two_blocks(), [("epoch", "epoch 1")]
+
+    def pairs(self):
+        """Scripts with what their last lines answer: one that is refused sooner, and one like it."""
+        crush = {"buckets": [{"id": -1, "items": [[2, 1]], "kind": "list", "type": 10}], "rules": two_blocks()["rules"]}
+        yield ('change {"base":-1}', "12 BadLimit"), ('change {"base":0}', self.STALE)
+        full = self.MADE + 'change {"base":2}', "28 JournalFull", self.STALE
+        yield (self.MADE + 'change {"base":-1}', "12 BadLimit"), full
+        for parts, refusal in (({"down": [2]}, "21 UnknownOsd"), ({"weight": [[0, 65537]]}, "22 BadWeight"),
+                               ({"old_pools": [3]}, "23 UnknownPool"), ({"grow_pool": [[1, 1, 1]]}, "15 BadPool"),
+                               ({"new_pools": two_blocks()["pools"][:1]}, "24 PoolExists"),
+                               ({"new_crush": crush}, "13 BadForest"), ({"old_upmap": ["1.2"]}, "25 UnknownGroup"),
+                               ({"new_upmap": [["1.0", [0, 1, 0]]]}, "26 BadException"),
+                               ({"up": [0, 0]}, "27 DuplicatePart")):
+            stale, judged = (f"change {json.dumps({'base': base} | parts)}" for base in (0, 1))
+            yield (stale, self.STALE), (judged, refusal)
+
+    def ended(self, number, script, *refusals):
+        """How the last line of a script ends with a growth refused, and whether a run came to that growth."""
+        path = self.folder / f"script-{number}"
+        path.write_text(f"{script}\n")
+        done, came = self.run(path, number)
+        path.unlink()
+        last = done.stdout.split(b"\n")[-2:-1]
+        if came and (done.returncode, done.stdout, done.stderr) == (4, b"", b"memory\n"):
+            return "no memory at all", came
+        if came and last == [REFUSED.strip()]:
+            return "no memory", came
+        is_its_own = last in [[f"err {refusal}".encode()] for refusal in refusals[:1 + came]]
+        return "its answer" if is_its_own else str(done)[-300:], came
+
+    def of_pair(self, number, sooner, later):
+        """What is wrong with a pair with a growth refused, or None; and whether one came to that growth."""
+        for _ in range(self.TIMES):
+            (one, _), (other, came) = self.ended(number, *sooner), self.ended(number, *later)
+            if {one, other} <= self.ENDS and (one == "no memory") == (other == "no memory"):
+                return None, came
+        return f"{later[0]}: {other}, but {sooner[0]}: {one}".replace("\n", "; "), came
+
+    def difference(self, number):
+        """What is wrong with the runs in which a growth is refused, or None; and whether one came to that growth."""
+        wrong, came = zip(*(self.of_pair(number, *pair) for pair in self.pairs()))
+        return "\n    ".join(filter(None, wrong)) or None, any(came)
 
 
 class Awaited:
@@ -190,7 +327,11 @@ def sweeps(command, library, folder):
               for script in sorted(EXAMPLES.rglob("script.txt")) for way in WAYS}
     makers |= {f"straw2, {way}": lambda way=way: Stock(command, library, own(f"straw2, {way}"), way) for way in WAYS[:2]}
     return makers | {"63 sessions that await": lambda: Awaited(command, library, folder),
-                     "groups of all": lambda: Everywhere(command, library, own("groups of all"))}
+                     "groups of all": lambda: Everywhere(command, library, own("groups of all")),
+                     "groups of all, stock": lambda: EverywhereWide(command, library, own("groups of all, stock")),
+                     "a change to 65,536 groups": lambda: Grown(command, library, own("a change to 65,536 groups")),
+                     "refused lines": lambda: Refused(command, library, own("refused lines")),
+                     "refused changes": lambda: Judged(command, library, own("refused changes"))}
 
 
 def sweep(make, pool):

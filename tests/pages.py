@@ -1,5 +1,6 @@
 #!/usr/bin/env python3
-"""The pages say what stands in the repository: the program of docs/LIBRARY.md, the function of README.md, and names.
+"""The pages say what stands in the repository: the program of docs/LIBRARY.md, the function of README.md, names,
+targets, options, files, links, and the figures of README.md.
 
     tests/pages.py
 """
@@ -11,11 +12,44 @@ import sys
 TOP = pathlib.Path(__file__).resolve().parent.parent
 # Names of other libraries, and of Ceph's options, that a page speaks of and no file has.
 OF_OTHERS = {"dedup_by", "BufRead", "upmap_max_deviation"}
+# Options of the kit, of Python's tools, of valgrind and of Ceph's tools that pages speak of.
+OPTIONS_OF_OTHERS = {"--allow-holes", "--anew", "--format", "--jobs", "--only", "--no-build-isolation", "--strict",
+                     "--system-site-packages", "--tool", "--test-map-pgs", "--upmap", "--upmap-cleanup"}
+# What a command line has of itself.
+OF_PARSERS = {"--help", "--version"}
+DIGITS = "one two three four five six seven eight nine ten".split()
+NUMBERS = {word: str(number) for number, word in enumerate(DIGITS, 1)}
+UNITS = {"min": "minutes", "minute": "minutes", "s": "seconds", "second": "seconds", "hour": "hours"}
 
 
 def text(*names):
     """The text of a file by its path from the top."""
     return TOP.joinpath(*names).read_text(encoding="utf-8")
+
+
+def pages():
+    """Each page by its path."""
+    below = [TOP / folder / "README.md" for folder in ("examples", "tools")]
+    return [*sorted(TOP.glob("*.md")), *below, *sorted((TOP / "docs").glob("*.md"))]
+
+
+def code_of(page):
+    """What a page shows as code: between backticks, and in blocks."""
+    shown = page.read_text(encoding="utf-8")
+    return "\n".join(re.findall("`[^`\n]+`", shown) + re.findall("^ {4}.*$", shown, re.MULTILINE))
+
+
+def anchors(page):
+    """The headings of a page, as links name them."""
+    headings = re.findall(r"^#+ (.*)$", page.read_text(encoding="utf-8"), re.MULTILINE)
+    return {re.sub(r"[^\w\- ]", "", heading.lower()).replace(" ", "-") for heading in headings}
+
+
+def figures(page):
+    """The figures of a page: each number before a unit of time or a gigabyte, of a range both."""
+    number = rf"\d[\d,.]*|{'|'.join(NUMBERS)}"
+    found = re.findall(rf"\b(?:({number}) to )?({number}) (min|minutes?|s|seconds?|hours?|ms|µs|ns|GB)\b", page)
+    return {(NUMBERS.get(one, one), UNITS.get(unit, unit)) for low, high, unit in found for one in (low, high) if one}
 
 
 def test_program_of_the_library():
@@ -39,10 +73,57 @@ def test_names():
     files = [path for folder, end in forms for path in (TOP / folder).rglob(f"*.{end}") if "out" not in path.relative_to(TOP).parts]
     wrong = re.findall(r"^\| (`.*?) \|", text("docs", "PROVED.md"), re.MULTILINE)
     known = OF_OTHERS.union(*(re.findall(r"\w+", part) for part in [*wrong, *(f"{path.stem} {path.read_text('utf-8')}" for path in files)]))
-    for page in [*sorted(TOP.glob("*.md")), TOP / "examples" / "README.md", *sorted((TOP / "docs").glob("*.md"))]:
+    for page in pages():
         said = re.findall(r"\w+", " ".join(re.findall("`[^`\n]+`", page.read_text("utf-8"))))
         unknown = {name for name in said if re.match("[A-Z][a-z]+[A-Z]|.*_.", name) and name not in known}
         assert not unknown, (page.name, unknown)
+
+
+def test_targets():
+    """Each target of `make` that a page names is one of the Makefile"""
+    known = set(re.search(r"^\.PHONY: (.*)$", text("Makefile"), re.MULTILINE)[1].split())
+    said = {(page.name, target) for page in pages() for target in re.findall(r"\bmake ([a-z]+)", code_of(page))}
+    unknown = {named for named in said if named[1] not in known}
+    assert len(said) > 5 and not unknown, unknown
+
+
+def test_options():
+    """Each option that a page names is one of the program, of the tools, or of others"""
+    own = re.findall(r'\.long\("([\w-]+)"\)', text("crates", "osdmapd", "src", "line.rt"))
+    known = OF_PARSERS | {f"--{name}" for name in own}
+    for path in sorted((TOP / "tools" / "rekhuso").glob("*.py")):
+        known.update(re.findall(r'"(--[a-z][\w-]*)"', path.read_text(encoding="utf-8")))
+    said = {(page.name, option) for page in pages() for option in re.findall(r"(?<![\w-])--[a-z][\w-]*", code_of(page))}
+    unknown = {named for named in said if named[1] not in known | OPTIONS_OF_OTHERS}
+    idle = OPTIONS_OF_OTHERS - {option for _, option in said}
+    assert len(own) == 3 and not unknown and not idle, (unknown, idle)
+
+
+def test_files():
+    """Each file of the repository that a page names is there"""
+    paths = [path.relative_to(TOP) for path in TOP.rglob("*") if path.is_file()]
+    there = [f"/{path}" for path in paths if not {".git", "out"} & {*path.parts}]
+    form = r"(?<![\w./~-])(?:\w[\w-]*/)+[\w-]+\.(?:py|json|md|rt|antt|svg|txt|c)\b|\b\w+\.(?:py|rt|antt)\b"
+    said = {(page.name, name) for page in pages() if page.name != "CHANGELOG.md" for name in re.findall(form, code_of(page))}
+    missing = {named for named in said if not any(path.endswith(f"/{named[1]}") for path in there)}
+    assert len(said) > 50 and not missing, missing
+
+
+def test_links():
+    """Each link of a page leads to a file that is there, and to a heading that it has"""
+    for page in pages():
+        for link in re.findall(r"\]\(([^)]*)\)", page.read_text(encoding="utf-8")):
+            name, _, anchor = link.partition("#")
+            path = page.parent / name if name else page
+            is_there = path.exists() and (not anchor or anchor in anchors(path))
+            assert link.startswith("http") or is_there, (page.name, link)
+
+
+def test_figures():
+    """Each figure of README.md stands in docs/SPEEDS.md"""
+    said = figures(text("README.md"))
+    missing = said - figures(text("docs", "SPEEDS.md"))
+    assert len(said) > 5 and not missing, missing
 
 
 def tests():

@@ -502,19 +502,23 @@ def balanced_case():
 
 
 def soaks():
-    """8 sessions of 200 lines at once, from several seeds; and once under `--stock`."""
-    def work_of(seed, is_stock=False):
+    """8 sessions of 200 lines at once, from several seeds; once under `--stock`; and there 4 sessions over three pools
+    of 65,536 groups, where a pool that comes may bring as many more, which are then all that there may be."""
+    def work_of(seed, is_stock=False, size=(8, 200, 6, 16), least=(100, 1400)):
         def work(command):
-            value, scripts = soak.scripts(seed, 8, 200, 6, 16, is_stock)
+            value, scripts = soak.scripts(seed, *size, is_stock)
             with tempfile.TemporaryDirectory() as folder:
                 words, play = soak.run(command, pathlib.Path(folder), scripts, value, is_stock)
                 output = subprocess.run(words, capture_output=True, text=True, timeout=SECONDS, check=True).stdout
                 wrong, made, compared = soak.faults(scripts, output, play)
-            return wrong if wrong or (made >= 100 and compared >= 1400) else [f"only {made} changes made, {compared} answers compared"]
+            is_enough = made >= least[0] and compared >= least[1]
+            return wrong if wrong or is_enough else [f"only {made} changes made, {compared} answers compared"]
         return work
 
     yield from (Check(f"8 sessions at once, seed {seed}", work_of(seed), alone=True) for seed in range(1, 5))
     yield Check("8 sessions at once under --stock", work_of(6, is_stock=True), alone=True)
+    wide_work = work_of(7, True, (4, 40, 3, 65536), (20, 120))
+    yield Check("4 sessions at once under --stock, pools of 65,536 groups", wide_work, alone=True)
 
 
 def modelled(row):

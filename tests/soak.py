@@ -53,6 +53,8 @@ class Writer:
 
     def __init__(self, seed, pools, groups, is_stock=False):
         self.rng, self.pools, self.groups, self.is_stock = random.Random(seed), pools, groups, is_stock
+        # An `await` gives up in less than a second. The more groups a change may evaluate, the longer it is waited for.
+        self.awaits = 1 + groups // 1024
 
     def group(self):
         rng = self.rng
@@ -115,7 +117,8 @@ class Writer:
         for number, base in enumerate(own):
             due = lines * (number + 1) // len(own) - 2
             script += [self.look() for _ in range(due - len(script))]
-            script += [f"await {FIRST + base}"] * (base % STRETCH == 0) + [self.change(FIRST + base, place < CLASSES)]
+            script += [f"await {FIRST + base}"] * self.awaits * (base % STRETCH == 0)
+            script.append(self.change(FIRST + base, place < CLASSES))
         return script + [self.look() for _ in range(lines - len(script))]
 
 

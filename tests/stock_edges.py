@@ -194,6 +194,11 @@ def limits_map(groups, buckets=None, devices=1, **more):
             "rules": [{"id": 0, "kind": "replicated", "steps": steps}], "version": 1} | more
 
 
+def same_rules(count):
+    """So many rules; of 257 one number comes again."""
+    return [limits_map([])["rules"][0] | {"id": number % 256} for number in range(count)]
+
+
 def new_pool(number, groups, **more):
     """A pool of one copy."""
     return {"id": number, "kind": "replicated", "pg_num": groups, "pgp_num": groups, "rule": 0, "size": 1} | more
@@ -231,6 +236,9 @@ def test_limits_of_stock_maps(tools):
         is_told(tools, limits_map([8], own, 1024), None, place and LIMIT, *[place][:bool(place)])
     for count, place in ((4096, ""), (4097, "buckets: 4,097 entries, at most 4,096")):
         is_told(tools, limits_map([8], chains(count, 1024), 1024), None, place and LIMIT, *[place][:bool(place)])
+    for count, end in ((33, ""), (256, ""), (257, ": 257 entries, at most 256")):
+        is_told(tools, limits_map([1] * count), None, end and LIMIT, *[f"pools{end}"][:bool(end)])
+        is_told(tools, limits_map([1], rules=same_rules(count)), None, end and LIMIT, *[f"rules{end}"][:bool(end)])
     for kind in ("uniform", "list", "tree"):
         for items, place in ((64, ""), (65, "buckets[1].items: 65 entries, at most 64")):
             own = [straws([-2]), straws(range(items), -2, kind, 1)]
@@ -249,8 +257,14 @@ def test_limits_of_plain_maps(tools):
                          (limits_map([8], [straws(range(65), kind="list")], 65), "buckets[0].items: 65 entries, at most 64"),
                          (limits_map([8], chains(512, 64, "list"), 64), ""),
                          (limits_map([8], chains(513, 64, "list"), 64), "buckets: 513 entries, at most 512"),
-                         (limits_map([8], [LIST], 2, pg_upmap=[["1.0", [0]]] * 131073), "pg_upmap: 131,073 entries, at most 131,072")):
+                         (limits_map([8], [LIST], 2, pg_upmap=[["1.0", [0]]] * 131073), "pg_upmap: 131,073 entries, at most 131,072"),
+                         (limits_map([1] * 32, [LIST], 2, rules=same_rules(32)), ""),
+                         (limits_map([1] * 33, [LIST], 2), "pools: 33 entries, at most 32"),
+                         (limits_map([1], [LIST], 2, rules=same_rules(33)), "rules: 33 entries, at most 32")):
         is_told(tools, value, None, place and LIMIT, *[place][:bool(place)])
+    full, crush = limits_map([1] * 32, [LIST], 2), {"buckets": [LIST], "rules": same_rules(33)}
+    is_told(tools, full, {"base": 1, "new_pools": [new_pool(33, 1)]}, POOL, "new_pools: 33 pools after the change, at most 32")
+    is_told(tools, full, {"base": 1, "new_crush": crush}, LIMIT, "new_crush.rules: 33 entries, at most 32")
 
 
 def test_limits_of_stock_changes(tools):
@@ -258,8 +272,13 @@ def test_limits_of_stock_changes(tools):
     value, full = limits_map([65536, 65536, 65536, 65534, 1]), limits_map(ALL)
     total = "262,145 groups in all pools after the change, at most 262,144"
     lists = groups_of(4, 262144)
-    crush = {"rules": value["rules"]}
+    crush, many = {"rules": value["rules"]}, limits_map([1] * 255)
     for own, parts, refusal, place in (
+            (many, {"new_pools": [new_pool(256, 1)]}, "", ""),
+            (many, {"new_pools": [new_pool(256, 1), new_pool(257, 1)]}, POOL, "new_pools: 257 pools after the change, at most 256"),
+            (many, {"old_pools": [1], "new_pools": [new_pool(256, 1), new_pool(257, 1)]}, "", ""),
+            (many, {"new_crush": {"buckets": many["buckets"], "rules": same_rules(256)}}, "", ""),
+            (many, {"new_crush": {"buckets": many["buckets"], "rules": same_rules(257)}}, LIMIT, "new_crush.rules: 257 entries, at most 256"),
             (value, {"new_pools": [new_pool(6, 1)]}, "", ""), (value, {"new_pools": [new_pool(6, 2)]}, POOL, f"new_pools: {total}"),
             (value, {"grow_pool": [[5, 2, 2]]}, "", ""), (value, {"grow_pool": [[5, 3, 3]]}, POOL, f"grow_pool: {total}"),
             (value, {"grow_pool": [[5, 2, 2]], "new_pools": [new_pool(6, 1)]}, POOL, f"new_pools: {total}"),
@@ -292,11 +311,48 @@ def test_limits_of_import(tools):
         own = copied("021-flat-root")
         bucket_of(own, "default")["alg"] = alg
         assert (refused(tools, own) if most else []) == [f"bucket default has 97 items, {most}; --pools takes pools whose rules do not reach it"][:bool(most)]
+    for count, straw2, told in ((256, True, ""), (257, True, f"257 pools, more than 256: {many}"), (32, False, ""),
+                                (33, False, "33 pools, more than 32: only a map with straw2 buckets holds more; --pools takes some pools at a time")):
+        own = copied("001-three-hosts")
+        own["osd_dump"]["pools"] = [dict(own["osd_dump"]["pools"][1], pool=at, pool_name=f"p{at}", pg_num=1, pg_placement_num=1)
+                                    for at in range(1, count + 1)]
+        for bucket in own["crush_dump"]["buckets"]:
+            bucket["alg"] = "straw2" if straw2 else "list"
+        files = dumps(tools, "pools", own)
+        output, error = ran(tools, "import", *files, *([] if straw2 else ["--check"]), status=int(bool(told)))
+        assert (error.splitlines()[0] if told else output[:1]) == (told or ("{" if straw2 else "t")), (count, output[:100], error)
     own = copied("028-many-buckets")
     for bucket in own["crush_dump"]["buckets"]:
         bucket["alg"] = "list"
     told = refused(tools, own, "--check")
     assert "630 buckets that pools use, more than 512: only a map with straw2 buckets holds more; --pools takes some pools at a time" in told, told
+
+
+def test_limits_of_maps_without_straw2(tools):
+    """Of a cluster that takes two maps, one of them without straw2 buckets, that one has the plain limits: past them it is told which map it
+    is, and what to do; the pools of the other come in."""
+    name, more = "005-openstack-mixed", "only a map with straw2 buckets holds more; --pools takes"
+    for changes, told in (([dict(pg_num=4096, pg_placement_num=4096)], ""),
+                          ([dict(pg_num=8192, pg_placement_num=8192)], f"pool 1 has 8192 groups, more than 4096: {more} the other pools"),
+                          ([{}, *(dict(pool=at) for at in range(5, 36))], ""),
+                          ([{}, *(dict(pool=at) for at in range(5, 37))], f"33 pools, more than 32: {more} some pools at a time")):
+        own = copied(name)
+        pools = own["osd_dump"]["pools"]
+        pools[:1] = [dict(pools[0], pool_name=f"p{change.get('pool', 1)}", **change) if change else pools[0] for change in changes]
+        for bucket in own["crush_dump"]["buckets"]:
+            bucket["alg"] = "straw2" if "~" in bucket["name"] else "list"
+        files, end = dumps(tools, "mixed", own), "the cluster stays out, for 1 reason\n"
+        numbers = ",".join(str(change.get("pool", 1)) for change in changes)
+        told = told and f"the map of the pools {numbers} has no straw2 bucket: {told}\n"
+        for words, wanted in ((["import", *files, "--check"], told + end if told else ""), (["df", *files], told),
+                              (["import", *files, "--out", f"maps-{len(changes)}-{bool(told)}"], told)):
+            output, error = ran(tools, *words, status=int(bool(told)))
+            assert error == wanted if told else output, (words, output[:200], error)
+        if told:
+            value = json.loads(ran(tools, "import", *files, "--pools", "2,3,4")[0])
+            stock.is_ceph(tools, name, [value], {2, 3, 4})
+            lines = refused(tools, own)
+            assert told.strip() in lines and any("it takes 2 maps: " in line for line in lines), lines
 
 
 def tests():

@@ -252,10 +252,10 @@ def test_json(tools):
     assert json.loads(line.removeprefix("change ")) == diff["change"] and diff["unsaid"] == [], (line, diff)
     assert moved == f"{diff['groups']} groups, {diff['places']} places and {len(diff['osds'])} OSDs move", (moved, diff)
     status, output, error = tools.run("plan", path)
-    assert status == 0 and found["plan"]["commands"] == output.splitlines() != [], (status, error)
+    assert status == 0 and found["plan"]["commands"] == clusters.commands(output) != [], (status, error)
     pool = found["plan"]["pools"][0]
     assert error.startswith(f"pool 1: {pool['moves']} moves of {pool['groups']} groups; before {pool['before']['least']} to "), (error, pool)
-    after = tools.sets(clusters.with_commands(value, output.splitlines()))
+    after = tools.sets(clusters.with_commands(value, clusters.commands(output)))
     places = [osd for places in after.values() for osd in json.loads(places.split(" ")[0])]
     weights = {item: weight for bucket in value["buckets"] for item, weight in bucket["items"] if item >= 0}
     away = [abs(places.count(osd) - len(places) * weight / sum(weights.values())) for osd, weight in weights.items()]

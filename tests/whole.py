@@ -130,19 +130,19 @@ def test_plans(tools):
     """The plans of a cluster of several maps are those of its pools, and leave nothing to move in any map."""
     files = dumps(tools, SEVERAL)
     output, error = ran(tools, "plan", *files)
-    groups = [tuple(int(part, 16 if at else 10) for at, part in enumerate(line.split(" ")[3].split("."))) for line in output.splitlines()]
+    groups = [tuple(int(part, 16 if at else 10) for at, part in enumerate(line.split(" ")[3].split("."))) for line in clusters.commands(output)]
     assert groups == sorted(groups) and {pool for pool, _ in groups} == {2, 3, 4}, groups
     assert [line.split(":")[0] for line in error.splitlines()] == [f"pool {pool}" for pool in (1, 2, 3, 4)], error
     for value in maps_of(tools, SEVERAL).values():
         own = {str(pool["id"]) for pool in value["pools"]}
-        after = clusters.with_commands(value, [line for line in output.splitlines() if line.split(" ")[3].split(".")[0] in own])
+        after = clusters.with_commands(value, [line for line in clusters.commands(output) if line.split(" ")[3].split(".")[0] in own])
         for pool in sorted(own):
             assert stock.answers(tools, after, [f"balance {pool} 1024"], "--stock")[0].startswith("moved 0 "), pool
     part, _ = ran(tools, "plan", *files, "--pool", "4")
-    moves = [line for line in output.splitlines() if " 4." in line]
-    assert moves and [line for line in part.splitlines() if " 4." in line] == moves, part
+    moves = [line for line in clusters.commands(output) if " 4." in line]
+    assert moves and [line for line in clusters.commands(part) if " 4." in line] == moves, part
     short, error = ran(tools, "plan", *files, "--pools", "4", "--deviation", "1")
-    assert 0 < len(short.splitlines()) <= len(moves) and error.startswith("pool 4: "), (short, error)
+    assert 0 < len(clusters.commands(short)) <= len(moves) and error.startswith("pool 4: "), (short, error)
     for words in (["--pool", "7"], ["--pools", "nobody"]):
         _, error = ran(tools, "plan", *files, *words, status=1)
         assert error.startswith("no pool "), error
@@ -155,14 +155,14 @@ def test_groups_with_an_empty_place(tools):
     output, error = ran(tools, "plan", *files)
     told = {pool["id"]: pool for pool in json.loads(ran(tools, "plan", *files, "--json")[0])["pools"]}
     empty = {group for group, (places, _) in sets.items() if {None, 2147483647} & set(places)}
-    moved = {line.split(" ")[3] for line in output.splitlines()}
+    moved = {line.split(" ")[3] for line in clusters.commands(output)}
     assert len(empty) > 20 and moved and not moved & empty, moved & empty
     left = set(told[3]["left_out"])
     assert left and left <= empty and not told[2]["left_out"], left
     line = next(line for line in error.splitlines() if line.startswith("pool 3: "))
     assert f"; {len(left)} groups with an empty place are left out" in line, line
     value = next(value for value in maps_of(tools, DRAINED).values() if any(pool["id"] == 3 for pool in value["pools"]))
-    after = stock.sets(tools, clusters.with_commands(value, output.splitlines()))
+    after = stock.sets(tools, clusters.with_commands(value, clusters.commands(output)))
     counts = dict.fromkeys((osd["id"] for osd in value["osds"]), 0)
     for group in (group for group in after if group.startswith("3.")):
         for osd in json.loads(after[group].split(" ")[0].replace("none", "null")):
@@ -189,8 +189,8 @@ def test_options_that_do_not_go_together(tools):
         _, error = ran(tools, *words, status=2)
         assert "error: " in error and len(error.splitlines()) == 1, (words, error)
     for words in (["df"], ["report"], ["explain", "1.0"], ["plan"], ["whatif", "--out", "3"]):
-        _, error = ran(tools, words[0], *dumps(tools, "025-many-pools"), *words[1:], status=1)
-        assert error.startswith("37 pools, more than 32: ") and len(error.splitlines()) == 1, (words, error)
+        _, error = ran(tools, words[0], *dumps(tools, "008-rgw-ec83"), *words[1:], status=1)
+        assert error.startswith("pool 4 has size 11, more than 10: ") and len(error.splitlines()) == 1, (words, error)
 
 
 def tests():

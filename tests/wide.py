@@ -16,7 +16,9 @@ import tempfile
 import given
 
 SECONDS = 120
-GROUPS, TOTAL, ENTRIES, ITEMS, BUCKETS = 65_536, 262_144, 262_144, 1_024, 4_096
+GROUPS, TOTAL, ENTRIES, ITEMS, BUCKETS, POOLS, RULES = 65_536, 262_144, 262_144, 1_024, 4_096, 256, 256
+# The limits of plain maps that are tested beside them in changes.
+PLAIN_POOLS, PLAIN_RULES = 32, 32
 FULL = 65_536
 
 
@@ -31,6 +33,16 @@ def a_map(pools, buckets=None, devices=1, **more):
     steps = [["take", -1], ["choose_firstn", 0, 0], ["emit"]]
     return {"buckets": buckets or [bucket(-1, range(devices), "list")], "epoch": 1, "max_osd": devices, "osds": osds, "pools": pools,
             "rules": [{"id": 0, "kind": "replicated", "steps": steps}], "version": 1} | more
+
+
+def pools_of(numbers):
+    """Pools of one group each."""
+    return [pool(number, 1) for number in numbers]
+
+
+def rules_of(count):
+    """So many rules, the last of 257 under a number that comes again: there are 256 numbers."""
+    return [a_map([])["rules"][0] | {"id": number % RULES} for number in range(count)]
 
 
 def bucket(number, items, kind="straw2", level=15):
@@ -70,6 +82,13 @@ def maps():
         yield f"a {kind} bucket of 65 items", a_map([pool(1, 8)], [bucket(-1, range(65), kind)], 65), "BadLimit", "BadLimit"
     yield "4,096 buckets", a_map([pool(1, 8)], chains(BUCKETS), ITEMS), None, "BadField"
     yield "4,097 buckets", a_map([pool(1, 8)], chains(BUCKETS + 1), ITEMS), "BadLimit", "BadField"
+    for count, refusal, plain in ((PLAIN_POOLS, None, None), (PLAIN_POOLS + 1, None, "BadLimit"), (POOLS, None, "BadLimit"),
+                                  (POOLS + 1, "BadLimit", "BadLimit")):
+        yield f"{count} pools", a_map(pools_of(range(1, count + 1))), refusal, plain
+        yield f"{count} rules", a_map(pools_of([1]), rules=rules_of(count)), refusal, plain
+    yield "256 pools of 1,024 groups", a_map([pool(n, 1_024) for n in range(1, POOLS + 1)]), None, "BadLimit"
+    more = [pool(1, 1_025)] + [pool(n, 1_024) for n in range(2, POOLS + 1)]
+    yield "256 pools of 1,024 groups, one of them with one more", a_map(more), "BadLimit", "BadLimit"
     for key, entry in (("pg_upmap", ["1.0", [0]]), ("pg_upmap_items", ["1.0", [[0, 0]]])):
         yield f"262,144 entries of {key}", a_map([pool(1, 1)], **{key: [entry] * ENTRIES}), "BadException", "BadLimit"
         yield f"262,145 entries of {key}", a_map([pool(1, 1)], **{key: [entry] * (ENTRIES + 1)}), "BadLimit", "BadLimit"
@@ -95,6 +114,24 @@ def changes():
     yield base + 4, {"new_crush": crush | {"buckets": chains(BUCKETS)}}, "err 13 BadForest"
     yield base + 4, {"new_crush": crush | {"buckets": chains(BUCKETS + 1)}}, "err 12 BadLimit"
     yield base + 4, {"new_crush": crush | {"buckets": [bucket(-1, [*range(ITEMS), -2]), bucket(-2, [0], level=1)]}}, "err 12 BadLimit"
+
+
+def counted(pools, rules):
+    """Changes over a map of one pool fewer than there may be, one after the other, with their answers: as many pools and rules as there
+    may be, and one more."""
+    buckets, most = a_map([])["buckets"], pools
+    yield 1, {"new_pools": pools_of([most, most + 1])}, "err 15 BadPool"
+    yield 1, {"new_pools": pools_of([most])}, "ok 2 evals 1"
+    yield 2, {"new_pools": pools_of([most + 1])}, "err 15 BadPool"
+    yield 2, {"new_pools": pools_of([most + 1]), "down": [9]}, "err 21 UnknownOsd"
+    yield 2, {"new_pools": pools_of([most + 1]), "old_items": ["1.1"]}, "err 15 BadPool"
+    yield 2, {"new_pools": pools_of([1])}, "err 24 PoolExists"
+    yield 2, {"old_pools": [1, 2], "new_pools": pools_of([most + 1, most + 2])}, "ok 3 evals 2"
+    yield 3, {"old_pools": [3], "new_pools": pools_of([most + 3, most + 4])}, "err 15 BadPool"
+    yield 3, {"old_pools": list(range(3, most + 1)), "new_pools": pools_of(range(most + 3, 2 * most + 1))}, f"ok 4 evals {most - 2}"
+    yield 4, {"new_crush": {"buckets": buckets, "rules": rules_of(rules + 1)}}, "err 12 BadLimit"
+    yield 4, {"new_crush": {"buckets": buckets, "rules": rules_of(rules)}}, f"ok 5 evals {most}"
+    yield 5, {"new_crush": {"buckets": buckets, "rules": rules_of(rules + 1)}, "new_pools": pools_of([1])}, "err 12 BadLimit"
 
 
 def lists():
@@ -140,6 +177,16 @@ def of_changes(command):
                                 for fault in unlike((line, written(parts)[:100]), (answer, written(parts)[:100]))]
 
 
+def of_counts(pools, rules, words):
+    """What is answered otherwise than said to changes of how many pools and rules there are, under some options."""
+    def test(command):
+        cases = list(counted(pools, rules))
+        output, error = run(command, a_map(pools_of(range(1, pools))), [f"change {written({'base': base} | parts)}" for base, parts, _ in cases], words)
+        return unlike(error, "") + [fault for line, (_, parts, answer) in zip(output, cases, strict=True)
+                                    for fault in unlike((line, written(parts)[:100]), (answer, written(parts)[:100]))]
+    return test
+
+
 def of_lists(command):
     cases = list(lists())
     output, error = run(command, a_map([pool(1, 1)]), [f"change {written({'base': 1} | parts)}" for parts, _ in cases])
@@ -153,13 +200,82 @@ def of_groups(command):
     return unlike((output, error), (["up 1 1.ffff [0] 0", "err 25 UnknownGroup", f"count 1 0 {GROUPS}", "ok 2 evals 0", "count 2 0 0"], ""))
 
 
+def of_places(command):
+    """Two takes of a bucket put its OSD into each set twice. It has each group once, of more than a plain pool has."""
+    groups, block = 5_000, [["take", -1], ["choose_firstn", 1, 0], ["emit"]]
+    value = a_map([dict(pool(1, groups), size=2)], rules=[{"id": 0, "kind": "replicated", "steps": block * 2}])
+    names = ",".join(f"1.{number:x}" for number in range(groups))
+    changes = ["change " + written({"base": base, part: [0]}) for base, part in ((1, "down"), (2, "up"))]
+    lines = ["up 1.1387", "count 0", "groups 0", changes[0], "count 0", changes[1], "count 0", "groups 0"]
+    wanted = ["up 1 1.1387 [0,0] 0", f"count 1 0 {groups}", f"groups 1 0 [{names}]", "ok 2 evals 0", "count 2 0 0",
+              "ok 3 evals 0", f"count 3 0 {groups}", f"groups 3 0 [{names}]"]
+    output, error = run(command, value, lines)
+    return unlike(error, "") + [fault for own in zip(output, wanted, strict=True) for fault in unlike(*own)]
+
+
+def full_map(total, buckets):
+    """Four pools of three places with so many groups in all, each of which has an explicit set and a pair, and so many
+    buckets. The rule takes one device, which the explicit sets replace."""
+    names = [f"{number}.{group:x}" for number in range(1, 5) for group in range(total // 4)]
+    sets = [[(7 * at + 3 * place) % ITEMS for place in range(3)] for at in range(ITEMS)]
+    steps = [["take", -2], ["choose_firstn", 1, 0], ["emit"]]
+    return a_map([dict(pool(number, total // 4), size=3) for number in range(1, 5)], chains(buckets), ITEMS,
+                 pg_upmap=[[name, sets[at % ITEMS]] for at, name in enumerate(names)],
+                 pg_upmap_items=[[name, [[sets[at % ITEMS][0], (at + 1) % ITEMS]]] for at, name in enumerate(names)],
+                 rules=[{"id": 0, "kind": "replicated", "steps": steps}])
+
+
+def placed(explicit, pairs):
+    """An explicit set under pairs, where every OSD is up and in."""
+    for left, right in pairs:
+        if left in explicit and right not in explicit:
+            explicit = [right if osd == left else osd for osd in explicit]
+    return explicit
+
+
+def of_full_map(command):
+    """As many groups, exceptions and buckets as there may be, all at once: read, asked, changed in each exception,
+    written and read back."""
+    value = full_map(TOTAL, BUCKETS)
+    asked = list(zip(value["pg_upmap"], value["pg_upmap_items"]))[::997]
+    sets = [(name, placed(explicit, pairs)) for (name, explicit), (_, pairs) in asked]
+    names = [name for name, _ in value["pg_upmap"]]
+    parts = {"base": 1, "new_upmap": [[name, [5]] for name in names], "old_items": names}
+    buckets = sorted(value["buckets"], key=lambda own: -own["id"])
+    after = value | {"epoch": 2, "pg_upmap": parts["new_upmap"], "pg_upmap_items": [], "buckets": buckets}
+    dump = "dump " + json.dumps(after, separators=(",", ":"), sort_keys=True)
+    lines = [f"up {name}" for name, _ in sets] + ["change " + written(parts), "count 5", "count 6", "dump"]
+    wanted = [f"up 1 {name} [{','.join(map(str, places))}] {places[0]}" for name, places in sets]
+    wanted += [f"ok 2 evals {TOTAL}", f"count 2 5 {TOTAL}", "count 2 6 0", dump]
+    output, error = run(command, value, lines)
+    found = unlike(error, "") + [fault for own in zip(output, wanted, strict=True) for fault in unlike(*own)]
+    return found or unlike(run(command, after, ["count 5", "dump"]), ([f"count 2 5 {TOTAL}", dump], ""))
+
+
+def of_moves(command):
+    """All groups of a pool are on the first OSD: each move goes from there to the next OSD that has fewest, and takes
+    the lowest group."""
+    hosts = [bucket(-2 - host, range(64 * host, 64 * host + 64), "list", 1) for host in range(ITEMS // 64)]
+    buckets = [bucket(-1, [host["id"] for host in hosts], "list"), *hosts]
+    value = a_map([pool(1, GROUPS)], buckets, ITEMS, pg_upmap=[[f"1.{number:x}", [0]] for number in range(GROUPS)])
+    to = [1 + number % (ITEMS - 1) for number in range(1024)] + [0]
+    wanted = ["moved 1024 epoch 2"] + [f"up 2 1.{number:x} [{osd}] {osd}" for number, osd in enumerate(to)]
+    output, error = run(command, value, ["balance 1 1024"] + [f"up 1.{number:x}" for number in range(len(to))])
+    return unlike(error, "") + [fault for own in zip(output, wanted, strict=True) for fault in unlike(*own)]
+
+
 def tests():
     """Each test, with its name."""
     for name, value, refusal, plain in maps():
         yield f"{name}: {refusal or 'taken'} under --stock, {plain or 'taken'} without", of_map(value, refusal, plain)
     yield "changes to as many groups as there may be, and one more", of_changes
+    yield "changes to 256 pools and rules, and one more", of_counts(POOLS, RULES, ("--stock",))
+    yield "changes to 32 pools and rules, and one more, without --stock", of_counts(PLAIN_POOLS, PLAIN_RULES, ())
     yield "lists of 262,144 entries, and of 262,145", of_lists
     yield "a pool of 65,536 groups is answered", of_groups
+    yield "an OSD that stands twice in each of 5,000 sets has 5,000 groups", of_places
+    yield "every maximum of stock maps at once", of_full_map
+    yield "1,024 moves of 65,536 groups over 1,024 OSDs", of_moves
 
 
 def main():
