@@ -13,7 +13,7 @@ use Rattle.epochlog.specs.Epochs.{Begins}
 use Rattle.sealed.proofs.Beginnings.{begins_itself, begins_on}
 use Rattle.balancer.specs.Shares.{has_one_block}
 use Rattle.balancer.specs.Plans.{plan_fault, plan_fault_of, plan_change}
-use Rattle.state.specs.States.{Kept, next_step, commit_fault, fault_in, IsRefusedBy}
+use Rattle.state.specs.States.{StateFacts, next_step, commit_fault, fault_in, IsRefusedBy}
 use Rattle.state.specs.Balances.{moves_in, IsUnbalanced, Balances as TakesPlan}
 use Rattle.monitor.specs.Balances.{AnswersBalance, IsEven, IsUnplanned, AddsPlan}
 use Rattle.monitor.proofs.Histories.{IsLed, commit_unspent}
@@ -42,7 +42,7 @@ balances_from first most begun before now pool limit (Err e) goes done =
 
 -- ---- of a state, by its journal
 
-module _ (old : Kept) (pool limit : ℕ) (led : IsLed old) where
+module _ (old : StateFacts) (pool limit : ℕ) (led : IsLed old) where
   abbrev change : ChangeParts
   change = plan_change old.map pool limit
 
@@ -73,16 +73,16 @@ module _ (old : Kept) (pool limit : ℕ) (led : IsLed old) where
   )
 
   -- what balancing a state answers is answered by its journal
-  pub balanced_by : (new : Kept) (r : Result (ℕ × ℕ) Refusal) → IsLed new → TakesPlan old new pool limit r
+  pub balanced_by : (new : StateFacts) (r : Result (ℕ × ℕ) Refusal) → IsLed new → TakesPlan old new pool limit r
       → AnswersBalance old.first (length old.pass.row.cells) old.pass.history new.pass.history pool limit r
   balanced_by new (Ok ok) leads done = elim done.0.2 [
     | inl stays ↦
         let same : old ≡ new = sym stays.2 in (
           record {
-            begins = subst (λ (k : Kept). Begins old.pass.history k.pass.history) same (begins_itself old.pass.history);
-            lawful = subst (λ (k : Kept). IsLawful old.first k.pass.history) same led.lawful;
+            begins = subst (λ (k : StateFacts). Begins old.pass.history k.pass.history) same (begins_itself old.pass.history);
+            lawful = subst (λ (k : StateFacts). IsLawful old.first k.pass.history) same led.lawful;
           },
-          inr (subst (λ (k : Kept). IsEven old.first k.pass.history pool limit ok.0 ok.1) same (record {
+          inr (subst (λ (k : StateFacts). IsEven old.first k.pass.history pool limit ok.0 ok.1) same (record {
             sound = sym sound_there ∙ done.0.0;
             epoch = stays.1 ∙ led.epoch;
             none = done.0.1 ∙ stays.0;
@@ -90,8 +90,8 @@ module _ (old : Kept) (pool limit : ℕ) (led : IsLed old) where
           })),
         )
     | inr moved ↦
-        let more : new.pass.history ≡ old.pass.history ++ next_step old.map change ∷ [] = ap (λ (k : Kept). k.pass.history) moved.3 in
-        let first : new.first ≡ old.first = ap (λ (k : Kept). k.first) moved.3 in
+        let more : new.pass.history ≡ old.pass.history ++ next_step old.map change ∷ [] = ap (λ (k : StateFacts). k.pass.history) moved.3 in
+        let first : new.first ≡ old.first = ap (λ (k : StateFacts). k.first) moved.3 in
         let step : next_step old.map change ≡ record { epoch = ok.0; change = plan_change there pool limit } =
         λ i. record { epoch = sym moved.2 i; change = ap (λ m. plan_change m pool limit) led.map i } in (
           record {
@@ -113,24 +113,24 @@ module _ (old : Kept) (pool limit : ℕ) (led : IsLed old) where
   balanced_by new (Err e) leads done =
       let same : record old { runs = new.runs } ≡ new = sym done.1 in (
         record {
-          begins = subst (λ (k : Kept). Begins old.pass.history k.pass.history) same (begins_itself old.pass.history);
-          lawful = subst (λ (k : Kept). IsLawful old.first k.pass.history) same led.lawful;
+          begins = subst (λ (k : StateFacts). Begins old.pass.history k.pass.history) same (begins_itself old.pass.history);
+          lawful = subst (λ (k : StateFacts). IsLawful old.first k.pass.history) same led.lawful;
         },
-        inr (subst (λ (k : Kept). IsUnplanned old.first (length old.pass.row.cells) k.pass.history pool limit e) same (unplanned_there e done.0)),
+        inr (subst (λ (k : StateFacts). IsUnplanned old.first (length old.pass.row.cells) k.pass.history pool limit e) same (unplanned_there e done.0)),
       )
 
   -- and adds its incremental alone
-  pub adds_plan : (new : Kept) (r : Result (ℕ × ℕ) Refusal) → TakesPlan old new pool limit r
+  pub adds_plan : (new : StateFacts) (r : Result (ℕ × ℕ) Refusal) → TakesPlan old new pool limit r
       → AddsPlan old.first old.pass.history new.pass.history pool limit r
   adds_plan new (Ok ok) done = elim done.0.2 [
-    | inl stays ↦ inl (done.0.1 ∙ stays.0, ap (λ (k : Kept). k.pass.history) stays.2)
+    | inl stays ↦ inl (done.0.1 ∙ stays.0, ap (λ (k : StateFacts). k.pass.history) stays.2)
     | inr moved ↦
-        let more : new.pass.history ≡ old.pass.history ++ next_step old.map change ∷ [] = ap (λ (k : Kept). k.pass.history) moved.3 in
+        let more : new.pass.history ≡ old.pass.history ++ next_step old.map change ∷ [] = ap (λ (k : StateFacts). k.pass.history) moved.3 in
         let step : next_step old.map change ≡ record { epoch = ok.0; change = plan_change there pool limit } =
         λ i. record { epoch = sym moved.2 i; change = ap (λ m. plan_change m pool limit) led.map i } in
         inr (λ none. moved.0 (sym done.0.1 ∙ none), more ∙ ap (λ s. old.pass.history ++ s ∷ []) step)
   ]
-  adds_plan new (Err e) done = ap (λ (k : Kept). k.pass.history) done.1
+  adds_plan new (Err e) done = ap (λ (k : StateFacts). k.pass.history) done.1
 
 -- where nothing was found beyond what was seen, it is added to that
 pub plans_from : (first : ClusterMap) (begun before now : List Step) (pool limit : ℕ) (r : Result (ℕ × ℕ) Refusal)
@@ -150,7 +150,7 @@ plan_unspent m None e = absurd (let same : Some UnknownPool ≡ Some SeatSpent =
 plan_unspent m (Some p) e = rule_unspent (has_one_block (steps_of m p)) e
 
 -- why there is no answer of a state is never that
-pub never_spent : (old new : Kept) (pool limit : ℕ) (r : Result (ℕ × ℕ) Refusal) → TakesPlan old new pool limit r → IfErr r (λ e. e ≢ SeatSpent)
+pub never_spent : (old new : StateFacts) (pool limit : ℕ) (r : Result (ℕ × ℕ) Refusal) → TakesPlan old new pool limit r → IfErr r (λ e. e ≢ SeatSpent)
 never_spent old new pool limit (Ok ok) done = tt
 never_spent old new pool limit (Err e) done = by_cause done.0
   where

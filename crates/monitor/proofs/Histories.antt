@@ -9,7 +9,7 @@ use Rattle.osdmap.specs.Evals.{evals_of}
 use Rattle.osdmap.specs.Changes.{IsLawful, after, epoch_after, change_fault, names_osds, weighs_rightly, names_pools, brings_new, brings_forest, brings_rightly, names_groups, excepts_soundly, names_once}
 use Rattle.epochlog.specs.Epochs.{Begins}
 use Rattle.sealed.proofs.Beginnings.{begins_itself, begins_on}
-use Rattle.state.specs.States.{Kept, ran, committed, next_step, commit_fault, fault_in, unless, IsRefusedBy, Commits as TakesCommit}
+use Rattle.state.specs.States.{StateFacts, ran, committed, next_step, commit_fault, fault_in, unless, IsRefusedBy, Commits as TakesCommit}
 use Rattle.state.proofs.Journals.{accepted}
 use Rattle.monitor.specs.Histories.{AnswersCommit, AddsChange}
 
@@ -37,27 +37,27 @@ commits_from first most begun before now base change (Err e) goes done =
     (record { begins = begins_on begun before now goes done.0.begins; lawful = done.0.lawful }, done.1)
 
 -- what is known of a state: its journal is lawful from its first map, and leads to its map
-pub record IsLed (k : Kept) : Type 0 where
+pub record IsLed (k : StateFacts) : Type 0 where
   pub map : k.map ≡ after k.first k.pass.history
   pub lawful : IsLawful k.first k.pass.history
   pub epoch : k.map.epoch ≡ epoch_after k.first k.pass.history
 
 -- the fault of a commit to a state, by its journal
-pub fault_is : (k : Kept) (base : ℕ) (change : ChangeParts) → k.map ≡ after k.first k.pass.history
+pub fault_is : (k : StateFacts) (base : ℕ) (change : ChangeParts) → k.map ≡ after k.first k.pass.history
     → fault_in k base change
     ≡ commit_fault (after k.first k.pass.history) (length k.pass.history) (length k.pass.row.cells) base change
 fault_is k base change map = ap (λ m. commit_fault m (length k.pass.history) (length k.pass.row.cells) base change) map
 
 -- a commit to a state is one to the map after its journal
-pub committed_by : (old new : Kept) (base : ℕ) (change : ChangeParts) (r : Result (ℕ × ℕ) Refusal) → IsLed old
+pub committed_by : (old new : StateFacts) (base : ℕ) (change : ChangeParts) (r : Result (ℕ × ℕ) Refusal) → IsLed old
     → IsLed new → TakesCommit old new base change r
     → AnswersCommit old.first (length old.pass.row.cells) old.pass.history new.pass.history base change r
 committed_by old new base change (Ok ok) led leads done =
     let fine = accepted old base change done.0.0 in
     let is : new ≡ ran ok.1 (committed old change) = done.0.1.0 in
     let more : new.pass.history ≡ old.pass.history ++ next_step old.map change ∷ [] =
-    ap (λ (k : Kept). k.pass.history) is in
-    let first : new.first ≡ old.first = ap (λ (k : Kept). k.first) is in
+    ap (λ (k : StateFacts). k.pass.history) is in
+    let first : new.first ≡ old.first = ap (λ (k : StateFacts). k.first) is in
     let next : ok.0 ≡ base + 1 = done.0.1.1 in
     let epoch : old.map.epoch + 1 ≡ ok.0 = ap (λ n. n + 1) (sym fine.current) ∙ sym next in
     let step : next_step old.map change ≡ record { epoch = ok.0; change = change } =
@@ -84,27 +84,27 @@ committed_by old new base change (Err e) led leads done =
     let fault : fault_in old base change
     ≡ commit_fault (after old.first new.pass.history) (length new.pass.history) most base change =
     fault_is old base change led.map
-    ∙ ap (λ (k : Kept). commit_fault (after old.first k.pass.history) (length k.pass.history) most base change) same in (
+    ∙ ap (λ (k : StateFacts). commit_fault (after old.first k.pass.history) (length k.pass.history) most base change) same in (
       record {
-        begins = subst (λ (k : Kept). Begins old.pass.history k.pass.history) same (begins_itself old.pass.history);
-        lawful = subst (λ (k : Kept). IsLawful old.first k.pass.history) same led.lawful;
+        begins = subst (λ (k : StateFacts). Begins old.pass.history k.pass.history) same (begins_itself old.pass.history);
+        lawful = subst (λ (k : StateFacts). IsLawful old.first k.pass.history) same led.lawful;
       },
       inr (subst (λ f. IsRefusedBy f e) fault done.0),
     )
 
 -- and adds its incremental alone
-pub adds_change : (old new : Kept) (base : ℕ) (change : ChangeParts) (r : Result (ℕ × ℕ) Refusal)
+pub adds_change : (old new : StateFacts) (base : ℕ) (change : ChangeParts) (r : Result (ℕ × ℕ) Refusal)
     → TakesCommit old new base change r → AddsChange old.pass.history new.pass.history change r
 adds_change old new base change (Ok ok) done =
     let fine = accepted old base change done.0.0 in
     let more : new.pass.history ≡ old.pass.history ++ next_step old.map change ∷ [] =
-    ap (λ (k : Kept). k.pass.history) done.0.1.0 in
+    ap (λ (k : StateFacts). k.pass.history) done.0.1.0 in
     let next : ok.0 ≡ base + 1 = done.0.1.1 in
     let epoch : old.map.epoch + 1 ≡ ok.0 = ap (λ n. n + 1) (sym fine.current) ∙ sym next in
     let step : next_step old.map change ≡ record { epoch = ok.0; change = change } =
     ap (λ (n : ℕ). record { epoch = n; change = change }) epoch in
     more ∙ ap (λ s. old.pass.history ++ s ∷ []) step
-adds_change old new base change (Err e) done = ap (λ (k : Kept). k.pass.history) done.1
+adds_change old new base change (Err e) done = ap (λ (k : StateFacts). k.pass.history) done.1
 
 -- where nothing was found beyond what was seen, it is added to that
 pub adds_from : (begun before now : List Step) (change : ChangeParts) (r : Result (ℕ × ℕ) Refusal) → before ≡ begun
@@ -148,7 +148,7 @@ commit_unspent m done most base change =
     (full_unspent (change_fault m change) (nat_lt done most) (change_unspent m change))
 
 -- why a commit is refused is never that
-pub unspent : (old new : Kept) (base : ℕ) (change : ChangeParts) (r : Result (ℕ × ℕ) Refusal)
+pub unspent : (old new : StateFacts) (base : ℕ) (change : ChangeParts) (r : Result (ℕ × ℕ) Refusal)
     → TakesCommit old new base change r → IfErr r (λ e. e ≢ SeatSpent)
 unspent old new base change (Ok ok) done = tt
 unspent old new base change (Err e) done = by_cause done.0

@@ -44,7 +44,7 @@ pub record IsFollowed (f : Followed) : Type 0 where
   pub map : f.map ≡ after f.first f.history
   pub epoch : f.map.epoch ≡ epoch_after f.first f.history
 
--- the same follower, which has neither lost what it had applied nor what its pass had seen
+-- a follower now and before: it has lost neither what it had applied nor what its pass had seen
 pub record GoesOnFrom (before now : Followed) : Type 0 where
   pub first : now.first ≡ before.first
   pub row : now.row ≡ before.row

@@ -11,7 +11,7 @@ use Rattle.osdmap.specs.Maps.{ClusterMap}
 use Rattle.osdmap.specs.Changes.{IsLawful}
 use Rattle.stated.specs.declared.profile.Profile.{Profile}
 use Rattle.epochlog.specs.Epochs.{Line, Seen}
-use Rattle.state.specs.States.{Kept, opened}
+use Rattle.state.specs.States.{StateFacts, opened}
 use Rattle.monitor.specs.declared.locked.Locked.{Locked}
 use Rattle.monitor.specs.declared.member.Member.{Member}
 
@@ -22,17 +22,17 @@ pub record Monitored : Type 0 where
   pub first : ClusterMap
   pub row : Line
   pub words : Words
-  pub made : Kept
+  pub made : StateFacts
   pub profile : Profile
   pub alone : Bool
 
 -- a monitor by its parts
-abbrev pub monitored : ClusterMap → Line → Words → Kept → Profile → Bool → Monitored
+abbrev pub monitored : ClusterMap → Line → Words → StateFacts → Profile → Bool → Monitored
 monitored first row words made profile alone =
     record { first = first; row = row; words = words; made = made; profile = profile; alone = alone }
 
 -- the state is one of this monitor: its first map is the monitor's, and its pass is of the monitor's row
-pub record IsStateOf (monitor : Monitored) (state : Kept) : Type 0 where
+pub record IsStateOf (monitor : Monitored) (state : StateFacts) : Type 0 where
   pub first : state.first ≡ monitor.first
   pub row : state.pass.row ≡ monitor.row
 
@@ -83,7 +83,7 @@ StaysAlone monitor before now = monitor.alone ≡ true → now ≡ before
 -- ---- who holds the lock
 
 -- the state that a guard lends: while it lends none, the one that the lock was made with
-abbrev pub lent : ReadGuard Locked → Kept
+abbrev pub lent : ReadGuard Locked → StateFacts
 lent guard =
     unwrap_or (option_and_then (option_map (λ kept. kept.value.state.value)) guard.claim.value)
     (first_of_read guard).state.value

@@ -1,6 +1,12 @@
 //! The monitor: the state behind a lock, the row of sealed epochs beside it, the members who ask and commit by the
 //! lock, and followers who read the row without it. What each call answers is that of the state of one thread after
 //! one history, which goes on from all that the caller has seen.
+//!
+//! - `monitor`, `open`: a monitor, and how one is opened
+//! - `member`, `calls`: who asks a monitor, and what each call answers
+//! - `turns`, `locked`: a member's turns at the lock, and what lies under it
+//! - `shared`, `look`: holds of the lock that members share
+//! - `follower`: who reads the row of sealed epochs without the lock
 #![tactic(auto)]
 
 mod calls;

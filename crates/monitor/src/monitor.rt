@@ -12,7 +12,7 @@ use std::marker::Model;
 use ticketlock::Lock;
 
 /// A monitor: a state that its members share by a lock, and beside the lock the row of sealed epochs, the first map and
-/// which kinds of buckets the texts of its changes may state. Many threads may use it.
+/// by which profile the texts of its changes are read. Many threads may use it.
 #[derive(Drop)]
 pub struct Monitor {
     pub(crate) lock: Lock<Locked>,
@@ -37,14 +37,14 @@ impl Monitor {
         self.row.is_sealed(epoch)
     }
 
-    /// The same monitor, the texts of whose changes may state the kinds of buckets that this profile has.
+    /// This monitor, but that the texts of its changes are read by this profile.
     pub fn with_profile(self, profile: Profile) -> Self
         ensures { result ≡ record self { profile = profile } }
     {
         Monitor { profile, ..self }
     }
 
-    /// Which kinds of buckets the texts of its changes may state.
+    /// By which profile the texts of its changes are read: which kinds of buckets they may state, by whose limits.
     pub fn profile(&self) -> Profile
         ensures { result ≡ self.now.profile }
     {

@@ -142,7 +142,7 @@ impl Monitor {
         Ok(Monitor::opened(alloc, map, journal, seats, draws)?)
     }
 
-    /// The same, each seat with the most draws, which are 2^40.
+    /// A monitor as [`Monitor::open_limited`] opens it, each seat with the most draws, which are 2^40.
     pub fn open(
         alloc: Global,
         map: OsdMap,

@@ -11,7 +11,7 @@ use Rattle.osdmap.specs.Evals.{evals_of}
 use Rattle.osdmap.specs.Changes.{IsLawful, after, change_fault}
 use Rattle.epochlog.specs.Epochs.{Line}
 use Rattle.pgtable.specs.Tables.{TableFacts, IsTableOf}
-use Rattle.state.specs.States.{Kept, opened as begun, ran, committed, next_step}
+use Rattle.state.specs.States.{StateFacts, opened as begun, ran, committed, next_step}
 use Rattle.monitor_laws.specs.World.{MonitorWorld, IsPresent, Event, at_lock, looks, makes, seals, acts, follows, with_look, with_sealed}
 use Rattle.monitor_laws.specs.Law.{opening, RunsTo, HasEvents}
 
@@ -61,7 +61,7 @@ module _ (first : ClusterMap) (row : Line) (table other : TableFacts) (parts : C
   abbrev step : Step
   step = next_step first parts
 
-  abbrev present : Kept
+  abbrev present : StateFacts
   present = ran (evals_of (after first (step ∷ [])) parts) (committed (begun first row) parts)
 
   -- the worlds after the events

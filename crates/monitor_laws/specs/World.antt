@@ -11,18 +11,18 @@ use Rattle.stated.specs.Incrementals.{Step}
 use Rattle.osdmap.specs.Maps.{ClusterMap}
 use Rattle.osdmap.specs.Changes.{IsLawful}
 use Rattle.pgtable.specs.Tables.{TableFacts}
-use Rattle.state.specs.States.{Kept, IsKept}
+use Rattle.state.specs.States.{StateFacts, IsKept}
 
 -- what was told of the history: to a seat that looked, the state and its table; to a seat that sealed, that its
 -- incremental stands behind what was sealed before
 pub data Told : Type 0 where
-  look : ℕ → Kept → TableFacts → Told
+  look : ℕ → StateFacts → TableFacts → Told
   change : ℕ → List Step → Step → Told
 
 pub record MonitorWorld : Type 0 where
   pub lock : LockWorld
   -- the state in its slot, or in the hands of a writer
-  pub state : Kept
+  pub state : StateFacts
   pub table : TableFacts
   -- the incrementals of the epochs that are sealed
   pub sealed : List Step
@@ -35,7 +35,7 @@ pub record MonitorWorld : Type 0 where
 pub data Act : Type 0 where
   at_lock : LockStep → Act
   looks : Act
-  makes : Kept → TableFacts → Act
+  makes : StateFacts → TableFacts → Act
   seals : Step → Act
 
 -- what happens: a seat acts, or a follower reads the cell of its next epoch, whoever holds the lock

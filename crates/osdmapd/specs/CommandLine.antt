@@ -197,8 +197,8 @@ GivesOptions r journal profile map_word scripts =
     (λ e. e ≡ Memory)
 
 -- what `osdmapd MAP SCRIPT..`, `osdmapd --journal N MAP SCRIPT..` and `osdmapd --stock MAP SCRIPT..` ask for, where
--- none of the files is taken for an option: this map, these scripts, no file of answers, a journal of 1,024 or N, and the
--- stock profile where it is asked for
+-- none of the files is taken for an option: this map, these scripts, no file of answers, a journal of 1,024 or N,
+-- and the stock profile where it is asked for
 pub record ReadsUsual (words : List Text) (r : Result Options LineError) : Type 0 where
   pub plain : (name map_word : Text) (scripts : List Text) → words ≡ name ∷ map_word ∷ scripts →
       AreUsual map_word scripts

@@ -36,15 +36,15 @@ abbrev pub unseen : Sight
 unseen = record { member = []; follower = [] }
 
 -- the text of the session of a number: its heading, and the answers of its script, from this first map, with a
--- journal for so many changes, whose texts may state these kinds of buckets, of a member that is alone or not; the last
--- of them leaves its member with this history
+-- journal for so many changes, whose texts are read by this profile, of a member that is alone or not; the last of them
+-- leaves its member with this history
 abbrev pub IsSessionText : ClusterMap → ℕ → Profile → Bool → ℕ → List ℕ → List ℕ → List Step → Type 0
 IsSessionText first journal profile alone number script text seen =
     (answers : List ℕ) × (last : Sight) × IsTranscript (session_with first journal profile alone lets_all) 1 unseen
     (lines_in script) answers last
     × (last.member ≡ seen) × (text ≡ heading number ++ answers)
 
--- the same of a session of this monitor
+-- the text of the session of a number at this monitor
 abbrev pub IsTextBy : Monitored → ℕ → List ℕ → List ℕ → List Step → Type 0
 IsTextBy monitor number script text seen =
     IsSessionText monitor.first (length monitor.row.cells) monitor.profile monitor.alone number script text seen
@@ -63,7 +63,7 @@ text_left left = buffered left.text
 abbrev pub seen_left : Left → List Step
 seen_left left = left.member.pass.history
 
--- the same of a session of this monitor, and its member is left too
+-- what is left of the session of a part at this monitor, and its member
 abbrev pub IsLeftBy : Monitored → ℕ → Part → Left → Type 0
 IsLeftBy monitor number part left =
     IsMemberOf monitor left.member

@@ -1,5 +1,12 @@
 //! Answers scripts of commands over the map of a cluster: `osdmapd [--journal N] [--stock] [--to ANSWERS].. MAP
 //! SCRIPT..`, where `-` for a script is standard input, and for a file of answers standard output.
+//!
+//! - `line`, `choices`: what a command line asks for
+//! - `part`: where a session's lines come from and its answers go
+//! - `serving`, `playing`: the run over its files, with a thread for each session
+//! - `out`: a writer as a sink
+//! - `fault`, `ending`: why nothing is served, and how a run ends
+//! - `sharing`, `racing`, `tests`: what no clause says, and no run of the program shows
 #![tactic(auto)]
 
 ghost use Rattle.std.specs.Prelude.{◌≡◌, ◌≤◌, IfOk, IfErr, length, vec_len, nat_lt, count_by};

@@ -220,7 +220,7 @@ fn nine<R: Wait + Threads + Sync>(
     Some((own?, text?))
 }
 
-/// The same, of a new monitor.
+/// What a member and a follower dump after nine changes to a new monitor.
 fn nine_changes<R: Wait + Threads + Sync>(rt: &R, alloc: Global) -> Option<(Vec<u8>, Vec<u8>)> {
     let (monitor, one, other) = opened(alloc, TWO_DEVICES, MAX_DRAWS)?;
     nine(rt, alloc, &monitor, (one, other))

@@ -85,7 +85,8 @@ fn answered_then<R: Wait>(
     if is_held { Some(answers) } else { None }
 }
 
-/// The same while another member holds a look in a thread of its own; `None` where the look was not held until then.
+/// How many of the five questions a member is answered while another holds a look in a thread of its own; `None` where
+/// the look was not held until then.
 fn answered_beside<R: Wait + Threads + Sync>(
     rt: &R,
     alloc: Global,
@@ -110,7 +111,7 @@ fn answered_beside<R: Wait + Threads + Sync>(
     if lasted { answers } else { None }
 }
 
-/// The same of a new monitor.
+/// How many are answered beside a look at a new monitor.
 fn answered_by<R: Wait + Threads + Sync>(rt: &R, alloc: Global) -> Option<u32> {
     let (monitor, one, other) = opened(alloc, FOUR_DEVICES, 1024)?;
     answered_beside(rt, alloc, &monitor, one, other)
@@ -196,7 +197,7 @@ fn call_once<R: Wait>(
     asked && changed && looked
 }
 
-/// The same for two members once they have seen a change that one of them made.
+/// Whether each call of two members draws once after a change that one of them made and both have seen.
 fn called_once<R: Wait>(rt: &R, alloc: Global) -> Option<bool> {
     let (_, first) = read_change(alloc, DOWN.as_bytes(), Profile::Plain).ok()?;
     let (_, second) = read_change(alloc, DOWN.as_bytes(), Profile::Plain).ok()?;
@@ -271,7 +272,7 @@ fn seated(alloc: Global, seats: u32) -> Option<Result<usize, Refusal>> {
     }
 }
 
-/// The same with a limit of draws.
+/// How many members a monitor with so many seats has, each with so many draws.
 fn seated_for(alloc: Global, seats: u32, draws: u64) -> Option<Result<usize, Refusal>> {
     let map = read_map(alloc, FOUR_DEVICES.as_bytes(), Profile::Plain).ok()?;
     match Monitor::open_limited(alloc, map, 16, seats, draws) {

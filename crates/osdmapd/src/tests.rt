@@ -280,7 +280,7 @@ fn meet<R: Wait + Threads + Sync>(
     first.is_ok() && second.is_ok()
 }
 
-/// The same, of a new monitor.
+/// Whether both of two such sessions end well at a new monitor.
 fn met_at_once<R: Wait + Threads + Sync>(rt: &R, alloc: Global, held: u64) -> Option<bool> {
     let (monitor, one, other) = opened(alloc, FOUR_DEVICES, 1024)?;
     Some(meet(rt, alloc, &monitor, (one, other), held))
@@ -345,7 +345,7 @@ fn a_seat_is_spent_at_its_line(rt: HostRuntime) -> Result<(), Fail> {
     Ok(())
 }
 
-/// The same where the first draw is that of a change, which the member has then seen.
+/// A seat is spent at its line also where its first draw is that of a change, which the member has then seen.
 #[test]
 fn a_seat_is_spent_at_its_line_after_a_change(rt: HostRuntime) -> Result<(), Fail> {
     for draws in 1..21usize {

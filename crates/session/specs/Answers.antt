@@ -88,8 +88,8 @@ Tells first before now task.Dump answer =
 -- ---- lines
 
 -- what a command answers to a session of a monitor with this first map, a journal for so many changes, and texts of
--- changes that may state these kinds of buckets, and what it has seen then: of the member's history and the follower's
--- one begins the other where the follower has answered; none is a line that is no command
+-- changes that are read by this profile, and what it has seen then: of the member's history and the follower's one
+-- begins the other where the follower has answered; none is a line that is no command
 abbrev pub Does : ClusterMap → ℕ → Profile → Sight → Option Command → List ℕ → Sight → Type 0
 Does first most profile before None answer now = (answer ≡ refusal_text BadCommand) × (now ≡ before)
 Does first most profile before (Some (ask question)) answer now =

@@ -45,7 +45,7 @@ impl<'a, R, G> Desk<'a, R, G> {
     ghost use Rattle.mapjson.specs.Written.{written};
     ghost use Rattle.epochlog.specs.Epochs.{OneBegins};
     ghost use Rattle.monitor.specs.Histories.{GoesOn};
-    ghost use Rattle.monitor.specs.Followers.{Follows};
+    ghost use Rattle.monitor.specs.Followers.{Follows, IsCaughtUp};
     ghost use Rattle.session.specs.Texts.{line_of};
     ghost use Rattle.session.specs.Replies.{reply_text};
     ghost use Rattle.session.specs.Answers.{Tells};
@@ -71,6 +71,7 @@ impl<'a, R, G> Desk<'a, R, G> {
         ensures goes_on { GoesOn self.now.monitor.now.first follower.old.history follower.new.history }
         ensures epoch { Makes result None (λ epoch. epoch
             ≡ (after self.now.monitor.now.first follower.new.history).epoch) }
+        ensures ends { OnOk result (IsCaughtUp follower.new) }
     {
         let reached = follower.catch_up(self.alloc, self.monitor);
         let _ = follower.epoch();

@@ -1,4 +1,12 @@
 //! A session: a script of commands, and the answers to them.
+//!
+//! - `session`, `reading`: a script that is there, and one whose lines come while it runs
+//! - `lines`: one line after another, and questions that follow one another in one hold of the lock
+//! - `command`, `plan`: what a line asks for
+//! - `desk`, `watch`: how that is asked of the monitor and the follower, and the looks of an `await`
+//! - `reply`, `number`: the line of an answer
+//! - `gate`, `sink`: what lets a line through, and where answers go
+//! - `error`: why a session stops before its end
 #![tactic(auto)]
 
 mod command;

@@ -4,7 +4,7 @@ use Rattle.stated.specs.declared.change.ChangeParts.{ChangeParts}
 use Rattle.stated.specs.Incrementals.{Step}
 use Rattle.epochlog.specs.Epochs.{Seen, longer, epoch_of}
 use Rattle.pgtable.specs.Tables.{TableFacts}
-use Rattle.state.specs.States.{Kept, IsKept, max_epoch, next_step, longer_by}
+use Rattle.state.specs.States.{StateFacts, IsKept, max_epoch, next_step, longer_by}
 use Rattle.state.proofs.Journals.{IsAccepted, step_is, joined_is, shown_is, last_epoch-snoc, epoch-kept}
 
 -- an epoch that a journal has room after is far from the end of 64 bits
@@ -12,14 +12,14 @@ pub early_fits : (epoch : ℕ) → epoch ≤ max_epoch → epoch + 1 < 2 ^ 64
 early_fits epoch early = omega arith
 
 -- what holds once the epoch is sealed and the state's pass has joined the one that sealed it
-pub record IsSealed (k : Kept) (base : ℕ) (change : ChangeParts) (after : Seen) : Type 0 where
+pub record IsSealed (k : StateFacts) (base : ℕ) (change : ChangeParts) (after : Seen) : Type 0 where
   pub joined : after ≡ longer_by k.pass (next_step k.map change)
   pub later : k.pass.row.first < base + 1
   pub seen : epoch_of after ≡ base + 1
   pub shown : (step : Step) → slice_get after.history ((base + 1) - (k.pass.row.first + 1)) ≡ Some step → step ≡ next_step k.map change
 
 -- after an accepted change is sealed and joined the state's pass has seen its journal with this incremental behind
-pub sealed : (k : Kept) (t : TableFacts) (base : ℕ) (change : ChangeParts) (step : Step) (pass joined : Seen) → IsKept k t → IsAccepted k base change
+pub sealed : (k : StateFacts) (t : TableFacts) (base : ℕ) (change : ChangeParts) (step : Step) (pass joined : Seen) → IsKept k t → IsAccepted k base change
     → step ≡ record { epoch = base + 1; change = change } → pass.history ≡ k.pass.history ++ step ∷ [] → joined.row ≡ k.pass.row
     → joined.history ≡ longer k.pass.history pass.history → IsSealed k base change joined
 sealed k t base change step pass joined kept ok is more row join =

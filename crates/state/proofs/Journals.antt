@@ -8,7 +8,7 @@ use Rattle.epochlog.specs.Epochs.{Line, Seen, longer, last_epoch, epoch_of}
 use Rattle.pgtable.specs.Tables.{TableFacts, IsTableOf}
 use Rattle.std.proofs.lemmas.Bool.{eqb-true, ltb-true, ltb-false}
 use Rattle.refusal.specs.declared.refused.Refusal.TheVariants.{StaleEpoch, JournalFull}
-use Rattle.state.specs.States.{Kept, IsKept, opened, committed, longer_by, next_step, commit_fault, fault_in, unless}
+use Rattle.state.specs.States.{StateFacts, IsKept, opened, committed, longer_by, next_step, commit_fault, fault_in, unless}
 
 -- the map after one more
 pub after-snoc : (first : ClusterMap) (journal : List Step) (step : Step) → after first (journal ++ step ∷ []) ≡ apply (after first journal) step
@@ -59,11 +59,11 @@ longer-more xs x = elim (nat_lt (length xs) (length (xs ++ x ∷ []))) as (λ b.
 ] refl
 
 -- the present epoch is the one that the journal reaches
-pub epoch-kept : (k : Kept) (t : TableFacts) → IsKept k t → k.map.epoch ≡ epoch_after k.first k.pass.history
+pub epoch-kept : (k : StateFacts) (t : TableFacts) → IsKept k t → k.map.epoch ≡ epoch_after k.first k.pass.history
 epoch-kept k t kept = ap (λ (m : ClusterMap). m.epoch) kept.map ∙ epoch-after k.first k.pass.history kept.lawful
 
 -- the pass stands at the present epoch
-pub pass-epoch : (k : Kept) (t : TableFacts) → IsKept k t → epoch_of k.pass ≡ k.map.epoch
+pub pass-epoch : (k : StateFacts) (t : TableFacts) → IsKept k t → epoch_of k.pass ≡ k.map.epoch
 pass-epoch k t kept =
     ap (λ e. last_epoch e k.pass.history) kept.begins ∙ last_epoch-lawful k.first k.pass.history kept.lawful ∙ ap (λ (m : ClusterMap). m.epoch) (sym kept.map)
 
@@ -73,11 +73,11 @@ unfolding IsLawful
 IsKept-opened m row t runs begins table = record { lawful = tt; begins = begins; map = refl; table = table }
 
 -- the fact of a state does not look at its runs
-pub IsKept-ran : (k : Kept) (t : TableFacts) (runs : ℕ) → IsKept k t → IsKept (record k { runs = runs }) t
+pub IsKept-ran : (k : StateFacts) (t : TableFacts) (runs : ℕ) → IsKept k t → IsKept (record k { runs = runs }) t
 IsKept-ran k t runs kept = record { lawful = kept.lawful; begins = kept.begins; map = kept.map; table = kept.table }
 
 -- the fact of a state is kept by a commit that nothing refuses
-pub IsKept-committed : (k : Kept) (t t2 : TableFacts) (change : ChangeParts) (runs : ℕ) → IsKept k t → change_fault k.map change ≡ None
+pub IsKept-committed : (k : StateFacts) (t t2 : TableFacts) (change : ChangeParts) (runs : ℕ) → IsKept k t → change_fault k.map change ≡ None
     → IsTableOf t2 (apply k.map (next_step k.map change)) → IsKept (record (committed k change) { runs = runs }) t2
 IsKept-committed k t t2 change runs kept accepted table = record {
   lawful = IsLawful-snoc k.first k.pass.history (next_step k.map change) kept.lawful (ap (λ (m : ClusterMap). m.epoch + 1) kept.map)
@@ -88,13 +88,13 @@ IsKept-committed k t t2 change runs kept accepted table = record {
 }
 
 -- what holds where nothing refuses a commit
-pub record IsAccepted (k : Kept) (base : ℕ) (change : ChangeParts) : Type 0 where
+pub record IsAccepted (k : StateFacts) (base : ℕ) (change : ChangeParts) : Type 0 where
   pub current : base ≡ k.map.epoch
   pub fine : change_fault k.map change ≡ None
   pub room : length k.pass.history < length k.pass.row.cells
 
 -- where there is no fault
-pub accepted : (k : Kept) (base : ℕ) (change : ChangeParts) → fault_in k base change ≡ None → IsAccepted k base change
+pub accepted : (k : StateFacts) (base : ℕ) (change : ChangeParts) → fault_in k base change ≡ None → IsAccepted k base change
 unfolding commit_fault
 accepted k base change = elim (base == k.map.epoch) as (λ b. (base == k.map.epoch) ≡ b → (if not b then Some (StaleEpoch k.map.epoch) else unless (change_fault k.map change) (if nat_lt (length k.pass.history) (length k.pass.row.cells) then None else Some JournalFull)) ≡ None → IsAccepted k base change) [
   | false ↦ λ is none. absurd (let wrong : Some (StaleEpoch k.map.epoch) ≡ None = none in cc)
@@ -104,7 +104,7 @@ accepted k base change = elim (base == k.map.epoch) as (λ b. (base == k.map.epo
   ] refl none
 ] refl
   where
-    has_room : (k : Kept) → (if nat_lt (length k.pass.history) (length k.pass.row.cells) then None else Some JournalFull) ≡ None → length k.pass.history < length k.pass.row.cells
+    has_room : (k : StateFacts) → (if nat_lt (length k.pass.history) (length k.pass.row.cells) then None else Some JournalFull) ≡ None → length k.pass.history < length k.pass.row.cells
     has_room k = elim (nat_lt (length k.pass.history) (length k.pass.row.cells)) as (λ b. nat_lt (length k.pass.history) (length k.pass.row.cells) ≡ b → (if b then None else Some JournalFull) ≡ None → length k.pass.history < length k.pass.row.cells) [
       | true ↦ λ is none. ltb-true (length k.pass.history) (length k.pass.row.cells) is
       | false ↦ λ is wrong. absurd (let w : Some JournalFull ≡ None = wrong in cc)
@@ -126,10 +126,10 @@ shown_is before step shown joined at is place found =
     cc same
 
 -- the incremental of a commit
-pub step_is : (k : Kept) (base : ℕ) (change : ChangeParts) (step : Step) → base ≡ k.map.epoch → step ≡ record { epoch = base + 1; change = change }
+pub step_is : (k : StateFacts) (base : ℕ) (change : ChangeParts) (step : Step) → base ≡ k.map.epoch → step ≡ record { epoch = base + 1; change = change }
     → step ≡ next_step k.map change
 step_is k base change step current is = rw current at is
 
 -- a state with another pass and map, and other runs
-abbrev pub with_parts : Kept → Seen → ClusterMap → ℕ → Kept
+abbrev pub with_parts : StateFacts → Seen → ClusterMap → ℕ → StateFacts
 with_parts k pass m runs = record k { pass = pass; map = m; runs = runs }

@@ -5,14 +5,14 @@ use Rattle.refusal.specs.declared.refused.Refusal.TheVariants.{Memory as OutOfMe
 use Rattle.osdmap.specs.Maps.{ClusterMap}
 use Rattle.osdmap.specs.Evals.{evals_of}
 use Rattle.balancer.specs.Plans.{plan_fault, plan_change, plan_moves}
-use Rattle.state.specs.States.{Kept, fault_in, ran, committed, IsUnchanged, IsRefusedBy}
+use Rattle.state.specs.States.{StateFacts, fault_in, ran, committed, IsUnchanged, IsRefusedBy}
 
 -- how many moves the greedy plan has
 abbrev pub moves_in : ClusterMap → ℕ → ℕ → ℕ
 moves_in m pool limit = length (plan_moves m pool limit)
 
 -- nothing is moved, as no move is good; or the change of the greedy plan is committed to the present map
-abbrev pub IsBalanced : Kept → Kept → ℕ → ℕ → ℕ → Type 0
+abbrev pub IsBalanced : StateFacts → StateFacts → ℕ → ℕ → ℕ → Type 0
 IsBalanced old new pool limit epoch =
     ((moves_in old.map pool limit ≡ 0) × (epoch ≡ old.map.epoch) × (new ≡ old))
     ⊎ ((moves_in old.map pool limit ≢ 0) × (fault_in old old.map.epoch (plan_change old.map pool limit) ≡ None)
@@ -21,7 +21,7 @@ IsBalanced old new pool limit epoch =
 
 -- why there is no answer: what refuses the plan; else that memory was short, or where a move is good what refuses its
 -- commit
-abbrev pub IsUnbalanced : Kept → ℕ → ℕ → Refusal → Type 0
+abbrev pub IsUnbalanced : StateFacts → ℕ → ℕ → Refusal → Type 0
 IsUnbalanced old pool limit e =
     (plan_fault old.map pool ≡ Some e)
     ⊎ ((plan_fault old.map pool ≡ None)
@@ -31,7 +31,7 @@ IsUnbalanced old pool limit e =
 
 -- what balancing answers and leaves: the epoch then and the moves; or why there is no answer, and then nothing is
 -- changed
-abbrev pub Balances : Kept → Kept → ℕ → ℕ → Result (ℕ × ℕ) Refusal → Type 0
+abbrev pub Balances : StateFacts → StateFacts → ℕ → ℕ → Result (ℕ × ℕ) Refusal → Type 0
 Balances old new pool limit r =
     MatchResult r (λ ok. (plan_fault old.map pool ≡ None) × (ok.1 ≡ moves_in old.map pool limit)
     × IsBalanced old new pool limit ok.0)

@@ -21,7 +21,7 @@ max_epoch = max_first_epoch + max_capacity
 
 -- what callers see of a state: the first map, what its pass has seen, whose history is the journal, the present map,
 -- and how often rules were run for its tables
-pub record Kept : Type 0 where
+pub record StateFacts : Type 0 where
   pub first : ClusterMap
   pub pass : Seen
   pub map : ClusterMap
@@ -29,7 +29,7 @@ pub record Kept : Type 0 where
 
 -- the fact of every state: its journal is lawful from the first map, after whose epoch its row begins; its map is the
 -- first map with the journal applied in the order of epochs, without gaps; and its table is that of its map
-pub record IsKept (k : Kept) (t : TableFacts) : Type 0 where
+pub record IsKept (k : StateFacts) (t : TableFacts) : Type 0 where
   pub lawful : IsLawful k.first k.pass.history
   pub begins : k.pass.row.first ≡ k.first.epoch
   pub map : k.map ≡ after k.first k.pass.history
@@ -40,16 +40,16 @@ abbrev pub counted : ℕ → ℕ
 counted n = min n (2 ^ 64 - 1)
 
 -- a state at its beginning: its table took a run for each group
-abbrev pub opened : ClusterMap → Line → Kept
+abbrev pub opened : ClusterMap → Line → StateFacts
 opened m row =
     record { first = m; pass = record { row = row; history = [] }; map = m; runs = counted (total_groups m.pools) }
 
 -- a state after so many runs more
-abbrev pub ran : ℕ → Kept → Kept
+abbrev pub ran : ℕ → StateFacts → StateFacts
 ran n k = record k { runs = counted (k.runs + n) }
 
 -- nothing is changed but the count of runs
-abbrev pub IsUnchanged : Kept → Kept → Type 0
+abbrev pub IsUnchanged : StateFacts → StateFacts → Type 0
 IsUnchanged old new = new ≡ record old { runs = new.runs }
 
 -- ---- commits
@@ -70,8 +70,8 @@ commit_fault m done most base change =
     if not (base == m.epoch) then Some (StaleEpoch m.epoch)
     else unless (change_fault m change) (if nat_lt done most then None else Some JournalFull)
 
--- the same of a state
-abbrev pub fault_in : Kept → ℕ → ChangeParts → Option Refusal
+-- why a state refuses a commit, memory and the seal aside
+abbrev pub fault_in : StateFacts → ℕ → ChangeParts → Option Refusal
 fault_in k base change = commit_fault k.map (length k.pass.history) (length k.pass.row.cells) base change
 
 -- a pass that has seen one incremental more
@@ -79,7 +79,7 @@ abbrev pub longer_by : Seen → Step → Seen
 longer_by pass step = record pass { history = pass.history ++ step ∷ [] }
 
 -- the state after a commit, but for its runs
-abbrev pub committed : Kept → ChangeParts → Kept
+abbrev pub committed : StateFacts → ChangeParts → StateFacts
 committed k change =
     record k { pass = longer_by k.pass (next_step k.map change); map = apply k.map (next_step k.map change) }
 
@@ -95,7 +95,7 @@ IsDoneUnless r fault P =
 
 -- what a commit answers and leaves: where there is no fault the new epoch and the evaluations, a run for each, with the
 -- journal longer by the change; else the fault; and after a refusal nothing is changed
-abbrev pub Commits : Kept → Kept → ℕ → ChangeParts → Result (ℕ × ℕ) Refusal → Type 0
+abbrev pub Commits : StateFacts → StateFacts → ℕ → ChangeParts → Result (ℕ × ℕ) Refusal → Type 0
 Commits old new base change r =
     IsDoneUnless r (fault_in old base change) (λ ok. (new ≡ ran ok.1 (committed old change)) × (ok.0 ≡ base + 1)
     × (ok.1 ≡ evals_of new.map change))

@@ -1,5 +1,9 @@
 //! The state of a monitor: the first map, the journal of sealed epochs since, the present map and its table. All calls
 //! are those of one thread; the monitor above lends a state to many.
+//!
+//! - `state`: a state and its commits
+//! - `balancing`: a plan and its commit
+//! - `answers`: what is asked of a state
 #![tactic(auto)]
 
 mod answers;

@@ -28,9 +28,9 @@ pub struct State {
 }
 
 impl Model for State {
-    ghost use Rattle.state.specs.States.{Kept, IsKept};
+    ghost use Rattle.state.specs.States.{StateFacts, IsKept};
 
-    ghost Value = { Kept };
+    ghost Value = { StateFacts };
 
     ghost view = { λ s. record { first = s.first.map; pass = s.pass; map = s.map.map; runs = s.work.runs } };
 
