@@ -127,15 +127,15 @@ def moved(session: Session, pool: int, most: int) -> Plan:
     return Plan(int(answer.split(" ")[1]))
 
 
-def appended(old: Map, new: Map, pool: int) -> Pairs:
-    """The pairs that each group of a pool has in the one map beyond those in the other."""
+def appended(old: Map, new: Map) -> dict[int, Pairs]:
+    """By pool, the pairs that each group has in the one map beyond those in the other."""
     before = dict(old.get("pg_upmap_items", []))
-    found = {
-        group: pairs[len(before.get(group, [])) :]
-        for group, pairs in new["pg_upmap_items"]
-        if group.startswith(f"{pool}.")
-    }
-    return {group: pairs for group, pairs in found.items() if pairs}
+    found: dict[int, Pairs] = {}
+    for group, pairs in new["pg_upmap_items"]:
+        own = pairs[len(before.get(group, [])) :]
+        if own:
+            found.setdefault(place_of(group)[0], {})[group] = own
+    return found
 
 
 def taken_back(session: Session, old: Map, groups: list[str]) -> None:
@@ -161,7 +161,8 @@ def shortened(session: Session, value: Map, shares: Shares, pools: list[Pool], o
     """
     wholes = {pool["id"]: moved(session, pool["id"], MOST) for pool in pools}
     new, found = session.dump(), {}
-    plans = {pool["id"]: appended(value, new, pool["id"]) for pool in pools}
+    come = appended(value, new)
+    plans = {pool["id"]: come.get(pool["id"], {}) for pool in pools}
     taken_back(session, value, [group for plan in plans.values() for group in plan])
     for pool in pools:
         number, whole = pool["id"], wholes[pool["id"]]
@@ -305,11 +306,12 @@ def planned(
     ups = session.ups(changed(cluster.value, new))
     steps = steps_of(cluster, settled(session, new), before.ups, ups)
     left = with_empty_places(session, list(ups))
+    come = appended(cluster.value, new)
     after: dict[int, dict[str, Up]] = {pool["id"]: {} for pool in pools}
     for group in ups.keys() - set(left):
         after[place_of(group)[0]][group] = ups[group]
     for pool in pools:
-        plan = without(plans[pool["id"]], appended(cluster.value, new, pool["id"]), left)
+        plan = without(plans[pool["id"]], come.get(pool["id"], {}), left)
         name = named(cluster.names if options.names else {}, "pools", pool["id"])
         if plan.refusal and options.pool:
             raise Fault(f"{name}: {plan.refusal}")
