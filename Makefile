@@ -21,7 +21,7 @@ help:
 	@echo 'make test   the gate: every proof (from nothing the first time, later only what changed), the edits that must not prove,'
 	@echo '            the tests, then runs of the built program'
 	@echo 'make gate   the gate without the runs'
-	@echo 'make runs   the runs of the built program alone (four to five minutes)'
+	@echo 'make runs   the runs of the built program alone (four to seven minutes)'
 	@echo 'make bench  what the built program costs, as tables: placements beside plain C (cc, and valgrind for instructions), table, sessions, balancer, reading, tools for operators'
 	@echo '            OTHER=/another/osdmapd measures another build of it beside'
 
