@@ -140,7 +140,7 @@ def test_plans(tools):
             assert stock.answers(tools, after, [f"balance {pool} 1024"], "--stock")[0].startswith("moved 0 "), pool
     part, _ = ran(tools, "plan", *files, "--pool", "4")
     moves = [line for line in clusters.commands(output) if " 4." in line]
-    assert moves and [line for line in clusters.commands(part) if " 4." in line] == moves, part
+    assert moves and clusters.commands(part) == moves, part
     short, error = ran(tools, "plan", *files, "--pools", "4", "--deviation", "1")
     assert 0 < len(clusters.commands(short)) <= len(moves) and error.startswith("pool 4: "), (short, error)
     for words in (["--pool", "7"], ["--pools", "nobody"]):

@@ -20,7 +20,7 @@ from typing import NamedTuple
 from .bring import brought, monitor_of
 from .faults import Fault, Misuse
 from .greedy import Deviations, Pairs, moves_within
-from .kinds import Commands, Exceptions, Map, Names, Options, Pool, PoolSpread, PlanParts, altered
+from .kinds import Commands, Exceptions, Map, Names, Options, Pool, PoolSpread, PlanParts, altered, entries_of
 from .monitor import Monitor, Session, Up, groups_of
 from .net import settled
 from .scripts import Data, Script, Step, Weights, batches, data_in, file_of, put_batches, steps_by_pool, weights_of
@@ -271,6 +271,16 @@ def with_empty_places(session: Session, groups: list[str]) -> list[str]:
     return [group for group, up in session.ups(groups).items() if None in up.places]
 
 
+def in_old_order(old: Map, new: Map) -> Map:
+    """A new map in which a group has its pairs in the old one's order where they are the same pairs."""
+    kept: dict[str, list[list[int]]] = dict(entries_of(old, "pg_upmap_items"))
+    items = [
+        [group, kept[group] if sorted(kept.get(group, [])) == sorted(pairs) else pairs]
+        for group, pairs in entries_of(new, "pg_upmap_items")
+    ]
+    return altered(new, pg_upmap_items=items)
+
+
 def by_group(lines: list[str]) -> dict[str, list[str]]:
     """The commands of each group."""
     found: dict[str, list[str]] = {}
@@ -304,7 +314,7 @@ def planned(
         plans = shortened(session, cluster.value, before, pools, options)
     new, found = session.dump(), []
     ups = session.ups(changed(cluster.value, new))
-    steps = steps_of(cluster, settled(session, new), before.ups, ups)
+    steps = steps_of(cluster, in_old_order(cluster.value, settled(session, new)), before.ups, ups)
     left = with_empty_places(session, list(ups))
     come = appended(cluster.value, new)
     after: dict[int, dict[str, Up]] = {pool["id"]: {} for pool in pools}
