@@ -122,11 +122,12 @@ class Weights(NamedTuple):
         gone: Counter[int] = Counter()
         size: dict[tuple[int, bool], float] = {}
         for step in steps:
+            place = self.places.get(step.pool, 0.0)
             for counts, osds in ((come, step.comes()), (gone, step.leaves())):
-                counts.update(osds)
                 for osd in osds:
+                    counts[osd] += 1
                     key = osd, counts is come
-                    size[key] = size.get(key, 0.0) + self.places.get(step.pool, 0.0)
+                    size[key] = size.get(key, 0.0) + place
         is_told = self.total is not None
         return [
             {
