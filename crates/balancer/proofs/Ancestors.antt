@@ -8,7 +8,7 @@ use Rattle.std.proofs.lemmas.Bool.{cases_Bool, and_parts, and_from, eqb-true}
 use Rattle.std.proofs.lemmas.Bool.Decides.{Decides-int_eq}
 use Rattle.keylist.proofs.Counts.{find-place}
 use Rattle.keylist.proofs.KeyedFinds.{find-none}
-use Rattle.crush.specs.declared.bucket.Bucket.{Bucket}
+use Rattle.buckets.specs.declared.bucket.Bucket.{Bucket}
 use Rattle.crush.specs.Forest.{bucket_at, level_of}
 use Rattle.crush.specs.Paths.{has_item, is_above, IsAncestor}
 use Rattle.crush.specs.WellFormed.{IsForest}

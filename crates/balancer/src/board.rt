@@ -1,7 +1,7 @@
 //! The state of a plan: the groups of a pool and the deviations of OSDs after the moves so far.
 
 ghost use Rattle.std.specs.Prelude.{◌≡◌, ◌*◌, ◌+◌, ◌<◌, ◌≤◌, ◌^◌, pos, ◌-ℤ◌, length, Some, IfOk};
-ghost use Rattle.crush.specs.Limits.{max_devices};
+ghost use Rattle.buckets.specs.Limits.{max_devices};
 ghost use Rattle.stated.specs.Limits.{max_groups};
 ghost use Rattle.osdmap.specs.Maps.{pool_at};
 ghost use Rattle.pgtable.specs.Tables.{IsTableOf};

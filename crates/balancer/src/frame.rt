@@ -1,7 +1,7 @@
 //! What a plan goes by and no move changes.
 
 ghost use Rattle.std.specs.Prelude.{◌≡◌, ◌≤◌, ◌^◌, length, Some, IfOk};
-ghost use Rattle.crush.specs.Limits.{max_devices};
+ghost use Rattle.buckets.specs.Limits.{max_devices};
 ghost use Rattle.osdmap.specs.Maps.{pool_at};
 ghost use Rattle.std.specs.List.{list_all};
 ghost use Rattle.osdmap.specs.Placement.{steps_of};

@@ -4,7 +4,8 @@ ghost use Rattle.std.specs.Prelude.{◌≡◌, ◌*◌, ◌≤◌, ◌<◌, ◌^
 ghost use Rattle.std.specs.List.{find, sum_by};
 ghost use Rattle.std.specs.Option.{option_copied};
 ghost use Rattle.std.specs.Ordering.{int_eq};
-ghost use Rattle.crush.specs.Limits.{max_devices, full_weight};
+ghost use Rattle.crush.specs.Limits.{full_weight};
+ghost use Rattle.buckets.specs.Limits.{max_devices};
 ghost use Rattle.crush.specs.Paths as paths;
 ghost use Rattle.stated.specs.Limits.{max_groups};
 ghost use Rattle.osdmap.specs.Maps.{pool_at, osd_exists, osd_is_up};
@@ -14,7 +15,7 @@ ghost use Rattle.pgtable.specs.Index.{count_in};
 ghost use Rattle.pgtable.specs.Tables.{IsTableOf};
 ghost use Rattle.balancer.specs.Shares.{is_candidate, osds_of, candidate_osds, item_weight, weight_in_map};
 
-use crush::{Bucket, Item};
+use buckets::{Bucket, Item};
 use osdmap::{OsdMap, Pool};
 use pgtable::PgTable;
 use refusal::Memory;

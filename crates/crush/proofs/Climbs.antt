@@ -8,12 +8,13 @@ use Rattle.std.proofs.lemmas.Int.{ints}
 use Rattle.std.proofs.lemmas.List.Folds.{Any-from_list_any}
 use Rattle.std.proofs.lemmas.List.Sums.{sum_by-le-sum_by}
 use Rattle.std.proofs.lemmas.Option.{none-some, same_Some}
-use Rattle.crush.specs.declared.bucket.Bucket.{Bucket}
-use Rattle.crush.specs.declared.bucket.Item.{Item}
+use Rattle.buckets.specs.declared.bucket.Bucket.{Bucket}
+use Rattle.buckets.specs.declared.bucket.Item.{Item}
 use Rattle.crush.specs.Forest.{bucket_at, level_of}
 use Rattle.crush.specs.Paths.{has_item, is_above, IsAncestor}
 use Rattle.crush.proofs.Above.{IsItemOf, IsPath, IsAbove, some-and, and-some, above-found, path-listed}
-use Rattle.crush.specs.WellFormed.{item_limits_ok, bucket_limits_ok, buckets_with, times_in, is_known, IsForest}
+use Rattle.crush.specs.WellFormed.{buckets_with, times_in, is_known, IsForest}
+use Rattle.buckets.specs.Buckets.{item_limits_ok, bucket_limits_ok}
 use Rattle.crush.proofs.ForestLimits.{limits-each, limits-level}
 use Rattle.keylist.proofs.Counts.{count_by-some, find-place, find-one}
 use Rattle.crush.proofs.IdSearches.{int_eq-yes}

@@ -2,10 +2,10 @@
 use Rattle.std.proofs.Common.{◌≡◌, ◌≢◌, ℕ, zero, suc, ◌+◌, ◌-◌, ◌<◌, ◌≤◌, ℤ, cond, eqb, Option, Some, None, sym, ap, ◌∙◌, arith}
 use Rattle.std.specs.Option.{option_and_then, option_map_or}
 use Rattle.std.proofs.lemmas.Bool.{eq-eqb, ne_eqb}
-use Rattle.crush.specs.declared.bucket.Bucket.{Bucket}
+use Rattle.buckets.specs.declared.bucket.Bucket.{Bucket}
 use Rattle.crush.specs.declared.choose.Picked.{Picked}
 use Rattle.crush.specs.Forest.{bucket_at, level_of}
-use Rattle.crush.specs.Pick.{pick_of}
+use Rattle.buckets.specs.Pick.{pick_of}
 use Rattle.crush.specs.World.{World}
 use Rattle.crush.specs.Indep.{replica_number}
 use Rattle.crush.specs.Descent.{descent}

@@ -3,9 +3,12 @@ use Rattle.std.proofs.Common.{◌≡◌, ℕ, ◌<◌, ◌≤◌, true, ◌&&◌
 use Rattle.std.specs.List.{list_all}
 use Rattle.std.proofs.lemmas.Bool.{and_parts, and_from, ltb-true, lt-ltb}
 use Rattle.std.proofs.lemmas.Bool.Decides.{nat_tests}
-use Rattle.crush.specs.declared.bucket.Bucket.{Bucket}
-use Rattle.crush.specs.Forest.{level_of, most_items}
-use Rattle.crush.specs.WellFormed.{is_within, bucket_limits_ok, forest_limits_ok, is_known, has_items_below}
+use Rattle.buckets.specs.declared.bucket.Bucket.{Bucket}
+use Rattle.crush.specs.Forest.{level_of}
+use Rattle.buckets.specs.Kinds.{most_items}
+use Rattle.crush.specs.WellFormed.{forest_limits_ok, is_known, has_items_below}
+use Rattle.buckets.specs.Limits.{is_within}
+use Rattle.buckets.specs.Buckets.{bucket_limits_ok}
 use Rattle.crush.proofs.ItemMarks.{no_item}
 use Rattle.crush.proofs.IdSearches.{no_bucket}
 use Rattle.keylist.proofs.Each.{list_all-at, list_all-from}

@@ -1,7 +1,7 @@
 -- Where no position is open, further rounds change nothing.
 use Rattle.std.proofs.Common.{◌≡◌, ℕ, zero, suc, ◌≤◌, Bool, true, false, cond, ◌||◌, List, [], ◌∷◌, length, get_or, set, ap, refl}
 use Rattle.std.specs.List.{fold, list_any, range_with_len}
-use Rattle.crush.specs.declared.bucket.Bucket.{Bucket}
+use Rattle.buckets.specs.declared.bucket.Bucket.{Bucket}
 use Rattle.crush.specs.declared.choose.Position.{Position}
 use Rattle.crush.specs.declared.choose.Position.TheVariants.{Hole}
 use Rattle.crush.specs.Choosing.{Choosing}

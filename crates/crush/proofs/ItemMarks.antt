@@ -11,8 +11,8 @@ use Rattle.std.proofs.lemmas.List.Folds.{find_at, list_all_at}
 use Rattle.std.proofs.lemmas.List.Sums.{sum_by_more, sum_by_more_le, get_or-le-sum_by, passes_at_first}
 use Rattle.std.proofs.lemmas.Option.{slice_get_past}
 use mir.Val.{SFits}
-use Rattle.crush.specs.declared.bucket.Bucket.{Bucket}
-use Rattle.crush.specs.declared.bucket.Item.{Item}
+use Rattle.buckets.specs.declared.bucket.Bucket.{Bucket}
+use Rattle.buckets.specs.declared.bucket.Item.{Item}
 use Rattle.crush.specs.Forest.{bucket_at, level_of}
 use Rattle.crush.specs.Slots.{slot, marks}
 use Rattle.crush.specs.WellFormed.{is_known, times_in, has_items_below, has_items_once}

@@ -1,10 +1,4 @@
 pub mod Rounds
-pub mod UniformDraws
-pub mod HashWords
-pub mod TreeWalks
-pub mod ListWinners
-pub mod Logarithms
-pub mod Straws
 pub mod Descents
 pub mod LeafTries
 pub mod ReplicaTries
@@ -21,6 +15,5 @@ pub mod PickableBuckets
 pub mod IdSearches
 pub mod LastSteps
 pub mod Sorted
-pub mod EvenWeights
 pub mod IdleRounds
 pub mod ParentPlaces

@@ -3,7 +3,7 @@ use Rattle.std.proofs.Common.{◌≡◌, ℕ, ◌<◌, true, false, List, length
 use Rattle.std.proofs.lemmas.Bool.{and_parts, and_from, both_ways}
 use Rattle.std.proofs.lemmas.Int.{ints, by_lt_z}
 use Rattle.std.proofs.lemmas.List.{get_or_default}
-use Rattle.crush.specs.declared.bucket.Bucket.{Bucket}
+use Rattle.buckets.specs.declared.bucket.Bucket.{Bucket}
 use Rattle.refusal.specs.declared.refused.Refusal.TheVariants.{BadForest}
 use Rattle.refusal.specs.Outcomes.{refused_unless}
 use Rattle.crush.specs.WellFormed.{forest_limits_ok, has_own_ids, forest_ok, IsForest, IsDescending, IsNotAscending}

@@ -7,7 +7,7 @@ use Rattle.std.proofs.lemmas.Bool.{cases_lt}
 use Rattle.std.proofs.lemmas.Bool.Decides.{nat_tests}
 use Rattle.std.proofs.lemmas.Int.{ints}
 use Rattle.std.proofs.lemmas.List.Folds.{list_all_at}
-use Rattle.crush.specs.declared.bucket.Bucket.{Bucket}
+use Rattle.buckets.specs.declared.bucket.Bucket.{Bucket}
 use Rattle.crush.specs.WellFormed.{buckets_with, has_own_ids, IsDescending, IsNotAscending}
 use Rattle.keylist.proofs.Counts.{count_by-two, count_by-one}
 use Rattle.crush.proofs.IdSearches.{no_bucket, int_eq-yes, int_eq-no}

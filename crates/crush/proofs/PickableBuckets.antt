@@ -10,12 +10,16 @@ use Rattle.std.proofs.lemmas.Bool.{and_parts, ltb-true}
 use Rattle.std.proofs.lemmas.Option.{gets}
 use Rattle.std.proofs.lemmas.List.Folds.{find_at}
 use Rattle.std.proofs.lemmas.List.Sums.{get_or-le-sum_by}
-use Rattle.crush.specs.declared.bucket.Bucket.{Bucket}
-use Rattle.crush.specs.declared.bucket.BucketKind.{BucketKind}
-use Rattle.crush.specs.declared.bucket.BucketKind.TheVariants.{Uniform, List as InList, Tree, Straw2}
-use Rattle.crush.specs.declared.bucket.Item.{Item}
-use Rattle.crush.specs.Forest.{bucket_at, weight_of, most_items, IsPickable}
-use Rattle.crush.specs.WellFormed.{item_limits_ok, bucket_limits_ok, weights_ok, is_within, IsForest}
+use Rattle.buckets.specs.declared.bucket.Bucket.{Bucket}
+use Rattle.buckets.specs.declared.bucket.BucketKind.{BucketKind}
+use Rattle.buckets.specs.declared.bucket.BucketKind.TheVariants.{Uniform, List as InList, Tree, Straw2}
+use Rattle.buckets.specs.declared.bucket.Item.{Item}
+use Rattle.crush.specs.Forest.{bucket_at}
+use Rattle.buckets.specs.Items.{weight_of}
+use Rattle.buckets.specs.Kinds.{most_items}
+use Rattle.buckets.specs.Buckets.{IsPickable, item_limits_ok, bucket_limits_ok, weights_ok}
+use Rattle.crush.specs.WellFormed.{IsForest}
+use Rattle.buckets.specs.Limits.{is_within}
 use Rattle.keylist.proofs.Counts.{find-place}
 use Rattle.keylist.proofs.Each.{list_all-at}
 

@@ -1,6 +1,6 @@
 -- The segment that a choose step gives below one bucket.
 use Rattle.std.proofs.Common.{◌≡◌, ℕ, ◌-◌, List, ◌++◌, map, length, min, Option, Some, ℤ, sym, ap, ◌∙◌}
-use Rattle.crush.specs.declared.bucket.Bucket.{Bucket}
+use Rattle.buckets.specs.declared.bucket.Bucket.{Bucket}
 use Rattle.crush.specs.declared.choose.Choice.{Choice}
 use Rattle.crush.specs.declared.choose.Position.{Position}
 use Rattle.crush.specs.declared.step.Mode.TheVariants.{Firstn, Indep}

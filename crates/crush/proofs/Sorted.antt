@@ -9,9 +9,10 @@ use Rattle.std.proofs.lemmas.List.Sorted.{IsPermutation-sym, All-permutation, Co
 use Rattle.std.proofs.lemmas.List.Sums.{AllPass-from_list_all, list_all-from_AllPass}
 use Rattle.std.specs.Cmp.{int_cmp_total}
 use Rattle.std.specs.List.Sorted.{IsSortedBy}
-use Rattle.crush.specs.declared.bucket.Bucket.{Bucket}
+use Rattle.buckets.specs.declared.bucket.Bucket.{Bucket}
 use Rattle.crush.specs.Forest.{bucket_at}
-use Rattle.crush.specs.WellFormed.{bucket_limits_ok, forest_limits_ok, buckets_with, times_in, has_own_ids, is_known, has_items_below, has_items_once, weights_ok, forest_ok, IsNotAscending}
+use Rattle.crush.specs.WellFormed.{forest_limits_ok, buckets_with, times_in, has_own_ids, is_known, has_items_below, has_items_once, forest_ok, IsNotAscending}
+use Rattle.buckets.specs.Buckets.{bucket_limits_ok, weights_ok}
 use Rattle.keylist.proofs.Counts.{find-place, find-one}
 use Rattle.keylist.proofs.Each.{list_all-at, same_tests}
 

@@ -2,10 +2,10 @@
 -- crush_choose_indep).
 use Rattle.std.specs.Prelude.{ℕ, zero, suc, ℤ, Bool, List, ◌==◌, Option, Some, None, option_and_then, option_map, if◌then◌else◌}
 use Rattle.std.specs.List.{find, filter_map}
-use Rattle.crush.specs.declared.bucket.Bucket.{Bucket}
+use Rattle.buckets.specs.declared.bucket.Bucket.{Bucket}
 use Rattle.crush.specs.declared.choose.Picked.{Picked}
 use Rattle.crush.specs.Forest.{bucket_at, level_of}
-use Rattle.crush.specs.Pick.{pick_of}
+use Rattle.buckets.specs.Pick.{pick_of}
 use Rattle.crush.specs.World.{World}
 
 -- the item of the wanted type to which the picks lead from bucket b, and the replica number with which it was picked,

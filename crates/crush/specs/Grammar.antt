@@ -3,7 +3,7 @@
 use Rattle.std.specs.Prelude.{Bool, true, false, IsTrue, ◌&&◌, nat_le, nat_lt, ◌-◌, ◌==◌, not, slice_get, take, List, [], ◌∷◌, length, if◌then◌else◌, Option, Some, is_some}
 use Rattle.std.specs.List.{list_all, slice_split}
 use Rattle.std.specs.Option.{option_map_or}
-use Rattle.crush.specs.declared.bucket.Bucket.{Bucket}
+use Rattle.buckets.specs.declared.bucket.Bucket.{Bucket}
 use Rattle.crush.specs.declared.step.Choose.{Choose}
 use Rattle.crush.specs.declared.step.Mode.{Mode}
 use Rattle.crush.specs.declared.step.Mode.TheVariants.{Firstn, Indep}
@@ -15,8 +15,9 @@ use Rattle.refusal.specs.declared.refused.Refusal.{Refusal}
 use Rattle.refusal.specs.declared.refused.Refusal.TheVariants.{BadLimit, BadRule}
 use Rattle.refusal.specs.Outcomes.{refused_unless}
 use Rattle.crush.specs.Forest.{bucket_at}
-use Rattle.crush.specs.Limits.{max_level, max_steps, max_count, max_tries}
-use Rattle.crush.specs.WellFormed.{is_within, is_bucket_id}
+use Rattle.crush.specs.Limits.{max_steps, max_count, max_tries}
+use Rattle.buckets.specs.Limits.{max_level, is_within}
+use Rattle.buckets.specs.Buckets.{is_bucket_id}
 
 -- a step within the limits: it takes an id that a bucket may have, chooses items, no more than the most, of a type up
 -- to the highest, or sets tries, no more than the most

@@ -1,24 +1,15 @@
 -- Choosing items that keep their positions (CRUSH paper, section 3.2.2; Ceph, mapper.c, crush_choose_indep).
-use Rattle.std.specs.Prelude.{ℕ, ◌+◌, ◌*◌, ◌%◌, ℤ, Bool, true, false, not, ◌&&◌, List, length, map, replicate, slice_index_or, slice_set, ◌==◌, Option, Some, None, if◌then◌else◌}
+use Rattle.std.specs.Prelude.{ℕ, ◌+◌, ◌*◌, ℤ, Bool, true, false, not, ◌&&◌, List, length, map, replicate, slice_index_or, slice_set, ◌==◌, Option, Some, None, if◌then◌else◌}
 use Rattle.std.specs.List.{range_with_len, list_any, fold}
 use Rattle.std.specs.Ordering.{int_eq}
-use Rattle.crush.specs.declared.bucket.Bucket.{Bucket}
-use Rattle.crush.specs.declared.bucket.BucketKind.{BucketKind}
-use Rattle.crush.specs.declared.bucket.BucketKind.TheVariants.{Uniform, List as InList, Tree as InTree, Straw2}
+use Rattle.buckets.specs.declared.bucket.Bucket.{Bucket}
+use Rattle.buckets.specs.Kinds.{stride_by}
 use Rattle.crush.specs.declared.choose.Picked.{Picked}
 use Rattle.crush.specs.declared.choose.Position.{Position}
 use Rattle.crush.specs.declared.choose.Position.TheVariants.{Open, Hole, Filled}
 use Rattle.crush.specs.Choosing.{Choosing}
 use Rattle.crush.specs.World.{World, is_out}
 use Rattle.crush.specs.Descent.{item_below, leaf_below}
-
--- how far the replica number goes on each round: numrep, and one more inside a uniform bucket whose size numrep
--- divides, so that the rounds meet each place
-abbrev pub stride_by : BucketKind → ℕ → ℕ → ℕ
-stride_by Uniform numrep size = if size % numrep == 0 then numrep + 1 else numrep
-stride_by InList numrep size = numrep
-stride_by InTree numrep size = numrep
-stride_by Straw2 numrep size = numrep
 
 -- the replica number of a round at a bucket, on top of `base`
 unfoldable pub replica_number : ℕ → ℕ → ℕ → Bucket → ℕ

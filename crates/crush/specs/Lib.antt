@@ -4,15 +4,6 @@ pub mod Grammar
 pub mod Order
 pub mod Paths
 pub mod Rules
-pub mod Items
-pub mod Uniform
-pub mod Listed
-pub mod Tree
-pub mod Walks
-pub mod Logarithm
-pub mod Straw2
-pub mod Straws
-pub mod Pick
 pub mod World
 pub mod Remembered
 pub mod Placed

@@ -1,5 +1,5 @@
 -- The limits of forests, of rules, and of the pools that rules serve, each by the one name that clauses cite.
-use Rattle.std.specs.Prelude.{ℕ, ℤ, pos, neg_ℤ}
+use Rattle.std.specs.Prelude.{ℕ}
 
 -- the most buckets of a forest
 abbrev pub max_buckets : ℕ
@@ -8,25 +8,6 @@ max_buckets = 4096
 -- the most of a plain cluster's
 abbrev pub plain_buckets : ℕ
 plain_buckets = 512
-
--- the lowest id of a bucket
-abbrev pub lowest_bucket : ℤ
-lowest_bucket = neg_ℤ (pos 65536)
-
--- the highest type of a bucket
-abbrev pub max_level : ℕ
-max_level = 15
-
--- the most items of a bucket, and of a straw2 bucket
-abbrev pub max_items : ℕ
-max_items = 64
-
-abbrev pub max_straws : ℕ
-max_straws = 1024
-
--- the most devices
-abbrev pub max_devices : ℕ
-max_devices = 1024
 
 -- the most steps of a rule
 abbrev pub max_steps : ℕ

@@ -1,6 +1,6 @@
 -- The order of a forest's buckets: by id, from -1 downwards.
 use Rattle.std.specs.Prelude.{int_lt, List, [], ◌∷◌, if◌then◌else◌}
-use Rattle.crush.specs.declared.bucket.Bucket.{Bucket}
+use Rattle.buckets.specs.declared.bucket.Bucket.{Bucket}
 
 -- a bucket put before the first that has a lower id
 abbrev pub put_by_id : Bucket → List Bucket → List Bucket

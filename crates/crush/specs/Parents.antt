@@ -1,8 +1,8 @@
 -- Where the bucket of each item stands in a forest.
 use Rattle.std.specs.Prelude.{◌≡◌, ℕ, ℤ, List, IsTrue, slice_index, slice_get}
 use Rattle.std.specs.List.{find}
-use Rattle.crush.specs.declared.bucket.Bucket.{Bucket}
-use Rattle.crush.specs.Limits.{max_devices}
+use Rattle.buckets.specs.declared.bucket.Bucket.{Bucket}
+use Rattle.buckets.specs.Limits.{max_devices}
 use Rattle.crush.specs.Paths.{has_item}
 use Rattle.crush.specs.Slots.{slot}
 use Rattle.crush.specs.WellFormed.{is_known}

@@ -4,11 +4,11 @@ use Rattle.std.specs.Prelude.{◌≡◌, ℕ, zero, suc, Bool, false, ◌&&◌, 
 use Rattle.std.specs.List.{list_any, flat_map}
 use Rattle.std.specs.Option.{option_map_or}
 use Rattle.std.specs.Ordering.{int_eq}
-use Rattle.crush.specs.declared.bucket.Bucket.{Bucket}
+use Rattle.buckets.specs.declared.bucket.Bucket.{Bucket}
 use Rattle.crush.specs.declared.step.Step.{Step}
 use Rattle.crush.specs.declared.step.Step.TheVariants as step
 use Rattle.crush.specs.Forest.{bucket_at, level_of}
-use Rattle.crush.specs.Limits.{max_level}
+use Rattle.buckets.specs.Limits.{max_level}
 
 -- whether a bucket has an item
 abbrev pub has_item : ℤ → Bucket → Bool

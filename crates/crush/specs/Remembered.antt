@@ -1,10 +1,10 @@
 -- The picks that a run of a rule remembers.
 use Rattle.std.specs.Prelude.{◌≡◌, ℕ, Some, None, IsTrue, slice_index_or}
-use Rattle.crush.specs.declared.bucket.Bucket.{Bucket}
+use Rattle.buckets.specs.declared.bucket.Bucket.{Bucket}
 use Rattle.crush.specs.declared.remembered.Kept.{Kept}
 use Rattle.crush.specs.declared.remembered.Picks.{Picks}
 use Rattle.crush.specs.Forest.{bucket_at}
-use Rattle.crush.specs.Pick.{pick_of}
+use Rattle.buckets.specs.Pick.{pick_of}
 use Rattle.crush.specs.World.{World}
 
 -- the item is the one that the bucket of that id picks with that replica number

@@ -1,7 +1,7 @@
 -- The run of a rule (CRUSH paper, algorithm 1; Ceph, mapper.c, crush_do_rule).
 use Rattle.std.specs.Prelude.{ℕ, ◌-◌, ℤ, List, [], ◌∷◌, ◌++◌, length, map, take, min, ◌==◌, Option, Some, None, if◌then◌else◌}
 use Rattle.std.specs.List.{fold}
-use Rattle.crush.specs.declared.bucket.Bucket.{Bucket}
+use Rattle.buckets.specs.declared.bucket.Bucket.{Bucket}
 use Rattle.crush.specs.declared.choose.Tries.{Tries}
 use Rattle.crush.specs.declared.step.Choose.{Choose}
 use Rattle.crush.specs.declared.step.Mode.{Mode}

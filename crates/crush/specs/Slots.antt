@@ -2,8 +2,9 @@
 use Rattle.std.specs.Prelude.{ℕ, ◌+◌, Bool, false, ℤ, pos, negsuc, List, slice_index_or, if◌then◌else◌}
 use Rattle.std.specs.Ordering.{int_eq}
 use Rattle.std.specs.List.{position_or_len}
-use Rattle.crush.specs.declared.bucket.Bucket.{Bucket}
-use Rattle.crush.specs.Limits.{max_buckets, max_devices}
+use Rattle.buckets.specs.declared.bucket.Bucket.{Bucket}
+use Rattle.crush.specs.Limits.{max_buckets}
+use Rattle.buckets.specs.Limits.{max_devices}
 
 -- how many numbers there are
 abbrev pub slots : ℕ

@@ -1,6 +1,6 @@
 -- The tries of a replica that are known to fail.
 use Rattle.std.specs.Prelude.{◌≡◌, ℕ, ◌<◌, ◌≤◌, List}
-use Rattle.crush.specs.declared.bucket.Bucket.{Bucket}
+use Rattle.buckets.specs.declared.bucket.Bucket.{Bucket}
 use Rattle.crush.specs.declared.choose.Attempt.TheVariants.{Failed}
 use Rattle.crush.specs.declared.choose.Choice.{Choice}
 use Rattle.crush.specs.Choosing.{Choosing}

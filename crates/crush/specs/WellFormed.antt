@@ -1,36 +1,17 @@
 -- Which lists of buckets are forests: the limits, and when a forest is well formed (CRUSH paper, SC 2006, section 3.3;
 -- Ceph, crush.h and builder.c).
-use Rattle.std.specs.Prelude.{ℕ, ◌^◌, Bool, IsTrue, ◌&&◌, ◌<ℤ◌, ◌≤ℤ◌, ℤ, pos, negsuc, int_le, int_lt, nat_le, nat_lt, ◌==◌, List, length, count_by, if◌then◌else◌, Option, Some, is_some}
+use Rattle.std.specs.Prelude.{ℕ, Bool, IsTrue, ◌&&◌, ◌<ℤ◌, ◌≤ℤ◌, ℤ, pos, negsuc, nat_le, nat_lt, ◌==◌, List, length, count_by, if◌then◌else◌, Option, Some, is_some}
 use Rattle.std.specs.Ordering.{int_eq}
 use Rattle.std.specs.List.{sum_by, list_all, AllPairs}
-use Rattle.crush.specs.declared.bucket.Item.{Item}
-use Rattle.crush.specs.declared.bucket.Bucket.{Bucket}
-use Rattle.crush.specs.declared.bucket.BucketKind.{BucketKind}
-use Rattle.crush.specs.declared.bucket.BucketKind.TheVariants.{Uniform, List as InList, Tree, Straw2}
+use Rattle.buckets.specs.declared.bucket.Item.{Item}
+use Rattle.buckets.specs.declared.bucket.Bucket.{Bucket}
 use Rattle.refusal.specs.declared.refused.Refusal.{Refusal}
 use Rattle.refusal.specs.declared.refused.Refusal.TheVariants.{BadLimit, BadForest}
 use Rattle.refusal.specs.Outcomes.{refused_unless}
-use Rattle.crush.specs.Forest.{bucket_at, level_of, weight_of, most_items}
-use Rattle.crush.specs.Limits.{max_buckets, plain_buckets, lowest_bucket, max_level, max_items, max_devices}
-
--- a number from low to high
-abbrev pub is_within : ℕ → ℕ → ℕ → Bool
-is_within low high n = nat_le low n && nat_le n high
-
--- an id that a bucket may have: from -1 down to the lowest
-abbrev pub is_bucket_id : ℤ → Bool
-is_bucket_id id = int_le lowest_bucket id && int_lt id (pos 0)
-
--- an item within the limits: an id that a bucket or a device may have, of a weight from 1 on; its type ends the weight
--- at 4,294,967,295
-abbrev pub item_limits_ok : Item → Bool
-item_limits_ok i = int_le lowest_bucket i.id && int_lt i.id (pos max_devices) && nat_lt 0 i.weight
-
--- a bucket within the limits: of a type from 1 to the highest, with items, no more than the most of its kind
-abbrev pub bucket_limits_ok : Bucket → Bool
-bucket_limits_ok b =
-    is_bucket_id b.id && is_within 1 max_level b.level && is_within 1 (most_items b.kind) (length b.items)
-    && list_all item_limits_ok b.items
+use Rattle.crush.specs.Forest.{bucket_at, level_of}
+use Rattle.buckets.specs.Buckets.{bucket_limits_ok, is_plain_bucket, weights_ok}
+use Rattle.buckets.specs.Limits.{is_within, max_devices}
+use Rattle.crush.specs.Limits.{max_buckets, plain_buckets}
 
 -- a forest within the limits: buckets, no more than the most, over devices, no more than the most
 abbrev pub forest_limits_ok : List Bucket → ℕ → Bool
@@ -66,17 +47,6 @@ has_items_below buckets max_osd = list_all (λ b. list_all (is_item_ok buckets m
 abbrev pub has_items_once : List Bucket → Bool
 has_items_once buckets = list_all (λ b. list_all (λ i. times_in buckets i.id == 1) b.items) buckets
 
--- no two items weigh differently
-abbrev pub is_even : List Item → Bool
-is_even items = list_all (λ i. list_all (λ j. i.weight == j.weight) items) items
-
--- weights that add up to a word, in a uniform bucket all the same
-abbrev pub weights_ok : BucketKind → List Item → Bool
-weights_ok Uniform items = nat_lt (weight_of items) (2 ^ 32) && is_even items
-weights_ok InList items = nat_lt (weight_of items) (2 ^ 32)
-weights_ok Tree items = nat_lt (weight_of items) (2 ^ 32)
-weights_ok Straw2 items = nat_lt (weight_of items) (2 ^ 32)
-
 -- a well-formed forest
 abbrev pub forest_ok : List Bucket → ℕ → Bool
 forest_ok buckets max_osd =
@@ -98,9 +68,6 @@ pub record IsForest (buckets : List Bucket) : Type 0 where
   pub lawful : IsTrue (forest_ok buckets max_devices)
 
 -- a forest as plain clusters have them: no more buckets, and no more items of one
-abbrev pub is_plain_bucket : Bucket → Bool
-is_plain_bucket b = nat_le (length b.items) max_items
-
 abbrev pub is_plain_forest : List Bucket → Bool
 is_plain_forest buckets = nat_le (length buckets) plain_buckets && list_all is_plain_bucket buckets
 

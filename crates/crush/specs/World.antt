@@ -1,8 +1,8 @@
 -- What a placement goes by, and which devices are out (Ceph, mapper.c, is_out).
 use Rattle.std.specs.Prelude.{ℕ, ◌%◌, ℤ, Bool, ◌&&◌, List, slice_index, nat_lt, nat_le}
 use Rattle.rjenkins.specs.Jenkins.{hash2_of}
-use Rattle.crush.specs.declared.bucket.Bucket.{Bucket}
-use Rattle.crush.specs.Forest.{word}
+use Rattle.buckets.specs.declared.bucket.Bucket.{Bucket}
+use Rattle.buckets.specs.Items.{word}
 use Rattle.crush.specs.Limits.{full_weight}
 
 -- the buckets, the reweights of the devices by number, and the input

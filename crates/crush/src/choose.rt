@@ -1,6 +1,6 @@
 //! What choosing goes by and comes to.
 
-use crate::bucket::{Bucket, BucketKind};
+use buckets::Bucket;
 
 /// How often a choose step tries.
 #[derive(Clone, Copy, Debug)]
@@ -60,21 +60,8 @@ pub(crate) struct Draw {
 }
 
 impl Draw {
-    ghost use Rattle.std.specs.Prelude.{◌≡◌, ◌+◌, ◌*◌, ◌^◌, ◌<◌, ◌≤◌, length};
-    ghost use Rattle.crush.specs.Indep.{replica_number, stride_by};
-
-    /// How far the replica number goes on each round.
-    fn stride(self, bucket: &Bucket) -> u32
-        requires { 0 < self.numrep }
-        ensures value { result ≡ stride_by bucket.now.kind self.numrep (length bucket.now.items) }
-        ensures small { result ≤ 256 }
-    {
-        let numrep = u32::from(self.numrep);
-        match bucket.kind {
-            BucketKind::Uniform if bucket.items.len() % usize::from(self.numrep) == 0 => numrep + 1,
-            _ => numrep,
-        }
-    }
+    ghost use Rattle.std.specs.Prelude.{◌≡◌, ◌+◌, ◌^◌, ◌<◌, ◌≤◌};
+    ghost use Rattle.crush.specs.Indep.{replica_number};
 
     /// The replica number at a bucket.
     #[tactic(auto, unfolding(crate::specs::Indep::replica_number))]
@@ -87,7 +74,7 @@ impl Draw {
         if self.round == 0 {
             return self.base;
         }
-        self.base + self.stride(bucket) * u32::from(self.round)
+        self.base + bucket.stride(self.numrep) * u32::from(self.round)
     }
 }
 

@@ -1,13 +1,14 @@
 //! The descent to a device, by picks that are remembered where tries were many.
 
-use crate::bucket::Bucket;
 use crate::choose::{Draw, Picked};
 use crate::placement::{Placement, Start, level_of};
 use crate::remembered::Picks;
+use buckets::Bucket;
 
 impl Placement<'_> {
     ghost use Rattle.std.specs.Prelude.{◌≡◌, ◌^◌, ◌<◌, Some};
-    ghost use Rattle.crush.specs.Forest.{bucket_at, IsPickable};
+    ghost use Rattle.crush.specs.Forest.{bucket_at};
+    ghost use Rattle.buckets.specs.Buckets.{IsPickable};
     ghost use Rattle.crush.specs.Remembered.{Remembers};
     ghost use Rattle.crush.specs.Placed.{world};
     ghost use Rattle.crush.specs.Descent.{item_below};

@@ -4,11 +4,11 @@ ghost use Rattle.std.specs.Prelude.{◌≡◌};
 ghost use Rattle.std.specs.List.{list_any};
 ghost use Rattle.std.specs.Ordering.{int_eq};
 
-use crate::bucket::Bucket;
 use crate::choose::{Attempt, Choice};
 use crate::chooser::Chooser;
 use crate::placement::Start;
 use crate::remembered::Picks;
+use buckets::Bucket;
 use std::alloc::AllocError;
 
 /// Whether an item is among the choices.
@@ -27,7 +27,7 @@ fn has_leaf(chosen: &[Choice], device: i32) -> bool
 
 impl Chooser<'_> {
     ghost use Rattle.std.specs.Prelude.{◌≡◌, ◌+◌, ◌^◌, ◌<◌, OnOk};
-    ghost use Rattle.crush.specs.Forest.{IsPickable};
+    ghost use Rattle.buckets.specs.Buckets.{IsPickable};
     ghost use Rattle.crush.specs.Placed.{world, choosing};
     ghost use Rattle.crush.specs.Descent.{leaf_below};
     ghost use Rattle.crush.specs.Remembered.{Remembers};

@@ -3,12 +3,12 @@
 ghost use Rattle.std.specs.Prelude.{◌≡◌, IfOk};
 ghost use Rattle.crush.specs.Parents.{AreParents};
 
-use crate::bucket::Bucket;
-use crate::limits::MAX_DEVICES;
 use crate::met::{SLOTS, slot_of};
 use crate::parents::parents_of;
 use crate::search::{bucket_of, is_known};
 use crate::well_formed::{is_plain_forest, is_well_formed, is_within_limits};
+use buckets::Bucket;
+use buckets::limits::MAX_DEVICES;
 use refusal::{Memory, Refusal};
 use std::alloc::Global;
 use std::cmp::Reverse;
@@ -24,7 +24,7 @@ pub struct Forest {
 
 impl Model for Forest {
     ghost use Rattle.std.specs.Prelude.{List};
-    ghost use Rattle.crush.specs.declared.bucket.Bucket.{Bucket};
+    ghost use Rattle.buckets.specs.declared.bucket.Bucket.{Bucket};
     ghost use Rattle.crush.specs.WellFormed.{IsForest};
 
     ghost Value = { List Bucket };
@@ -39,7 +39,8 @@ impl Forest {
     ghost use Rattle.std.specs.List.{find};
     ghost use Rattle.std.specs.Option.{option_copied};
     ghost use Rattle.refusal.specs.Outcomes.{Judges, refused_unless};
-    ghost use Rattle.crush.specs.Forest.{bucket_at, IsPickable};
+    ghost use Rattle.crush.specs.Forest.{bucket_at};
+    ghost use Rattle.buckets.specs.Buckets.{IsPickable};
     ghost use Rattle.crush.specs.Order.{by_id};
     ghost use Rattle.crush.specs.Paths.{has_item, is_above, IsAncestor};
     ghost use Rattle.crush.specs.WellFormed.{forest_limits_ok, forest_ok, forest_fault, plain_forest_fault, IsForest, IsDescending};
@@ -181,25 +182,13 @@ impl Forest {
     }
 }
 
-/// The same bucket once more.
-fn copy_of(alloc: Global, bucket: &Bucket) -> Result<Bucket, Memory>
-    ensures { IfOk result (λ b. b ≡ bucket.now) }
-{
-    Ok(Bucket {
-        id: bucket.id,
-        level: bucket.level,
-        kind: bucket.kind,
-        items: bucket.items.copy(alloc)?,
-    })
-}
-
 /// The same buckets once more.
 fn copies_of(alloc: Global, buckets: &[Bucket]) -> Result<Vec<Bucket>, Memory>
     ensures { IfOk result (λ v. v.items ≡ buckets.now) }
 {
     let mut copies = Vec::with_capacity(alloc, buckets.len())?;
     for bucket in buckets {
-        copies.push(copy_of(alloc, bucket)?)?;
+        copies.push(bucket.copy(alloc)?)?;
     }
     Ok(copies)
 }

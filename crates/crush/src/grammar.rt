@@ -5,9 +5,10 @@ ghost use Rattle.std.specs.List.{list_all};
 ghost use Rattle.crush.specs.Grammar.{step_limits_ok, rule_limits_ok, serves, is_last, is_earlier, is_block, sets_tries, is_piece, is_emit, are_blocks, is_rule, takes_known};
 
 use crate::forest::Forest;
-use crate::limits::{MAX_COUNT, MAX_LEVEL, MAX_STEPS, MAX_TRIES};
+use crate::limits::{MAX_COUNT, MAX_STEPS, MAX_TRIES};
 use crate::step::{Choose, Mode, RuleKind, Step};
-use crate::well_formed::is_bucket_id;
+use buckets::is_bucket_id;
+use buckets::limits::MAX_LEVEL;
 
 /// Whether a step is within the limits.
 fn is_step_within(step: &Step) -> bool

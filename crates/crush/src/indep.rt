@@ -4,11 +4,11 @@ ghost use Rattle.std.specs.Prelude.{◌≡◌};
 ghost use Rattle.std.specs.List.{list_any};
 ghost use Rattle.crush.specs.Indep.{holds_item, is_open};
 
-use crate::bucket::Bucket;
 use crate::choose::{Choice, Draw, Picked, Position};
 use crate::chooser::Chooser;
 use crate::placement::Start;
 use crate::remembered::Picks;
+use buckets::Bucket;
 
 /// Whether an item stands at some position.
 fn is_held(positions: &[Position], item: i32) -> bool
@@ -29,7 +29,7 @@ fn has_open(positions: &[Position]) -> bool
 
 impl Chooser<'_> {
     ghost use Rattle.std.specs.Prelude.{◌≡◌, ◌+◌, ◌^◌, ◌<◌, ◌≤◌, length};
-    ghost use Rattle.crush.specs.Forest.{IsPickable};
+    ghost use Rattle.buckets.specs.Buckets.{IsPickable};
     ghost use Rattle.crush.specs.Limits.{max_size};
     ghost use Rattle.crush.specs.Placed.{world, choosing};
     ghost use Rattle.crush.specs.Remembered.{Remembers};

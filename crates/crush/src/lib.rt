@@ -1,7 +1,6 @@
 //! CRUSH: where a rule places the replicas of a group in a forest of buckets.
 #![tactic(auto)]
 
-pub mod bucket;
 pub mod choose;
 mod chooser;
 mod device;
@@ -12,7 +11,6 @@ mod indep;
 pub mod limits;
 mod met;
 mod parents;
-mod pick;
 pub mod placement;
 mod remembered;
 pub mod rule;
@@ -22,7 +20,7 @@ pub mod step;
 mod well_formed;
 pub mod work;
 
-pub use bucket::{Bucket, BucketKind, Item};
+pub use buckets::{Bucket, BucketKind, Item};
 pub use forest::Forest;
 pub use placement::Placement;
 pub use rule::Rule;

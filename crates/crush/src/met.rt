@@ -4,14 +4,16 @@ ghost use Rattle.std.specs.Prelude.{◌≡◌, ℕ, ◌+◌, ◌<◌, ◌≤◌,
 ghost use Rattle.std.specs.Bool.{OnTrue, OnFalse};
 ghost use Rattle.std.specs.List.{list_all};
 ghost use Rattle.std.specs.Ordering.{int_eq};
-ghost use Rattle.crush.specs.declared.bucket.Item.{Item};
-ghost use Rattle.crush.specs.Limits.{max_buckets, max_devices};
+ghost use Rattle.buckets.specs.declared.bucket.Item.{Item};
+ghost use Rattle.crush.specs.Limits.{max_buckets};
+ghost use Rattle.buckets.specs.Limits.{max_devices};
 ghost use Rattle.crush.specs.Slots.{slots, slot, marks};
 ghost use Rattle.crush.specs.WellFormed.{is_known, has_items_once, has_items_below, IsDescending};
 
-use crate::bucket::{Bucket, Item};
-use crate::limits::{MAX_BUCKETS, MAX_DEVICES};
+use crate::limits::MAX_BUCKETS;
 use crate::search::place_of;
+use buckets::{Bucket, Item};
+use buckets::limits::MAX_DEVICES;
 
 /// How many items a forest can have, each once.
 pub(crate) const SLOTS: usize = MAX_DEVICES as usize + MAX_BUCKETS;

@@ -3,14 +3,15 @@
 ghost use Rattle.std.specs.Prelude.{◌≡◌, ◌≤◌, ℤ, length, slice_index, IsTrue, if◌then◌else◌};
 ghost use Rattle.std.specs.List.{list_all, list_any};
 ghost use Rattle.std.specs.Ordering.{int_eq};
-ghost use Rattle.crush.specs.Limits.{max_buckets, max_devices};
+ghost use Rattle.crush.specs.Limits.{max_buckets};
+ghost use Rattle.buckets.specs.Limits.{max_devices};
 ghost use Rattle.crush.specs.Parents.{AreParents};
 ghost use Rattle.crush.specs.Slots.{slots, slot};
 ghost use Rattle.crush.specs.WellFormed.{is_known, IsDescending, IsForest};
 
-use crate::bucket::{Bucket, Item};
 use crate::limits::MAX_BUCKETS;
 use crate::met::{SLOTS, slot_of};
+use buckets::{Bucket, Item};
 
 /// The place of no bucket.
 const NOWHERE: u16 = MAX_BUCKETS as u16;

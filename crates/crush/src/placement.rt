@@ -3,13 +3,13 @@
 ghost use Rattle.std.specs.Prelude.{◌≡◌, IfSome};
 ghost use Rattle.std.specs.Option.{option_copied, option_map_or};
 ghost use Rattle.std.proofs.Props.{props};
-ghost use Rattle.crush.specs.Forest.{IsPickable};
-ghost use Rattle.crush.specs.Pick.{AreFirstPicks};
+ghost use Rattle.buckets.specs.Buckets.{IsPickable};
+ghost use Rattle.buckets.specs.Pick.{AreFirstPicks};
 
-use crate::bucket::Bucket;
 use crate::choose::{Draw, Picked};
 use crate::forest::Forest;
 use crate::limits::FULL_WEIGHT;
+use buckets::Bucket;
 use rjenkins::hash2;
 
 /// The type of an item, by its bucket if it is one: 0 for a device.
@@ -34,8 +34,8 @@ pub(crate) struct Start<'a> {
 
 impl<'a> Start<'a> {
     ghost use Rattle.std.specs.Prelude.{◌≡◌};
-    ghost use Rattle.crush.specs.Forest.{IsPickable};
-    ghost use Rattle.crush.specs.Pick.{pick_of};
+    ghost use Rattle.buckets.specs.Buckets.{IsPickable};
+    ghost use Rattle.buckets.specs.Pick.{pick_of};
 
     /// The bucket, with its first picks made at once where more than one is sought.
     pub(crate) fn new(bucket: &'a Bucket, x: u32, numrep: u8) -> Self

@@ -1,7 +1,7 @@
 //! The picks that a run of a rule remembers, so that tries in vain make none twice.
 
-use crate::bucket::Bucket;
 use crate::placement::Placement;
+use buckets::Bucket;
 
 /// How many picks are remembered at most.
 pub(crate) const PLACES: usize = 32_768;
@@ -37,9 +37,10 @@ fn place_of(bucket: i32, r: u32) -> usize {
 
 impl Picks {
     ghost use Rattle.std.specs.Prelude.{◌≡◌, Some, IfSome};
-    ghost use Rattle.crush.specs.declared.bucket.Bucket.{Bucket};
-    ghost use Rattle.crush.specs.Forest.{bucket_at, IsPickable};
-    ghost use Rattle.crush.specs.Pick.{pick_of};
+    ghost use Rattle.buckets.specs.declared.bucket.Bucket.{Bucket};
+    ghost use Rattle.crush.specs.Forest.{bucket_at};
+    ghost use Rattle.buckets.specs.Buckets.{IsPickable};
+    ghost use Rattle.buckets.specs.Pick.{pick_of};
     ghost use Rattle.crush.specs.Placed.{world};
     ghost use Rattle.crush.specs.Remembered.{IsPick, Remembers};
     ghost use Rattle.crush.specs.World.{World};

@@ -3,7 +3,6 @@
 ghost use Rattle.std.specs.Prelude.{◌≡◌};
 ghost use Rattle.crush.specs.Run.{numrep_of};
 
-use crate::bucket::Bucket;
 use crate::choose::{Choice, Position};
 use crate::chooser::Chooser;
 use crate::limits::MAX_SIZE;
@@ -12,6 +11,7 @@ use crate::remembered::Picks;
 use crate::rule::Rule;
 use crate::step::{Choose, Mode, Step};
 use crate::work::{FIRST_TRIES, Lists, Work};
+use buckets::Bucket;
 use refusal::Memory;
 use std::alloc::AllocError;
 use std::mem;
@@ -29,7 +29,7 @@ fn numrep(choose: Choose, size: u8) -> u8
 
 impl Chooser<'_> {
     ghost use Rattle.std.specs.Prelude.{◌≡◌, ◌-◌, ◌<◌, ◌≤◌, length, OnOk, ◌++◌};
-    ghost use Rattle.crush.specs.Forest.{IsPickable};
+    ghost use Rattle.buckets.specs.Buckets.{IsPickable};
     ghost use Rattle.crush.specs.Limits.{max_size};
     ghost use Rattle.crush.specs.Placed.{world, choosing};
     ghost use Rattle.crush.specs.Remembered.{Remembers};

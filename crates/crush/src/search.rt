@@ -6,7 +6,7 @@ ghost use Rattle.std.specs.Ordering.{int_eq};
 ghost use Rattle.crush.specs.Forest.{bucket_at, level_of};
 ghost use Rattle.crush.specs.WellFormed.{is_known, IsDescending};
 
-use crate::bucket::Bucket;
+use buckets::Bucket;
 
 /// Whether a bucket has an id.
 fn has_id(bucket: &Bucket, id: i32) -> bool

@@ -1,54 +1,24 @@
 //! The tests that a list of buckets has to pass to be a forest.
 
-ghost use Rattle.std.specs.Prelude.{◌≡◌, ◌<◌, ◌≤◌, ◌&&◌, ◌==◌, nat_lt, length, IsTrue};
+ghost use Rattle.std.specs.Prelude.{◌≡◌, ◌≤◌, ◌&&◌, length, IsTrue};
 ghost use Rattle.std.specs.List.{list_all};
-ghost use Rattle.crush.specs.Forest.{level_of, weight_of, most_items};
-ghost use Rattle.crush.specs.Limits.{max_straws, max_buckets, max_devices};
-ghost use Rattle.crush.specs.WellFormed.{is_bucket_id, item_limits_ok, bucket_limits_ok, forest_limits_ok, is_plain_bucket, is_plain_forest, has_own_ids, is_item_ok, has_items_below, has_items_once, is_even, weights_ok, forest_ok, IsDescending, IsNotAscending};
+ghost use Rattle.buckets.specs.Buckets.{bucket_limits_ok, is_plain_bucket, weights_ok};
+ghost use Rattle.buckets.specs.Limits.{max_devices};
+ghost use Rattle.crush.specs.Forest.{level_of};
+ghost use Rattle.crush.specs.Limits.{max_buckets};
+ghost use Rattle.crush.specs.WellFormed.{forest_limits_ok, is_plain_forest, has_own_ids, is_item_ok, has_items_below, has_items_once, forest_ok, IsDescending, IsNotAscending};
 
-use crate::bucket::{Bucket, BucketKind, Item};
-use crate::limits::{LOWEST_BUCKET, MAX_BUCKETS, MAX_DEVICES, MAX_ITEMS, MAX_LEVEL, PLAIN_BUCKETS};
+use crate::limits::{MAX_BUCKETS, PLAIN_BUCKETS};
 use crate::met::are_met_once;
 use crate::search::{is_known, level_of};
-
-/// Whether a bucket may have this id.
-pub(crate) fn is_bucket_id(id: i32) -> bool
-    ensures { result ≡ is_bucket_id id }
-{
-    LOWEST_BUCKET <= id && id < 0
-}
-
-/// Whether an item is within the limits.
-fn is_item_within(item: &Item) -> bool
-    ensures { result ≡ item_limits_ok item.now }
-{
-    LOWEST_BUCKET <= item.id && item.id < MAX_DEVICES as i32 && 0 < item.weight
-}
-
-/// Whether each item is within the limits.
-fn are_items_within(items: &[Item]) -> bool
-    ensures { result ≡ list_all item_limits_ok items.now }
-{
-    items.iter().all(is_item_within)
-}
-
-/// Whether a bucket is within the limits.
-#[tactic(auto, using(std::proofs::lemmas::Bool::Decides::nat_tests))]
-fn is_bucket_within(bucket: &Bucket) -> bool
-    ensures { result ≡ bucket_limits_ok bucket.now }
-{
-    let count = bucket.items.len();
-    is_bucket_id(bucket.id)
-        && (1 <= bucket.level && bucket.level <= MAX_LEVEL)
-        && (1 <= count && count <= bucket.kind.most_items())
-        && are_items_within(&bucket.items)
-}
+use buckets::limits::MAX_DEVICES;
+use buckets::{Bucket, Item, are_weights_lawful};
 
 /// Whether each bucket is within the limits.
 fn are_buckets_within(buckets: &[Bucket]) -> bool
     ensures { result ≡ list_all bucket_limits_ok buckets.now }
 {
-    buckets.iter().all(is_bucket_within)
+    buckets.iter().all(Bucket::is_within_limits)
 }
 
 /// Whether a forest over devices below `max_osd` is within the limits.
@@ -61,18 +31,11 @@ pub(crate) fn is_within_limits(buckets: &[Bucket], max_osd: u32) -> bool
         && are_buckets_within(buckets)
 }
 
-/// Whether a bucket has no more items than one of a plain cluster.
-fn is_plain_bucket(bucket: &Bucket) -> bool
-    ensures { result ≡ is_plain_bucket bucket.now }
-{
-    bucket.items.len() <= MAX_ITEMS
-}
-
-/// Whether each bucket has no more.
+/// Whether each bucket has no more items than one of a plain cluster.
 fn are_plain_buckets(buckets: &[Bucket]) -> bool
     ensures { result ≡ list_all is_plain_bucket buckets.now }
 {
-    buckets.iter().all(is_plain_bucket)
+    buckets.iter().all(Bucket::is_plain)
 }
 
 /// Whether there are no more buckets, and no more items of one, than in a plain cluster.
@@ -115,43 +78,6 @@ fn have_items_below(buckets: &[Bucket], max_osd: u32) -> bool
     ensures { result ≡ has_items_below buckets.now max_osd }
 {
     buckets.iter().all(|bucket| are_items_below(buckets, max_osd, &bucket.items, bucket.level))
-}
-
-/// The weight of some items.
-fn total_weight(items: &[Item]) -> u64
-    requires { length items.now ≤ max_straws }
-    ensures { result ≡ weight_of items.now }
-{
-    items.iter().map(|item| u64::from(item.weight)).sum()
-}
-
-/// Whether each item has this weight.
-fn are_all_of(weight: u32, items: &[Item]) -> bool
-    ensures { result ≡ list_all (λ i. i.weight == weight) items.now }
-{
-    items.iter().all(|item| item.weight == weight)
-}
-
-/// Whether no two items weigh differently.
-fn is_even(items: &[Item]) -> bool
-    requires { 0 < length items.now }
-    ensures { result ≡ is_even items.now }
-{
-    are_all_of(items[0].weight, items)
-}
-
-/// Whether the weights of a bucket add up to a word, and those of a uniform one are all the same.
-fn are_weights_lawful(kind: BucketKind, items: &[Item]) -> bool
-    requires some { 0 < length items.now }
-    requires few { length items.now ≤ most_items kind }
-    ensures { result ≡ weights_ok kind items.now }
-{
-    let _ = kind.most_items();
-    let fits = total_weight(items) <= u64::from(u32::MAX);
-    match kind {
-        BucketKind::Uniform => fits && is_even(items),
-        BucketKind::List | BucketKind::Tree | BucketKind::Straw2 => fits,
-    }
 }
 
 /// Whether the weights of each bucket add up to a word, and those of each uniform one are all the same.

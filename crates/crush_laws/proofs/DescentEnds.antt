@@ -5,10 +5,10 @@ use Rattle.std.specs.Option.{option_and_then, option_map_or}
 use Rattle.std.specs.Ordering.{int_eq}
 use Rattle.std.proofs.lemmas.Bool.{eqb-true, eq-eqb, false≢true}
 use Rattle.std.proofs.lemmas.Bool.Decides.{Decides-int_eq}
-use Rattle.crush.specs.declared.bucket.Bucket.{Bucket}
+use Rattle.buckets.specs.declared.bucket.Bucket.{Bucket}
 use Rattle.crush.specs.declared.choose.Picked.{Picked}
 use Rattle.crush.specs.Forest.{bucket_at, level_of}
-use Rattle.crush.specs.Pick.{place_picked, pick_of}
+use Rattle.buckets.specs.Pick.{place_picked, pick_of}
 use Rattle.crush.specs.World.{World}
 use Rattle.crush.specs.Descent.{descent}
 use Rattle.crush.specs.WellFormed.{is_known, IsForest}

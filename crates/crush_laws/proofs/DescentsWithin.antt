@@ -4,19 +4,20 @@ use Rattle.std.proofs.Common.{◌≡◌, ℕ, zero, suc, ◌<◌, ℤ, pos, Bool
 use Rattle.std.proofs.lemmas.Bool.{eqb-true}
 use Rattle.std.specs.List.{find, filter_map, cons_option}
 use Rattle.std.specs.Option.{option_and_then, option_map}
-use Rattle.crush.specs.declared.bucket.Item.{Item}
-use Rattle.crush.specs.declared.bucket.Bucket.{Bucket}
-use Rattle.crush.specs.declared.bucket.BucketKind.{BucketKind}
-use Rattle.crush.specs.declared.bucket.BucketKind.TheVariants.{Uniform, List as InList, Tree as InTree, Straw2}
+use Rattle.buckets.specs.declared.bucket.Item.{Item}
+use Rattle.buckets.specs.declared.bucket.Bucket.{Bucket}
+use Rattle.buckets.specs.declared.bucket.BucketKind.{BucketKind}
+use Rattle.buckets.specs.declared.bucket.BucketKind.TheVariants.{Uniform, List as InList, Tree as InTree, Straw2}
 use Rattle.crush.specs.declared.choose.Picked.{Picked}
-use Rattle.crush.specs.Forest.{word, bucket_at, level_of, IsPickable}
-use Rattle.crush.specs.Items.{item_at}
-use Rattle.crush.specs.Pick.{place_by, place_picked, pick_of}
+use Rattle.crush.specs.Forest.{bucket_at, level_of}
+use Rattle.buckets.specs.Items.{word, item_at}
+use Rattle.buckets.specs.Buckets.{IsPickable}
+use Rattle.buckets.specs.Pick.{place_by, place_picked, pick_of}
 use Rattle.crush.specs.World.{World, world_of, is_out}
 use Rattle.crush.specs.Descent.{descent, item_below, device_below, leaf_below}
-use Rattle.crush.specs.Straw2.{shortfall_at}
-use Rattle.crush.proofs.UniformDraws.{uniform_place_below}
-use Rattle.crush.proofs.Straws.{least_below}
+use Rattle.buckets.specs.Straw2.{shortfall_at}
+use Rattle.buckets.proofs.UniformDraws.{uniform_place_below}
+use Rattle.buckets.proofs.Straws.{least_below}
 use Rattle.crush_laws.proofs.Picks.{list_picks_greatest_winner, tree_picks_weight}
 
 -- the same with other reweights

@@ -4,7 +4,7 @@ use Rattle.std.specs.List.{list_all}
 use Rattle.std.specs.Option.{option_map_or}
 use Rattle.std.specs.Ordering.{int_eq}
 use Rattle.std.proofs.lemmas.Bool.{and_parts, false≢true, ltb-true}
-use Rattle.crush.specs.declared.bucket.Bucket.{Bucket}
+use Rattle.buckets.specs.declared.bucket.Bucket.{Bucket}
 use Rattle.crush_laws.specs.Forests.{IsDeviceNumber, LeadsDown, BucketsLeadDown}
 use Rattle.crush.specs.Forest.{bucket_at, level_of}
 use Rattle.crush.specs.WellFormed.{is_known, IsForest}

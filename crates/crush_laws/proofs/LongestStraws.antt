@@ -1,8 +1,8 @@
 -- a straw2 bucket picks the first of those with the longest straw
 use Rattle.std.proofs.Common.{◌<◌, length, sym, subst}
-use Rattle.crush.specs.Straw2.{shortfall_at, least_place}
-use Rattle.crush.specs.Pick.{place_by}
-use Rattle.crush.proofs.Straws.{least_below, least_is}
+use Rattle.buckets.specs.Straw2.{shortfall_at, least_place}
+use Rattle.buckets.specs.Pick.{place_by}
+use Rattle.buckets.proofs.Straws.{least_below, least_is}
 use Rattle.crush_laws.specs.Picks.{IsFirstLongest, Straw2PicksFirstLongest}
 
 -- the place of the least shortfall is that of the first longest straw

@@ -11,18 +11,18 @@ use Rattle.std.proofs.lemmas.List.Sums.{sum_by_more}
 use Rattle.std.proofs.lemmas.Nat.{mod_below}
 use Rattle.std.proofs.Math.Nat.{pow-suc, mod-eq_of_lt}
 use Rattle.rjenkins.specs.Jenkins.{hash3_of, hash4_of}
-use Rattle.crush.specs.declared.bucket.Item.{Item}
-use Rattle.crush.specs.declared.bucket.Bucket.{Bucket}
-use Rattle.crush.specs.declared.bucket.BucketKind.TheVariants.{Uniform}
-use Rattle.crush.specs.Forest.{word, weight_of, most_items}
-use Rattle.crush.specs.Items.{item_at}
-use Rattle.crush.specs.Uniform.{places_drawn, draw_order, uniform_place}
-use Rattle.crush.specs.Listed.{wins, wins_at, last_place}
-use Rattle.crush.specs.Tree.{weight_between, draw_at, goes_left, height_of, tree_place}
-use Rattle.crush.specs.Pick.{place_by, pick_of}
+use Rattle.buckets.specs.declared.bucket.Item.{Item}
+use Rattle.buckets.specs.declared.bucket.Bucket.{Bucket}
+use Rattle.buckets.specs.declared.bucket.BucketKind.TheVariants.{Uniform}
+use Rattle.buckets.specs.Items.{word, weight_of, item_at}
+use Rattle.buckets.specs.Kinds.{most_items}
+use Rattle.buckets.specs.Uniform.{places_drawn, draw_order, uniform_place}
+use Rattle.buckets.specs.Listed.{wins, wins_at, last_place}
+use Rattle.buckets.specs.Tree.{weight_between, draw_at, goes_left, height_of, tree_place}
+use Rattle.buckets.specs.Pick.{place_by, pick_of}
 use Rattle.crush_laws.specs.Picks.{weight_under, node_place, TreesAreWalkedByNodes, UniformPicksEachOnce, IsGreatestWinner, DrawsEachPlaceOnce, ListPicksGreatestWinner, TreePicksWeight}
-use Rattle.crush.proofs.TreeWalks.{height_holds, draw_below, halves, goes_left_some}
-use Rattle.crush.proofs.HashWords.{hash4-lt}
+use Rattle.buckets.proofs.TreeWalks.{height_holds, draw_below, halves, goes_left_some}
+use Rattle.buckets.proofs.HashWords.{hash4-lt}
 
 -- the place drawn and the rest are all
 one_drawn : (rest : List ℕ) (k : ℕ) → k < length rest → IsPermutation (get_or rest k 0 ∷ drop 1 (set rest k (get_or rest 0 0))) rest

@@ -11,8 +11,8 @@ use Rattle.std.proofs.lemmas.List.{get_or_default}
 use Rattle.std.proofs.lemmas.List.Elements.{All-contains}
 use Rattle.std.proofs.lemmas.List.Folds.{list_any_at, list_any-from_Any}
 use Rattle.rjenkins.specs.Jenkins.{hash2_of}
-use Rattle.crush.specs.declared.bucket.Bucket.{Bucket}
-use Rattle.crush.specs.declared.bucket.Item.{Item}
+use Rattle.buckets.specs.declared.bucket.Bucket.{Bucket}
+use Rattle.buckets.specs.declared.bucket.Item.{Item}
 use Rattle.crush.specs.declared.step.RuleKind.{RuleKind}
 use Rattle.crush.specs.declared.step.Step.{Step}
 use Rattle.crush.specs.declared.step.Step.TheVariants.{SetChooseTries, SetChooseleafTries, Take, Choose as Chooses, Emit}
@@ -22,7 +22,9 @@ use Rattle.crush_laws.specs.Runs.{RunPlacesReached, RunReadsReached}
 use Rattle.crush.specs.Paths.{has_item, takes_above, reaches}
 use Rattle.crush.proofs.Above.{IsItemOf, IsPath, IsAbove, and-some}
 use Rattle.crush.specs.Run.{run_of}
-use Rattle.crush.specs.WellFormed.{is_within, bucket_limits_ok, is_known, IsForest}
+use Rattle.crush.specs.WellFormed.{is_known, IsForest}
+use Rattle.buckets.specs.Limits.{is_within}
+use Rattle.buckets.specs.Buckets.{bucket_limits_ok}
 use Rattle.crush.specs.World.{world_of, is_out}
 use Rattle.crush.proofs.ForestLimits.{limits-each}
 use Rattle.crush.proofs.Climbs.{above-tested}

@@ -2,7 +2,7 @@
 use Rattle.std.proofs.Common.{◌≡◌, ℕ, ◌-◌, ℤ, List, [], ◌∷◌, ◌++◌, length, map, min, Option, Some, None, ap, refl, ◌∙◌, arith}
 use Rattle.std.specs.List.{All, fold}
 use Rattle.std.proofs.lemmas.List.Elements.{All-head, All-tail, All-cons, All-append, All-take, All-map, All-weaker}
-use Rattle.crush.specs.declared.bucket.Bucket.{Bucket}
+use Rattle.buckets.specs.declared.bucket.Bucket.{Bucket}
 use Rattle.crush.specs.declared.choose.Choice.{Choice}
 use Rattle.crush.specs.declared.choose.Position.{Position}
 use Rattle.crush.specs.declared.choose.Position.TheVariants.{Open, Hole, Filled}

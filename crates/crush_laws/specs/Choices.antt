@@ -1,7 +1,7 @@
 -- What choosing below a bucket leaves, packed or by positions (CRUSH paper, section 3.2).
 use Rattle.std.specs.Prelude.{◌≡◌, ◌≢◌, ℕ, ◌+◌, ◌<◌, Bool, true, false, ◌||◌, List, length, slice_index_or, ◌==◌}
 use Rattle.std.specs.List.{All, AllPairs, fold, range_with_len}
-use Rattle.crush.specs.declared.bucket.Bucket.{Bucket}
+use Rattle.buckets.specs.declared.bucket.Bucket.{Bucket}
 use Rattle.crush.specs.declared.choose.Choice.{Choice}
 use Rattle.crush.specs.declared.choose.Position.{Position}
 use Rattle.crush.specs.declared.choose.Position.TheVariants.{Hole, Filled}

@@ -1,8 +1,8 @@
 -- Where a descent through a forest ends.
 use Rattle.std.specs.Prelude.{◌≡◌, ◌≢◌, ℕ, ℤ, [], ◌∷◌, MatchOption, true, List, pos, Some}
-use Rattle.crush.specs.declared.bucket.Bucket.{Bucket}
+use Rattle.buckets.specs.declared.bucket.Bucket.{Bucket}
 use Rattle.crush.specs.Forest.{bucket_at, level_of}
-use Rattle.crush.specs.Pick.{pick_of}
+use Rattle.buckets.specs.Pick.{pick_of}
 use Rattle.crush.specs.World.{World}
 use Rattle.crush.specs.Descent.{item_below}
 use Rattle.crush.specs.WellFormed.{is_known, IsForest}

@@ -1,8 +1,8 @@
 -- What stands in a bucket of a forest (CRUSH paper, section 3.3).
 use Rattle.std.specs.Prelude.{◌≡◌, ◌<◌, ℤ, pos, negsuc, List, All, Some, MatchOption}
-use Rattle.crush.specs.declared.bucket.Bucket.{Bucket}
+use Rattle.buckets.specs.declared.bucket.Bucket.{Bucket}
 use Rattle.crush.specs.Forest.{bucket_at}
-use Rattle.crush.specs.Limits.{max_devices}
+use Rattle.buckets.specs.Limits.{max_devices}
 use Rattle.crush.specs.WellFormed.{IsForest}
 
 -- the number of a device

@@ -2,17 +2,17 @@
 use Rattle.std.specs.Prelude.{◌<◌, ◌≤◌, ◌≡◌, ℕ, zero, suc, ◌+◌, ◌-◌, ◌*◌, ◌/◌, ◌^◌, if◌then◌else◌, map, [], ◌∷◌, true, false, List, length, slice_index}
 use Rattle.std.specs.List.{range_with_len}
 use Rattle.std.specs.List.Sorted.{IsPermutation}
-use Rattle.crush.specs.declared.bucket.Item.{Item}
-use Rattle.crush.specs.declared.bucket.Bucket.{Bucket}
-use Rattle.crush.specs.declared.bucket.BucketKind.TheVariants.{Uniform, List as InList, Tree as InTree, Straw2}
-use Rattle.crush.specs.Forest.{word, IsPickable}
-use Rattle.crush.specs.Items.{item_at}
-use Rattle.crush.specs.Uniform.{draw_order}
-use Rattle.crush.specs.Listed.{wins_at}
-use Rattle.crush.specs.Logarithm.{crush_ln}
-use Rattle.crush.specs.Straw2.{shortfall_at}
-use Rattle.crush.specs.Pick.{place_picked, pick_of}
-use Rattle.crush.specs.Tree.{weight_between, goes_left, height_of, tree_place}
+use Rattle.buckets.specs.declared.bucket.Item.{Item}
+use Rattle.buckets.specs.declared.bucket.Bucket.{Bucket}
+use Rattle.buckets.specs.declared.bucket.BucketKind.TheVariants.{Uniform, List as InList, Tree as InTree, Straw2}
+use Rattle.buckets.specs.Items.{word, item_at}
+use Rattle.buckets.specs.Buckets.{IsPickable}
+use Rattle.buckets.specs.Uniform.{draw_order}
+use Rattle.buckets.specs.Listed.{wins_at}
+use Rattle.buckets.specs.Logarithm.{crush_ln}
+use Rattle.buckets.specs.Straw2.{shortfall_at}
+use Rattle.buckets.specs.Pick.{place_picked, pick_of}
+use Rattle.buckets.specs.Tree.{weight_between, goes_left, height_of, tree_place}
 
 -- the greatest place that wins its draw
 pub record IsGreatestWinner (x id r : ℕ) (items : List Item) (place : ℕ) : Type 0 where

@@ -1,6 +1,6 @@
 -- What the run of a rule places, and by which reweights.
 use Rattle.std.specs.Prelude.{All, Option, None, ℤ, ◌≡◌, ◌≤◌, length, IsTrue, ℕ, List, pos, Some, slice_index, Contains}
-use Rattle.crush.specs.declared.bucket.Bucket.{Bucket}
+use Rattle.buckets.specs.declared.bucket.Bucket.{Bucket}
 use Rattle.crush.specs.declared.step.RuleKind.{RuleKind}
 use Rattle.crush.specs.declared.step.Step.{Step}
 use Rattle.crush.specs.World.{World, world_of}

@@ -1,9 +1,9 @@
 -- Logarithms and straws as Ceph computes them: the values are those of its mapper.c and its tables, by a C compiler.
 use Rattle.std.specs.Prelude.{◌≡◌, ℕ, Bool, true, ℤ, pos, neg_ℤ, List, [], ◌∷◌, ◌==◌}
 use Rattle.std.specs.List.{list_all}
-use Rattle.crush.specs.declared.bucket.Item.{Item}
-use Rattle.crush.specs.Logarithm.{crush_ln}
-use Rattle.crush.specs.Straw2.{straw2_place}
+use Rattle.buckets.specs.declared.bucket.Item.{Item}
+use Rattle.buckets.specs.Logarithm.{crush_ln}
+use Rattle.buckets.specs.Straw2.{straw2_place}
 
 -- draws, and their logarithms
 abbrev pub logarithms : List (ℕ × ℕ)

@@ -2,7 +2,7 @@
 use Rattle.std.specs.Prelude.{◌≡◌, ℕ, ◌<◌, cond, List, Option, Some, None, nat_eq, ◌==◌}
 use Rattle.std.specs.Option.{IsSome}
 use Rattle.std.specs.Map.{lookup}
-use Rattle.crush.specs.Limits.{max_devices}
+use Rattle.buckets.specs.Limits.{max_devices}
 use Rattle.grouptable.specs.Sets.{listed, over}
 use Rattle.grouptable.specs.Lists.{osd_list}
 

@@ -1,6 +1,6 @@
 -- What stands for each OSD, by its number, while an index is built.
 use Rattle.std.specs.Prelude.{◌≡◌, ℕ, ◌<◌, Bool, false, List, [], length, slice_index_or}
-use Rattle.crush.specs.Limits.{max_devices}
+use Rattle.buckets.specs.Limits.{max_devices}
 use Rattle.grouptable.specs.Sets.{groups_of, joined}
 use Rattle.stated.specs.Sets.{Places}
 

@@ -2,18 +2,20 @@
 
 ghost use Rattle.std.specs.Prelude.{◌≡◌, ◌<◌, ◌≤◌, ◌++◌, [], ◌∷◌, Option, None, Some, length, slice_index_or, IfSome, ◌==◌, map};
 ghost use Rattle.std.specs.List.{list_any};
-ghost use Rattle.crush.specs.Limits.{max_devices, max_size};
+ghost use Rattle.crush.specs.Limits.{max_size};
+ghost use Rattle.buckets.specs.Limits.{max_devices};
 ghost use Rattle.grouptable.specs.Sets.{place_stored};
 ghost use Rattle.stated.specs.Sets.{stands};
 
-use crush::limits;
+use buckets::limits::MAX_DEVICES;
+use crush::limits::MAX_SIZE;
 use std::marker::Model;
 
 /// The greatest size of a set.
-const MAX_PLACES: usize = limits::MAX_SIZE;
+const MAX_PLACES: usize = MAX_SIZE;
 
 /// OSDs have the numbers below this one.
-const MAX_OSDS: u16 = limits::MAX_DEVICES as u16;
+const MAX_OSDS: u16 = MAX_DEVICES as u16;
 
 /// What is stored for a hole.
 const HOLE: u16 = 0xffff;

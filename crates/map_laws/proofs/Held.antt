@@ -4,8 +4,9 @@ use Rattle.std.specs.List.{All}
 use Rattle.std.proofs.lemmas.List.Elements.{All-head, All-tail}
 use Rattle.std.proofs.lemmas.List.Sorted.{length_permutation}
 use Rattle.std.proofs.lemmas.Int.{ints}
-use Rattle.crush.specs.declared.bucket.Bucket.{Bucket}
-use Rattle.crush.specs.WellFormed.{bucket_limits_ok, forest_ok, forest_limits_ok, IsForest, IsDescending, IsNotAscending}
+use Rattle.buckets.specs.declared.bucket.Bucket.{Bucket}
+use Rattle.crush.specs.WellFormed.{forest_ok, forest_limits_ok, IsForest, IsDescending, IsNotAscending}
+use Rattle.buckets.specs.Buckets.{bucket_limits_ok}
 use Rattle.crush.proofs.Made.{forest-passed, own-ok}
 use Rattle.crush.proofs.Sorted.{bucket_at-moved, forest_ok-moved}
 use Rattle.stated.specs.declared.parts.MapParts.{MapParts}

@@ -4,7 +4,7 @@ use Rattle.std.specs.Prelude.{◌<ℤ◌}
 use Rattle.std.specs.List.{AllPairs, Contains}
 use Rattle.std.proofs.lemmas.Int.{ints}
 use Rattle.std.proofs.lemmas.List.Sorted.{IsPermutation-sym, Contains-permutation}
-use Rattle.crush.specs.declared.bucket.Bucket.{Bucket}
+use Rattle.buckets.specs.declared.bucket.Bucket.{Bucket}
 use Rattle.keylist.specs.Order.{IsRising}
 use Rattle.stated.specs.declared.parts.MapParts.{MapParts}
 use Rattle.stated.specs.Exceptions.{key_of}

@@ -6,14 +6,16 @@ use Rattle.std.proofs.lemmas.List.{length-map}
 use Rattle.std.proofs.lemmas.List.Elements.{All-weaker}
 use Rattle.std.proofs.lemmas.List.Folds.{list_all-map}
 use Rattle.std.proofs.lemmas.List.Sums.{get_or-le-sum_by, list_all-from_AllPass}
-use Rattle.crush.specs.declared.bucket.Item.{Item}
-use Rattle.crush.specs.declared.bucket.Bucket.{Bucket}
-use Rattle.crush.specs.declared.bucket.BucketKind.{BucketKind}
-use Rattle.crush.specs.declared.bucket.BucketKind.TheVariants.{Uniform, List as InList, Tree, Straw2}
+use Rattle.buckets.specs.declared.bucket.Item.{Item}
+use Rattle.buckets.specs.declared.bucket.Bucket.{Bucket}
+use Rattle.buckets.specs.declared.bucket.BucketKind.{BucketKind}
+use Rattle.buckets.specs.declared.bucket.BucketKind.TheVariants.{Uniform, List as InList, Tree, Straw2}
 use Rattle.crush.specs.declared.step.Step.{Step}
 use Rattle.crush.specs.declared.step.Step.TheVariants as step
-use Rattle.crush.specs.Forest.{weight_of, most_items}
-use Rattle.crush.specs.WellFormed.{is_within, is_bucket_id, item_limits_ok, bucket_limits_ok, is_even, weights_ok}
+use Rattle.buckets.specs.Items.{weight_of}
+use Rattle.buckets.specs.Kinds.{most_items}
+use Rattle.buckets.specs.Limits.{is_within}
+use Rattle.buckets.specs.Buckets.{is_bucket_id, item_limits_ok, bucket_limits_ok, is_even, weights_ok}
 use Rattle.crush.specs.Grammar.{step_limits_ok}
 use Rattle.keylist.proofs.Each.{list_all-at, list_all-from}
 use Rattle.stated.specs.declared.rules.NumberedRule.{NumberedRule}

@@ -2,8 +2,8 @@
 use Rattle.std.proofs.Common.{All, ◌≡◌, suc, ℤ, pos, negsuc, Bool, true, false, List, [], ◌∷◌, Option, Some, refl, arith}
 use Rattle.std.specs.Prelude.{⊤}
 use Rattle.serde_json.specs.Data.{Data, string}
-use Rattle.crush.specs.declared.bucket.BucketKind.{BucketKind}
-use Rattle.crush.specs.declared.bucket.BucketKind.TheVariants.{Uniform, List as Listed, Tree, Straw2}
+use Rattle.buckets.specs.declared.bucket.BucketKind.{BucketKind}
+use Rattle.buckets.specs.declared.bucket.BucketKind.TheVariants.{Uniform, List as Listed, Tree, Straw2}
 use Rattle.crush.specs.declared.step.Mode.{Mode}
 use Rattle.crush.specs.declared.step.Mode.TheVariants.{Firstn, Indep}
 use Rattle.crush.specs.declared.step.RuleKind.{RuleKind}

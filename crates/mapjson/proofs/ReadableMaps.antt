@@ -10,9 +10,9 @@ use Rattle.std.specs.Fmt.{digits, digits_onto, digit_glyph, decimal}
 use Rattle.json.proofs.Printed.Utf8.{are_ascii}
 use Rattle.serde_json.specs.Data.{Data}
 use Rattle.serde_json.specs.View.{items_of}
-use Rattle.crush.specs.declared.bucket.BucketKind.{BucketKind}
-use Rattle.crush.specs.Forest.{most_items}
-use Rattle.crush.specs.declared.bucket.BucketKind.TheVariants.{Uniform, List as Listed, Tree, Straw2}
+use Rattle.buckets.specs.declared.bucket.BucketKind.{BucketKind}
+use Rattle.buckets.specs.Kinds.{most_items}
+use Rattle.buckets.specs.declared.bucket.BucketKind.TheVariants.{Uniform, List as Listed, Tree, Straw2}
 use Rattle.crush.specs.declared.step.Mode.{Mode}
 use Rattle.crush.specs.declared.step.Mode.TheVariants.{Firstn, Indep}
 use Rattle.crush.specs.declared.step.RuleKind.{RuleKind}
@@ -28,7 +28,7 @@ use Rattle.stated.specs.declared.parts.OsdPart.{OsdPart}
 use Rattle.stated.specs.declared.parts.ExceptionPart.{ExceptionPart}
 use Rattle.stated.specs.declared.parts.PairPart.{PairPart}
 use Rattle.stated.specs.declared.pg.Pg.{Pg}
-use Rattle.crush.specs.WellFormed.{is_bucket_id}
+use Rattle.buckets.specs.Buckets.{is_bucket_id}
 use Rattle.stated.specs.PgText.{group_text}
 use Rattle.stated.specs.Parts.{pg_of, is_osd_id, pair_fits, exception_fits, exceptions_fit, is_between, has_between, item_fits, bucket_fits, step_fits, rule_fits, pool_fits, osd_fits, head_fits, lists_fit, has_few_groups, parts_fit}
 use Rattle.mapjson.specs.Written.{number_data, kind_word, item_data, bucket_data, use_word, choose_word, step_data, rule_data, pool_data, osd_data, pair_data, exception_data, map_data}

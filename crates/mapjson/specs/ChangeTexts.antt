@@ -2,7 +2,7 @@
 use Rattle.std.specs.Prelude.{◌≡◌, ℕ, ℤ, pos, nat_abs, ◌&&◌, ◌||◌, Bool, true, not, List, map, Option, Some, None, option_and_then, Result, Ok, Err, IfOk, if◌then◌else◌}
 use Rattle.std.specs.List.{list_all}
 use Rattle.std.specs.Option.{option_map_or, option_or, IsSomeAnd}
-use Rattle.crush.specs.Limits.{max_devices}
+use Rattle.buckets.specs.Limits.{max_devices}
 use Rattle.refusal.specs.Outcomes.{refused_unless}
 use Rattle.stated.specs.declared.parts.CrushParts.{CrushParts}
 use Rattle.stated.specs.CrushMaps.{CrushFacts, crush_fits, crush_fault, IsCrushOf}

@@ -5,8 +5,8 @@ use Rattle.serde_json.specs.Data.{Data, boolean, number, string, array, object, 
 use Rattle.serde_json.specs.Find.{of_integer}
 use Rattle.serde_json.specs.View.{items_of}
 use Rattle.serde_json.specs.Written.{compact_text}
-use Rattle.crush.specs.declared.bucket.BucketKind.{BucketKind}
-use Rattle.crush.specs.declared.bucket.BucketKind.TheVariants.{Uniform, List as Listed, Tree, Straw2}
+use Rattle.buckets.specs.declared.bucket.BucketKind.{BucketKind}
+use Rattle.buckets.specs.declared.bucket.BucketKind.TheVariants.{Uniform, List as Listed, Tree, Straw2}
 use Rattle.crush.specs.declared.step.Mode.{Mode}
 use Rattle.crush.specs.declared.step.Mode.TheVariants.{Firstn, Indep}
 use Rattle.crush.specs.declared.step.RuleKind.{RuleKind}

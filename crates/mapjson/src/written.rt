@@ -16,7 +16,8 @@ ghost use Rattle.stated.specs.declared.parts.PairPart.{PairPart};
 ghost use Rattle.osdmap.specs.PartsOf.{item_part, bucket_part, step_part, rule_part, pool_part, osd_part, part_listed, osd_parts, pg_part, pair_part, exception_part, version_of, parts_of};
 ghost use Rattle.mapjson.specs.Written.{list_data, kind_word, item_data, bucket_data, use_word, choose_word, step_data, rule_data, pool_data, osd_data, number_data, IsNamed, AreNamed, pair_data, exception_data, map_data};
 
-use crush::{Bucket, BucketKind, Item, Mode, RuleKind, Step};
+use buckets::{Bucket, BucketKind, Item};
+use crush::{Mode, RuleKind, Step};
 use osdmap::{Exception, NumberedRule, OsdMap, Pair, Pool};
 use serde_json::{Value, json};
 use stated::Blank;

@@ -2,8 +2,8 @@
 use Rattle.std.proofs.Common.{◌≡◌, ℕ, true, ℤ, pos, negsuc, List, arith}
 use Rattle.std.specs.Prelude.{int_lt}
 use Rattle.std.specs.List.{list_all}
-use Rattle.crush.specs.declared.bucket.Item.{Item}
-use Rattle.crush.specs.declared.bucket.Bucket.{Bucket}
+use Rattle.buckets.specs.declared.bucket.Item.{Item}
+use Rattle.buckets.specs.declared.bucket.Bucket.{Bucket}
 use Rattle.crush.specs.WellFormed.{is_known, is_item_ok, has_items_below, forest_ok, IsForest}
 use Rattle.keylist.proofs.Each.{all_both}
 use Rattle.osdmap.specs.Changes.{has_devices_below}

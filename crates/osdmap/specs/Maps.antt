@@ -3,7 +3,7 @@
 use Rattle.std.specs.Prelude.{◌≡◌, length, ℕ, ◌==◌, nat_le, Bool, true, false, not, ◌||◌, List, Option, slice_get, slice_index, ◌≤◌}
 use Rattle.std.specs.List.{find, list_all, All}
 use Rattle.std.specs.Option.{option_map, option_map_or}
-use Rattle.crush.specs.declared.bucket.Bucket.{Bucket}
+use Rattle.buckets.specs.declared.bucket.Bucket.{Bucket}
 use Rattle.crush.specs.declared.step.RuleKind.{RuleKind}
 use Rattle.crush.specs.declared.step.RuleKind.TheVariants.{Replicated, Erasure}
 use Rattle.crush.specs.WellFormed.{forest_ok, IsForest}
@@ -14,7 +14,7 @@ use Rattle.stated.specs.declared.exception.Exception.{Exception}
 use Rattle.stated.specs.declared.exception.Pair.{Pair}
 use Rattle.stated.specs.Exceptions.{key_of, is_exception, target, sides, is_set, are_pairs}
 use Rattle.keylist.specs.Order.{IsRising}
-use Rattle.crush.specs.Limits.{max_devices}
+use Rattle.buckets.specs.Limits.{max_devices}
 use Rattle.stated.specs.Limits.{max_rules, max_pools, max_total_groups}
 use Rattle.crush.specs.Limits.{full_weight}
 use Rattle.stated.specs.CrushMaps.{rule_at, is_rule_over}

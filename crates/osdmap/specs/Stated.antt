@@ -3,7 +3,7 @@ use Rattle.std.specs.Prelude.{◌≡◌, ℕ, ◌<◌, ◌==◌, Bool, false, no
 use Rattle.std.specs.List.{find, list_all, range_with_len, AllPairs}
 use Rattle.std.specs.List.Sorted.{IsPermutation}
 use Rattle.std.specs.Option.{option_map_or}
-use Rattle.crush.specs.declared.bucket.Bucket.{Bucket}
+use Rattle.buckets.specs.declared.bucket.Bucket.{Bucket}
 use Rattle.crush.specs.WellFormed.{forest_ok, IsDescending}
 use Rattle.crush.specs.Grammar.{rule_ok}
 use Rattle.stated.specs.declared.osd.Presence.{Presence}

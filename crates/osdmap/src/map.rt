@@ -61,7 +61,7 @@ impl Model for OsdMap {
 impl OsdMap {
     ghost use Rattle.std.specs.Prelude.{◌≡◌, ◌≤◌, length, IfSome};
     ghost use Rattle.std.specs.Option.{option_copied};
-    ghost use Rattle.crush.specs.Limits.{max_devices};
+    ghost use Rattle.buckets.specs.Limits.{max_devices};
     ghost use Rattle.stated.specs.Exceptions.{said_of};
     ghost use Rattle.stated.specs.CrushMaps.{rule_at};
     ghost use Rattle.osdmap.specs.Maps.{pool_at, osd_at, osd_exists, HoldsTogether};

@@ -10,7 +10,7 @@ ghost use Rattle.partjson.specs.Places.{item_placed};
 use crate::objects::{FromJson, Slots, read_object};
 use crate::slots::{Slot, flat, member};
 use crate::words::{FromWord, word};
-use crush::BucketKind;
+use buckets::BucketKind;
 use json::Reader;
 use jsonstream::tokens::skip;
 use keylist::Entries;

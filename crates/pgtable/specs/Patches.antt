@@ -4,7 +4,7 @@ use Rattle.std.specs.List.{zip, filter, fold, count_by, range_with_len}
 use Rattle.osdmap.specs.Evals.{concerns, is_evaluated}
 use Rattle.osdmap.specs.Placement.{group_of, mapped_set}
 use Rattle.std.specs.Option.{option_map, option_map_or, option_or}
-use Rattle.crush.specs.Limits.{max_devices}
+use Rattle.buckets.specs.Limits.{max_devices}
 use Rattle.stated.specs.Limits.{max_pools}
 use Rattle.grouptable.specs.Sets.{changed}
 use Rattle.stated.specs.Sets.{Places}

@@ -2,7 +2,7 @@
 
 ghost use Rattle.std.specs.Prelude.{◌≡◌, ◌<◌, map, Some, IfOk, IfSome, OnOk, All};
 ghost use Rattle.std.specs.List.{range_with_len};
-ghost use Rattle.crush.specs.Limits.{max_devices};
+ghost use Rattle.buckets.specs.Limits.{max_devices};
 ghost use Rattle.osdmap.specs.Maps.{pool_at};
 ghost use Rattle.osdmap.specs.Placement.{mapped_set, RunsOnce};
 ghost use Rattle.pgtable.specs.Tables.{sets_of, RunsMore};

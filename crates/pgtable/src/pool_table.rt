@@ -20,7 +20,7 @@ pub struct PoolTable {
 
 impl PoolTable {
     ghost use Rattle.std.specs.Prelude.{◌≡◌, ◌++◌, ◌<◌, ◌≤◌, [], length, Some, IfOk, OnOk};
-    ghost use Rattle.crush.specs.Limits.{max_devices};
+    ghost use Rattle.buckets.specs.Limits.{max_devices};
     ghost use Rattle.stated.specs.Limits.{max_groups};
     ghost use Rattle.osdmap.specs.Maps.{pool_at};
     ghost use Rattle.pgtable.specs.Tables.{pool_table, held_in, RunsMore};

@@ -21,7 +21,7 @@ pub struct PgTable {
 
 impl Model for PgTable {
     ghost use Rattle.std.specs.Prelude.{◌≤◌, length};
-    ghost use Rattle.crush.specs.Limits.{max_devices};
+    ghost use Rattle.buckets.specs.Limits.{max_devices};
     ghost use Rattle.stated.specs.Limits.{max_pools};
     ghost use Rattle.pgtable.specs.Tables.{TableFacts};
 
@@ -57,7 +57,7 @@ impl PgTable {
     ghost use Rattle.std.specs.Prelude.{◌≡◌, ◌≤◌, ◌<◌, true, false, length, Option, slice_index_or, IfOk, OnOk, MatchOption};
     ghost use Rattle.std.specs.List.{find, sum_by};
     ghost use Rattle.std.specs.Option.{option_copied, option_map_or};
-    ghost use Rattle.crush.specs.Limits.{max_devices};
+    ghost use Rattle.buckets.specs.Limits.{max_devices};
     ghost use Rattle.stated.specs.Limits.{max_pools};
     ghost use Rattle.grouptable.specs.Sets.{groups_of};
     ghost use Rattle.osdmap.specs.Maps.{ClusterMap};

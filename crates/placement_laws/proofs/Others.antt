@@ -16,7 +16,7 @@ use Rattle.keylist.proofs.Counts.{find-place}
 use Rattle.keylist.proofs.Each.{map-agree}
 use Rattle.keylist.proofs.KeyedFinds.{find-none_reverse}
 use Rattle.keylist.proofs.KeyedMaps.{entry-put, entry-filter}
-use Rattle.crush.specs.declared.bucket.Bucket.{Bucket}
+use Rattle.buckets.specs.declared.bucket.Bucket.{Bucket}
 use Rattle.crush.specs.Grammar.{IsLawfulRule, rule_limits_ok, rule_ok, is_rule, takes_known}
 use Rattle.crush.specs.Paths as paths
 use Rattle.crush_laws.proofs.RunsReached.{run_reads_reached}

@@ -94,7 +94,8 @@ IsDoneUnless r fault P =
     MatchResult r (λ x. (fault ≡ None) × P x) (IsRefusedBy fault)
 
 -- what a commit answers and leaves: where there is no fault the new epoch and the evaluations, a run for each, with the
--- journal longer by the change; else the fault; and after a refusal nothing is changed
+-- journal longer by the change; else the fault; and after a refusal all is as before, but that there may have been more
+-- runs
 abbrev pub Commits : StateFacts → StateFacts → ℕ → ChangeParts → Result (ℕ × ℕ) Refusal → Type 0
 Commits old new base change r =
     IsDoneUnless r (fault_in old base change) (λ ok. (new ≡ ran ok.1 (committed old change)) × (ok.0 ≡ base + 1)

@@ -141,7 +141,8 @@ impl State {
     ///
     /// `StaleEpoch` (20) with the present epoch where `base` is another; else what `OsdMap::check` refuses (21, 22, 23,
     /// 24, 13, 15, 25, 26, 27); else `JournalFull` (28); else `Memory` (30), or `NotSealed` (32) where another sealed
-    /// the epoch. After a refusal all is as before. All memory is taken before the seal; after it nothing can fail.
+    /// the epoch. After a refusal all is as before, but that rules may have run and be counted. All memory is taken
+    /// before the seal; after it nothing can fail.
     pub fn commit(
         &mut self,
         row: &Row,

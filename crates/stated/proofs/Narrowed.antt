@@ -13,8 +13,10 @@ use Rattle.stated.specs.declared.parts.StepPart.{StepPart}
 use Rattle.stated.specs.declared.parts.StepPart.TheVariants.{SetChooseTries, SetChooseleafTries, Take, Choose as Chooses, Emit}
 use Rattle.stated.specs.declared.parts.OsdPart.{OsdPart}
 use Rattle.stated.specs.Parts.{is_between, has_between, item_fits, bucket_fits, step_fits, rule_fits, osd_fits, item_of, bucket_of, step_of}
-use Rattle.crush.specs.Forest.{most_items}
-use Rattle.crush.specs.WellFormed.{is_within, is_bucket_id, item_limits_ok, bucket_limits_ok, forest_limits_ok}
+use Rattle.buckets.specs.Kinds.{most_items}
+use Rattle.crush.specs.WellFormed.{forest_limits_ok}
+use Rattle.buckets.specs.Limits.{is_within}
+use Rattle.buckets.specs.Buckets.{is_bucket_id, item_limits_ok, bucket_limits_ok}
 use Rattle.crush.specs.Grammar.{step_limits_ok, rule_limits_ok}
 use Rattle.stated.proofs.Within.{word_between, natural_between}
 use Rattle.keylist.proofs.Each.{all_more}

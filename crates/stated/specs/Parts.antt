@@ -2,13 +2,13 @@
 use Rattle.std.specs.Prelude.{ℕ, is_some, unwrap_or, ℤ, pos, negsuc, nat_abs, int_le, nat_le, Bool, true, false, not, ◌&&◌, List, length, map, Option, Some, if◌then◌else◌}
 use Rattle.std.specs.List.{list_all, sum_by}
 use Rattle.std.specs.Option.{option_map_or}
-use Rattle.crush.specs.declared.bucket.Item.{Item}
-use Rattle.crush.specs.declared.bucket.Bucket.{Bucket}
+use Rattle.buckets.specs.declared.bucket.Item.{Item}
+use Rattle.buckets.specs.declared.bucket.Bucket.{Bucket}
 use Rattle.crush.specs.declared.step.Step.{Step}
 use Rattle.crush.specs.declared.step.Step.TheVariants.{SetChooseTries as TryFor, SetChooseleafTries as TryForLeaves, Take as TakeBucket, Choose as ChooseBy, Emit as EmitAll}
-use Rattle.crush.specs.Forest.{most_items}
+use Rattle.buckets.specs.Kinds.{most_items}
 use Rattle.crush.specs.Rules.{Recipe}
-use Rattle.crush.specs.WellFormed.{is_bucket_id}
+use Rattle.buckets.specs.Buckets.{is_bucket_id}
 use Rattle.stated.specs.declared.parts.MapParts.{MapParts}
 use Rattle.stated.specs.declared.parts.BucketPart.{BucketPart}
 use Rattle.stated.specs.declared.parts.ItemPart.{ItemPart}
@@ -26,7 +26,8 @@ use Rattle.stated.specs.declared.exception.Pair.{Pair}
 use Rattle.refusal.specs.declared.refused.Refusal.{Refusal}
 use Rattle.refusal.specs.declared.refused.Refusal.TheVariants.{BadLimit, BadPool}
 use Rattle.refusal.specs.Outcomes.{refused_unless}
-use Rattle.crush.specs.Limits.{max_buckets, lowest_bucket, max_level, max_devices, max_steps, max_tries, max_count, max_size}
+use Rattle.crush.specs.Limits.{max_buckets, max_steps, max_tries, max_count, max_size}
+use Rattle.buckets.specs.Limits.{lowest_bucket, max_level, max_devices}
 use Rattle.stated.specs.Limits.{max_version, max_first_epoch, max_osd_id, max_item_weight, max_rules, max_rule_id, max_pools, max_pool_id, max_groups, max_total_groups, max_entries}
 use Rattle.crush.specs.Limits.{full_weight}
 use Rattle.stated.specs.Pools.{PoolFacts}

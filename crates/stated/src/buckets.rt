@@ -6,7 +6,7 @@ ghost use Rattle.stated.specs.Parts.{item_fits, bucket_fits, item_of, bucket_of}
 
 use crate::numbers::{byte, item_id, word};
 use crate::parts::{BucketPart, ItemPart};
-use crush::{Bucket, Item};
+use buckets::{Bucket, Item};
 use keylist::Entries;
 use std::alloc::{AllocError, Global};
 

@@ -4,7 +4,8 @@ ghost use Rattle.std.specs.Prelude.{◌≡◌, ◌≤◌, true, map, nat_le, IfO
 ghost use Rattle.std.specs.List.{All, list_all};
 ghost use Rattle.crush.specs.Grammar.{rule_ok, IsLawfulRule};
 ghost use Rattle.stated.specs.Limits.{max_rule_id};
-ghost use Rattle.crush.specs.Limits.{max_buckets, max_devices};
+ghost use Rattle.crush.specs.Limits.{max_buckets};
+ghost use Rattle.buckets.specs.Limits.{max_devices};
 ghost use Rattle.crush.specs.WellFormed.{forest_ok};
 ghost use Rattle.refusal.specs.declared.refused.Refusal.TheVariants.{BadForest, BadRule};
 ghost use Rattle.refusal.specs.Outcomes.{refused_unless, Makes};
@@ -165,7 +166,8 @@ impl CrushMap {
     ghost use Rattle.std.specs.Prelude.{◌≡◌, ◌≤◌, true, IfOk};
     ghost use Rattle.std.specs.List.{list_all};
     ghost use Rattle.std.specs.Option.{option_copied};
-    ghost use Rattle.crush.specs.Limits.{max_buckets, max_devices};
+    ghost use Rattle.crush.specs.Limits.{max_buckets};
+    ghost use Rattle.buckets.specs.Limits.{max_devices};
     ghost use Rattle.refusal.specs.Outcomes.{Makes};
     ghost use Rattle.stated.specs.Limits.{max_rules};
     ghost use Rattle.stated.specs.Parts.{has_between, bucket_fits, rule_fits};

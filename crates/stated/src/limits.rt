@@ -1,5 +1,6 @@
-//! The limits of maps and changes, each named once; those of forests and rules are crush's. The contracts cite each by
-//! the name of its own in specs/Limits.antt, and the tests that use these constants are proved to test those.
+//! The limits of maps and changes, each named once; those of buckets are those of `buckets`, those of forests and rules
+//! those of `crush`. The contracts cite each by the name of its own in specs/Limits.antt, and the tests that use these
+//! constants are proved to test those.
 
 use crush::limits;
 
@@ -8,11 +9,11 @@ pub const MAX_VERSION: i128 = 2;
 /// The greatest first epoch.
 pub const MAX_FIRST_EPOCH: i128 = 2_147_483_648;
 /// The greatest `max_osd`.
-pub const MAX_OSDS: i128 = limits::MAX_DEVICES as i128;
+pub const MAX_OSDS: i128 = buckets::limits::MAX_DEVICES as i128;
 /// The lowest id of a bucket.
-pub const LOWEST_BUCKET: i128 = limits::LOWEST_BUCKET as i128;
+pub const LOWEST_BUCKET: i128 = buckets::limits::LOWEST_BUCKET as i128;
 /// The greatest type of a bucket or a step.
-pub const MAX_LEVEL: i128 = limits::MAX_LEVEL as i128;
+pub const MAX_LEVEL: i128 = buckets::limits::MAX_LEVEL as i128;
 /// The greatest weight of an item.
 pub const MAX_ITEM_WEIGHT: i128 = u32::MAX as i128;
 /// How many rules a map has at most.

@@ -1,9 +1,9 @@
 //! Numbers between bounds, and the narrower numbers that they then are.
 
 ghost use Rattle.std.specs.Prelude.{◌≡◌, length, ◌≤◌, IsTrue, ℤ, pos, negsuc, nat_abs, true, ◌<◌, ◌≤ℤ◌};
-ghost use Rattle.crush.specs.WellFormed.{is_bucket_id};
+ghost use Rattle.buckets.specs.Buckets.{is_bucket_id};
 ghost use Rattle.stated.specs.Parts.{is_between, has_between, is_osd_id};
-ghost use Rattle.crush.specs.Limits.{max_devices};
+ghost use Rattle.buckets.specs.Limits.{max_devices};
 
 use crate::limits::{LOWEST_BUCKET, MAX_OSDS};
 

@@ -1,7 +1,8 @@
 //! Maps as texts state them, their numbers untested.
 
 use crate::pg_text::PgParts;
-use crush::{BucketKind, Mode, RuleKind};
+use buckets::BucketKind;
+use crush::{Mode, RuleKind};
 use keylist::Entries;
 
 /// A map as a text states it, its numbers untested: each is any whole number.

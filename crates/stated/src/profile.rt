@@ -7,7 +7,7 @@ ghost use Rattle.stated.specs.Profiles.{is_plain_kind, are_plain_kinds};
 use crate::limits::MAX_POOLS;
 use crate::parts::BucketPart;
 use crate::plain::PLAIN_POOLS;
-use crush::BucketKind;
+use buckets::BucketKind;
 
 /// Which maps and changes texts may state.
 #[derive(Clone, Copy, Debug, PartialEq, Eq)]

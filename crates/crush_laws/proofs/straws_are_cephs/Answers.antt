@@ -1,8 +1,8 @@
 use Rattle.std.proofs.Common.{refl}
 use lib.Count.{count_leading_zeros}
 use Rattle.rjenkins.specs.Jenkins.{turned, mixed, hash3_of}
-use Rattle.crush.specs.Logarithm.{rh_lh, ll, crush_ln}
-use Rattle.crush.specs.Straw2.{shortfall, least_place}
+use Rattle.buckets.specs.Logarithm.{rh_lh, ll, crush_ln}
+use Rattle.buckets.specs.Straw2.{shortfall, least_place}
 use Rattle.crush_laws.proofs.straws_are_cephs.Goals as goal
 
 pub returns : goal.returns

@@ -2,7 +2,7 @@
 ghost use Rattle.std.specs.Prelude.{◌≡◌, true, IsTrue, All, IfOk, map, pos, nat_abs};
 ghost use Rattle.std.specs.List.{list_all};
 ghost use Rattle.std.specs.Option.{option_map_or};
-ghost use Rattle.crush.specs.Limits.{max_devices};
+ghost use Rattle.buckets.specs.Limits.{max_devices};
 ghost use Rattle.stated.specs.CrushMaps.{crush_fits, crush_fault, IsCrushOf};
 ghost use Rattle.stated.specs.Growth.{growth_fits, grows_evenly, growth_of};
 ghost use Rattle.refusal.specs.declared.refused.Refusal.TheVariants.{BadPool};
@@ -11,7 +11,7 @@ ghost use Rattle.stated.specs.Parts.{has_enough_groups, is_between, is_osd_id, p
 ghost use Rattle.refusal.specs.Outcomes.{Makes};
 ghost use Rattle.mapjson.specs.ChangeTexts.{reweight_fits, change_fits, reweight_within, parts_within, new_crush_fault, IsCrushStated, are_even};
 
-use crush::limits::MAX_DEVICES;
+use buckets::limits::MAX_DEVICES;
 use keylist::Entries;
 use partjson::{RawChange, RawReweight};
 use refusal::{Memory, Refusal};

@@ -2,11 +2,12 @@
 
 ghost use Rattle.std.specs.Prelude.{◌≡◌, ◌≤◌, pos, int_lt};
 ghost use Rattle.std.specs.List.{list_all};
-ghost use Rattle.crush.specs.Limits.{max_devices};
+ghost use Rattle.buckets.specs.Limits.{max_devices};
 ghost use Rattle.osdmap.specs.Changes.{has_devices_below};
 
 use crate::map::OsdMap;
-use crush::{Bucket, Forest};
+use buckets::Bucket;
+use crush::Forest;
 use stated::Change;
 
 /// Whether each device of a bucket is below a number.

@@ -3,8 +3,8 @@ use Rattle.std.specs.List.{find, flat_map}
 use Rattle.std.specs.Option.{option_map_or, option_or}
 use Rattle.std.specs.Ordering.{int_eq}
 use Rattle.std.proofs.lemmas.List.{drop_all}
-use Rattle.crush.specs.declared.bucket.Bucket.{Bucket}
-use Rattle.crush.specs.declared.bucket.Item.{Item}
+use Rattle.buckets.specs.declared.bucket.Bucket.{Bucket}
+use Rattle.buckets.specs.declared.bucket.Item.{Item}
 use Rattle.balancer.specs.Shares.{item_weight}
 use Rattle.balancer.proofs.Weighing.{find_joined}
 use Rattle.balancer.proofs.shares.item_weight.Goals as goal

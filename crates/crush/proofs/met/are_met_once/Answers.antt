@@ -1,6 +1,6 @@
 use Rattle.std.proofs.Common.{◌≡◌, take, sym, arith}
 use Rattle.std.proofs.lemmas.Grind.{common_steps}
-use Rattle.crush.specs.declared.bucket.Item.{Item}
+use Rattle.buckets.specs.declared.bucket.Item.{Item}
 use Rattle.crush.specs.WellFormed.{is_known}
 use Rattle.crush.proofs.ItemMarks.{marks-none, items_known, once-twice, once-marked}
 use Rattle.keylist.proofs.Each.{list_all-at}

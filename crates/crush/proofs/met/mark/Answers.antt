@@ -1,7 +1,7 @@
 use Rattle.std.proofs.Common.{◌≡◌, get_or, false, true, pos, w32, refl, rules, arith}
 use Rattle.std.proofs.lemmas.Int.{to_z-of_z}
 use Rattle.std.proofs.lemmas.List.{get_or_default}
-use Rattle.crush.specs.declared.bucket.Item.{Item}
+use Rattle.buckets.specs.declared.bucket.Item.{Item}
 use Rattle.crush.specs.Slots.{slot, marks}
 use Rattle.crush.specs.WellFormed.{is_known}
 use Rattle.crush.proofs.ItemMarks.{marked_twice, marked_more}

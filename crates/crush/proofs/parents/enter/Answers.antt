@@ -1,6 +1,6 @@
 use Rattle.std.proofs.Common.{◌≡◌, get_or, slice_index, pos, w32, refl, rules, arith}
 use Rattle.std.proofs.lemmas.Int.{to_z-of_z}
-use Rattle.crush.specs.declared.bucket.Item.{Item}
+use Rattle.buckets.specs.declared.bucket.Item.{Item}
 use Rattle.crush.specs.Slots.{slot}
 use Rattle.crush.specs.WellFormed.{is_known}
 use Rattle.crush.proofs.ParentPlaces.{entered_more}

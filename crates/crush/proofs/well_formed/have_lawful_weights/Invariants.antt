@@ -1,6 +1,6 @@
 use Rattle.std.proofs.Common.{take, IsTrue}
 use Rattle.std.specs.List.{list_all}
-use Rattle.crush.specs.WellFormed.{weights_ok}
+use Rattle.buckets.specs.Buckets.{weights_ok}
 use Rattle.crush.proofs.well_formed.have_lawful_weights.Given as goal
 
 -- the weights of the buckets so far are lawful

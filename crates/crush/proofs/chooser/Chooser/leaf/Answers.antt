@@ -1,7 +1,7 @@
 use Rattle.std.proofs.Common.{◌≡◌, ◌+◌, Some, ℕ, SFits, w32, to_z, of_z, ap, sym, ◌∙◌, rules, arith}
 use Rattle.std.proofs.lemmas.Int.{to_z-of_z}
 use Rattle.crush.specs.Forest.{bucket_at}
-use Rattle.crush.specs.declared.bucket.Bucket.{Bucket}
+use Rattle.buckets.specs.declared.bucket.Bucket.{Bucket}
 use Rattle.crush.specs.Placed.{world}
 use Rattle.crush.specs.Descent.{item_below}
 use Rattle.crush.specs.Firstn.{is_free, numbers_from}

@@ -2,7 +2,7 @@ use Rattle.std.proofs.Common.{SFits, w32, to_z, Some, ap, refl, sym, ◌∙◌, 
 use Rattle.std.proofs.lemmas.Int.{to_z-of_z}
 use Rattle.crush.specs.Placed.{world}
 use Rattle.crush.specs.Indep.{replica_number}
-use Rattle.crush.specs.Pick.{pick_of}
+use Rattle.buckets.specs.Pick.{pick_of}
 use Rattle.crush.specs.Descent.{descent}
 use Rattle.crush.specs.declared.choose.Picked.{Picked}
 use Rattle.crush.proofs.Descents.{level_is, descent_hit, descent_end, descent_more, descent_none}

@@ -1,8 +1,8 @@
 use Rattle.std.proofs.Common.{◌≡◌, ◌-◌}
-use Rattle.crush.specs.Forest.{IsPickable}
+use Rattle.buckets.specs.Buckets.{IsPickable}
 use Rattle.crush.specs.Placed.{world}
 use Rattle.crush.specs.Indep.{replica_number}
-use Rattle.crush.specs.Pick.{pick_of}
+use Rattle.buckets.specs.Pick.{pick_of}
 use Rattle.crush.specs.Descent.{descent}
 use Rattle.crush.specs.Remembered.{Remembers}
 use Rattle.crush.proofs.placement.Placement.device_again.Given as goal

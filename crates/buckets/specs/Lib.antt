@@ -1,0 +1,12 @@
+pub mod Limits
+pub mod Items
+pub mod Kinds
+pub mod Buckets
+pub mod Uniform
+pub mod Listed
+pub mod Tree
+pub mod Walks
+pub mod Logarithm
+pub mod Straw2
+pub mod Straws
+pub mod Pick

@@ -1,5 +1,0 @@
-use Rattle.crush.proofs.TreeWalks.{height_is}
-use Rattle.crush.proofs.pick.tree.height.Goals as goal
-
-pub returns : goal.returns
-returns c = height_is c.args.count c.requires.some c.requires.few

@@ -1,8 +1,0 @@
-use Rattle.std.proofs.Common.{ℕ, ◌<◌}
-use Rattle.crush.specs.Tree.{draw_at}
-use Rattle.crush.specs.Walks.{walk_at}
-use Rattle.crush.proofs.TreeWalks.{IsAt}
-use Rattle.crush.proofs.pick.tree.tree_picks.Given as goal
-
-abbrev pub invariant-loop-k : goal.invariant-loop-k
-invariant-loop-k l = (r : ℕ) → r < 4 → IsAt (draw_at l.x l.id r) l.items l.k (walk_at l.walks r).from (walk_at l.walks r).weight
