@@ -71,7 +71,8 @@ impl Bucket {
         let stride = u32::from(numrep);
         match self.kind {
             BucketKind::Uniform if self.items.len() % usize::from(numrep) == 0 => stride + 1,
-            BucketKind::Uniform | BucketKind::List | BucketKind::Tree | BucketKind::Straw2 => stride,
+            BucketKind::Uniform | BucketKind::List | BucketKind::Tree | BucketKind::Straw2 =>
+                stride,
         }
     }
 

@@ -64,14 +64,14 @@ impl Placement<'_> {
             result ≡ item_below (world self.now) r 0 start.now.bucket.now }
         ensures picks { Remembers (world self.now) picks.new }
     {
-        if turn < picks.patience {
+        if turn < picks.free_tries {
             self.descend(start, 0, draw)
         } else {
             self.device_again(picks, id, start.bucket, draw)
         }
     }
 
-    /// The same, all picks made with one replica number.
+    /// The device below a bucket of the forest, by its id, after so many tries, all picks made with one replica number.
     #[inline(always)]
     pub(crate) fn device_at(
         &self,

@@ -11,6 +11,13 @@ use crate::remembered::Picks;
 use buckets::Bucket;
 use std::alloc::AllocError;
 
+/// The replica that is sought, and how many of its first tries are known to fail.
+#[derive(Clone, Copy)]
+struct Sought {
+    rep: u8,
+    known: u8,
+}
+
 /// Whether an item is among the choices.
 fn has_item(chosen: &[Choice], item: i32) -> bool
     ensures { result ≡ list_any (λ e. int_eq e.item item) chosen.now }
@@ -101,34 +108,44 @@ impl Chooser<'_> {
         }
     }
 
-    /// What the first try that does not fail comes to. The first `known` tries are known to fail, and then those of the
-    /// next replica.
+    /// What the first try for the replica that does not fail comes to. The next replica is sought from there on.
     fn replica(
         &self,
         picks: &mut Picks,
         chosen: &[Choice],
         start: &Start,
-        rep: u8,
-        known: &mut u8,
+        sought: &mut Sought,
     ) -> Attempt
         requires input { start.now.x ≡ self.now.placement.x }
+        requires some { sought.old.rep < self.now.numrep }
         requires picks { Remembers (world self.now.placement) picks.old }
-        requires known { HaveFailed (choosing self.now) chosen.now start.now.bucket.now rep (rep + known.old) }
-        ensures value { result
-            ≡ replica_of (choosing self.now) chosen.now start.now.bucket.now self.now.tries.total rep }
+        requires known { HaveFailed (choosing self.now) chosen.now start.now.bucket.now
+            sought.old.rep (sought.old.rep + sought.old.known) }
+        ensures value { result ≡ replica_of (choosing self.now) chosen.now start.now.bucket.now
+            self.now.tries.total sought.old.rep }
         ensures picks { Remembers (world self.now.placement) picks.new }
-        ensures known { HaveFailed (choosing self.now) chosen.now start.now.bucket.now (rep + 1) (rep + 1 + known.new) }
+        ensures next { sought.new.rep ≡ sought.old.rep + 1 }
+        ensures known { HaveFailed (choosing self.now) chosen.now start.now.bucket.now
+            sought.new.rep (sought.new.rep + sought.new.known) }
     {
-        for failures in *known..self.tries.total {
+        let Sought { rep, known } = *sought;
+        let next = rep + 1;
+        for failures in known..self.tries.total {
             match self.attempt(picks, chosen, start, u32::from(rep) + u32::from(failures)) {
                 Attempt::Failed => {}
                 decided => {
-                    *known = failures.saturating_sub(1);
+                    *sought = Sought {
+                        rep: next,
+                        known: failures.saturating_sub(1),
+                    };
                     return decided;
                 }
             }
         }
-        *known = self.tries.total.saturating_sub(1);
+        *sought = Sought {
+            rep: next,
+            known: self.tries.total.saturating_sub(1),
+        };
         Attempt::Failed
     }
 
@@ -148,12 +165,12 @@ impl Chooser<'_> {
     {
         let below = Start::new(start, self.placement.x, self.numrep);
         chosen.clear();
-        let mut known = 0;
-        for rep in 0..self.numrep {
+        let mut sought = Sought { rep: 0, known: 0 };
+        for _ in 0..self.numrep {
             if chosen.len() >= limit {
                 break;
             }
-            if let Attempt::Chosen(choice) = self.replica(picks, chosen, &below, rep, &mut known) {
+            if let Attempt::Chosen(choice) = self.replica(picks, chosen, &below, &mut sought) {
                 chosen.push(choice)?;
             }
         }

@@ -45,8 +45,12 @@ impl Forest {
     ghost use Rattle.crush.specs.Paths.{has_item, is_above, IsAncestor};
     ghost use Rattle.crush.specs.WellFormed.{forest_limits_ok, forest_ok, forest_fault, plain_forest_fault, IsForest, IsDescending};
 
-    /// The forest of a plain cluster: `BadLimit` (12) where there are more than 512 buckets, or more than 64 items in
-    /// one, else what [`Forest::stock`] answers.
+    /// The forest of a plain cluster.
+    ///
+    /// # Errors
+    ///
+    /// `BadLimit` (12) where there are more than 512 buckets, or more than 64 items in one; else those of
+    /// [`Forest::stock`].
     pub fn new(buckets: Vec<Bucket>, max_osd: u32) -> Result<Self, Refusal>
         ensures value { Judges result (plain_forest_fault buckets.items max_osd) (λ f. f ≡ by_id buckets.items) }
         ensures same { IfOk result (IsPermutation buckets.items) }
@@ -60,12 +64,14 @@ impl Forest {
     }
 
     /// The forest of these buckets over the devices from 0 up to below `max_osd`, its buckets by id from -1 downwards.
-    /// It is refused with 12 (`BadLimit`) where it has no bucket or more than 4,096, `max_osd` is not in 1 to 1,024, or
-    /// a bucket has an id outside -1 to -65,536, a type outside 1 to 15, no item or more than 64 (in a straw2 bucket
-    /// 1,024), or an item outside -65,536 to 1,023 or of weight 0; else with 13 (`BadForest`) where two buckets have one
-    /// id, an item is no bucket of the forest and no device below `max_osd`, an item's type is not below its bucket's, an
-    /// item stands in the forest twice, or the weights of a bucket come to more than 4,294,967,295 or differ in a
-    /// uniform bucket.
+    ///
+    /// # Errors
+    ///
+    /// `BadLimit` (12) where it has no bucket or more than 4,096, `max_osd` is not in 1 to 1,024, or a bucket has an id
+    /// outside -1 to -65,536, a type outside 1 to 15, no item or more than 64 (in a straw2 bucket 1,024), or an item
+    /// outside -65,536 to 1,023 or of weight 0; else `BadForest` (13) where two buckets have one id, an item is no
+    /// bucket of the forest and no device below `max_osd`, an item's type is not below its bucket's, an item stands in
+    /// the forest twice, or the weights of a bucket come to more than 4,294,967,295 or differ in a uniform bucket.
     pub fn stock(buckets: Vec<Bucket>, max_osd: u32) -> Result<Self, Refusal>
         ensures value { Judges result (forest_fault buckets.items max_osd) (λ f. f ≡ by_id buckets.items) }
         ensures same { IfOk result (IsPermutation buckets.items) }
@@ -78,8 +84,11 @@ impl Forest {
         Forest::of_fitting(buckets, max_osd)
     }
 
-    /// The same for buckets and a `max_osd` that are known to be within the limits: they are refused with 13
-    /// (`BadForest`) alone.
+    /// The forest of these buckets, where they and `max_osd` are known to be within the limits.
+    ///
+    /// # Errors
+    ///
+    /// `BadForest` (13), as for [`Forest::stock`].
     pub fn of_fitting(buckets: Vec<Bucket>, max_osd: u32) -> Result<Self, Refusal>
         requires { IsTrue (forest_limits_ok buckets.items max_osd) }
         ensures value { Judges result (refused_unless (forest_ok buckets.items max_osd) Refusal.BadForest)
@@ -171,7 +180,11 @@ impl Forest {
         buckets.get(usize::from(place))
     }
 
-    /// The same forest once more, or `Memory` (30).
+    /// A copy of the forest.
+    ///
+    /// # Errors
+    ///
+    /// `Memory` (30) where there is no memory for it.
     pub fn copy(&self, alloc: Global) -> Result<Self, Memory>
         ensures { IfOk result (λ f. f ≡ self.now) }
     {
@@ -182,7 +195,7 @@ impl Forest {
     }
 }
 
-/// The same buckets once more.
+/// Copies of some buckets.
 fn copies_of(alloc: Global, buckets: &[Bucket]) -> Result<Vec<Bucket>, Memory>
     ensures { IfOk result (λ v. v.items ≡ buckets.now) }
 {

@@ -92,54 +92,46 @@ impl Chooser<'_> {
         }
     }
 
-    /// What a position becomes in a round.
+    /// What a position becomes in a round, by the replica numbers that `draw` gives it: on top of its place.
     #[tactic(auto, unfolding(crate::specs::Indep::position_of))]
     fn position(
         &self,
         picks: &mut Picks,
         start: &Start,
-        round: u8,
         positions: &[Position],
-        rep: u32,
+        draw: Draw,
     ) -> Position
         requires input { start.now.x ≡ self.now.placement.x }
-        requires some { 0 < self.now.numrep }
-        requires fits { rep < 256 }
+        requires own { draw.numrep ≡ self.now.numrep }
+        requires some { 0 < draw.numrep }
+        requires fits { draw.base < 256 }
         requires picks { Remembers (world self.now.placement) picks.old }
-        ensures value { result ≡ position_of (choosing self.now) start.now.bucket.now round positions.now rep }
+        ensures value { result
+            ≡ position_of (choosing self.now) start.now.bucket.now draw.round positions.now draw.base }
         ensures picks { Remembers (world self.now.placement) picks.new }
     {
-        let draw = Draw {
-            numrep: self.numrep,
-            base: rep,
-            round,
-        };
         match self.placement.descend(start, self.choose.level, draw) {
-            Some(picked) => self.position_with(picks, positions, rep, picked),
+            Some(picked) => self.position_with(picks, positions, draw.base, picked),
             None => Position::Hole,
         }
     }
 
     /// Tries a position, if it is open.
-    fn take_turn(
-        &self,
-        picks: &mut Picks,
-        start: &Start,
-        round: u8,
-        positions: &mut [Position],
-        rep: usize,
-    )
+    fn take_turn(&self, picks: &mut Picks, start: &Start, positions: &mut [Position], draw: Draw)
         requires input { start.now.x ≡ self.now.placement.x }
-        requires some { 0 < self.now.numrep }
+        requires own { draw.numrep ≡ self.now.numrep }
+        requires some { 0 < draw.numrep }
         requires few { length positions.old ≤ max_size }
-        requires place { rep < length positions.old }
+        requires place { draw.base < length positions.old }
         requires picks { Remembers (world self.now.placement) picks.old }
-        ensures value { positions.new ≡ after_turn (choosing self.now) start.now.bucket.now round positions.old rep }
+        ensures value { positions.new
+            ≡ after_turn (choosing self.now) start.now.bucket.now draw.round positions.old draw.base }
         ensures picks { Remembers (world self.now.placement) picks.new }
     {
-        if positions[rep].is_open() {
-            let position = self.position(picks, start, round, positions, rep as u32);
-            positions[rep] = position;
+        let place = draw.base as usize;
+        if positions[place].is_open() {
+            let position = self.position(picks, start, positions, draw);
+            positions[place] = position;
         }
     }
 
@@ -154,7 +146,12 @@ impl Chooser<'_> {
         ensures picks { Remembers (world self.now.placement) picks.new }
     {
         for rep in 0..positions.len() {
-            self.take_turn(picks, start, round, positions, rep);
+            let draw = Draw {
+                numrep: self.numrep,
+                base: rep as u32,
+                round,
+            };
+            self.take_turn(picks, start, positions, draw);
         }
     }
 
@@ -174,7 +171,7 @@ impl Chooser<'_> {
             if !has_open(positions) {
                 break;
             }
-            picks.tire(round);
+            picks.note_rounds(round);
             self.take_round(picks, &below, positions, round);
         }
     }

@@ -1,4 +1,14 @@
-//! CRUSH: where a rule places the replicas of a group in a forest of buckets.
+//! CRUSH: where a rule places the replicas of a group in a forest of buckets. What a bucket picks is told by the crate
+//! `buckets`.
+//!
+//! - `limits`: the limits of forests, of rules, and of the pools that rules serve
+//! - `forest`: forests, and the bucket above an item
+//! - `well_formed`, `search`, `met`, `parents`: which lists of buckets are forests, and look-ups in one
+//! - `step`, `rule`, `grammar`: steps, rules, and which lists of steps are rules
+//! - `choose`, `chooser`, `placement`: what choosing goes by and comes to, and the descent
+//! - `firstn`, `indep`: choosing items that are packed, and items that keep their positions
+//! - `remembered`, `device`: picks that are remembered once tries are many, and the descent by them
+//! - `work`, `run`: the room that runs work in, and the run of a rule
 #![tactic(auto)]
 
 pub mod choose;

@@ -12,8 +12,8 @@ ghost use Rattle.crush.specs.WellFormed.{is_known, has_items_once, has_items_bel
 
 use crate::limits::MAX_BUCKETS;
 use crate::search::place_of;
-use buckets::{Bucket, Item};
 use buckets::limits::MAX_DEVICES;
+use buckets::{Bucket, Item};
 
 /// How many items a forest can have, each once.
 pub(crate) const SLOTS: usize = MAX_DEVICES as usize + MAX_BUCKETS;

@@ -121,7 +121,7 @@ impl Placement<'_> {
         None
     }
 
-    /// The same, all picks made with one replica number.
+    /// The item of the wanted type below a bucket, all picks made with one replica number.
     #[inline(always)]
     pub(crate) fn descend_at(&self, start: &Start, wanted: u8, r: u32) -> Option<Picked>
         requires input { start.now.x ≡ self.now.x }

@@ -6,27 +6,27 @@ use buckets::Bucket;
 /// How many picks are remembered at most.
 pub(crate) const PLACES: usize = 32_768;
 
-/// After how many tries for a leaf, or rounds, picks are remembered.
-pub(crate) const PATIENCE: u8 = 8;
+/// How many tries for a leaf, or rounds, there are before picks are remembered.
+pub(crate) const FREE_TRIES: u8 = 8;
 
 /// How many places lie between those of two buckets with ids side by side.
 const STRIDE: u64 = 2_341;
 
-/// A pick: which bucket, with which replica number, and the item.
+/// A pick that is remembered: which bucket, with which replica number, and the item.
 #[derive(Clone, Copy, Debug)]
-pub(crate) struct Kept {
+pub(crate) struct Remembered {
     pub bucket: i32,
     pub r: u32,
     pub item: i32,
 }
 
-/// After how many tries for a leaf picks are remembered, and the picks that are, if they are: each at its place, where
-/// the last one stays of those that meet.
+/// After how many tries for a leaf picks are remembered, and the picks that are, if they are: each at its place. Where
+/// two have one place, the last one stays.
 #[derive(Debug, Drop)]
 pub(crate) struct Picks {
-    pub patience: u8,
+    pub free_tries: u8,
     pub is_on: bool,
-    pub kept: Vec<Option<Kept>>,
+    pub by_place: Vec<Option<Remembered>>,
 }
 
 /// The place of a pick.
@@ -50,7 +50,7 @@ impl Picks {
     pub(crate) fn forget(&mut self)
         ensures { (w : World) → Remembers w self.new }
     {
-        self.patience = PATIENCE;
+        self.free_tries = FREE_TRIES;
         self.is_on = false;
     }
 
@@ -61,13 +61,13 @@ impl Picks {
     fn begin(&mut self)
         ensures { (w : World) → Remembers w self.new }
     {
-        self.patience = 0;
-        self.kept.clear();
-        self.is_on = self.kept.resize(PLACES, None).is_ok();
+        self.free_tries = 0;
+        self.by_place.clear();
+        self.is_on = self.by_place.resize(PLACES, None).is_ok();
     }
 
     /// Remembers picks from here on, if it does not yet.
-    fn make_ready(&mut self)
+    fn start_remembering(&mut self)
         ensures { (w : World) → Remembers w self.old → Remembers w self.new }
     {
         if !self.is_on {
@@ -78,11 +78,11 @@ impl Picks {
     /// After so many rounds each later pick for a leaf is remembered, if they are many.
     #[inline(always)]
     #[tactic(auto, unfolding(crate::specs::Remembered::Remembers))]
-    pub(crate) fn tire(&mut self, rounds: u8)
+    pub(crate) fn note_rounds(&mut self, rounds: u8)
         ensures { (w : World) → Remembers w self.old → Remembers w self.new }
     {
-        if rounds >= PATIENCE {
-            self.patience = 0;
+        if rounds >= FREE_TRIES {
+            self.free_tries = 0;
         }
     }
 
@@ -95,20 +95,20 @@ impl Picks {
         if !self.is_on {
             return None;
         }
-        match self.kept.get(place_of(bucket, r)) {
-            Some(Some(kept)) if kept.bucket == bucket && kept.r == r => Some(kept.item),
+        match self.by_place.get(place_of(bucket, r)) {
+            Some(Some(pick)) if pick.bucket == bucket && pick.r == r => Some(pick.item),
             _ => None,
         }
     }
 
     /// Remembers a pick.
     #[tactic(auto, unfolding(crate::specs::Remembered::Remembers))]
-    fn keep(&mut self, pick: Kept)
+    fn keep(&mut self, pick: Remembered)
         ensures { (w : World) → IsPick w pick → Remembers w self.old → Remembers w self.new }
     {
         let place = place_of(pick.bucket, pick.r);
-        if place < self.kept.len() {
-            self.kept[place] = Some(pick);
+        if place < self.by_place.len() {
+            self.by_place[place] = Some(pick);
         }
     }
 
@@ -121,12 +121,12 @@ impl Picks {
         ensures value { result ≡ pick_of bucket.now placement.now.x r }
         ensures picks { Remembers (world placement.now) self.new }
     {
-        self.make_ready();
+        self.start_remembering();
         if let Some(item) = self.known(id, r) {
             return item;
         }
         let item = bucket.pick(placement.x, r);
-        self.keep(Kept {
+        self.keep(Remembered {
             bucket: id,
             r,
             item,

@@ -36,10 +36,13 @@ impl Rule {
     ghost use Rattle.crush.specs.Grammar.{rule_limits_ok, rule_ok, rule_fault, IsLawfulRule};
     ghost use Rattle.crush.specs.Paths.{reaches, takes_above};
 
-    /// The rule of these steps over a forest. It is refused with 12 (`BadLimit`) where it has no step or more than 16,
-    /// takes a bucket outside -1 to -65,536, or chooses a type above 15 or more than 10 items, or sets
-    /// no tries or more than 200; else with 14 (`BadRule`)
-    /// where the steps are not in the grammar, or take a bucket that the forest has not.
+    /// The rule of these steps over a forest.
+    ///
+    /// # Errors
+    ///
+    /// `BadLimit` (12) where it has no step or more than 16, takes a bucket outside -1 to -65,536, chooses a type above
+    /// 15 or more than 10 items, or sets no tries or more than 200; else `BadRule` (14) where the steps are not in the
+    /// grammar, or take a bucket that the forest has not.
     pub fn new(kind: RuleKind, steps: Vec<Step>, forest: &Forest) -> Result<Self, Refusal>
         ensures { Judges result (rule_fault kind steps.items forest.now)
             (λ r. r ≡ record { kind = kind; steps = steps.items }) }
@@ -50,7 +53,11 @@ impl Rule {
         Rule::of_fitting(kind, steps, forest)
     }
 
-    /// The same for steps that are known to be within the limits: they are refused with 14 (`BadRule`) alone.
+    /// The rule of these steps over a forest, where the steps are known to be within the limits.
+    ///
+    /// # Errors
+    ///
+    /// `BadRule` (14) where the steps are not in the grammar, or take a bucket that the forest has not.
     pub fn of_fitting(kind: RuleKind, steps: Vec<Step>, forest: &Forest) -> Result<Self, Refusal>
         requires { IsTrue (rule_limits_ok steps.items) }
         ensures { Judges result (refused_unless (rule_ok kind steps.items forest.now) Refusal.BadRule)
@@ -92,7 +99,11 @@ impl Rule {
         self.steps.iter().any(|step| takes_above(step, forest, osd))
     }
 
-    /// The same rule once more, or `Memory` (30).
+    /// A copy of the rule.
+    ///
+    /// # Errors
+    ///
+    /// `Memory` (30) where there is no memory for it.
     pub fn copy(&self, alloc: Global) -> Result<Self, Memory>
         ensures { IfOk result (λ r. r ≡ self.now) }
     {

@@ -38,7 +38,6 @@ impl Chooser<'_> {
     /// Adds what a step that packs gives below one bucket.
     fn add_packed(
         &self,
-        size: u8,
         picks: &mut Picks,
         start: &Bucket,
         chosen: &mut Vec<Choice>,
@@ -48,10 +47,10 @@ impl Chooser<'_> {
         requires packed { self.now.choose.mode ≡ Mode.Firstn }
         requires picks { Remembers (world self.now.placement) picks.old }
         ensures value { OnOk result (found.new.items ≡ found.old.items
-            ++ segment_of (choosing self.now) start.now (size - length found.old.items)) }
+            ++ segment_of (choosing self.now) start.now (self.now.size - length found.old.items)) }
         ensures picks { Remembers (world self.now.placement) picks.new }
     {
-        let room = usize::from(size).saturating_sub(found.len());
+        let room = usize::from(self.size).saturating_sub(found.len());
         self.firstn(picks, start, room, chosen)?;
         for choice in chosen.iter() {
             found.push(Some(choice.leaf))?;
@@ -62,7 +61,6 @@ impl Chooser<'_> {
     /// Adds what a step that keeps positions gives below one bucket.
     fn add_positions(
         &self,
-        size: u8,
         picks: &mut Picks,
         start: &Bucket,
         found: &mut Vec<Option<i32>>,
@@ -70,13 +68,13 @@ impl Chooser<'_> {
         requires within { IsPickable start.now }
         requires kept { self.now.choose.mode ≡ Mode.Indep }
         requires some { 0 < self.now.numrep }
-        requires few { size ≤ max_size }
+        requires few { self.now.size ≤ max_size }
         requires picks { Remembers (world self.now.placement) picks.old }
         ensures value { OnOk result (found.new.items ≡ found.old.items
-            ++ segment_of (choosing self.now) start.now (size - length found.old.items)) }
+            ++ segment_of (choosing self.now) start.now (self.now.size - length found.old.items)) }
         ensures picks { Remembers (world self.now.placement) picks.new }
     {
-        let room = usize::from(size).saturating_sub(found.len());
+        let room = usize::from(self.size).saturating_sub(found.len());
         let mut all = [Position::Open; MAX_SIZE];
         let positions = &mut all[..room.min(usize::from(self.numrep))];
         self.indep(picks, start, positions);
@@ -89,16 +87,16 @@ impl Chooser<'_> {
     /// Adds what a choose step gives below an entry of the working list: nothing below a device or a hole.
     fn add_entry(
         &self,
-        size: u8,
         picks: &mut Picks,
         entry: Option<i32>,
         chosen: &mut Vec<Choice>,
         found: &mut Vec<Option<i32>>,
     ) -> Result<(), AllocError>
         requires some { 0 < self.now.numrep }
-        requires few { size ≤ max_size }
+        requires few { self.now.size ≤ max_size }
         requires picks { Remembers (world self.now.placement) picks.old }
-        ensures value { OnOk result (found.new.items ≡ after_entry (choosing self.now) size found.old.items entry) }
+        ensures value { OnOk result (found.new.items
+            ≡ after_entry (choosing self.now) self.now.size found.old.items entry) }
         ensures picks { Remembers (world self.now.placement) picks.new }
     {
         let Some(item) = entry else {
@@ -108,29 +106,28 @@ impl Chooser<'_> {
             return Ok(());
         };
         match self.choose.mode {
-            Mode::Firstn => self.add_packed(size, picks, bucket, chosen, found),
-            Mode::Indep => self.add_positions(size, picks, bucket, found),
+            Mode::Firstn => self.add_packed(picks, bucket, chosen, found),
+            Mode::Indep => self.add_positions(picks, bucket, found),
         }
     }
 
     /// Makes the working list of a choose step, a segment for each bucket of the one before.
     fn segments(
         &self,
-        size: u8,
         picks: &mut Picks,
         working: &[Option<i32>],
         chosen: &mut Vec<Choice>,
         found: &mut Vec<Option<i32>>,
     ) -> Result<(), AllocError>
         requires some { 0 < self.now.numrep }
-        requires few { size ≤ max_size }
+        requires few { self.now.size ≤ max_size }
         requires picks { Remembers (world self.now.placement) picks.old }
-        ensures value { OnOk result (found.new.items ≡ chosen_from (choosing self.now) size working.now) }
+        ensures value { OnOk result (found.new.items ≡ chosen_from (choosing self.now) self.now.size working.now) }
         ensures picks { Remembers (world self.now.placement) picks.new }
     {
         found.clear();
         for entry in working {
-            self.add_entry(size, picks, *entry, chosen, found)?;
+            self.add_entry(picks, *entry, chosen, found)?;
         }
         Ok(())
     }
@@ -157,12 +154,12 @@ impl Placement<'_> {
     {
         let chooser = Chooser {
             placement: *self,
+            size,
             choose,
             tries: lists.tries,
             numrep: numrep(choose, size),
         };
         chooser.segments(
-            size,
             &mut lists.picks,
             &lists.working,
             &mut lists.chosen,
@@ -221,7 +218,10 @@ impl Rule {
     ghost use Rattle.crush.specs.Placed.{world};
     ghost use Rattle.crush.specs.Run.{run_of};
 
-    /// Places an input by the rule in a pool of `size` places, 1 to 10, as many as a pool may have. The one error is
+    /// Places an input by the rule in a pool of `size` places, 1 to 10, as many as a pool may have.
+    ///
+    /// # Errors
+    ///
     /// `Memory` (30): after it the result is open, and the run is not counted.
     #[tactic(auto, unfolding(crate::specs::Run::run_of))]
     pub fn run(&self, placement: &Placement<'_>, size: u8, work: &mut Work) -> Result<(), Memory>

@@ -3,7 +3,7 @@
 use crate::choose::{Choice, Tries};
 use crate::forest::Forest;
 use crate::limits::MAX_SIZE;
-use crate::remembered::{PATIENCE, PLACES, Picks};
+use crate::remembered::{FREE_TRIES, PLACES, Picks};
 use refusal::Memory;
 use std::alloc::Global;
 use std::marker::Model;
@@ -47,7 +47,11 @@ impl Model for Work {
 impl Work {
     ghost use Rattle.std.specs.Prelude.{◌≡◌, [], IfOk};
 
-    /// A work with room for the runs of the greatest pool, and no run yet. The one error is out of memory.
+    /// A work with room for the runs of the greatest pool, and no run yet.
+    ///
+    /// # Errors
+    ///
+    /// `Memory` (30) where there is no memory for it.
     pub fn new(alloc: Global, _forest: &Forest) -> Result<Work, Memory>
         ensures result { IfOk result (λ work. work.result ≡ []) }
         ensures runs { IfOk result (λ work. work.runs ≡ 0) }
@@ -59,9 +63,9 @@ impl Work {
             emitted: Vec::with_capacity(alloc, 2 * MAX_SIZE)?,
             chosen: Vec::with_capacity(alloc, MAX_SIZE)?,
             picks: Picks {
-                patience: PATIENCE,
+                free_tries: FREE_TRIES,
                 is_on: false,
-                kept: Vec::with_capacity(alloc, PLACES)?,
+                by_place: Vec::with_capacity(alloc, PLACES)?,
             },
         };
         Ok(Work { lists, runs: 0 })

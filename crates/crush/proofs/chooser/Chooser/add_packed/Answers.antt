@@ -10,8 +10,8 @@ returns-clause-value c =
     let a = c.args in
     let items = c.deref-choice-items.result.now in
     let found = a.found.now.items in
-    let room : c.saturating_sub-room.result ≡ a.size - length found = omega (arith, a.found.now.ok.0) in
+    let room : c.saturating_sub-room.result ≡ a.self.now.size - length found = omega (arith, a.found.now.ok.0) in
     let all : take c.loop-choice.choice-index items ≡ items = take_all c.loop-choice.choice-index items (omega arith) in
     c.loop-choice.invariant
     ∙ ap (λ (ys : List Choice). found ++ map (λ (e : Choice). Some e.leaf) ys) all
-    ∙ packed_is (choosing a.self.now) a.start.now a.size c.saturating_sub-room.result found items c.requires.packed room (c.deref-choice-items.ensures.value ∙ c.in_ok-firstn.ensures.value)
+    ∙ packed_is (choosing a.self.now) a.start.now a.self.now.size c.saturating_sub-room.result found items c.requires.packed room (c.deref-choice-items.ensures.value ∙ c.in_ok-firstn.ensures.value)

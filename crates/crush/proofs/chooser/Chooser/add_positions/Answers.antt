@@ -13,8 +13,8 @@ returns-clause-value c =
     let items = c.indep.new.positions in
     let found = a.found.now.items in
     let len : length items ≡ c.min.result = search rules in
-    let count : length items ≡ min k.numrep (a.size - length found) = omega (arith, len, a.found.now.ok.0) in
+    let count : length items ≡ min k.numrep (a.self.now.size - length found) = omega (arith, len, a.found.now.ok.0) in
     let all : take c.loop-position.position-index items ≡ items = take_all c.loop-position.position-index items (omega arith) in
     c.loop-position.invariant
     ∙ ap (λ (ys : List Position). found ++ map leaf_at ys) all
-    ∙ positions_is k a.start.now a.size (length items) found items c.requires.kept count (c.indep.ensures.value ∙ ap (indep k a.start.now) (sym c.indep.auto.positions))
+    ∙ positions_is k a.start.now a.self.now.size (length items) found items c.requires.kept count (c.indep.ensures.value ∙ ap (indep k a.start.now) (sym c.indep.auto.positions))

@@ -9,7 +9,7 @@ abbrev pub invariant-loop-failures : goal.invariant-loop-failures
 invariant-loop-failures l =
     let k = choosing l.self in
     record {
-      done : replica_of k l.chosen l.start.bucket.now (k.tries.total - l.failures) (l.rep + l.failures) ≡ replica_of k l.chosen l.start.bucket.now k.tries.total l.rep;
-      before : HaveFailed k l.chosen l.start.bucket.now l.rep (l.rep + l.failures);
+      done : replica_of k l.chosen l.start.bucket.now (k.tries.total - l.failures) (l.fn.sought.rep + l.failures) ≡ replica_of k l.chosen l.start.bucket.now k.tries.total l.fn.sought.rep;
+      before : HaveFailed k l.chosen l.start.bucket.now l.fn.sought.rep (l.fn.sought.rep + l.failures);
       picks : Remembers (world l.self.placement) l.picks;
     }

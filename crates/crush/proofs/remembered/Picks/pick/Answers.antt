@@ -11,4 +11,4 @@ returns-in-Some-clause-value c =
     let fits : SFits w32 c.in-Some.item = search rules in
     let passed : SFits w32 a.id = c.ranges.id in
     to_z-of_z w32 c.in-Some.item fits
-    ∙ c.in-Some.ensures w (c.make_ready.ensures w c.requires.picks) a.bucket.now (ap (bucket_at w.buckets) (to_z-of_z w32 a.id passed) ∙ c.requires.listed)
+    ∙ c.in-Some.ensures w (c.start_remembering.ensures w c.requires.picks) a.bucket.now (ap (bucket_at w.buckets) (to_z-of_z w32 a.id passed) ∙ c.requires.listed)
