@@ -6,9 +6,9 @@ use Rattle.std.specs.List.{list_any, count_by}
 use Rattle.std.proofs.lemmas.Bool.{cases_Bool, eqb-true, and_parts}
 use Rattle.std.proofs.lemmas.Int.{ints}
 use Rattle.std.proofs.lemmas.List.Sums.{sum_by-cons}
-use Rattle.stated.specs.Pools.{PoolFacts}
+use Rattle.maptypes.specs.Pools.{PoolFacts}
 use Rattle.osdmap.specs.Maps.{ClusterMap}
-use Rattle.stated.specs.Sets.{is_of, stands}
+use Rattle.maptypes.specs.Sets.{is_of, stands}
 use Rattle.osdmap.specs.Placement.{group_of, steps_of, mapped_set, up_set}
 use Rattle.placement_laws.proofs.Standing.{up_are_mapped_and_up}
 use Rattle.balancer.specs.declared.moves.Move.{Move}

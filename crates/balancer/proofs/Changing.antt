@@ -18,14 +18,14 @@ use Rattle.keylist.proofs.Distinct.{rising_distinct}
 use Rattle.keylist.proofs.Each.{all_more, all_so}
 use Rattle.keylist.proofs.KeyedMaps.{has-entry, entry-put, entry-puts, entry-reverse, rising-puts, list_all-filter}
 use Rattle.keylist.proofs.KeyedOrder.{rising-filter}
-use Rattle.stated.specs.declared.change.ChangeParts.{ChangeParts}
-use Rattle.stated.specs.declared.exception.Exception.{Exception}
-use Rattle.stated.specs.declared.exception.Pair.{Pair}
-use Rattle.stated.specs.declared.pg.Pg.{Pg}
-use Rattle.stated.specs.Exceptions.{place_of, key_of, has_pool_of, has_group, sides, are_pairs, all_named, is_sound, is_exception, stays, exceptions_after}
-use Rattle.stated.specs.Growth.{grown}
-use Rattle.stated.specs.Limits.{max_pools, max_total_groups}
-use Rattle.stated.specs.Pools.{PoolFacts, total_groups}
+use Rattle.maptypes.specs.declared.change.ChangeParts.{ChangeParts}
+use Rattle.maptypes.specs.declared.exception.Exception.{Exception}
+use Rattle.maptypes.specs.declared.exception.Pair.{Pair}
+use Rattle.maptypes.specs.declared.pg.Pg.{Pg}
+use Rattle.maptypes.specs.Exceptions.{place_of, key_of, has_pool_of, has_group, sides, are_pairs, all_named, is_sound, is_exception, stays, exceptions_after}
+use Rattle.maptypes.specs.Growth.{grown}
+use Rattle.mapparts.specs.Limits.{max_pools, max_total_groups}
+use Rattle.maptypes.specs.Pools.{PoolFacts, total_groups}
 use Rattle.osdmap.specs.Maps.{ClusterMap, osd_exists, has_rule, HoldsTogether}
 use Rattle.osdmap.specs.Changes.{names_osds, weighs_rightly, pools_kept, pools_there, pools_after, all_named_groups, names_pools, brings_new, brings_forest, leaves_few_groups, brings_rightly, names_groups, excepts_soundly, names_once, change_fault, apply}
 use Rattle.osdmap.specs.Placement.{group_of}

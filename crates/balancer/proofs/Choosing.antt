@@ -10,7 +10,7 @@ use Rattle.std.proofs.lemmas.List.FromFn.{get_or-range_with_len, length-range_wi
 use Rattle.std.proofs.lemmas.List.{length-map, get_or-map}
 use Rattle.keylist.proofs.Each.{list_all-at, list_all-from}
 use Rattle.keylist.proofs.Tests.{not_true}
-use Rattle.stated.specs.Pools.{PoolFacts}
+use Rattle.maptypes.specs.Pools.{PoolFacts}
 use Rattle.osdmap.specs.Maps.{ClusterMap}
 use Rattle.balancer.specs.declared.moves.Move.{Move}
 use Rattle.balancer.specs.Shares.{osds_of, is_candidate, candidate_osds}

@@ -11,7 +11,7 @@ use Rattle.std.proofs.lemmas.Nat.{mul-le}
 use Rattle.keylist.proofs.Tests.{and_first, and_second, not_true}
 use Rattle.keylist.proofs.Counts.{find-place}
 use Rattle.crush.specs.Paths as paths
-use Rattle.stated.specs.Pools.{PoolFacts, IsWithinLimits}
+use Rattle.maptypes.specs.Pools.{PoolFacts, IsWithinLimits}
 use Rattle.osdmap.specs.Maps.{ClusterMap, pool_at, osd_exists, osd_is_up, HoldsTogether}
 use Rattle.osdmap.specs.Mapped.{is_weightless}
 use Rattle.osdmap.specs.Placement.{steps_of}

@@ -7,7 +7,7 @@ use Rattle.std.proofs.lemmas.Bool.{cases_Bool, cases_lt, eqb-true, eq-eqb}
 use Rattle.std.proofs.lemmas.List.{length-set, length-take-le, get_or-set_same, get_or-set_other, get_or-take, get_or_default, set_past}
 use Rattle.std.proofs.lemmas.List.Elements.{All-nil, All-append, All-push, All-weaker}
 use Rattle.std.proofs.lemmas.List.Folds.{list_any_more, list_any-append}
-use Rattle.stated.specs.Sets.{is_of, stands}
+use Rattle.maptypes.specs.Sets.{is_of, stands}
 use Rattle.balancer.specs.declared.group.Group.{Group}
 use Rattle.balancer.specs.Standing.{row_of, put_in, IsIn, IsKnownAt, AreLonger, AreRowsOf}
 

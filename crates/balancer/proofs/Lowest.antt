@@ -8,8 +8,8 @@ use Rattle.std.proofs.lemmas.Bool.Decides.{nat_tests}
 use Rattle.std.proofs.lemmas.List.{take_all, length-take-le, get_or-take, get_or_default}
 use Rattle.std.proofs.lemmas.List.Folds.{list_any_none}
 use Rattle.std.proofs.lemmas.List.Quantifiers.{position-Some}
-use Rattle.stated.specs.Pools.{PoolFacts}
-use Rattle.stated.specs.Sets.{is_of, stands}
+use Rattle.maptypes.specs.Pools.{PoolFacts}
+use Rattle.maptypes.specs.Sets.{is_of, stands}
 use Rattle.osdmap.specs.Maps.{ClusterMap}
 use Rattle.keylist.proofs.Counts.{count_by-cons}
 use Rattle.balancer.specs.declared.group.Group.{Group}

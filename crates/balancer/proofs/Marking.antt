@@ -12,9 +12,9 @@ use Rattle.std.proofs.lemmas.List.{get_or-set_same, get_or-set_other, get_or_pas
 use Rattle.std.proofs.lemmas.List.Sums.{fails_before_first}
 use Rattle.keylist.proofs.Tests.{not_true}
 use Rattle.crush.proofs.IdSearches.{int_eq-yes}
-use Rattle.stated.specs.Pools.{PoolFacts}
+use Rattle.maptypes.specs.Pools.{PoolFacts}
 use Rattle.osdmap.specs.Maps.{ClusterMap}
-use Rattle.stated.specs.Sets.{is_of, stands}
+use Rattle.maptypes.specs.Sets.{is_of, stands}
 use Rattle.osdmap.specs.Placement.{steps_of}
 use Rattle.balancer.specs.declared.group.Group.{Group}
 use Rattle.balancer.specs.declared.moves.Move.{Move}

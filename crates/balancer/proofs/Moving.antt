@@ -8,14 +8,14 @@ use Rattle.std.proofs.lemmas.List.Sums.{fold-append}
 use Rattle.keylist.specs.Keys.{entry_at}
 use Rattle.keylist.specs.Puts.{put}
 use Rattle.keylist.proofs.KeyedMaps.{entry-put}
-use Rattle.stated.specs.declared.exception.Exception.{Exception}
-use Rattle.stated.specs.declared.exception.Pair.{Pair}
-use Rattle.stated.specs.declared.pg.Pg.{Pg}
-use Rattle.stated.specs.Exceptions.{place_of, key_of, said_of}
-use Rattle.stated.specs.Pools.{PoolFacts}
+use Rattle.maptypes.specs.declared.exception.Exception.{Exception}
+use Rattle.maptypes.specs.declared.exception.Pair.{Pair}
+use Rattle.maptypes.specs.declared.pg.Pg.{Pg}
+use Rattle.maptypes.specs.Exceptions.{place_of, key_of, said_of}
+use Rattle.maptypes.specs.Pools.{PoolFacts}
 use Rattle.osdmap.specs.Maps.{ClusterMap}
 use Rattle.osdmap.specs.Mapped.{is_weightless, replaced, with_pair, with_items, mapped}
-use Rattle.stated.specs.Sets.{is_of, stands}
+use Rattle.maptypes.specs.Sets.{is_of, stands}
 use Rattle.osdmap.specs.Placement.{group_of, placed, raw_set, mapped_set}
 use Rattle.balancer.specs.declared.moves.Move.{Move}
 use Rattle.balancer.specs.Moves.{pair_of_move, pairs_in, lengthened, moved, is_same_set, does_replace}

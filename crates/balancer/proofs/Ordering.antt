@@ -1,11 +1,11 @@
 -- A change whose one part rises is made as it is stated.
 use Rattle.std.proofs.Common.{◌≡◌, ℕ, List, [], arith}
 use Rattle.keylist.specs.Order.{IsRising, SortsBy}
-use Rattle.stated.specs.declared.change.ChangeParts.{ChangeParts}
-use Rattle.stated.specs.declared.exception.Exception.{Exception}
-use Rattle.stated.specs.declared.exception.Pair.{Pair}
-use Rattle.stated.specs.Exceptions.{place_of, key_of}
-use Rattle.stated.specs.Ordered.{IsOrdered}
+use Rattle.maptypes.specs.declared.change.ChangeParts.{ChangeParts}
+use Rattle.maptypes.specs.declared.exception.Exception.{Exception}
+use Rattle.maptypes.specs.declared.exception.Pair.{Pair}
+use Rattle.maptypes.specs.Exceptions.{place_of, key_of}
+use Rattle.maptypes.specs.Ordered.{IsOrdered}
 use Rattle.balancer.specs.Plans.{change_of}
 use Rattle.balancer.proofs.Rising.{sorted_same}
 

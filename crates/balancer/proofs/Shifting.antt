@@ -10,11 +10,11 @@ use Rattle.std.proofs.lemmas.List.FromFn.{fill_by_all, length-range_with_len, ge
 use Rattle.std.proofs.lemmas.List.Sums.{sum_by-cons, sum_by-set}
 use Rattle.keylist.specs.Order.{IsRising}
 use Rattle.keylist.proofs.KeyedOrder.{rising_head, rising_tail, rising-filter}
-use Rattle.stated.specs.declared.exception.Pair.{Pair}
-use Rattle.stated.specs.Pools.{PoolFacts}
+use Rattle.maptypes.specs.declared.exception.Pair.{Pair}
+use Rattle.maptypes.specs.Pools.{PoolFacts}
 use Rattle.osdmap.specs.Maps.{ClusterMap, pool_at, osd_is_up, HoldsTogether}
 use Rattle.osdmap.specs.Mapped.{replaced}
-use Rattle.stated.specs.Sets.{is_of, stands}
+use Rattle.maptypes.specs.Sets.{is_of, stands}
 use Rattle.osdmap.specs.Placement.{mapped_set}
 use Rattle.pgtable.specs.Index.{count_in}
 use Rattle.pgtable.specs.Tables.{sets_of}

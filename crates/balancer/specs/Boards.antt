@@ -4,13 +4,13 @@ use Rattle.std.specs.Prelude.{◌≡◌, ℕ, ◌+◌, ◌*◌, ◌<◌, ◌≤�
 use Rattle.std.specs.List.{range_with_len, list_any, count_by, All}
 use Rattle.std.specs.List.Sorted.{IsPermutation}
 use Rattle.std.specs.Option.{option_map_or}
-use Rattle.stated.specs.declared.pg.Pg.{Pg}
+use Rattle.maptypes.specs.declared.pg.Pg.{Pg}
 use Rattle.keylist.specs.Keys.{entry_at}
-use Rattle.stated.specs.Exceptions.{place_of, key_of, said_of}
-use Rattle.stated.specs.Pools.{PoolFacts}
+use Rattle.maptypes.specs.Exceptions.{place_of, key_of, said_of}
+use Rattle.maptypes.specs.Pools.{PoolFacts}
 use Rattle.osdmap.specs.Maps.{ClusterMap, HoldsTogether}
 use Rattle.osdmap.specs.Mapped.{is_weightless, replaced}
-use Rattle.stated.specs.Sets.{is_of, stands}
+use Rattle.maptypes.specs.Sets.{is_of, stands}
 use Rattle.osdmap.specs.Placement.{group_of, steps_of, mapped_set}
 use Rattle.balancer.specs.declared.moves.Move.{Move}
 use Rattle.balancer.specs.declared.group.Group.{Group}

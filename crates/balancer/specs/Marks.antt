@@ -1,8 +1,8 @@
 -- Between which OSDs no group may go, as far as it is known: for each OSD that a group would leave, by number, and each
 -- that would come.
 use Rattle.std.specs.Prelude.{◌≡◌, ℕ, ◌<◌, ◌==◌, Bool, true, false, ℤ, List, [], length, Option, All, IfSome, slice_set, slice_index_or}
-use Rattle.stated.specs.Pools.{PoolFacts}
-use Rattle.stated.specs.Sets.{is_of}
+use Rattle.maptypes.specs.Pools.{PoolFacts}
+use Rattle.maptypes.specs.Sets.{is_of}
 use Rattle.osdmap.specs.Maps.{ClusterMap}
 use Rattle.osdmap.specs.Placement.{steps_of}
 use Rattle.balancer.specs.declared.group.Group.{Group}

@@ -1,7 +1,7 @@
 -- How far moves from an OSD go at most, as far as it is known: by how much the deviations of the two OSDs of a good
 -- move differ, for each OSD that a group would leave, by number.
 use Rattle.std.specs.Prelude.{◌≡◌, ℕ, ◌<◌, true, false, ℤ, pos, int_lt, List, Option, Some, None, slice_index_or}
-use Rattle.stated.specs.Pools.{PoolFacts}
+use Rattle.maptypes.specs.Pools.{PoolFacts}
 use Rattle.osdmap.specs.Maps.{ClusterMap}
 use Rattle.balancer.specs.declared.moves.Move.{Move}
 use Rattle.balancer.specs.Shares.{total_weight}

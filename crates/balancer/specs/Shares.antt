@@ -7,7 +7,7 @@ use Rattle.buckets.specs.declared.bucket.Bucket.{Bucket}
 use Rattle.crush.specs.declared.step.Step.{Step}
 use Rattle.crush.specs.Grammar.{is_emit}
 use Rattle.crush.specs.Paths as paths
-use Rattle.stated.specs.Pools.{PoolFacts}
+use Rattle.maptypes.specs.Pools.{PoolFacts}
 use Rattle.osdmap.specs.Maps.{ClusterMap, osd_exists, osd_is_up}
 use Rattle.osdmap.specs.Mapped.{is_weightless}
 use Rattle.osdmap.specs.Placement.{steps_of}

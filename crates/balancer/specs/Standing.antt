@@ -1,7 +1,7 @@
 -- For each OSD the numbers of the groups of a pool that stand on it, among which may be some that no longer do.
 use Rattle.std.specs.Prelude.{◌≡◌, ℕ, ◌<◌, ◌==◌, ◌&&◌, nat_lt, ◌++◌, Bool, true, List, [], ◌∷◌, length, slice_index_or, slice_set, Option, Some, None, if◌then◌else◌}
 use Rattle.std.specs.List.{All, list_any}
-use Rattle.stated.specs.Sets.{stands}
+use Rattle.maptypes.specs.Sets.{stands}
 use Rattle.balancer.specs.declared.group.Group.{Group}
 
 -- the numbers that are known of an OSD

@@ -2,7 +2,7 @@
 
 ghost use Rattle.std.specs.Prelude.{◌≡◌, ◌*◌, ◌+◌, ◌<◌, ◌≤◌, ◌^◌, pos, ◌-ℤ◌, length, Some, IfOk};
 ghost use Rattle.buckets.specs.Limits.{max_devices};
-ghost use Rattle.stated.specs.Limits.{max_groups};
+ghost use Rattle.mapparts.specs.Limits.{max_groups};
 ghost use Rattle.osdmap.specs.Maps.{pool_at};
 ghost use Rattle.pgtable.specs.Tables.{IsTableOf};
 ghost use Rattle.balancer.specs.Shares.{deviation, places};
@@ -17,7 +17,8 @@ use crate::group::{Group, gone, groups};
 use crate::moves::Move;
 use crate::shares::{count, places, weight_of};
 use crate::standing::Standing;
-use osdmap::{Exception, Items, OsdMap, Pg, Pool};
+use maptypes::{Exception, Items, Pg, Pool};
+use osdmap::OsdMap;
 use pgtable::PgTable;
 use refusal::Memory;
 use std::alloc::Global;

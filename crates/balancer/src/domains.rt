@@ -2,7 +2,7 @@
 
 ghost use Rattle.std.specs.Prelude.{◌≡◌, ◌==◌, pos};
 ghost use Rattle.std.specs.List.{list_any, list_all, count_by};
-ghost use Rattle.stated.specs.Sets.{is_of, stands};
+ghost use Rattle.maptypes.specs.Sets.{is_of, stands};
 ghost use Rattle.balancer.specs.Moves.{ancestor_of, domain_of, are_under_same, is_in_way, has_way};
 
 use crush::Forest;

@@ -12,7 +12,8 @@ use crate::domains::{are_under_same, domain_of, has_way, stands, times};
 use crate::group::Group;
 use crate::shares::{candidates, total};
 use crush::Step;
-use osdmap::{OsdMap, Pool};
+use maptypes::Pool;
+use osdmap::OsdMap;
 use refusal::Memory;
 use std::alloc::Global;
 
@@ -106,7 +107,7 @@ impl Frame<'_> {
     ghost use Rattle.osdmap.specs.Placement.{steps_of};
     ghost use Rattle.balancer.specs.Moves.{are_under_same, are_beside, domain_of, earlier_levels, last_level, levels_of, is_allowed};
     ghost use Rattle.balancer.specs.Boards.{may_go};
-    ghost use Rattle.stated.specs.Sets.{stands};
+    ghost use Rattle.maptypes.specs.Sets.{stands};
     ghost use Rattle.balancer.specs.declared.moves.Move.{Move};
 
     /// The types that the pool's rule chooses before the last.

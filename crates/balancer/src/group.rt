@@ -4,7 +4,7 @@ ghost use Rattle.std.specs.Prelude.{◌≡◌, ◌<◌, ◌≤◌, length, posit
 ghost use Rattle.std.specs.List.{list_any};
 ghost use Rattle.osdmap.specs.Maps.{pool_at};
 ghost use Rattle.osdmap.specs.Mapped.{is_weightless, replaced};
-ghost use Rattle.stated.specs.Sets.{is_of};
+ghost use Rattle.maptypes.specs.Sets.{is_of};
 ghost use Rattle.osdmap.specs.Placement.{mapped_set};
 ghost use Rattle.balancer.specs.Moves.{pairs_in};
 ghost use Rattle.balancer.specs.Boards.{is_fixed, group_at, board_groups, gone};
@@ -12,9 +12,9 @@ ghost use Rattle.balancer.specs.Boards.{is_fixed, group_at, board_groups, gone};
 use crate::moves::Move;
 use crate::shares::reweight;
 use crush::Work;
-use osdmap::{OsdMap, Pair, Pg, Placing, Pool};
+use maptypes::{Blank, Pair, Pg, Pool, Short};
+use osdmap::{OsdMap, Placing};
 use refusal::Memory;
-use stated::{Blank, Short};
 use std::alloc::Global;
 
 /// What is kept of a group.

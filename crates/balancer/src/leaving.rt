@@ -5,7 +5,7 @@ ghost use Rattle.balancer.specs.Leaving.{may_leave};
 
 use crate::domains::times;
 use crate::group::Group;
-use osdmap::Pool;
+use maptypes::Pool;
 
 /// Whether a group of a pool may leave an OSD, wherever it would go.
 #[tactic(auto, unfolding(crate::specs::Leaving::may_leave))]

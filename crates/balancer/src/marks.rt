@@ -3,7 +3,7 @@
 ghost use Rattle.std.specs.Prelude.{◌≡◌, ◌<◌, true, false, length, replicate, slice_set, slice_index_or, IfOk, List};
 ghost use Rattle.balancer.specs.Marks.{is_shut, shut_in, opened_in, NoneGoes, IsMarked};
 ghost use Rattle.osdmap.specs.Maps.{ClusterMap};
-ghost use Rattle.stated.specs.Pools.{PoolFacts};
+ghost use Rattle.maptypes.specs.Pools.{PoolFacts};
 ghost use Rattle.balancer.specs.declared.group.Group.{Group};
 
 use refusal::Memory;

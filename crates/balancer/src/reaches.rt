@@ -1,7 +1,7 @@
 //! How far moves from an OSD go at most, as far as it is known.
 
 ghost use Rattle.std.specs.Prelude.{◌≡◌, ℕ, ℤ, int_lt, false, Some, None, replicate, slice_set, IfOk};
-ghost use Rattle.stated.specs.Sets.{is_of, stands};
+ghost use Rattle.maptypes.specs.Sets.{is_of, stands};
 ghost use Rattle.balancer.specs.Reaches.{bound_of};
 
 use refusal::Memory;

@@ -41,7 +41,7 @@ impl Board<'_> {
     ghost use Rattle.balancer.specs.Standing.{sooner};
     ghost use Rattle.balancer.specs.declared.group.Group.{Group};
     ghost use Rattle.balancer.specs.Marks.{is_shut, NoneGoes, IsLookedAt};
-    ghost use Rattle.stated.specs.Sets.{stands};
+    ghost use Rattle.maptypes.specs.Sets.{stands};
     ghost use Rattle.balancer.specs.Reaches.{bound_of, IsBound, AreBounds, reach_of};
     ghost use Rattle.balancer.specs.Boards.{may_go, is_wanted, IsGood, IsBest, IsBetter, CoversPair, CoversFrom};
 

@@ -7,7 +7,7 @@ ghost use Rattle.std.specs.Ordering.{int_eq};
 ghost use Rattle.crush.specs.Limits.{full_weight};
 ghost use Rattle.buckets.specs.Limits.{max_devices};
 ghost use Rattle.crush.specs.Paths as paths;
-ghost use Rattle.stated.specs.Limits.{max_groups};
+ghost use Rattle.mapparts.specs.Limits.{max_groups};
 ghost use Rattle.osdmap.specs.Maps.{pool_at, osd_exists, osd_is_up};
 ghost use Rattle.osdmap.specs.Mapped.{is_weightless};
 ghost use Rattle.osdmap.specs.Placement.{steps_of};
@@ -16,7 +16,8 @@ ghost use Rattle.pgtable.specs.Tables.{IsTableOf};
 ghost use Rattle.balancer.specs.Shares.{is_candidate, osds_of, candidate_osds, item_weight, weight_in_map};
 
 use buckets::{Bucket, Item};
-use osdmap::{OsdMap, Pool};
+use maptypes::Pool;
+use osdmap::OsdMap;
 use pgtable::PgTable;
 use refusal::Memory;
 use std::alloc::Global;

@@ -1,8 +1,8 @@
 //! Which groups stand on each OSD.
 
 ghost use Rattle.std.specs.Prelude.{◌≡◌, ◌<◌, ◌≤◌, ◌++◌, ◌∷◌, true, [], length, replicate, slice_index_or, IfOk, OnOk, OnErr, List};
-ghost use Rattle.stated.specs.Limits.{max_groups};
-ghost use Rattle.stated.specs.Sets.{stands};
+ghost use Rattle.mapparts.specs.Limits.{max_groups};
+ghost use Rattle.maptypes.specs.Sets.{stands};
 ghost use Rattle.balancer.specs.declared.group.Group.{Group};
 ghost use Rattle.balancer.specs.Standing.{row_of, put_in, AreLonger, AreRowsOf, IsKnownAt};
 

@@ -1,7 +1,7 @@
 -- Sealed epochs, and what is seen of them.
 use Rattle.std.specs.Prelude.{◌≡◌, ℕ, ◌+◌, ◌≤◌, nat_le, Bool, ◌&&◌, List, [], ◌∷◌}
-use Rattle.stated.specs.Incrementals.{Step}
-use Rattle.stated.specs.Limits.{max_first_epoch}
+use Rattle.maptypes.specs.Incrementals.{Step}
+use Rattle.mapparts.specs.Limits.{max_first_epoch}
 pub use Rattle.sealed.specs.History.{Begins, OneBegins, longer}
 
 -- which row it is: its first epoch, which is that of the map before any incremental, and the names of its cells, one

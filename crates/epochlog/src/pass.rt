@@ -2,7 +2,7 @@
 ghost use Rattle.std.specs.Prelude.{◌≡◌, ◌+◌, ◌≤◌, length};
 ghost use Rattle.epochlog.specs.Epochs.{Begins, OneBegins, longer, IsNumbered, epoch_of};
 
-use stated::Incremental;
+use maptypes::Incremental;
 use std::marker::Model;
 
 /// What a reader has seen of one row: the incrementals of its first epochs, without a gap. It takes a few words,

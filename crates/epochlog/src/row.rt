@@ -7,8 +7,9 @@ ghost use Rattle.epochlog.specs.Epochs.{epoch_of, is_within_limits, IsRowSize};
 
 use crate::error::NotSealed;
 use crate::pass::Pass;
+use mapparts::limits;
+use maptypes::Incremental;
 use refusal::{Memory, Refusal};
-use stated::{Incremental, limits};
 use std::alloc::Global;
 use std::marker::Model;
 

@@ -3,8 +3,9 @@ ghost use Rattle.std.specs.Prelude.{◌≡◌, IfSome};
 
 use crate::{Pass, Row};
 use keylist::Entries;
+use mapparts::Profile;
+use maptypes::{Change, ChangeParts, Incremental};
 use refusal::Refusal;
-use stated::{Change, ChangeParts, Incremental, Profile};
 use std::alloc::Global;
 use std::test::Fail;
 

@@ -5,7 +5,7 @@ use Rattle.std.proofs.lemmas.Bool.{lt-ltb, le-ltb, cases_order}
 use Rattle.std.proofs.lemmas.List.{length-set, get_or-set_same, get_or-set_other}
 use Rattle.grouptable.specs.Keys.{with_key, without_key}
 use Rattle.grouptable.specs.Sets.{set_of, groups_of, left, joined}
-use Rattle.stated.specs.Sets.{Places, stands, is_of}
+use Rattle.maptypes.specs.Sets.{Places, stands, is_of}
 use Rattle.grouptable.proofs.Steps.{filter_same, filter_with, filter_without}
 
 -- removing or adding twice

@@ -3,7 +3,7 @@ use Rattle.std.proofs.Common.{◌≡◌, ℕ, ◌<◌, ◌≤◌, Bool, true, fa
 use Rattle.std.specs.List.{list_any}
 use Rattle.std.proofs.lemmas.Bool.{ne_eqb, ltb-false}
 use Rattle.grouptable.specs.Sets.{place_stored}
-use Rattle.stated.specs.Sets.{stands, is_of}
+use Rattle.maptypes.specs.Sets.{stands, is_of}
 
 -- a stored place is of an OSD exactly where its number is
 is_at-place_of : (osd n : ℕ) (b : Bool) → osd < 1024 → ltb n 1024 ≡ b → is_of osd (cond b (Some n) None) ≡ eqb n osd

@@ -2,7 +2,7 @@
 use Rattle.std.specs.Prelude.{◌≡◌, ℕ, ◌<◌, Bool, false, List, [], length, slice_index_or}
 use Rattle.buckets.specs.Limits.{max_devices}
 use Rattle.grouptable.specs.Sets.{groups_of, joined}
-use Rattle.stated.specs.Sets.{Places}
+use Rattle.maptypes.specs.Sets.{Places}
 
 -- there is one for each OSD
 abbrev pub AreForEachOsd : {A : Type 0} → List A → Type 0

@@ -5,7 +5,7 @@ ghost use Rattle.std.specs.List.{list_any};
 ghost use Rattle.crush.specs.Limits.{max_size};
 ghost use Rattle.buckets.specs.Limits.{max_devices};
 ghost use Rattle.grouptable.specs.Sets.{place_stored};
-ghost use Rattle.stated.specs.Sets.{stands};
+ghost use Rattle.maptypes.specs.Sets.{stands};
 
 use buckets::limits::MAX_DEVICES;
 use crush::limits::MAX_SIZE;
@@ -31,7 +31,7 @@ impl Model for OsdSet {
     ghost use Rattle.std.specs.Prelude.{◌≤◌, map, take};
     ghost use Rattle.crush.specs.Limits.{max_size};
     ghost use Rattle.grouptable.specs.Sets.{place_stored};
-    ghost use Rattle.stated.specs.Sets.{Places};
+    ghost use Rattle.maptypes.specs.Sets.{Places};
 
     ghost Value = { Places };
 

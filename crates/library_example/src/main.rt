@@ -3,16 +3,15 @@
 #![tactic(auto)]
 
 ghost use Rattle.std.specs.Prelude.{◌≡◌, List, IfOk};
-ghost use Rattle.stated.specs.Incrementals.{Step};
+ghost use Rattle.maptypes.specs.Incrementals.{Step};
 ghost use Rattle.osdmap.specs.Changes.{IsLawful, epoch_after};
 ghost use Rattle.monitor.specs.Histories.{GoesOn};
 ghost use Rattle.monitor.specs.Members.{IsMemberOf};
 
 use mapjson::{read_change, read_map};
 use monitor::{Follower, Member, Monitor};
-use osdmap::Pg;
+use osdmap::{Pg, Profile};
 use refusal::{Memory, Refusal};
-use stated::Profile;
 use std::alloc::Global;
 use std::sync::Wait;
 use std::thread::Threads;

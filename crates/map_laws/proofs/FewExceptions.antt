@@ -8,11 +8,11 @@ use Rattle.std.proofs.lemmas.Bool.Decides.{nat_tests}
 use Rattle.std.proofs.lemmas.List.Elements.{All-head, All-tail, All-weaker, All-filter, filter_passes}
 use Rattle.std.proofs.lemmas.List.Filters.{length-filter_both}
 use Rattle.std.proofs.lemmas.List.Sums.{sum_by-cons}
-use Rattle.stated.specs.declared.exception.Exception.{Exception}
-use Rattle.stated.specs.declared.pg.Pg.{Pg}
-use Rattle.stated.specs.Pools.{PoolFacts, total_groups, IsWithinLimits}
+use Rattle.maptypes.specs.declared.exception.Exception.{Exception}
+use Rattle.maptypes.specs.declared.pg.Pg.{Pg}
+use Rattle.maptypes.specs.Pools.{PoolFacts, total_groups, IsWithinLimits}
 use Rattle.keylist.specs.Order.{IsRising}
-use Rattle.stated.specs.Exceptions.{key_of, has_group}
+use Rattle.maptypes.specs.Exceptions.{key_of, has_group}
 use Rattle.keylist.proofs.Tests.{not_true}
 use Rattle.keylist.proofs.KeyedOrder.{rising_head, rising_tail, rising-filter}
 

@@ -9,27 +9,27 @@ use Rattle.crush.specs.WellFormed.{forest_ok, forest_limits_ok, IsForest, IsDesc
 use Rattle.buckets.specs.Buckets.{bucket_limits_ok}
 use Rattle.crush.proofs.Made.{forest-passed, own-ok}
 use Rattle.crush.proofs.Sorted.{bucket_at-moved, forest_ok-moved}
-use Rattle.stated.specs.declared.parts.MapParts.{MapParts}
+use Rattle.mapparts.specs.declared.parts.MapParts.{MapParts}
 use Rattle.refusal.specs.declared.refused.Refusal.TheVariants.{BadPool, BadOsd, BadException}
-use Rattle.stated.specs.Pools.{IsWithinLimits}
-use Rattle.stated.specs.Parts.{parts_fit}
-use Rattle.stated.specs.Exceptions.{target, sides, is_set, are_pairs}
+use Rattle.maptypes.specs.Pools.{IsWithinLimits}
+use Rattle.mapparts.specs.Parts.{parts_fit}
+use Rattle.maptypes.specs.Exceptions.{target, sides, is_set, are_pairs}
 use Rattle.osdmap.specs.Maps.{ClusterMap, osd_exists, HoldsTogether}
-use Rattle.stated.specs.CrushMaps.{rule_of}
+use Rattle.maptypes.specs.Values.{rule_of}
 use Rattle.osdmap.specs.Stated.{buckets_of, rules_ok, pools_ok, osds_ok, exceptions_ok, explicit_of, items_of, all_exceptions_ok, map_fault, IsStated}
 use Rattle.refusal.specs.Outcomes.{refused_unless}
 use Rattle.keylist.specs.Order.{Rises}
-use Rattle.stated.specs.CrushMaps.{IsForestOf, rules_fit, crush_fault}
-use Rattle.stated.proofs.CrushFits.{rules_same, is_crush_map}
+use Rattle.maptypes.specs.CrushMaps.{IsForestOf, rules_fit, crush_fault}
+use Rattle.maptypes.proofs.CrushFits.{rules_same, is_crush_map}
 use Rattle.osdmap.specs.Built.{without_exceptions}
-use Rattle.stated.specs.Incrementals.{Step}
+use Rattle.maptypes.specs.Incrementals.{Step}
 use Rattle.osdmap.specs.Changes.{apply, after, IsLawful}
-use Rattle.stated.specs.Ordered.{IsChange}
+use Rattle.maptypes.specs.Ordered.{IsChange}
 use Rattle.map_laws.specs.Laws.{AreChanges, JournalsKeepMaps, at_epoch}
 use Rattle.keylist.proofs.Tests.{and_first, and_second}
 use Rattle.osdmap.proofs.Accepted.{passes}
 use Rattle.osdmap.proofs.Built.{IsBuilt, parts_fit_each, some_osds, few_osds, pools_same, osds_same, presences_same, weights_same, no_fault, is_stated, holds}
-use Rattle.stated.proofs.Narrowed.{forest_limits}
+use Rattle.maptypes.proofs.Narrowed.{forest_limits}
 use Rattle.keylist.proofs.Distinct.{list_all-moved}
 use Rattle.osdmap.proofs.Excepted.{bare_fits, bare_exceptions, all_same, holds_with}
 use Rattle.osdmap.proofs.Kept.{HoldsTogether-after}

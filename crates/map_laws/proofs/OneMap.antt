@@ -6,8 +6,8 @@ use Rattle.std.proofs.lemmas.Int.{ints}
 use Rattle.std.proofs.lemmas.List.Sorted.{IsPermutation-sym, Contains-permutation}
 use Rattle.buckets.specs.declared.bucket.Bucket.{Bucket}
 use Rattle.keylist.specs.Order.{IsRising}
-use Rattle.stated.specs.declared.parts.MapParts.{MapParts}
-use Rattle.stated.specs.Exceptions.{key_of}
+use Rattle.mapparts.specs.declared.parts.MapParts.{MapParts}
+use Rattle.maptypes.specs.Exceptions.{key_of}
 use Rattle.osdmap.specs.Maps.{ClusterMap}
 use Rattle.osdmap.specs.Stated.{IsStated}
 use Rattle.map_laws.specs.Laws.{StatesOneMap}

@@ -5,7 +5,7 @@ use Rattle.std.specs.Prelude.{slice_get}
 use Rattle.std.specs.List.{fold}
 use Rattle.std.specs.Option.{option_map_or}
 use Rattle.std.proofs.lemmas.Bool.{cases_Bool, eqb-true}
-use Rattle.stated.specs.declared.osd.Presence.{Presence}
+use Rattle.maptypes.specs.declared.osd.Presence.{Presence}
 use Rattle.keylist.specs.Keys.{has_key}
 use Rattle.osdmap.specs.Changes.{apply, with_up}
 use Rattle.map_laws.specs.Laws.{UpAfterDown}

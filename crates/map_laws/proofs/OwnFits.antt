@@ -18,13 +18,13 @@ use Rattle.buckets.specs.Limits.{is_within}
 use Rattle.buckets.specs.Buckets.{is_bucket_id, item_limits_ok, bucket_limits_ok, is_even, weights_ok}
 use Rattle.crush.specs.Grammar.{step_limits_ok}
 use Rattle.keylist.proofs.Each.{list_all-at, list_all-from}
-use Rattle.stated.specs.declared.rules.NumberedRule.{NumberedRule}
-use Rattle.stated.specs.CrushMaps.{is_rule_over}
-use Rattle.stated.specs.Parts.{is_between, has_between, item_fits, bucket_fits, step_fits, rule_fits, has_few_groups, pool_fits}
+use Rattle.maptypes.specs.declared.rules.NumberedRule.{NumberedRule}
+use Rattle.maptypes.specs.CrushMaps.{is_rule_over}
+use Rattle.mapparts.specs.Parts.{is_between, has_between, item_fits, bucket_fits, step_fits, rule_fits, has_few_groups, pool_fits}
 use Rattle.osdmap.specs.PartsOf.{item_part, bucket_part, step_part, rule_part, pool_part}
-use Rattle.stated.specs.declared.parts.PoolPart.{PoolPart}
-use Rattle.stated.specs.Pools.{PoolFacts, total_groups, IsWithinLimits}
-use Rattle.stated.proofs.Totals.{sum_by-map}
+use Rattle.mapparts.specs.declared.parts.PoolPart.{PoolPart}
+use Rattle.maptypes.specs.Pools.{PoolFacts, total_groups, IsWithinLimits}
+use Rattle.maptypes.proofs.Totals.{sum_by-map}
 use Rattle.keylist.proofs.Tests.{and_first}
 use Rattle.keylist.proofs.Each.{all_more}
 

@@ -9,12 +9,12 @@ use Rattle.std.proofs.lemmas.Bool.Decides.{nat_tests}
 use Rattle.std.proofs.lemmas.List.FromFn.{fill_by_all}
 use Rattle.std.proofs.lemmas.Option.{slice_get-get_or, slice_get_within}
 use Rattle.keylist.proofs.Each.{list_all-at}
-use Rattle.stated.specs.declared.osd.Presence.{Presence}
-use Rattle.stated.specs.declared.osd.OsdState.{OsdState}
-use Rattle.stated.specs.declared.parts.OsdPart.{OsdPart}
+use Rattle.maptypes.specs.declared.osd.Presence.{Presence}
+use Rattle.maptypes.specs.declared.osd.OsdState.{OsdState}
+use Rattle.mapparts.specs.declared.parts.OsdPart.{OsdPart}
 use Rattle.keylist.specs.Keys.{is_distinct}
 use Rattle.osdmap.specs.Maps.{ClusterMap, is_presence, HoldsTogether}
-use Rattle.stated.specs.Parts.{osd_fits}
+use Rattle.mapparts.specs.Parts.{osd_fits}
 use Rattle.osdmap.specs.Stated.{osd_ok, listed_osd, presence_in, weight_in}
 use Rattle.osdmap.specs.PartsOf.{osd_part, is_notable, part_listed, osd_parts}
 use Rattle.map_laws.proofs.OwnFits.{natural_fits}

@@ -14,29 +14,29 @@ use Rattle.crush.specs.declared.step.Step.TheVariants as step
 use Rattle.crush.specs.WellFormed.{forest_ok}
 use Rattle.crush.specs.Grammar.{sets_tries, rule_ok}
 use Rattle.keylist.proofs.Counts.{find-place}
-use Rattle.stated.specs.declared.exception.Exception.{Exception}
-use Rattle.stated.specs.declared.exception.Pair.{Pair}
-use Rattle.stated.specs.declared.parts.PoolPart.{PoolPart}
-use Rattle.stated.specs.declared.parts.RulePart.{RulePart}
-use Rattle.stated.specs.declared.rules.NumberedRule.{NumberedRule}
-use Rattle.stated.specs.Exceptions.{key_of, has_group, all_named, is_sound, is_exception, target, sides, is_set, are_pairs}
+use Rattle.maptypes.specs.declared.exception.Exception.{Exception}
+use Rattle.maptypes.specs.declared.exception.Pair.{Pair}
+use Rattle.mapparts.specs.declared.parts.PoolPart.{PoolPart}
+use Rattle.mapparts.specs.declared.parts.RulePart.{RulePart}
+use Rattle.maptypes.specs.declared.rules.NumberedRule.{NumberedRule}
+use Rattle.maptypes.specs.Exceptions.{key_of, has_group, all_named, is_sound, is_exception, target, sides, is_set, are_pairs}
 use Rattle.keylist.specs.Keys.{is_distinct, entry_at}
 use Rattle.keylist.specs.Order.{IsRising}
-use Rattle.stated.specs.CrushMaps.{is_rule_over}
+use Rattle.maptypes.specs.CrushMaps.{is_rule_over}
 use Rattle.osdmap.specs.Maps.{ClusterMap, osd_exists, has_rule, HoldsTogether}
-use Rattle.stated.specs.Parts.{is_between, pg_fits, is_osd_id, pair_fits, exception_fits, exceptions_fit, head_fits, lists_fit, parts_fit, item_of, bucket_of, step_of, pool_of, pair_of, exception_of}
+use Rattle.mapparts.specs.Parts.{is_between, pg_fits, is_osd_id, pair_fits, exception_fits, exceptions_fit, head_fits, lists_fit, parts_fit}
+use Rattle.maptypes.specs.Values.{item_of, bucket_of, step_of, pool_of, pair_of, exception_of, rule_of}
 use Rattle.osdmap.specs.PartsOf.{item_part, bucket_part, step_part, rule_part, pool_part, pair_part, exception_part, version_of, parts_of}
-use Rattle.stated.specs.Incrementals.{Step}
+use Rattle.maptypes.specs.Incrementals.{Step}
 use Rattle.osdmap.specs.Changes.{change_fault, apply}
 use Rattle.map_laws.specs.Laws.{IsTextEpoch, StatesItself}
-use Rattle.stated.specs.Pools.{PoolFacts, IsWithinLimits}
-use Rattle.stated.specs.CrushMaps.{rule_of}
+use Rattle.maptypes.specs.Pools.{PoolFacts, IsWithinLimits}
 use Rattle.osdmap.specs.Stated.{buckets_of, rules_ok, pool_ok, pools_ok, osds_ok, is_listed, exceptions_ok, explicit_of, items_of, all_exceptions_ok, map_fault, IsStated}
 use Rattle.keylist.proofs.Tests.{and_first, and_second}
 use Rattle.osdmap.proofs.Named.{below_max}
 use Rattle.keylist.proofs.Distinct.{rising_distinct}
 use Rattle.osdmap.proofs.Excepted.{exists_same, exceptions_same}
-use Rattle.stated.specs.Ordered.{IsChange}
+use Rattle.maptypes.specs.Ordered.{IsChange}
 use Rattle.osdmap.proofs.Kept.{HoldsTogether-after}
 use Rattle.map_laws.proofs.FewExceptions.{few_exceptions}
 use Rattle.map_laws.proofs.OwnFits.{natural_fits, count_fits, buckets_fine, rules_fine, pools_fine, groups_fine}

@@ -7,17 +7,18 @@ use Rattle.std.proofs.lemmas.Bool.{and_parts}
 use Rattle.serde_json.specs.Data.{Data, depth}
 use Rattle.serde_json.specs.Read.{read, max_depth}
 use Rattle.serde_json.specs.Written.{has_float, compact_text}
-use Rattle.stated.specs.declared.parts.MapParts.{MapParts}
+use Rattle.mapparts.specs.declared.parts.MapParts.{MapParts}
 use Rattle.refusal.specs.declared.refused.Refusal.{Refusal}
 use Rattle.refusal.specs.declared.refused.Refusal.TheVariants.{Memory as OutOfMemory, BadJson, BadField, BadLimit, BadForest, BadRule, BadPool, BadOsd, BadException}
 use Rattle.osdmap.specs.Maps.{ClusterMap}
 use Rattle.crush.specs.WellFormed.{forest_ok}
-use Rattle.stated.specs.Exceptions.{target, sides, is_set, are_pairs}
-use Rattle.stated.specs.Parts.{is_osd_id, pair_fits, osd_fits, pool_fits, has_few_groups, exception_fits, exceptions_fit, parts_fit, pool_of, pair_of}
+use Rattle.maptypes.specs.Exceptions.{target, sides, is_set, are_pairs}
+use Rattle.mapparts.specs.Parts.{is_osd_id, pair_fits, osd_fits, pool_fits, has_few_groups, exception_fits, exceptions_fit, parts_fit}
+use Rattle.maptypes.specs.Values.{pool_of, pair_of}
 use Rattle.osdmap.specs.Stated.{buckets_of, rules_ok, pools_ok, osds_ok, is_listed, exceptions_ok, explicit_of, all_exceptions_ok, map_fault, IsStated}
 use Rattle.osdmap.specs.PartsOf.{parts_of}
 use Rattle.jsonstream.specs.Json.{◌>>=◌, json_of, stated_by}
-use Rattle.stated.specs.declared.profile.Profile.TheVariants.{Stock}
+use Rattle.mapparts.specs.declared.profile.Profile.TheVariants.{Stock}
 use Rattle.partjson.specs.StatedMaps.{in_its_version, stated_map}
 use Rattle.partjson.specs.Profiles.{map_allowed, map_in}
 use Rattle.mapjson.specs.Written.{AreNamed, map_data, written}

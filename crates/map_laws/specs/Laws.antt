@@ -1,14 +1,14 @@
 -- What follows from the definitions of maps and changes.
 use Rattle.std.specs.Prelude.{◌≡◌, ◌≤◌, ℕ, true, false, List, None}
 use Rattle.std.specs.List.{fold, All}
-use Rattle.stated.specs.declared.parts.MapParts.{MapParts}
-use Rattle.stated.specs.Ordered.{IsChange}
+use Rattle.mapparts.specs.declared.parts.MapParts.{MapParts}
+use Rattle.maptypes.specs.Ordered.{IsChange}
 use Rattle.keylist.specs.Keys.{has_key}
 use Rattle.osdmap.specs.Maps.{ClusterMap, osd_exists, osd_is_up}
-use Rattle.stated.specs.declared.change.ChangeParts.{ChangeParts}
+use Rattle.maptypes.specs.declared.change.ChangeParts.{ChangeParts}
 use Rattle.osdmap.specs.Stated.{map_fault, IsStated}
 use Rattle.osdmap.specs.PartsOf.{parts_of}
-use Rattle.stated.specs.Incrementals.{Step}
+use Rattle.maptypes.specs.Incrementals.{Step}
 use Rattle.osdmap.specs.Changes.{change_fault, apply, with_up, after, IsLawful}
 
 -- ---- the order of parts

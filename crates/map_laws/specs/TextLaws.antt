@@ -2,7 +2,7 @@
 use Rattle.std.specs.Prelude.{◌≡◌, ℕ, List, None}
 use Rattle.osdmap.specs.Maps.{ClusterMap}
 use Rattle.map_laws.specs.Laws.{IsTextEpoch}
-use Rattle.stated.specs.declared.profile.Profile.TheVariants.{Stock}
+use Rattle.mapparts.specs.declared.profile.Profile.TheVariants.{Stock}
 use Rattle.mapjson.specs.MapTexts.{map_text_fault, StatesMap}
 use Rattle.mapjson.specs.Written.{written}
 

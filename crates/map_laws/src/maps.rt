@@ -2,7 +2,8 @@
 
 ghost use Rattle.map_laws.specs.Laws.{JournalsKeepMaps, IsTextEpoch, StatesItself, StatesOneMap, LeadsToAMap};
 
-use osdmap::{Change, OsdMap};
+use maptypes::Change;
+use osdmap::OsdMap;
 
 /// Each lawful journal of a map that was accepted, whatever epoch it reaches, leads to a map that would be accepted
 /// itself: at its own epoch where that is 1 to 2,147,483,648, which is all that a text may have, and at any of these.

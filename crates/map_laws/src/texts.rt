@@ -6,9 +6,9 @@ ghost use Rattle.map_laws.specs.TextLaws.{IsReadBack};
 
 use crate::maps::{parts_state_one_map, states_itself};
 use mapjson::{read_map, write_map};
+use mapparts::Profile;
 use osdmap::OsdMap;
 use refusal::{Memory, Refusal};
-use stated::Profile;
 use std::alloc::Global;
 
 /// The text of a map of an epoch of 1 to 2,147,483,648 is read back as that map: it has no fault, and states that map

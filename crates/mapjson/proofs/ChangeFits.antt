@@ -2,10 +2,8 @@
 use Rattle.std.proofs.Common.{◌≡◌, ℤ, pos, Bool, true, IsTrue, All, List, slice_index_or, arith}
 use Rattle.std.specs.List.{list_all}
 use Rattle.std.specs.Option.{option_map_or}
-use Rattle.stated.specs.CrushMaps.{crush_fits}
-use Rattle.stated.specs.Growth.{growth_fits}
-use Rattle.stated.specs.Parts.{is_between, is_osd_id, pool_fits, pair_fits, exceptions_fit}
-use Rattle.stated.proofs.Within.{word_between}
+use Rattle.mapparts.specs.Parts.{crush_fits, growth_fits, is_between, is_osd_id, pool_fits, pair_fits, exceptions_fit}
+use Rattle.mapparts.proofs.Within.{word_between}
 use Rattle.partjson.specs.declared.change.RawChange.{RawChange}
 use Rattle.mapjson.specs.ChangeTexts.{is_pool_id, reweight_fits, change_fits}
 use Rattle.mapjson.proofs.Tests.{all_from_test}

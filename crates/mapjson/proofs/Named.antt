@@ -5,18 +5,20 @@ use Rattle.std.specs.Option.{option_map_or}
 use Rattle.std.specs.Prelude.{unwrap_or}
 use Rattle.std.proofs.lemmas.Bool.{and_parts}
 use Rattle.std.proofs.lemmas.Bool.Decides.{nat_tests}
-use Rattle.stated.specs.declared.parts.PoolPart.{PoolPart}
-use Rattle.stated.specs.declared.parts.ExceptionPart.{ExceptionPart}
-use Rattle.stated.specs.declared.pg.Pg.{Pg}
-use Rattle.stated.specs.declared.pg_text.PgParts.{PgParts}
-use Rattle.stated.specs.Exceptions.{has_group, is_exception}
+use Rattle.mapparts.specs.declared.parts.PoolPart.{PoolPart}
+use Rattle.mapparts.specs.declared.parts.ExceptionPart.{ExceptionPart}
+use Rattle.maptypes.specs.declared.pg.Pg.{Pg}
+use Rattle.mapparts.specs.declared.pg_parts.PgParts.{PgParts}
+use Rattle.maptypes.specs.Exceptions.{has_group, is_exception}
 use Rattle.keylist.specs.Keys.{entry_at}
-use Rattle.stated.specs.Pools.{PoolFacts}
-use Rattle.stated.specs.Parts.{pg_fits, pool_fits, exception_fits, pool_of, exception_of}
+use Rattle.maptypes.specs.Pools.{PoolFacts}
+use Rattle.mapparts.specs.Parts.{pg_fits, pool_fits, exception_fits}
+use Rattle.maptypes.specs.Values.{pool_of, exception_of}
 use Rattle.osdmap.specs.PartsOf.{pg_part}
-use Rattle.stated.specs.PgText.{parts_in, group_of_parts, group_text}
-use Rattle.stated.proofs.Within.{natural_between, pool_fits_each}
-use Rattle.stated.proofs.GroupTexts.{group_in-text}
+use Rattle.mapparts.specs.PgText.{parts_in}
+use Rattle.maptypes.specs.GroupText.{group_of_parts, group_text}
+use Rattle.mapparts.proofs.Within.{natural_between, pool_fits_each}
+use Rattle.maptypes.proofs.GroupTexts.{group_in-text}
 use Rattle.mapjson.specs.Written.{IsNamed, AreNamed}
 
 -- ---- one group

@@ -8,16 +8,16 @@ use Rattle.crush.specs.declared.step.Mode.{Mode}
 use Rattle.crush.specs.declared.step.Mode.TheVariants.{Firstn, Indep}
 use Rattle.crush.specs.declared.step.RuleKind.{RuleKind}
 use Rattle.crush.specs.declared.step.RuleKind.TheVariants.{Replicated, Erasure}
-use Rattle.stated.specs.declared.parts.MapParts.{MapParts}
-use Rattle.stated.specs.declared.parts.BucketPart.{BucketPart}
-use Rattle.stated.specs.declared.parts.ItemPart.{ItemPart}
-use Rattle.stated.specs.declared.parts.RulePart.{RulePart}
-use Rattle.stated.specs.declared.parts.StepPart.{StepPart}
-use Rattle.stated.specs.declared.parts.StepPart.TheVariants.{SetChooseTries, SetChooseleafTries, Take, Choose, Emit}
-use Rattle.stated.specs.declared.parts.PoolPart.{PoolPart}
-use Rattle.stated.specs.declared.parts.OsdPart.{OsdPart}
-use Rattle.stated.specs.declared.parts.ExceptionPart.{ExceptionPart}
-use Rattle.stated.specs.declared.parts.PairPart.{PairPart}
+use Rattle.mapparts.specs.declared.parts.MapParts.{MapParts}
+use Rattle.mapparts.specs.declared.parts.BucketPart.{BucketPart}
+use Rattle.mapparts.specs.declared.parts.ItemPart.{ItemPart}
+use Rattle.mapparts.specs.declared.parts.RulePart.{RulePart}
+use Rattle.mapparts.specs.declared.parts.StepPart.{StepPart}
+use Rattle.mapparts.specs.declared.parts.StepPart.TheVariants.{SetChooseTries, SetChooseleafTries, Take, Choose, Emit}
+use Rattle.mapparts.specs.declared.parts.PoolPart.{PoolPart}
+use Rattle.mapparts.specs.declared.parts.OsdPart.{OsdPart}
+use Rattle.mapparts.specs.declared.parts.ExceptionPart.{ExceptionPart}
+use Rattle.mapparts.specs.declared.parts.PairPart.{PairPart}
 use Rattle.jsonstream.specs.Json.{whole_number, stated_list}
 use Rattle.partjson.specs.StatedMaps.{stated_item, bucket_kind_of, stated_bucket, rule_kind_of, stated_step, step_by, take_of, choose_of, emit_of, tries_of, leaf_tries_of, stated_rule, stated_pool, osd_of, stated_pair, stated_exception, map_of, in_its_version, stated_map}
 use Rattle.mapjson.specs.Written.{number_data, list_data, item_data, kind_word, bucket_data, use_word, step_data, rule_data, pool_data, osd_data, IsNamed, AreNamed, pair_data, exception_data, map_data}

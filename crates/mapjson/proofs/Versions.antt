@@ -5,7 +5,7 @@ use Rattle.std.specs.Ordering.{int_eq}
 use Rattle.crush.specs.declared.step.Step.{Step}
 use Rattle.crush.specs.declared.step.Step.TheVariants as step
 use Rattle.crush.specs.Grammar as grammar
-use Rattle.stated.specs.declared.rules.NumberedRule.{NumberedRule}
+use Rattle.maptypes.specs.declared.rules.NumberedRule.{NumberedRule}
 use Rattle.osdmap.specs.Maps.{ClusterMap}
 use Rattle.osdmap.specs.PartsOf.{step_part, rule_part, parts_of}
 use Rattle.partjson.specs.StatedMaps.{states_tries, in_its_version}

@@ -4,22 +4,22 @@ use Rattle.std.specs.List.{list_all}
 use Rattle.std.specs.Option.{option_map_or, option_or, IsSomeAnd}
 use Rattle.buckets.specs.Limits.{max_devices}
 use Rattle.refusal.specs.Outcomes.{refused_unless}
-use Rattle.stated.specs.declared.parts.CrushParts.{CrushParts}
-use Rattle.stated.specs.CrushMaps.{CrushFacts, crush_fits, crush_fault, IsCrushOf}
-use Rattle.stated.specs.Growth.{growth_fits, grows_evenly, growth_of as within_growth}
-use Rattle.stated.specs.declared.change.ChangeParts.{ChangeParts}
-use Rattle.stated.specs.declared.change.Reweight.{Reweight}
+use Rattle.mapparts.specs.declared.parts.CrushParts.{CrushParts}
+use Rattle.maptypes.specs.CrushMaps.{CrushFacts, crush_fault, IsCrushOf}
+use Rattle.mapparts.specs.Parts.{crush_fits, growth_fits, grows_evenly, has_enough_groups, is_between, has_between, is_osd_id, pool_fits, pg_fits, pair_fits, exceptions_fit}
+use Rattle.maptypes.specs.Values.{growth_of as within_growth, pool_of, pg_of, pair_of, exception_of}
+use Rattle.maptypes.specs.declared.change.ChangeParts.{ChangeParts}
+use Rattle.maptypes.specs.declared.change.Reweight.{Reweight}
 use Rattle.refusal.specs.declared.refused.Refusal.{Refusal}
 use Rattle.refusal.specs.declared.refused.Refusal.TheVariants.{BadLimit, BadPool}
-use Rattle.stated.specs.Limits.{max_pool_id, max_entries}
-use Rattle.stated.specs.Ordered.{IsOrdered}
-use Rattle.stated.specs.Plain.{pool_is_plain, growth_is_plain, crush_is_plain, plain_entries}
-use Rattle.stated.specs.Profiles.{is_stock}
-use Rattle.stated.specs.Parts.{has_enough_groups, is_between, has_between, is_osd_id, pool_fits, pg_fits, pair_fits, exceptions_fit, pool_of, pg_of, pair_of, exception_of}
+use Rattle.mapparts.specs.Limits.{max_pool_id, max_entries}
+use Rattle.maptypes.specs.Ordered.{IsOrdered}
+use Rattle.mapparts.specs.Plain.{pool_is_plain, growth_is_plain, crush_is_plain, plain_entries}
+use Rattle.mapparts.specs.Profiles.{is_stock}
 use Rattle.partjson.specs.declared.change.RawChange.{RawChange}
 use Rattle.partjson.specs.declared.change.RawReweight.{RawReweight}
 use Rattle.jsonstream.specs.Json.{stated_by}
-use Rattle.stated.specs.declared.profile.Profile.{Profile}
+use Rattle.mapparts.specs.declared.profile.Profile.{Profile}
 use Rattle.partjson.specs.Profiles.{change_in}
 
 -- ---- limits

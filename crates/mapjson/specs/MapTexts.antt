@@ -1,12 +1,12 @@
 -- The map that a JSON text (RFC 8259) states, and why a text is refused as one.
 use Rattle.std.specs.Prelude.{ℕ, List, Option, Some, Result, Ok, Err, IfOk, if◌then◌else◌}
-use Rattle.stated.specs.declared.parts.MapParts.{MapParts}
+use Rattle.mapparts.specs.declared.parts.MapParts.{MapParts}
 use Rattle.refusal.specs.declared.refused.Refusal.{Refusal}
 use Rattle.osdmap.specs.Maps.{ClusterMap}
 use Rattle.osdmap.specs.Stated.{map_fault, plain_map_fault, IsStated}
 use Rattle.jsonstream.specs.Json.{stated_by}
-use Rattle.stated.specs.declared.profile.Profile.{Profile}
-use Rattle.stated.specs.Profiles.{is_stock}
+use Rattle.mapparts.specs.declared.profile.Profile.{Profile}
+use Rattle.mapparts.specs.Profiles.{is_stock}
 use Rattle.partjson.specs.Profiles.{map_in}
 
 -- what is wrong with parts by the limits of a profile

@@ -11,19 +11,20 @@ use Rattle.crush.specs.declared.step.Mode.{Mode}
 use Rattle.crush.specs.declared.step.Mode.TheVariants.{Firstn, Indep}
 use Rattle.crush.specs.declared.step.RuleKind.{RuleKind}
 use Rattle.crush.specs.declared.step.RuleKind.TheVariants.{Replicated, Erasure}
-use Rattle.stated.specs.declared.parts.MapParts.{MapParts}
-use Rattle.stated.specs.declared.parts.BucketPart.{BucketPart}
-use Rattle.stated.specs.declared.parts.ItemPart.{ItemPart}
-use Rattle.stated.specs.declared.parts.RulePart.{RulePart}
-use Rattle.stated.specs.declared.parts.StepPart.{StepPart}
-use Rattle.stated.specs.declared.parts.StepPart.TheVariants.{SetChooseTries, SetChooseleafTries, Take, Choose, Emit}
-use Rattle.stated.specs.declared.parts.PoolPart.{PoolPart}
-use Rattle.stated.specs.declared.parts.OsdPart.{OsdPart}
-use Rattle.stated.specs.declared.parts.ExceptionPart.{ExceptionPart}
-use Rattle.stated.specs.declared.parts.PairPart.{PairPart}
-use Rattle.stated.specs.Parts.{pg_of}
-use Rattle.stated.specs.declared.pg_text.PgParts.{PgParts}
-use Rattle.stated.specs.PgText.{parts_in, group_text}
+use Rattle.mapparts.specs.declared.parts.MapParts.{MapParts}
+use Rattle.mapparts.specs.declared.parts.BucketPart.{BucketPart}
+use Rattle.mapparts.specs.declared.parts.ItemPart.{ItemPart}
+use Rattle.mapparts.specs.declared.parts.RulePart.{RulePart}
+use Rattle.mapparts.specs.declared.parts.StepPart.{StepPart}
+use Rattle.mapparts.specs.declared.parts.StepPart.TheVariants.{SetChooseTries, SetChooseleafTries, Take, Choose, Emit}
+use Rattle.mapparts.specs.declared.parts.PoolPart.{PoolPart}
+use Rattle.mapparts.specs.declared.parts.OsdPart.{OsdPart}
+use Rattle.mapparts.specs.declared.parts.ExceptionPart.{ExceptionPart}
+use Rattle.mapparts.specs.declared.parts.PairPart.{PairPart}
+use Rattle.maptypes.specs.Values.{pg_of}
+use Rattle.mapparts.specs.declared.pg_parts.PgParts.{PgParts}
+use Rattle.mapparts.specs.PgText.{parts_in}
+use Rattle.maptypes.specs.GroupText.{group_text}
 use Rattle.osdmap.specs.Maps.{ClusterMap}
 use Rattle.osdmap.specs.PartsOf.{parts_of}
 

@@ -7,9 +7,10 @@ mod limits;
 mod within;
 
 use limits::{change_fits, change_is_plain};
+use mapparts::Profile;
+use maptypes::ChangeParts;
 use partjson::RawChange;
 use refusal::Refusal;
-use stated::{ChangeParts, Profile};
 use std::alloc::Global;
 use within::{base_within, crush_within, parts_within};
 

@@ -17,10 +17,11 @@ mod written;
 
 use crate::change::change_within;
 use crate::written::ToJson;
-use osdmap::{Change, OsdMap};
+use mapparts::{MapParts, Profile};
+use maptypes::Change;
+use osdmap::OsdMap;
 use partjson::{read_change_parts, read_map_parts};
 use refusal::{Memory, Refusal};
-use stated::{MapParts, Profile};
 use std::alloc::Global;
 
 /// The map that a text states: `BadJson` (10) where the text is not UTF-8, is no JSON or nests deeper than 127;
@@ -49,7 +50,7 @@ fn map_of(alloc: Global, parts: MapParts, profile: Profile) -> Result<OsdMap, Re
 /// 65,535, OSDs of 0 to 1,023, reweights of 0 to 4,294,967,295, groups' numbers of at most 32 bits, at most 10 OSDs or
 /// pairs of a group, lists of at most 262,144 entries, of a new pool what [`osdmap::Pool`] has, of a growth what
 /// [`osdmap::Grow`] has, of a new CRUSH map what a map's buckets and rules have, and under `Plain` also the limits of
-/// plain clusters ([`stated::plain`], lists of at most 131,072 entries among them); `BadForest` (13) where the new
+/// plain clusters ([`mapparts::plain`], lists of at most 131,072 entries among them); `BadForest` (13) where the new
 /// buckets are no well-formed forest over 1,024 devices; `BadRule` (14) where a new rule is outside the grammar, takes
 /// a bucket that is not among them, or has the id of another; `BadPool` (15) where the `pgp_num` of a new or growing
 /// pool is above its `pg_num`. Each is tested over the whole text before the next. `Memory` (30).

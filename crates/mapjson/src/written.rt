@@ -5,23 +5,23 @@ ghost use Rattle.std.specs.List.{range_with_len, list_any, All};
 ghost use Rattle.crush.specs.Grammar.{sets_tries};
 ghost use Rattle.serde_json.specs.Data.{Data};
 ghost use Rattle.serde_json.specs.View.{view};
-ghost use Rattle.stated.specs.declared.parts.MapParts.{MapParts};
-ghost use Rattle.stated.specs.declared.parts.BucketPart.{BucketPart};
-ghost use Rattle.stated.specs.declared.parts.ItemPart.{ItemPart};
-ghost use Rattle.stated.specs.declared.parts.RulePart.{RulePart};
-ghost use Rattle.stated.specs.declared.parts.StepPart.{StepPart};
-ghost use Rattle.stated.specs.declared.parts.PoolPart.{PoolPart};
-ghost use Rattle.stated.specs.declared.parts.ExceptionPart.{ExceptionPart};
-ghost use Rattle.stated.specs.declared.parts.PairPart.{PairPart};
+ghost use Rattle.mapparts.specs.declared.parts.MapParts.{MapParts};
+ghost use Rattle.mapparts.specs.declared.parts.BucketPart.{BucketPart};
+ghost use Rattle.mapparts.specs.declared.parts.ItemPart.{ItemPart};
+ghost use Rattle.mapparts.specs.declared.parts.RulePart.{RulePart};
+ghost use Rattle.mapparts.specs.declared.parts.StepPart.{StepPart};
+ghost use Rattle.mapparts.specs.declared.parts.PoolPart.{PoolPart};
+ghost use Rattle.mapparts.specs.declared.parts.ExceptionPart.{ExceptionPart};
+ghost use Rattle.mapparts.specs.declared.parts.PairPart.{PairPart};
 ghost use Rattle.osdmap.specs.PartsOf.{item_part, bucket_part, step_part, rule_part, pool_part, osd_part, part_listed, osd_parts, pg_part, pair_part, exception_part, version_of, parts_of};
 ghost use Rattle.mapjson.specs.Written.{list_data, kind_word, item_data, bucket_data, use_word, choose_word, step_data, rule_data, pool_data, osd_data, number_data, IsNamed, AreNamed, pair_data, exception_data, map_data};
 
 use buckets::{Bucket, BucketKind, Item};
 use crush::{Mode, RuleKind, Step};
-use osdmap::{Exception, NumberedRule, OsdMap, Pair, Pool};
+use maptypes::pg_text::group_text_is_read_back;
+use maptypes::{Blank, Exception, NumberedRule, Pair, Pool};
+use osdmap::OsdMap;
 use serde_json::{Value, json};
-use stated::Blank;
-use stated::pg_text::group_text_is_read_back;
 use std::alloc::{AllocError, Global};
 
 /// What is written as a JSON value: that of the part of a map which states it.

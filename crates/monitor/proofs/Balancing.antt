@@ -3,9 +3,9 @@ use Rattle.std.proofs.Common.{◌≡◌, ◌≢◌, ◌∙◌, Bool, true, false
 use Rattle.refusal.specs.declared.refused.Refusal.{Refusal}
 use Rattle.refusal.specs.declared.refused.Refusal.TheVariants.{UnknownPool, BalanceRule, Memory as OutOfMemory, SeatSpent, NotSealed}
 use Rattle.refusal.specs.Outcomes.{refused_unless}
-use Rattle.stated.specs.declared.change.ChangeParts.{ChangeParts}
-use Rattle.stated.specs.Incrementals.{Step}
-use Rattle.stated.specs.Pools.{PoolFacts}
+use Rattle.maptypes.specs.declared.change.ChangeParts.{ChangeParts}
+use Rattle.maptypes.specs.Incrementals.{Step}
+use Rattle.maptypes.specs.Pools.{PoolFacts}
 use Rattle.osdmap.specs.Maps.{ClusterMap, pool_at}
 use Rattle.osdmap.specs.Changes.{IsLawful, after, epoch_after}
 use Rattle.osdmap.specs.Placement.{steps_of}

@@ -1,7 +1,7 @@
 -- Followers: what one more incremental does to one, and to what it has seen.
 use Rattle.std.proofs.Common.{◌≡◌, ◌∙◌, sym, ap, refl, subst, ℕ, zero, suc, ◌+◌, ◌-◌, ◌≤◌, Bool, true, false, List, [], ◌∷◌, ◌++◌, length, take, Some, None, Result, Ok, Err, IfOk, OnErr, IsSome, slice_get, inl, inr, arith, length-append}
 use Rattle.std.proofs.lemmas.List.{take-append-le, length-take, append-nil, take_all}
-use Rattle.stated.specs.Incrementals.{Step}
+use Rattle.maptypes.specs.Incrementals.{Step}
 use Rattle.osdmap.specs.Maps.{ClusterMap}
 use Rattle.osdmap.specs.Changes.{IsLawful, after, apply, change_fault, epoch_after}
 use Rattle.epochlog.specs.Epochs.{Line, Seen, Begins, OneBegins}

@@ -2,8 +2,8 @@
 use Rattle.std.proofs.Common.{◌≡◌, ◌≢◌, ◌∙◌, Bool, true, false, not, if◌then◌else◌, nat_lt, ◌==◌, IfErr, sym, ap, subst, ℕ, ◌+◌, List, [], ◌∷◌, ◌++◌, length, Option, Some, None, Result, Ok, Err, inl, inr}
 use Rattle.refusal.specs.declared.refused.Refusal.{Refusal}
 use Rattle.refusal.specs.declared.refused.Refusal.TheVariants.{StaleEpoch, UnknownOsd, BadWeight, UnknownPool, PoolExists, BadForest, BadPool, UnknownGroup, BadNewException, DuplicatePart, JournalFull, Memory as OutOfMemory, SeatSpent, NotSealed}
-use Rattle.stated.specs.declared.change.ChangeParts.{ChangeParts}
-use Rattle.stated.specs.Incrementals.{Step}
+use Rattle.maptypes.specs.declared.change.ChangeParts.{ChangeParts}
+use Rattle.maptypes.specs.Incrementals.{Step}
 use Rattle.osdmap.specs.Maps.{ClusterMap}
 use Rattle.osdmap.specs.Evals.{evals_of}
 use Rattle.osdmap.specs.Changes.{IsLawful, after, epoch_after, change_fault, names_osds, weighs_rightly, names_pools, brings_new, brings_forest, brings_rightly, names_groups, excepts_soundly, names_once}

@@ -1,6 +1,6 @@
 -- Followers: who reads the row of epochs without the lock.
 use Rattle.std.specs.Prelude.{◌≡◌, ◌⊎◌, ◌+◌, ◌-◌, Bool, true, false, None, Some, IsSome, List, length, take, slice_get}
-use Rattle.stated.specs.Incrementals.{Step}
+use Rattle.maptypes.specs.Incrementals.{Step}
 use Rattle.osdmap.specs.Maps.{ClusterMap}
 use Rattle.osdmap.specs.Changes.{change_fault, apply, after, IsLawful, epoch_after}
 use Rattle.epochlog.specs.Epochs.{Line, Seen, Begins}

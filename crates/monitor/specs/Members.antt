@@ -9,7 +9,7 @@ use Rattle.ticketlock.specs.Callers.{IsNewAt}
 use Rattle.ticketlock.specs.Guards.{first_of_read, first_of_write}
 use Rattle.osdmap.specs.Maps.{ClusterMap}
 use Rattle.osdmap.specs.Changes.{IsLawful}
-use Rattle.stated.specs.declared.profile.Profile.{Profile}
+use Rattle.mapparts.specs.declared.profile.Profile.{Profile}
 use Rattle.epochlog.specs.Epochs.{Line, Seen}
 use Rattle.state.specs.States.{StateFacts, opened}
 use Rattle.monitor.specs.declared.locked.Locked.{Locked}

@@ -9,7 +9,7 @@ ghost use Rattle.monitor.specs.Histories.{AnswersCommit, AddsChange};
 ghost use Rattle.monitor.specs.Balances.{AnswersBalance, AddsPlan};
 
 use epochlog::{Pass, Row};
-use osdmap::Change;
+use maptypes::Change;
 use refusal::Refusal;
 use state::State;
 use std::sync::Wait;

@@ -4,9 +4,9 @@ ghost use Rattle.std.specs.Prelude.{◌≡◌};
 
 use crate::locked::Locked;
 use epochlog::{Pass, Row};
+use mapparts::Profile;
 use osdmap::OsdMap;
 use refusal::Memory;
-use stated::Profile;
 use std::alloc::Global;
 use std::marker::Model;
 use ticketlock::Lock;

@@ -4,8 +4,8 @@ use Rattle.ticketlock.specs.declared.view.View.{View}
 use Rattle.ticketlock.specs.declared.view.Kind.TheVariants.{Read, Write}
 use Rattle.ticketlock.specs.Rule.{LockWorld, draws, reader_looks, writer_looks, reader_enters, writer_closes, writer_leaves, newcomer, drawn_for, looked_at, gone_in, gone_out, with_view, draw_word_up, reader_word_up, writer_word_up}
 use Rattle.ticketlock.specs.Law.{start}
-use Rattle.stated.specs.Incrementals.{Step}
-use Rattle.stated.specs.declared.change.ChangeParts.{ChangeParts}
+use Rattle.maptypes.specs.Incrementals.{Step}
+use Rattle.maptypes.specs.declared.change.ChangeParts.{ChangeParts}
 use Rattle.osdmap.specs.Maps.{ClusterMap}
 use Rattle.osdmap.specs.Evals.{evals_of}
 use Rattle.osdmap.specs.Changes.{IsLawful, after, change_fault}

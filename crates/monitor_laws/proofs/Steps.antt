@@ -14,7 +14,7 @@ use Rattle.ticketlock.specs.Law.{start, IsWriting, IsReading, IsIn, IsAlone}
 use Rattle.ticketlock.proofs.Runs.{starts, alone_writes}
 use Rattle.ticketlock.proofs.Steps.{step_keeps}
 use Rattle.sealed.proofs.Beginnings.{begins_itself, begins_on}
-use Rattle.stated.specs.Incrementals.{Step}
+use Rattle.maptypes.specs.Incrementals.{Step}
 use Rattle.osdmap.specs.Maps.{ClusterMap}
 use Rattle.osdmap.specs.Changes.{IsLawful, after, apply}
 use Rattle.std.proofs.lemmas.Option.{same_Some}

@@ -7,7 +7,7 @@ use Rattle.ticketlock.specs.declared.view.View.{View}
 use Rattle.ticketlock.specs.Rule as lock
 use Rattle.ticketlock.specs.Rule.{LockWorld, Step as LockStep}
 use Rattle.ticketlock.specs.Law.{IsWriting, IsReading}
-use Rattle.stated.specs.Incrementals.{Step}
+use Rattle.maptypes.specs.Incrementals.{Step}
 use Rattle.osdmap.specs.Maps.{ClusterMap}
 use Rattle.osdmap.specs.Changes.{IsLawful}
 use Rattle.pgtable.specs.Tables.{TableFacts}

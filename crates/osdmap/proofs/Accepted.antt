@@ -1,7 +1,7 @@
 -- A change that nothing refuses passes each test.
 use Rattle.std.proofs.Common.{◌≡◌, refl, Bool, true, false, not, Option, Some, None}
 use Rattle.std.specs.Prelude.{if◌then◌else◌}
-use Rattle.stated.specs.declared.change.ChangeParts.{ChangeParts}
+use Rattle.maptypes.specs.declared.change.ChangeParts.{ChangeParts}
 use Rattle.refusal.specs.declared.refused.Refusal.{Refusal}
 use Rattle.osdmap.specs.Maps.{ClusterMap}
 use Rattle.osdmap.specs.Changes.{names_osds, weighs_rightly, names_pools, brings_new, brings_forest, brings_rightly, names_groups, excepts_soundly, names_once, change_fault}

@@ -4,13 +4,13 @@ use Rattle.std.proofs.Common.{◌≡◌, ◌∙◌, nat_lt, zero, suc, arith, �
 use Rattle.std.proofs.Math.ListN.{length-set}
 use Rattle.std.specs.List.{fold}
 use Rattle.std.proofs.lemmas.Option.{slice_get-get_or}
-use Rattle.stated.specs.declared.osd.Presence.{Presence}
-use Rattle.stated.specs.declared.change.Reweight.{Reweight}
+use Rattle.maptypes.specs.declared.osd.Presence.{Presence}
+use Rattle.maptypes.specs.declared.change.Reweight.{Reweight}
 use Rattle.std.proofs.lemmas.Bool.Decides.{nat_tests}
 use Rattle.osdmap.specs.Marks.{are_below}
 use Rattle.keylist.proofs.Tests.{and_first, and_second}
 use Rattle.osdmap.specs.Maps.{ClusterMap}
-use Rattle.stated.specs.Incrementals.{Step}
+use Rattle.maptypes.specs.Incrementals.{Step}
 use Rattle.osdmap.specs.Changes.{apply, with_up, with_weight}
 
 -- how many OSDs there are

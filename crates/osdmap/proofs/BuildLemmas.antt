@@ -3,7 +3,7 @@ use Rattle.std.proofs.Common.{◌≡◌, ℕ, true, List, nat_lt, nat_abs}
 use Rattle.std.specs.List.{list_all}
 use Rattle.keylist.proofs.Each.{all_more}
 use Rattle.keylist.proofs.Tests.{and_first}
-use Rattle.stated.specs.declared.parts.OsdPart.{OsdPart}
+use Rattle.mapparts.specs.declared.parts.OsdPart.{OsdPart}
 use Rattle.osdmap.specs.Stated.{osd_ok}
 
 -- they have numbers below max_osd

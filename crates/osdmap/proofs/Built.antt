@@ -12,28 +12,30 @@ use Rattle.std.proofs.lemmas.List.Folds.{list_all-map}
 use Rattle.std.proofs.lemmas.List.FromFn.{length-range_with_len}
 use Rattle.crush.specs.WellFormed.{forest_ok}
 use Rattle.crush.proofs.Sorted.{forest_ok-moved}
-use Rattle.stated.specs.declared.parts.MapParts.{MapParts}
-use Rattle.stated.specs.declared.parts.PoolPart.{PoolPart}
-use Rattle.stated.specs.declared.parts.OsdPart.{OsdPart}
-use Rattle.stated.specs.declared.rules.NumberedRule.{NumberedRule}
+use Rattle.mapparts.specs.declared.parts.MapParts.{MapParts}
+use Rattle.mapparts.specs.declared.parts.PoolPart.{PoolPart}
+use Rattle.mapparts.specs.declared.parts.OsdPart.{OsdPart}
+use Rattle.maptypes.specs.declared.rules.NumberedRule.{NumberedRule}
 use Rattle.refusal.specs.declared.refused.Refusal.{Refusal}
 use Rattle.refusal.specs.declared.refused.Refusal.TheVariants.{BadLimit, BadForest, BadRule, BadPool, BadOsd, BadException}
 use Rattle.osdmap.specs.Maps.{ClusterMap, has_rule, is_kind, is_presence, HoldsTogether}
-use Rattle.stated.specs.Parts.{is_between, has_between, bucket_fits, rule_fits, has_few_groups, pool_fits, osd_fits, is_osd_id, pair_fits, exceptions_fit, head_fits, lists_fit, parts_fit, pool_of}
-use Rattle.stated.specs.Pools.{PoolFacts, total_groups, IsWithinLimits}
+use Rattle.mapparts.specs.Parts.{is_between, has_between, bucket_fits, rule_fits, has_few_groups, pool_fits, osd_fits, is_osd_id, pair_fits, exceptions_fit, head_fits, lists_fit, parts_fit}
+use Rattle.maptypes.specs.Values.{pool_of, rule_of}
+use Rattle.maptypes.specs.Pools.{PoolFacts, total_groups, IsWithinLimits}
 use Rattle.keylist.specs.Keys.{is_distinct}
 use Rattle.osdmap.specs.Stated.{buckets_of, rules_ok, pool_ok, pools_ok, osd_ok, osds_ok, explicit_of, items_of, all_exceptions_ok, map_fault, listed_osd, presence_in, weight_in, IsStated}
 use Rattle.refusal.specs.Outcomes.{refused_unless}
 use Rattle.keylist.specs.Order.{Rises}
-use Rattle.stated.specs.CrushMaps.{rule_of, rules_fit, crush_fault, IsCrushMap, IsCrushOf}
+use Rattle.maptypes.specs.CrushMaps.{rules_fit, crush_fault, IsCrushMap, IsCrushOf}
 use Rattle.osdmap.specs.Built.{pools_fit, osds_fit, state_of, rows_of, row_presence, row_weight}
 use Rattle.keylist.proofs.Tests.{and_first, and_second}
-use Rattle.stated.proofs.Totals.{sum_by-map}
-use Rattle.stated.proofs.Within.{natural_between, pool_fits_each, pool_within}
-use Rattle.stated.proofs.Narrowed.{osd_weight_fits}
+use Rattle.maptypes.proofs.Totals.{sum_by-map}
+use Rattle.mapparts.proofs.Within.{natural_between, pool_fits_each}
+use Rattle.maptypes.proofs.Whole.{pool_within}
+use Rattle.maptypes.proofs.Narrowed.{osd_weight_fits}
 use Rattle.osdmap.proofs.PlacementLemmas.{found_passes}
 use Rattle.keylist.proofs.Distinct.{distinct-moved, rising_distinct, find-moved, list_all-moved}
-use Rattle.stated.proofs.Judged.{passed, refused}
+use Rattle.maptypes.proofs.Judged.{passed, refused}
 use Rattle.keylist.proofs.Each.{all_more, all_so, list_all-agree, map-agree, map_twice}
 
 -- ---- parts within the limits

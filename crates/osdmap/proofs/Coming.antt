@@ -1,12 +1,12 @@
 -- The entries that come with a change that nothing refuses have rising keys.
 use Rattle.std.proofs.Common.{◌≡◌, ℕ, true, List, ◌++◌, map, arith}
-use Rattle.stated.specs.declared.change.ChangeParts.{ChangeParts}
-use Rattle.stated.specs.Pools.{PoolFacts}
+use Rattle.maptypes.specs.declared.change.ChangeParts.{ChangeParts}
+use Rattle.maptypes.specs.Pools.{PoolFacts}
 use Rattle.keylist.specs.Keys.{is_distinct}
 use Rattle.keylist.specs.Order.{IsRising}
-use Rattle.stated.specs.Exceptions.{place_of, key_of}
+use Rattle.maptypes.specs.Exceptions.{place_of, key_of}
 use Rattle.osdmap.specs.Maps.{ClusterMap}
-use Rattle.stated.specs.Ordered.{IsInOrder}
+use Rattle.maptypes.specs.Ordered.{IsInOrder}
 use Rattle.osdmap.specs.Changes.{names_once}
 use Rattle.osdmap.proofs.Accepted.{Accepted}
 use Rattle.keylist.proofs.KeyedDistinct.{distinct-append}

@@ -9,26 +9,27 @@ use Rattle.std.proofs.lemmas.Option.{slice_get-get_or}
 use Rattle.crush.specs.WellFormed.{forest_ok}
 use Rattle.keylist.proofs.Counts.{find-place}
 use Rattle.keylist.proofs.Each.{list_all-at}
-use Rattle.stated.specs.declared.exception.Exception.{Exception}
-use Rattle.stated.specs.declared.exception.Pair.{Pair}
-use Rattle.stated.specs.declared.osd.Presence.{Presence}
-use Rattle.stated.specs.declared.parts.MapParts.{MapParts}
-use Rattle.stated.specs.declared.parts.OsdPart.{OsdPart}
+use Rattle.maptypes.specs.declared.exception.Exception.{Exception}
+use Rattle.maptypes.specs.declared.exception.Pair.{Pair}
+use Rattle.maptypes.specs.declared.osd.Presence.{Presence}
+use Rattle.mapparts.specs.declared.parts.MapParts.{MapParts}
+use Rattle.mapparts.specs.declared.parts.OsdPart.{OsdPart}
 use Rattle.refusal.specs.declared.refused.Refusal.{Refusal}
 use Rattle.refusal.specs.declared.refused.Refusal.TheVariants.{BadLimit, BadForest, BadRule, BadPool, BadOsd, BadException}
-use Rattle.stated.specs.Exceptions.{key_of, all_named, is_exception, target, sides, is_set, are_pairs}
+use Rattle.maptypes.specs.Exceptions.{key_of, all_named, is_exception, target, sides, is_set, are_pairs}
 use Rattle.keylist.specs.Keys.{is_distinct, entry_at}
 use Rattle.keylist.specs.Order.{IsRising}
 use Rattle.osdmap.specs.Maps.{ClusterMap, osd_exists, HoldsTogether}
-use Rattle.stated.specs.Parts.{has_between, exceptions_fit, head_fits, lists_fit, parts_fit, pool_of}
-use Rattle.stated.specs.Pools.{PoolFacts}
+use Rattle.mapparts.specs.Parts.{has_between, exceptions_fit, head_fits, lists_fit, parts_fit}
+use Rattle.maptypes.specs.Values.{pool_of}
+use Rattle.maptypes.specs.Pools.{PoolFacts}
 use Rattle.osdmap.specs.Stated.{buckets_of, osd_ok, rules_ok, pools_ok, osds_ok, is_listed, exceptions_ok, explicit_of, items_of, all_exceptions_ok, map_fault, listed_osd, presence_in, IsStated}
 use Rattle.refusal.specs.Outcomes.{refused_unless}
 use Rattle.keylist.specs.Order.{Rises}
 use Rattle.osdmap.specs.Built.{without_exceptions}
 use Rattle.keylist.proofs.Tests.{and_second}
 use Rattle.keylist.proofs.Distinct.{distinct-moved, rising_distinct, find-moved, list_all-moved}
-use Rattle.stated.proofs.Judged.{passed}
+use Rattle.maptypes.proofs.Judged.{passed}
 use Rattle.osdmap.proofs.BuildLemmas.{osds_below}
 use Rattle.keylist.proofs.Each.{list_all-agree}
 

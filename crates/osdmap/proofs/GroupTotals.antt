@@ -6,10 +6,10 @@ use Rattle.std.specs.List.{list_all, list_any, filter, fold, sum_by}
 use Rattle.std.proofs.lemmas.Bool.{cases_Bool, cases_order, ne_eqb, eqb-true, eq-eqb}
 use Rattle.std.proofs.lemmas.Bool.Decides.{nat_tests}
 use Rattle.std.proofs.lemmas.List.Sums.{sum_by-cons}
-use Rattle.stated.specs.declared.change.ChangeParts.{ChangeParts}
-use Rattle.stated.specs.Growth.{Growth, grown}
-use Rattle.stated.specs.Pools.{PoolFacts, total_groups}
-use Rattle.stated.proofs.Totals.{sum_by-map}
+use Rattle.maptypes.specs.declared.change.ChangeParts.{ChangeParts}
+use Rattle.maptypes.specs.Growth.{Growth, grown}
+use Rattle.maptypes.specs.Pools.{PoolFacts, total_groups}
+use Rattle.maptypes.proofs.Totals.{sum_by-map}
 use Rattle.keylist.specs.Keys.{is_distinct, has_key}
 use Rattle.keylist.specs.Puts.{put}
 use Rattle.keylist.proofs.Tests.{and_first, and_second, not_true}

@@ -13,12 +13,12 @@ use Rattle.keylist.proofs.Each.{list_all-at}
 use Rattle.keylist.proofs.Distinct.{list_all-moved}
 use Rattle.keylist.proofs.KeyedOrder.{rising_head, rising_tail, rising_from}
 use Rattle.std.proofs.lemmas.List.Sorted.{IsPermutation-reverse, All-permutation}
-use Rattle.stated.specs.declared.exception.Exception.{Exception}
-use Rattle.stated.specs.declared.pg.Pg.{Pg}
-use Rattle.stated.specs.declared.rules.NumberedRule.{NumberedRule}
-use Rattle.stated.specs.Exceptions.{has_group, says_soundly, is_sound, is_exception}
-use Rattle.stated.specs.Growth.{Growth, IsGrowth, grown, grown_to}
-use Rattle.stated.specs.Pools.{PoolFacts, IsWithinLimits}
+use Rattle.maptypes.specs.declared.exception.Exception.{Exception}
+use Rattle.maptypes.specs.declared.pg.Pg.{Pg}
+use Rattle.maptypes.specs.declared.rules.NumberedRule.{NumberedRule}
+use Rattle.maptypes.specs.Exceptions.{has_group, says_soundly, is_sound, is_exception}
+use Rattle.maptypes.specs.Growth.{Growth, IsGrowth, grown, grown_to}
+use Rattle.maptypes.specs.Pools.{PoolFacts, IsWithinLimits}
 use Rattle.osdmap.specs.Maps.{has_rule}
 use Rattle.osdmap.specs.Changes.{grows_from}
 

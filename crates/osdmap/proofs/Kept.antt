@@ -10,24 +10,24 @@ use Rattle.std.proofs.lemmas.List.{length-map}
 use Rattle.std.proofs.lemmas.List.Elements.{All-set, All-filter}
 use Rattle.std.proofs.lemmas.List.Sums.{AllPass-from_list_all, list_all-from_AllPass}
 use Rattle.crush.specs.WellFormed.{forest_ok}
-use Rattle.stated.specs.declared.osd.Presence.{Presence}
-use Rattle.stated.specs.declared.pg.Pg.{Pg}
-use Rattle.stated.specs.declared.exception.Exception.{Exception}
-use Rattle.stated.specs.declared.change.ChangeParts.{ChangeParts}
-use Rattle.stated.specs.declared.change.Reweight.{Reweight}
-use Rattle.stated.specs.CrushMaps.{CrushFacts, IsCrushMap}
-use Rattle.stated.specs.Growth.{IsGrowth, grown}
-use Rattle.stated.specs.Pools.{PoolFacts, total_groups, IsWithinLimits}
-use Rattle.stated.specs.Profiles.{most_pools}
-use Rattle.stated.specs.declared.profile.Profile.{Profile}
-use Rattle.stated.specs.declared.profile.Profile.TheVariants.{Plain, Stock}
+use Rattle.maptypes.specs.declared.osd.Presence.{Presence}
+use Rattle.maptypes.specs.declared.pg.Pg.{Pg}
+use Rattle.maptypes.specs.declared.exception.Exception.{Exception}
+use Rattle.maptypes.specs.declared.change.ChangeParts.{ChangeParts}
+use Rattle.maptypes.specs.declared.change.Reweight.{Reweight}
+use Rattle.maptypes.specs.CrushMaps.{CrushFacts, IsCrushMap}
+use Rattle.maptypes.specs.Growth.{IsGrowth, grown}
+use Rattle.maptypes.specs.Pools.{PoolFacts, total_groups, IsWithinLimits}
+use Rattle.mapparts.specs.Profiles.{most_pools}
+use Rattle.mapparts.specs.declared.profile.Profile.{Profile}
+use Rattle.mapparts.specs.declared.profile.Profile.TheVariants.{Plain, Stock}
 use Rattle.keylist.specs.Keys.{is_distinct, has_key, entry_at}
 use Rattle.keylist.specs.Order.{IsRising}
 use Rattle.keylist.specs.Puts.{put}
-use Rattle.stated.specs.Exceptions.{key_of, has_group, target, sides, all_named, is_set, are_pairs, is_sound, is_exception, stays, is_among, exceptions_after}
+use Rattle.maptypes.specs.Exceptions.{key_of, has_group, target, sides, all_named, is_set, are_pairs, is_sound, is_exception, stays, is_among, exceptions_after}
 use Rattle.osdmap.specs.Maps.{ClusterMap, osd_exists, has_rule, is_presence, HoldsTogether}
-use Rattle.stated.specs.Incrementals.{Step}
-use Rattle.stated.specs.Ordered.{IsChange}
+use Rattle.maptypes.specs.Incrementals.{Step}
+use Rattle.maptypes.specs.Ordered.{IsChange}
 use Rattle.osdmap.specs.Changes.{names_osds, weighs_rightly, pools_kept, pools_there, pools_after, buckets_after, rules_after, all_named_groups, names_groups, brings_new, has_devices_below, brings_forest, grows_from, leaves_few_groups, brings_rightly, excepts_soundly, names_once, change_fault, apply, with_up, with_weight}
 use Rattle.keylist.proofs.Tests.{and_first, and_second, not_true}
 use Rattle.keylist.proofs.KeyedOrder.{rising-filter}

@@ -10,8 +10,8 @@ use Rattle.std.proofs.lemmas.List.Folds.{find-append}
 use Rattle.std.proofs.lemmas.List.FromFn.{fill_by_all}
 use Rattle.std.proofs.Math.ListN.{get_or-map}
 use Rattle.keylist.proofs.Each.{list_all-at}
-use Rattle.stated.specs.declared.osd.OsdState.{OsdState}
-use Rattle.stated.specs.declared.parts.OsdPart.{OsdPart}
+use Rattle.maptypes.specs.declared.osd.OsdState.{OsdState}
+use Rattle.mapparts.specs.declared.parts.OsdPart.{OsdPart}
 use Rattle.keylist.specs.Keys.{is_distinct}
 use Rattle.osdmap.specs.Marks.{are_new}
 use Rattle.osdmap.specs.Stated.{listed_osd}

@@ -7,7 +7,7 @@ use Rattle.std.proofs.lemmas.Option.{slice_get_within}
 use Rattle.osdmap.specs.Marks.{are_below}
 use Rattle.keylist.proofs.Tests.{and_first, and_second}
 use Rattle.std.proofs.lemmas.Bool.Decides.{nat_tests}
-use Rattle.stated.specs.declared.change.ChangeParts.{ChangeParts}
+use Rattle.maptypes.specs.declared.change.ChangeParts.{ChangeParts}
 use Rattle.refusal.specs.declared.refused.Refusal.TheVariants.{UnknownOsd}
 use Rattle.osdmap.specs.Maps.{ClusterMap, osd_exists}
 use Rattle.osdmap.specs.Changes.{names_osds, change_fault}

@@ -8,9 +8,9 @@ use Rattle.crush.specs.declared.step.Step.{Step}
 use Rattle.crush.specs.declared.step.Step.TheVariants.{SetChooseTries, SetChooseleafTries, Take, Choose as Chooses, Emit}
 use Rattle.crush.specs.World.{World}
 use Rattle.crush.specs.Run.{Progress, no_progress, after_step, run_of}
-use Rattle.stated.specs.declared.rules.NumberedRule.{NumberedRule}
-use Rattle.stated.specs.Pools.{PoolFacts}
-use Rattle.stated.specs.CrushMaps.{rule_at}
+use Rattle.maptypes.specs.declared.rules.NumberedRule.{NumberedRule}
+use Rattle.maptypes.specs.Pools.{PoolFacts}
+use Rattle.maptypes.specs.CrushMaps.{rule_at}
 use Rattle.osdmap.specs.Maps.{has_rule, is_kind}
 
 -- what is found passes a test that all pass

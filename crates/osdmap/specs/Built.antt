@@ -4,12 +4,12 @@ use Rattle.std.specs.Prelude.{ℕ, ◌&&◌, Bool, false, nat_abs, List, [], map
 use Rattle.std.specs.List.{list_all, range_with_len}
 use Rattle.std.specs.Option.{option_map, option_map_or}
 use Rattle.keylist.specs.Keys.{is_distinct}
-use Rattle.stated.specs.declared.osd.Presence.{Presence}
-use Rattle.stated.specs.declared.osd.OsdState.{OsdState}
-use Rattle.stated.specs.declared.parts.MapParts.{MapParts}
-use Rattle.stated.specs.declared.parts.PoolPart.{PoolPart}
-use Rattle.stated.specs.declared.parts.OsdPart.{OsdPart}
-use Rattle.stated.specs.declared.rules.NumberedRule.{NumberedRule}
+use Rattle.maptypes.specs.declared.osd.Presence.{Presence}
+use Rattle.maptypes.specs.declared.osd.OsdState.{OsdState}
+use Rattle.mapparts.specs.declared.parts.MapParts.{MapParts}
+use Rattle.mapparts.specs.declared.parts.PoolPart.{PoolPart}
+use Rattle.mapparts.specs.declared.parts.OsdPart.{OsdPart}
+use Rattle.maptypes.specs.declared.rules.NumberedRule.{NumberedRule}
 use Rattle.osdmap.specs.Stated.{pool_ok, osd_ok, listed_osd}
 
 -- parts without their exceptions

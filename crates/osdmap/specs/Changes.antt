@@ -3,22 +3,22 @@ use Rattle.std.specs.Prelude.{◌≡◌, ℕ, ◌+◌, Bool, true, false, not, �
 use Rattle.std.specs.List.{list_all, filter, fold}
 use Rattle.std.specs.Option.{option_map_or}
 use Rattle.buckets.specs.declared.bucket.Bucket.{Bucket}
-use Rattle.stated.specs.declared.change.ChangeParts.{ChangeParts}
-use Rattle.stated.specs.declared.change.Reweight.{Reweight}
-use Rattle.stated.specs.declared.osd.Presence.{Presence}
+use Rattle.maptypes.specs.declared.change.ChangeParts.{ChangeParts}
+use Rattle.maptypes.specs.declared.change.Reweight.{Reweight}
+use Rattle.maptypes.specs.declared.osd.Presence.{Presence}
 use Rattle.refusal.specs.declared.refused.Refusal.{Refusal}
-use Rattle.stated.specs.declared.rules.NumberedRule.{NumberedRule}
-use Rattle.stated.specs.Growth.{Growth, grown}
+use Rattle.maptypes.specs.declared.rules.NumberedRule.{NumberedRule}
+use Rattle.maptypes.specs.Growth.{Growth, grown}
 use Rattle.refusal.specs.declared.refused.Refusal.TheVariants.{UnknownOsd, BadWeight, UnknownPool, PoolExists, BadForest, BadPool, UnknownGroup, BadNewException, DuplicatePart}
-use Rattle.stated.specs.declared.pg.Pg.{Pg}
-use Rattle.stated.specs.Incrementals.{Step}
-use Rattle.stated.specs.Limits.{max_total_groups}
-use Rattle.stated.specs.Profiles.{most_pools}
+use Rattle.maptypes.specs.declared.pg.Pg.{Pg}
+use Rattle.maptypes.specs.Incrementals.{Step}
+use Rattle.mapparts.specs.Limits.{max_total_groups}
+use Rattle.mapparts.specs.Profiles.{most_pools}
 use Rattle.crush.specs.Limits.{full_weight}
-use Rattle.stated.specs.Pools.{PoolFacts, total_groups}
+use Rattle.maptypes.specs.Pools.{PoolFacts, total_groups}
 use Rattle.keylist.specs.Keys.{is_distinct, has_key}
 use Rattle.keylist.specs.Puts.{put}
-use Rattle.stated.specs.Exceptions.{place_of, key_of, has_pool, has_pool_of, has_group, target, sides, all_named, is_set, are_pairs, is_sound, exceptions_after}
+use Rattle.maptypes.specs.Exceptions.{place_of, key_of, has_pool, has_pool_of, has_group, target, sides, all_named, is_set, are_pairs, is_sound, exceptions_after}
 use Rattle.osdmap.specs.Maps.{ClusterMap, pool_at, osd_exists, has_rule}
 
 -- ---- refusals

@@ -4,10 +4,10 @@ use Rattle.std.specs.List.{list_any, sum_by, count_by, range_with_len}
 use Rattle.std.specs.Option.{option_map_or}
 use Rattle.crush.specs.Paths as paths
 use Rattle.keylist.specs.Keys.{has_key}
-use Rattle.stated.specs.declared.change.ChangeParts.{ChangeParts}
-use Rattle.stated.specs.declared.pg.Pg.{Pg}
-use Rattle.stated.specs.Exceptions.{place_of, key_of, is_among, said_of, target, sides}
-use Rattle.stated.specs.Pools.{PoolFacts}
+use Rattle.maptypes.specs.declared.change.ChangeParts.{ChangeParts}
+use Rattle.maptypes.specs.declared.pg.Pg.{Pg}
+use Rattle.maptypes.specs.Exceptions.{place_of, key_of, is_among, said_of, target, sides}
+use Rattle.maptypes.specs.Pools.{PoolFacts}
 use Rattle.osdmap.specs.Maps.{ClusterMap}
 use Rattle.osdmap.specs.Placement.{group_of, steps_of}
 

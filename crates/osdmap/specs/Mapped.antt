@@ -1,8 +1,8 @@
 -- What exceptions make of the set of a group (Ceph, OSDMap.cc: _apply_upmap).
 use Rattle.std.specs.Prelude.{ℕ, ◌==◌, Bool, ◌||◌, List, [], ◌∷◌, map, Option, Some, None, slice_index, if◌then◌else◌}
 use Rattle.std.specs.List.{list_any, fold}
-use Rattle.stated.specs.declared.exception.Pair.{Pair}
-use Rattle.stated.specs.Sets.{is_of}
+use Rattle.maptypes.specs.declared.exception.Pair.{Pair}
+use Rattle.maptypes.specs.Sets.{is_of}
 
 -- whether an OSD is out for good: its reweight is 0
 abbrev pub is_weightless : List ℕ → ℕ → Bool

@@ -7,18 +7,18 @@ use Rattle.buckets.specs.declared.bucket.Bucket.{Bucket}
 use Rattle.crush.specs.declared.step.RuleKind.{RuleKind}
 use Rattle.crush.specs.declared.step.RuleKind.TheVariants.{Replicated, Erasure}
 use Rattle.crush.specs.WellFormed.{forest_ok, IsForest}
-use Rattle.stated.specs.declared.osd.Presence.{Presence}
-use Rattle.stated.specs.declared.osd.OsdState.{OsdState}
-use Rattle.stated.specs.declared.rules.NumberedRule.{NumberedRule}
-use Rattle.stated.specs.declared.exception.Exception.{Exception}
-use Rattle.stated.specs.declared.exception.Pair.{Pair}
-use Rattle.stated.specs.Exceptions.{key_of, is_exception, target, sides, is_set, are_pairs}
+use Rattle.maptypes.specs.declared.osd.Presence.{Presence}
+use Rattle.maptypes.specs.declared.osd.OsdState.{OsdState}
+use Rattle.maptypes.specs.declared.rules.NumberedRule.{NumberedRule}
+use Rattle.maptypes.specs.declared.exception.Exception.{Exception}
+use Rattle.maptypes.specs.declared.exception.Pair.{Pair}
+use Rattle.maptypes.specs.Exceptions.{key_of, is_exception, target, sides, is_set, are_pairs}
 use Rattle.keylist.specs.Order.{IsRising}
 use Rattle.buckets.specs.Limits.{max_devices}
-use Rattle.stated.specs.Limits.{max_rules, max_pools, max_total_groups}
+use Rattle.mapparts.specs.Limits.{max_rules, max_pools, max_total_groups}
 use Rattle.crush.specs.Limits.{full_weight}
-use Rattle.stated.specs.CrushMaps.{rule_at, is_rule_over}
-use Rattle.stated.specs.Pools.{PoolFacts, total_groups, IsWithinLimits}
+use Rattle.maptypes.specs.CrushMaps.{rule_at, is_rule_over}
+use Rattle.maptypes.specs.Pools.{PoolFacts, total_groups, IsWithinLimits}
 
 -- what callers see of a map: its epoch, the buckets of its forest by id downwards, its rules and pools by id upwards,
 -- and by number whether each OSD exists and is up, and its reweight; the explicit sets and the pairs of groups, by

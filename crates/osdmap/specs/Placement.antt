@@ -6,15 +6,15 @@ use Rattle.rjenkins.specs.Jenkins.{hash2_of}
 use Rattle.crush.specs.declared.step.Step.{Step}
 use Rattle.crush.specs.World.{world_of}
 use Rattle.crush.specs.Run.{Ran, run_of}
-use Rattle.stated.specs.declared.pg.Pg.{Pg}
-use Rattle.stated.specs.declared.exception.Pair.{Pair}
+use Rattle.maptypes.specs.declared.pg.Pg.{Pg}
+use Rattle.maptypes.specs.declared.exception.Pair.{Pair}
 use Rattle.refusal.specs.declared.refused.Refusal.{Refusal}
 use Rattle.refusal.specs.declared.refused.Refusal.TheVariants.{UnknownPool, UnknownGroup}
-use Rattle.stated.specs.Pools.{PoolFacts}
+use Rattle.maptypes.specs.Pools.{PoolFacts}
 use Rattle.osdmap.specs.Sets.{kept}
-use Rattle.stated.specs.Exceptions.{said_of}
+use Rattle.maptypes.specs.Exceptions.{said_of}
 use Rattle.osdmap.specs.Mapped.{mapped}
-use Rattle.stated.specs.CrushMaps.{rule_at}
+use Rattle.maptypes.specs.CrushMaps.{rule_at}
 use Rattle.osdmap.specs.Maps.{ClusterMap, pool_at, osd_exists, osd_is_up}
 
 -- the numbers 2 ^ k - 1 up to 65535

@@ -6,20 +6,20 @@ use Rattle.std.specs.Option.{option_map_or}
 use Rattle.buckets.specs.declared.bucket.Bucket.{Bucket}
 use Rattle.crush.specs.WellFormed.{forest_ok, IsDescending}
 use Rattle.crush.specs.Grammar.{rule_ok}
-use Rattle.stated.specs.declared.osd.Presence.{Presence}
-use Rattle.stated.specs.declared.parts.MapParts.{MapParts}
-use Rattle.stated.specs.declared.parts.PoolPart.{PoolPart}
-use Rattle.stated.specs.declared.parts.OsdPart.{OsdPart}
-use Rattle.stated.specs.declared.rules.NumberedRule.{NumberedRule}
+use Rattle.maptypes.specs.declared.osd.Presence.{Presence}
+use Rattle.mapparts.specs.declared.parts.MapParts.{MapParts}
+use Rattle.mapparts.specs.declared.parts.PoolPart.{PoolPart}
+use Rattle.mapparts.specs.declared.parts.OsdPart.{OsdPart}
+use Rattle.maptypes.specs.declared.rules.NumberedRule.{NumberedRule}
 use Rattle.refusal.specs.declared.refused.Refusal.{Refusal}
 use Rattle.refusal.specs.declared.refused.Refusal.TheVariants.{BadLimit, BadForest, BadRule, BadPool, BadOsd, BadException}
-use Rattle.stated.specs.Plain.{map_is_plain}
-use Rattle.stated.specs.Parts.{parts_fit, bucket_of, step_of, pool_of, exception_of, pair_of}
-use Rattle.stated.specs.declared.exception.Exception.{Exception}
-use Rattle.stated.specs.declared.exception.Pair.{Pair}
-use Rattle.stated.specs.Pools.{PoolFacts}
-use Rattle.stated.specs.Exceptions.{key_of, is_exception, target, sides, is_set, are_pairs}
-use Rattle.stated.specs.CrushMaps.{rule_of}
+use Rattle.mapparts.specs.Plain.{map_is_plain}
+use Rattle.mapparts.specs.Parts.{parts_fit}
+use Rattle.maptypes.specs.Values.{bucket_of, step_of, pool_of, exception_of, pair_of, rule_of}
+use Rattle.maptypes.specs.declared.exception.Exception.{Exception}
+use Rattle.maptypes.specs.declared.exception.Pair.{Pair}
+use Rattle.maptypes.specs.Pools.{PoolFacts}
+use Rattle.maptypes.specs.Exceptions.{key_of, is_exception, target, sides, is_set, are_pairs}
 use Rattle.osdmap.specs.Maps.{ClusterMap, has_rule}
 use Rattle.keylist.specs.Keys.{is_distinct}
 use Rattle.keylist.specs.Order.{IsRising}

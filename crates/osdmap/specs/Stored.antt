@@ -1,7 +1,7 @@
 -- A map as it is stored: what it says, and the room that its lists have for a change that is made where it stands.
 use Rattle.std.specs.Prelude.{◌≡◌, ℕ, ◌+◌, ◌≤◌, length, Option}
-use Rattle.stated.specs.CrushMaps.{CrushFacts}
-use Rattle.stated.specs.declared.change.ChangeParts.{ChangeParts}
+use Rattle.maptypes.specs.CrushMaps.{CrushFacts}
+use Rattle.maptypes.specs.declared.change.ChangeParts.{ChangeParts}
 use Rattle.osdmap.specs.Maps.{ClusterMap}
 
 -- how many pools, explicit sets and pairs of groups there is room for, and the forest and rules that lie ready

@@ -4,8 +4,8 @@ ghost use Rattle.std.specs.Prelude.{◌≡◌, IfOk, unwrap_or};
 
 use crate::in_place::{change_exceptions, change_pools, set_up, set_weights};
 use crate::map::OsdMap;
+use maptypes::{Change, CrushMap, Incremental};
 use refusal::Memory;
-use stated::{Change, CrushMap, Incremental};
 use std::alloc::Global;
 
 /// A copy of a CRUSH map, where there is one.

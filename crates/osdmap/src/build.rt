@@ -6,20 +6,21 @@ mod pools;
 
 use crate::map::OsdMap;
 use keylist::Entries;
+use mapparts::MapParts;
+use mapparts::fits::parts_fit;
+use mapparts::numbers::word;
+use mapparts::plain::map_is_plain;
+use maptypes::CrushMap;
 use osds::{presences_of, rows_of, weights_of};
 pub(crate) use pools::has_rule;
 use pools::pools_of;
 use refusal::Refusal;
-use stated::fits::parts_fit;
-use stated::numbers::word;
-use stated::plain::map_is_plain;
-use stated::{CrushMap, MapParts};
 use std::alloc::Global;
 
 impl OsdMap {
     ghost use Rattle.std.specs.Prelude.{◌≡◌, true};
     ghost use Rattle.refusal.specs.Outcomes.{Makes};
-    ghost use Rattle.stated.specs.Parts.{parts_fit};
+    ghost use Rattle.mapparts.specs.Parts.{parts_fit};
     ghost use Rattle.osdmap.specs.Stated.{map_fault, plain_map_fault, IsStated};
     ghost use Rattle.osdmap.specs.Built.{without_exceptions};
 

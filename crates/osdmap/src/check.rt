@@ -10,8 +10,8 @@ mod rules;
 use crate::check::once::names_once;
 use crate::check::osds::weighs_rightly;
 use crate::map::OsdMap;
+use maptypes::Change;
 use refusal::Refusal;
-use stated::Change;
 
 impl OsdMap {
     ghost use Rattle.std.specs.Prelude.{◌≡◌};

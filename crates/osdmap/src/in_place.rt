@@ -6,13 +6,13 @@ ghost use Rattle.std.specs.List.Sorted.{IsNonDecreasingBy};
 ghost use Rattle.keylist.specs.Keys.{has_key};
 ghost use Rattle.keylist.specs.Order.{IsRising};
 ghost use Rattle.keylist.specs.Puts.{put};
-ghost use Rattle.stated.specs.Exceptions.{place_of, key_of, exceptions_after};
-ghost use Rattle.stated.specs.Growth.{grown};
+ghost use Rattle.maptypes.specs.Exceptions.{place_of, key_of, exceptions_after};
+ghost use Rattle.maptypes.specs.Growth.{grown};
 ghost use Rattle.osdmap.specs.Changes.{with_up, with_weight};
 ghost use Rattle.osdmap.specs.Marks.{are_below};
 
 use keylist::{Entries, has, last_of, put_all, take_away};
-use stated::{Entry, Exception, Grow, Pg, Pool, Presence, Reweight};
+use maptypes::{Entry, Exception, Grow, Pg, Pool, Presence, Reweight};
 
 /// Each OSD of a list goes up or down.
 pub(crate) fn set_up(presences: &mut Entries<Presence>, osds: &[u32], up: bool)
@@ -37,7 +37,7 @@ pub(crate) fn set_weights(weights: &mut Entries<u32>, reweights: &[Reweight])
 }
 
 /// A pool after growths, in ascending order: the last one of it counts.
-#[tactic(auto, unfolding(stated::specs::Growth::grown))]
+#[tactic(auto, unfolding(maptypes::specs::Growth::grown))]
 pub(crate) fn grown(growths: &[Grow], pool: Pool) -> Pool
     requires { IsNonDecreasingBy (λ g. g.pool) growths.now }
     ensures { result ≡ grown growths.now pool }

@@ -12,9 +12,10 @@ mod placement;
 pub mod up_set;
 
 pub use map::OsdMap;
-pub use placement::{Placing, stable_mod};
-pub use stated::{
-    Change, ChangeParts, CrushMap, Exception, Explicit, Grow, Incremental, Items, MapParts,
-    NumberedRule, OsdState, Pair, Pg, Pool, Presence, Profile, Reweight,
+pub use mapparts::{MapParts, Profile};
+pub use maptypes::{
+    Change, ChangeParts, CrushMap, Exception, Explicit, Grow, Incremental, Items, NumberedRule,
+    OsdState, Pair, Pg, Pool, Presence, Reweight,
 };
+pub use placement::{Placing, stable_mod};
 pub use up_set::UpSet;

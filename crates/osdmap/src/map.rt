@@ -2,7 +2,7 @@
 
 use crush::{Forest, Rule};
 use keylist::{Entries, entry_of};
-use stated::{CrushMap, Explicit, Items, NumberedRule, OsdState, Pair, Pg, Pool, Presence};
+use maptypes::{CrushMap, Explicit, Items, NumberedRule, OsdState, Pair, Pg, Pool, Presence};
 use std::marker::Model;
 
 /// The map of a cluster at an epoch: a forest of buckets, rules, pools, and for each OSD whether it exists, whether it
@@ -62,8 +62,8 @@ impl OsdMap {
     ghost use Rattle.std.specs.Prelude.{◌≡◌, ◌≤◌, length, IfSome};
     ghost use Rattle.std.specs.Option.{option_copied};
     ghost use Rattle.buckets.specs.Limits.{max_devices};
-    ghost use Rattle.stated.specs.Exceptions.{said_of};
-    ghost use Rattle.stated.specs.CrushMaps.{rule_at};
+    ghost use Rattle.maptypes.specs.Exceptions.{said_of};
+    ghost use Rattle.maptypes.specs.CrushMaps.{rule_at};
     ghost use Rattle.osdmap.specs.Maps.{pool_at, osd_at, osd_exists, HoldsTogether};
 
     /// What holds in every map: for proofs alone.

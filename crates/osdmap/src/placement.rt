@@ -1,16 +1,16 @@
 //! Where a map places the groups of its pools (Ceph, OSDMap.cc).
 
 ghost use Rattle.std.specs.Prelude.{◌≡◌, ◌<◌, ◌≤◌, Some};
-ghost use Rattle.stated.specs.CrushMaps.{rule_at};
-ghost use Rattle.stated.specs.Limits.{max_groups};
+ghost use Rattle.maptypes.specs.CrushMaps.{rule_at};
+ghost use Rattle.mapparts.specs.Limits.{max_groups};
 ghost use Rattle.osdmap.specs.Placement.{mask_of, stable_mod};
 
 use crate::map::OsdMap;
 use crate::up_set::UpSet;
 use crush::{Placement, Rule, Work};
+use maptypes::{Pair, Pg, Pool};
 use refusal::{Memory, Refusal};
 use rjenkins::hash2;
-use stated::{Pair, Pg, Pool};
 
 /// The mask of a count: the least number that is one less than a power of two and at least `count - 1`.
 fn mask(count: u32) -> u32

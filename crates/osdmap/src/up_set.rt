@@ -3,12 +3,12 @@
 ghost use Rattle.std.specs.Prelude.{◌≡◌, Some, position};
 ghost use Rattle.std.specs.Fmt.{DisplaysOnOk};
 ghost use Rattle.std.specs.List.{list_any};
-ghost use Rattle.stated.specs.Sets.{is_of};
+ghost use Rattle.maptypes.specs.Sets.{is_of};
 ghost use Rattle.osdmap.specs.Primary.{primary_of};
 ghost use Rattle.osdmap.specs.SetText.{place_text, list_text};
 
 use crush::RuleKind;
-use stated::{Pair, Short};
+use maptypes::{Pair, Short};
 use std::alloc::AllocError;
 use std::fmt;
 use std::marker::Model;
@@ -72,7 +72,7 @@ impl UpSet {
     ghost use Rattle.std.specs.Prelude.{◌≡◌, ◌≤◌, ◌<◌, [], ◌∷◌, ◌++◌, length, map, Some};
     ghost use Rattle.std.specs.List.{list_any};
     ghost use Rattle.osdmap.specs.Mapped.{replaced};
-    ghost use Rattle.stated.specs.Sets.{is_of};
+    ghost use Rattle.maptypes.specs.Sets.{is_of};
     ghost use Rattle.osdmap.specs.Sets.{kept_in};
 
     /// The set without a place.

@@ -1,17 +1,17 @@
 -- What a monitor is opened with.
 use Rattle.std.proofs.Common.{◌≡◌, ◌∙◌, ℕ, ◌≤◌, ◌^◌, true, false, not, if◌then◌else◌, Bool, List, Some, None, IfOk, Result, Ok, Err, refl, sym, arith}
-use Rattle.stated.specs.declared.parts.MapParts.{MapParts}
-use Rattle.stated.specs.Parts.{parts_fit}
-use Rattle.stated.specs.Plain.{map_is_plain}
-use Rattle.stated.proofs.Within.{natural_between}
+use Rattle.mapparts.specs.declared.parts.MapParts.{MapParts}
+use Rattle.mapparts.specs.Parts.{parts_fit}
+use Rattle.mapparts.specs.Plain.{map_is_plain}
+use Rattle.mapparts.proofs.Within.{natural_between}
 use Rattle.refusal.specs.declared.refused.Refusal.{Refusal}
 use Rattle.refusal.specs.declared.refused.Refusal.TheVariants.{BadLimit}
 use Rattle.osdmap.specs.Maps.{ClusterMap}
 use Rattle.osdmap.specs.Stated.{map_fault, plain_map_fault, IsStated}
 use Rattle.osdmap.proofs.Built.{parts_fit_each, fault_limit}
 use Rattle.jsonstream.specs.Json.{stated_by}
-use Rattle.stated.specs.declared.profile.Profile.{Profile}
-use Rattle.stated.specs.declared.profile.Profile.TheVariants.{Plain, Stock}
+use Rattle.mapparts.specs.declared.profile.Profile.{Profile}
+use Rattle.mapparts.specs.declared.profile.Profile.TheVariants.{Plain, Stock}
 use Rattle.partjson.specs.Profiles.{map_in}
 use Rattle.mapjson.specs.MapTexts.{fault_in, fault_of_stated, map_text_fault, StatesMap}
 use Rattle.monitor.specs.Opening.{can_open}

@@ -25,8 +25,8 @@ use Rattle.epochlog.specs.Epochs.{max_capacity}
 use Rattle.osdmapd.specs.declared.choices.Options.{Options}
 use Rattle.osdmapd.specs.declared.choices.LineError.{LineError}
 use Rattle.osdmapd.specs.declared.choices.LineError.TheVariants.{Help, Usage, TooMany, Unpaired, Memory}
-use Rattle.stated.specs.declared.profile.Profile.{Profile}
-use Rattle.stated.specs.declared.profile.Profile.TheVariants.{Plain, Stock}
+use Rattle.mapparts.specs.declared.profile.Profile.{Profile}
+use Rattle.mapparts.specs.declared.profile.Profile.TheVariants.{Plain, Stock}
 use Rattle.osdmapd.specs.CommandLine.{app, found_in, faults_of, is_plain, max_scripts, stock_rule, stock_word, ArePlain, AreUsual, IsJournalIn, GivesOptions, ReadsLine, ReadsUsual}
 use Rattle.osdmapd.proofs.PlainWords.{at, at_option, no_option, plain_argument, plain_given, plain_more, plain_option, plain_option_behind, plain_option_more, plain_value, plain_walked}
 

@@ -1,5 +1,5 @@
 //! What a command line asks for.
-use stated::Profile;
+use mapparts::Profile;
 use std::alloc::AllocError;
 use thiserror::Error;
 

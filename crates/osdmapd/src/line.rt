@@ -13,7 +13,7 @@ use crate::choices::{LineError, Options};
 use clap::error::ErrorKind;
 use clap::{Arg, ArgAction, ArgMatches, Command, Error, value_parser};
 use epochlog::MAX_CAPACITY;
-use stated::Profile;
+use mapparts::Profile;
 use std::alloc::{AllocError, Global};
 
 /// How many scripts can be run.

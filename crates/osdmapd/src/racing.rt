@@ -6,8 +6,9 @@ ghost use Rattle.monitor.specs.Followers.{Follows};
 
 use crate::tests::{FOUR_DEVICES, commit_now, opened};
 use crossbeam_utils::Backoff;
+use maptypes::Pg;
 use monitor::{Follower, Member, Monitor};
-use osdmap::{Pg, UpSet};
+use osdmap::UpSet;
 use refusal::Refusal;
 use std::alloc::Global;
 use std::sync::Wait;

@@ -5,8 +5,8 @@ use Rattle.serde_json.specs.Data.{Data, null, boolean, number, string, array, ob
 use Rattle.serde_json.specs.Find.{as_array, as_str}
 use Rattle.crush.specs.declared.step.Mode.{Mode}
 use Rattle.crush.specs.declared.step.Mode.TheVariants.{Firstn, Indep}
-use Rattle.stated.specs.declared.parts.StepPart.{StepPart}
-use Rattle.stated.specs.declared.parts.StepPart.TheVariants as part
+use Rattle.mapparts.specs.declared.parts.StepPart.{StepPart}
+use Rattle.mapparts.specs.declared.parts.StepPart.TheVariants as part
 use Rattle.jsonstream.specs.Json.{◌>>=◌, whole_number, entries_of, has_count, item_count, place}
 use Rattle.partjson.specs.declared.rules.StepWord.{StepWord}
 use Rattle.partjson.specs.declared.rules.StepWord.TheVariants.{Take, Choose, Emit, Tries, LeafTries}

@@ -2,12 +2,12 @@
 use Rattle.std.specs.Prelude.{◌≡◌, not, true, codes, Option, Some, None, if◌then◌else◌}
 use Rattle.serde_json.specs.Data.{Members}
 use Rattle.serde_json.specs.Find.{as_bool}
-use Rattle.stated.specs.declared.parts.BucketPart.{BucketPart}
-use Rattle.stated.specs.declared.parts.RulePart.{RulePart}
-use Rattle.stated.specs.declared.parts.PoolPart.{PoolPart}
-use Rattle.stated.specs.declared.parts.OsdPart.{OsdPart}
-use Rattle.stated.specs.declared.parts.CrushParts.{CrushParts}
-use Rattle.stated.specs.declared.parts.MapParts.{MapParts}
+use Rattle.mapparts.specs.declared.parts.BucketPart.{BucketPart}
+use Rattle.mapparts.specs.declared.parts.RulePart.{RulePart}
+use Rattle.mapparts.specs.declared.parts.PoolPart.{PoolPart}
+use Rattle.mapparts.specs.declared.parts.OsdPart.{OsdPart}
+use Rattle.mapparts.specs.declared.parts.CrushParts.{CrushParts}
+use Rattle.mapparts.specs.declared.parts.MapParts.{MapParts}
 use Rattle.jsonstream.specs.Json.{◌>>=◌, whole_number, stated_list, has_only_keys}
 use Rattle.jsonstream.specs.Stream.{member_slot, flat, or_empty, if_there, triple_if}
 use Rattle.partjson.specs.declared.forest.BucketSlots.{BucketSlots}

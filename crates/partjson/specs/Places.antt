@@ -1,8 +1,8 @@
 -- Parts that are lists of a fixed form, from the values at their places.
 use Rattle.std.specs.Prelude.{ℤ}
-use Rattle.stated.specs.declared.parts.ItemPart.{ItemPart}
-use Rattle.stated.specs.declared.parts.PairPart.{PairPart}
-use Rattle.stated.specs.declared.parts.GrowPart.{GrowPart}
+use Rattle.mapparts.specs.declared.parts.ItemPart.{ItemPart}
+use Rattle.mapparts.specs.declared.parts.PairPart.{PairPart}
+use Rattle.mapparts.specs.declared.parts.GrowPart.{GrowPart}
 use Rattle.partjson.specs.declared.change.RawReweight.{RawReweight}
 
 -- an item: [id, weight]

@@ -2,10 +2,10 @@
 use Rattle.std.specs.Prelude.{Bool, true, Option, Some, None, if◌then◌else◌}
 use Rattle.std.specs.Option.{option_map_or}
 use Rattle.serde_json.specs.Data.{Data}
-use Rattle.stated.specs.declared.parts.MapParts.{MapParts}
-use Rattle.stated.specs.declared.parts.CrushParts.{CrushParts}
-use Rattle.stated.specs.declared.profile.Profile.{Profile}
-use Rattle.stated.specs.Profiles.{has_kinds}
+use Rattle.mapparts.specs.declared.parts.MapParts.{MapParts}
+use Rattle.mapparts.specs.declared.parts.CrushParts.{CrushParts}
+use Rattle.mapparts.specs.declared.profile.Profile.{Profile}
+use Rattle.mapparts.specs.Profiles.{has_kinds}
 use Rattle.partjson.specs.declared.change.RawChange.{RawChange}
 use Rattle.jsonstream.specs.Json.{◌>>=◌}
 use Rattle.partjson.specs.StatedMaps.{stated_map}

@@ -1,7 +1,7 @@
 -- The parts of a change that a JSON text (RFC 8259) states, numbers untested. The form is this program's own.
 use Rattle.std.specs.Prelude.{ℕ, List, [], ◌∷◌, codes, Option, Some, None, option_map, if◌then◌else◌}
-use Rattle.stated.specs.declared.parts.GrowPart.{GrowPart}
-use Rattle.stated.specs.declared.parts.CrushParts.{CrushParts}
+use Rattle.mapparts.specs.declared.parts.GrowPart.{GrowPart}
+use Rattle.mapparts.specs.declared.parts.CrushParts.{CrushParts}
 use Rattle.serde_json.specs.Data.{Data}
 use Rattle.partjson.specs.declared.change.RawChange.{RawChange}
 use Rattle.partjson.specs.declared.change.RawReweight.{RawReweight}

@@ -5,8 +5,8 @@ use Rattle.serde_json.specs.Data.{Data}
 use Rattle.serde_json.specs.Find.{as_str}
 use Rattle.crush.specs.declared.step.Mode.{Mode}
 use Rattle.crush.specs.declared.step.Mode.TheVariants.{Firstn, Indep}
-use Rattle.stated.specs.declared.parts.StepPart.{StepPart}
-use Rattle.stated.specs.declared.parts.StepPart.TheVariants as part
+use Rattle.mapparts.specs.declared.parts.StepPart.{StepPart}
+use Rattle.mapparts.specs.declared.parts.StepPart.TheVariants as part
 use Rattle.jsonstream.specs.Json.{◌>>=◌}
 use Rattle.partjson.specs.declared.rules.StepWord.{StepWord}
 use Rattle.partjson.specs.declared.rules.StepWord.TheVariants.{Take, Choose, Emit, Tries, LeafTries}

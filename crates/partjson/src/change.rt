@@ -13,10 +13,10 @@ use crate::slots::{Slot, flat, if_there, member, or_empty, three_lists};
 use json::Reader;
 use jsonstream::tokens::skip;
 use keylist::Entries;
-use refusal::Refusal;
-use stated::{
+use mapparts::{
     BucketPart, CrushParts, ExceptionPart, GrowPart, PairPart, PgParts, PoolPart, RulePart,
 };
+use refusal::Refusal;
 use std::alloc::Global;
 
 /// A change as a text states it, its numbers untested: each is any whole number.

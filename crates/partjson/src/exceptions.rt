@@ -1,7 +1,7 @@
 //! Exceptions as JSON texts state them.
 
 ghost use Rattle.std.specs.Prelude.{◌≡◌, option_map};
-ghost use Rattle.stated.specs.PgText.{parts_in};
+ghost use Rattle.mapparts.specs.PgText.{parts_in};
 ghost use Rattle.partjson.specs.StatedMaps.{stated_pg, stated_pair, stated_exception};
 ghost use Rattle.partjson.specs.Places.{pair_at};
 
@@ -9,8 +9,8 @@ use crate::objects::FromJson;
 use crate::words::{FromWord, word};
 use json::Reader;
 use keylist::Entries;
+use mapparts::{ExceptionPart, PairPart, PgParts};
 use refusal::Refusal;
-use stated::{ExceptionPart, PairPart, PgParts};
 use std::alloc::Global;
 
 impl FromWord for PgParts {

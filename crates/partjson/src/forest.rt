@@ -14,8 +14,8 @@ use buckets::BucketKind;
 use json::Reader;
 use jsonstream::tokens::skip;
 use keylist::Entries;
+use mapparts::{BucketPart, ItemPart};
 use refusal::Refusal;
-use stated::{BucketPart, ItemPart};
 use std::alloc::Global;
 
 impl FromWord for BucketKind {

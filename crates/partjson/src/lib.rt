@@ -22,8 +22,8 @@ mod words;
 pub use crate::change::{RawChange, RawReweight};
 use crate::profile::{change_allowed, map_allowed};
 use crate::whole::stated_by;
+use mapparts::{MapParts, Profile};
 use refusal::Refusal;
-use stated::{MapParts, Profile};
 use std::alloc::Global;
 
 /// The parts of the map that a text states: `BadJson` (10) where the text is not UTF-8, is no JSON or nests

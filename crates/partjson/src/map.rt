@@ -12,10 +12,10 @@ use crate::slots::{Slot, flat, member, or_empty};
 use json::Reader;
 use jsonstream::tokens::skip;
 use keylist::Entries;
-use refusal::Refusal;
-use stated::{
+use mapparts::{
     BucketPart, ExceptionPart, MapParts, OsdPart, PairPart, PoolPart, RulePart, StepPart,
 };
+use refusal::Refusal;
 use std::alloc::Global;
 
 /// The members of a map that have come.

@@ -10,8 +10,8 @@ use crate::slots::{Slot, flat, member};
 use crush::RuleKind;
 use json::Reader;
 use jsonstream::tokens::skip;
+use mapparts::{OsdPart, PoolPart};
 use refusal::Refusal;
-use stated::{OsdPart, PoolPart};
 use std::alloc::Global;
 
 /// The members of a pool that have come.

@@ -4,7 +4,7 @@ ghost use Rattle.std.specs.Prelude.{◌≡◌};
 ghost use Rattle.partjson.specs.Profiles.{brings_kinds, map_allowed, change_allowed};
 
 use crate::change::RawChange;
-use stated::{CrushParts, MapParts, Profile};
+use mapparts::{CrushParts, MapParts, Profile};
 
 /// Whether a profile has the kinds of all buckets of a CRUSH map, where there is one.
 fn brings_kinds(profile: Profile, crush: &Option<CrushParts>) -> bool

@@ -18,8 +18,8 @@ use crush::{Mode, RuleKind};
 use json::Reader;
 use jsonstream::tokens::{list_begins, skip};
 use keylist::Entries;
+use mapparts::{ChoosePart, RulePart, StepPart};
 use refusal::Refusal;
-use stated::{ChoosePart, RulePart, StepPart};
 use std::alloc::Global;
 
 impl FromWord for RuleKind {

@@ -13,13 +13,13 @@ use Rattle.keylist.specs.Order.{IsRising}
 use Rattle.keylist.proofs.KeyedDistinct.{key_among, distinct-append}
 use Rattle.keylist.proofs.KeyedMaps.{has-entry, has-puts, rising-puts}
 use Rattle.keylist.proofs.KeyedOrder.{distinct_rises}
-use Rattle.stated.specs.declared.pg.Pg.{Pg}
-use Rattle.stated.specs.declared.exception.Exception.{Exception}
-use Rattle.stated.specs.declared.change.ChangeParts.{ChangeParts}
-use Rattle.stated.specs.declared.change.Reweight.{Reweight}
-use Rattle.stated.specs.Exceptions.{place_of, key_of, said_of, is_among, target, sides}
-use Rattle.stated.specs.Ordered.{IsInOrder}
-use Rattle.stated.specs.Pools.{PoolFacts}
+use Rattle.maptypes.specs.declared.pg.Pg.{Pg}
+use Rattle.maptypes.specs.declared.exception.Exception.{Exception}
+use Rattle.maptypes.specs.declared.change.ChangeParts.{ChangeParts}
+use Rattle.maptypes.specs.declared.change.Reweight.{Reweight}
+use Rattle.maptypes.specs.Exceptions.{place_of, key_of, said_of, is_among, target, sides}
+use Rattle.maptypes.specs.Ordered.{IsInOrder}
+use Rattle.maptypes.specs.Pools.{PoolFacts}
 use Rattle.osdmap.specs.Maps.{ClusterMap}
 use Rattle.osdmap.specs.Changes.{change_fault, names_once}
 use Rattle.osdmap.specs.Evals.{is_named, names_reweighted, concerns}

@@ -14,10 +14,10 @@ use Rattle.std.proofs.lemmas.List.FromFn.{length-range_with_len, length-map-rang
 use Rattle.std.proofs.lemmas.List.Sums.{length-filter, sum_by-cons}
 use Rattle.std.proofs.lemmas.Option.{slice_get_within, slice_get-get_or, get_or_from_slice_get}
 use Rattle.grouptable.specs.Sets.{changed}
-use Rattle.stated.specs.Sets.{Places}
+use Rattle.maptypes.specs.Sets.{Places}
 use Rattle.grouptable.proofs.Changes.{length-changed}
-use Rattle.stated.specs.declared.change.ChangeParts.{ChangeParts}
-use Rattle.stated.specs.Pools.{PoolFacts}
+use Rattle.maptypes.specs.declared.change.ChangeParts.{ChangeParts}
+use Rattle.maptypes.specs.Pools.{PoolFacts}
 use Rattle.osdmap.specs.Maps.{ClusterMap, pool_at}
 use Rattle.osdmap.specs.Evals.{is_touched, concerns, is_evaluated}
 use Rattle.osdmap.specs.Placement.{group_of, mapped_set}

@@ -9,8 +9,8 @@ use Rattle.std.proofs.lemmas.List.FromFn.{length-range_with_len}
 use Rattle.std.proofs.lemmas.List.Sums.{sum_by-cons, count_by-le-length}
 use Rattle.std.proofs.lemmas.List.Elements.{All-head, All-tail}
 use Rattle.std.proofs.lemmas.Option.{slice_get_within, get_or_from_slice_get}
-use Rattle.stated.specs.declared.change.ChangeParts.{ChangeParts}
-use Rattle.stated.specs.Pools.{PoolFacts, IsWithinLimits}
+use Rattle.maptypes.specs.declared.change.ChangeParts.{ChangeParts}
+use Rattle.maptypes.specs.Pools.{PoolFacts, IsWithinLimits}
 use Rattle.osdmap.specs.Maps.{ClusterMap, HoldsTogether}
 use Rattle.osdmap.specs.Evals.{is_evaluated, evals_of}
 use Rattle.pgtable.specs.declared.pool_table.PoolTable.{PoolTable}

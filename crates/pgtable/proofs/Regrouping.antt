@@ -12,18 +12,18 @@ use Rattle.keylist.specs.Keys.{has_key, entry_at}
 use Rattle.keylist.specs.Order.{IsRising}
 use Rattle.keylist.proofs.KeyedMaps.{entry-puts, entry-reverse, entry-without}
 use Rattle.grouptable.specs.Sets.{changed}
-use Rattle.stated.specs.Sets.{Places}
+use Rattle.maptypes.specs.Sets.{Places}
 use Rattle.grouptable.specs.Tables.{IsPatchFor}
 use Rattle.grouptable.specs.declared.table.GroupPatch.{GroupPatch}
-use Rattle.stated.specs.CrushMaps.{CrushFacts}
-use Rattle.stated.specs.declared.change.ChangeParts.{ChangeParts}
-use Rattle.stated.specs.declared.exception.Exception.{Exception}
-use Rattle.stated.specs.declared.exception.Pair.{Pair}
-use Rattle.stated.specs.declared.pg.Pg.{Pg}
-use Rattle.stated.specs.Exceptions.{place_of, key_of, said_of, stays, exceptions_after}
-use Rattle.stated.specs.Growth.{grown}
-use Rattle.stated.specs.Ordered.{IsChange}
-use Rattle.stated.specs.Pools.{PoolFacts}
+use Rattle.maptypes.specs.CrushMaps.{CrushFacts}
+use Rattle.maptypes.specs.declared.change.ChangeParts.{ChangeParts}
+use Rattle.maptypes.specs.declared.exception.Exception.{Exception}
+use Rattle.maptypes.specs.declared.exception.Pair.{Pair}
+use Rattle.maptypes.specs.declared.pg.Pg.{Pg}
+use Rattle.maptypes.specs.Exceptions.{place_of, key_of, said_of, stays, exceptions_after}
+use Rattle.maptypes.specs.Growth.{grown}
+use Rattle.maptypes.specs.Ordered.{IsChange}
+use Rattle.maptypes.specs.Pools.{PoolFacts}
 use Rattle.osdmap.specs.Maps.{ClusterMap, pool_at, has_rule, HoldsTogether}
 use Rattle.osdmap.specs.Changes.{change_fault, apply, pools_kept, pools_there, pools_after}
 use Rattle.osdmap.specs.Evals.{reaches_reweighted, is_touched, evals_of}

@@ -15,12 +15,12 @@ use Rattle.keylist.proofs.KeyedOrder.{rising_head, rising_tail}
 use Rattle.keylist.proofs.Each.{map-agree}
 use Rattle.grouptable.specs.Sets.{set_of, groups_of}
 use Rattle.grouptable.proofs.Steps.{filter_same}
-use Rattle.stated.specs.declared.pg.Pg.{Pg}
-use Rattle.stated.specs.Pools.{PoolFacts}
+use Rattle.maptypes.specs.declared.pg.Pg.{Pg}
+use Rattle.maptypes.specs.Pools.{PoolFacts}
 use Rattle.osdmap.specs.Maps.{ClusterMap, pool_at, osd_is_up}
 use Rattle.osdmap.specs.Sets.{kept}
 use Rattle.osdmap.specs.Placement.{group_of, upward, mapped_set, up_set}
-use Rattle.stated.specs.Sets.{stands}
+use Rattle.maptypes.specs.Sets.{stands}
 use Rattle.placement_laws.proofs.Standing.{up_are_mapped_and_up}
 use Rattle.pgtable.specs.declared.pool_table.PoolTable.{PoolTable}
 use Rattle.pgtable.specs.Index.{up_at, groups_in, stands_in, index_of, count_in}

@@ -7,8 +7,8 @@ use Rattle.std.proofs.lemmas.List.{length-map, map-set}
 use Rattle.std.proofs.Math.ListN.{length-set}
 use Rattle.std.proofs.lemmas.List.FromFn.{length-map-range_with_len, get_or-map-range_with_len}
 use Rattle.std.proofs.lemmas.Option.{slice_get-map, slice_get-get_or}
-use Rattle.stated.specs.declared.change.ChangeParts.{ChangeParts}
-use Rattle.stated.specs.declared.osd.Presence.{Presence}
+use Rattle.maptypes.specs.declared.change.ChangeParts.{ChangeParts}
+use Rattle.maptypes.specs.declared.osd.Presence.{Presence}
 use Rattle.osdmap.specs.Maps.{ClusterMap, osd_is_up}
 use Rattle.osdmap.specs.Changes.{apply, with_up}
 use Rattle.pgtable.specs.Tables.{ups_of}

@@ -1,9 +1,9 @@
 -- Pools that a change touches, and the evaluations of a change.
 use Rattle.std.proofs.Common.{◌≡◌, false, None}
 use Rattle.std.proofs.lemmas.List.Folds.{list_any_none}
-use Rattle.stated.specs.declared.change.ChangeParts.{ChangeParts}
-use Rattle.stated.specs.CrushMaps.{rule_at}
-use Rattle.stated.specs.Pools.{PoolFacts}
+use Rattle.maptypes.specs.declared.change.ChangeParts.{ChangeParts}
+use Rattle.maptypes.specs.CrushMaps.{rule_at}
+use Rattle.maptypes.specs.Pools.{PoolFacts}
 use Rattle.osdmap.specs.Maps.{ClusterMap}
 use Rattle.osdmap.specs.Evals.{reaches_reweighted}
 

@@ -4,12 +4,12 @@ use Rattle.std.specs.List.{fold}
 use Rattle.keylist.specs.Keys.{has_key}
 use Rattle.keylist.specs.Order.{IsRising}
 use Rattle.keylist.specs.Puts.{put}
-use Rattle.stated.specs.declared.pg.Pg.{Pg}
-use Rattle.stated.specs.declared.exception.Exception.{Exception}
-use Rattle.stated.specs.declared.change.ChangeParts.{ChangeParts}
-use Rattle.stated.specs.declared.change.Reweight.{Reweight}
-use Rattle.stated.specs.Exceptions.{place_of, key_of}
-use Rattle.stated.specs.Pools.{PoolFacts}
+use Rattle.maptypes.specs.declared.pg.Pg.{Pg}
+use Rattle.maptypes.specs.declared.exception.Exception.{Exception}
+use Rattle.maptypes.specs.declared.change.ChangeParts.{ChangeParts}
+use Rattle.maptypes.specs.declared.change.Reweight.{Reweight}
+use Rattle.maptypes.specs.Exceptions.{place_of, key_of}
+use Rattle.maptypes.specs.Pools.{PoolFacts}
 use Rattle.osdmap.specs.Maps.{ClusterMap}
 use Rattle.osdmap.specs.Evals.{concerns, is_named}
 use Rattle.osdmap.specs.Placement.{group_of}

@@ -5,16 +5,16 @@ use Rattle.osdmap.specs.Evals.{concerns, is_evaluated}
 use Rattle.osdmap.specs.Placement.{group_of, mapped_set}
 use Rattle.std.specs.Option.{option_map, option_map_or, option_or}
 use Rattle.buckets.specs.Limits.{max_devices}
-use Rattle.stated.specs.Limits.{max_pools}
+use Rattle.mapparts.specs.Limits.{max_pools}
 use Rattle.grouptable.specs.Sets.{changed}
-use Rattle.stated.specs.Sets.{Places}
+use Rattle.maptypes.specs.Sets.{Places}
 use Rattle.grouptable.specs.Tables.{IsPatchFor}
 use Rattle.grouptable.specs.declared.table.GroupPatch.{GroupPatch}
-use Rattle.stated.specs.declared.change.ChangeParts.{ChangeParts}
-use Rattle.stated.specs.declared.exception.Exception.{Exception}
-use Rattle.stated.specs.declared.pg.Pg.{Pg}
-use Rattle.stated.specs.Exceptions.{said_of, is_among}
-use Rattle.stated.specs.Pools.{PoolFacts}
+use Rattle.maptypes.specs.declared.change.ChangeParts.{ChangeParts}
+use Rattle.maptypes.specs.declared.exception.Exception.{Exception}
+use Rattle.maptypes.specs.declared.pg.Pg.{Pg}
+use Rattle.maptypes.specs.Exceptions.{said_of, is_among}
+use Rattle.maptypes.specs.Pools.{PoolFacts}
 use Rattle.osdmap.specs.Maps.{ClusterMap, HoldsTogether}
 use Rattle.osdmap.specs.Changes.{change_fault, apply}
 use Rattle.pgtable.specs.declared.pool_table.PoolTable.{PoolTable}

@@ -4,9 +4,9 @@ use Rattle.std.specs.List.{find, flat_map, range_with_len}
 use Rattle.std.specs.Option.{option_map, option_map_or}
 use Rattle.crush.specs.Run.{Ran}
 use Rattle.grouptable.specs.Sets.{groups_of}
-use Rattle.stated.specs.Sets.{Places}
-use Rattle.stated.specs.declared.pg.Pg.{Pg}
-use Rattle.stated.specs.Pools.{PoolFacts}
+use Rattle.maptypes.specs.Sets.{Places}
+use Rattle.maptypes.specs.declared.pg.Pg.{Pg}
+use Rattle.maptypes.specs.Pools.{PoolFacts}
 use Rattle.osdmap.specs.Maps.{ClusterMap, osd_is_up, HoldsTogether}
 use Rattle.osdmap.specs.Placement.{group_of, mapped_set}
 use Rattle.osdmap.specs.Sets.{kept}

@@ -2,16 +2,16 @@
 
 ghost use Rattle.std.specs.Prelude.{◌≡◌, ◌*◌, ◌^◌, true, None, IfOk, OnOk};
 ghost use Rattle.keylist.specs.Order.{IsRising};
-ghost use Rattle.stated.specs.Exceptions.{place_of, key_of};
+ghost use Rattle.maptypes.specs.Exceptions.{place_of, key_of};
 ghost use Rattle.osdmap.specs.Changes.{change_fault};
 ghost use Rattle.osdmap.specs.Evals.{is_named};
 ghost use Rattle.pgtable.specs.Candidates.{excepted_groups, merged, NamedRise, IsCandidates, named_in, candidates, number_at};
 ghost use Rattle.pgtable.specs.Patches.{changed_map, leaves_raw_sets};
 
 use keylist::{has, put_all};
-use osdmap::{Change, Exception, OsdMap, Pg, Pool};
+use maptypes::{Blank, Change, Exception, Pg, Pool};
+use osdmap::OsdMap;
 use refusal::Memory;
-use stated::Blank;
 use std::alloc::Global;
 
 /// Whether exceptions of a group go or come with a change.

@@ -9,7 +9,8 @@ ghost use Rattle.pgtable.specs.Tables.{sets_of, RunsMore};
 
 use crush::Work;
 use grouptable::OsdSet;
-use osdmap::{OsdMap, Placing, Pool, UpSet};
+use maptypes::Pool;
+use osdmap::{OsdMap, Placing, UpSet};
 use refusal::Memory;
 use std::alloc::Global;
 

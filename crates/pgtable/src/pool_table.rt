@@ -7,7 +7,8 @@ ghost use Rattle.pgtable.specs.Tables.{pool_table, RunsMore};
 use crate::mapped::all_mapped;
 use crush::Work;
 use grouptable::GroupTable;
-use osdmap::{OsdMap, Pg, Pool};
+use maptypes::{Pg, Pool};
+use osdmap::OsdMap;
 use refusal::Memory;
 use std::alloc::Global;
 
@@ -21,7 +22,7 @@ pub struct PoolTable {
 impl PoolTable {
     ghost use Rattle.std.specs.Prelude.{◌≡◌, ◌++◌, ◌<◌, ◌≤◌, [], length, Some, IfOk, OnOk};
     ghost use Rattle.buckets.specs.Limits.{max_devices};
-    ghost use Rattle.stated.specs.Limits.{max_groups};
+    ghost use Rattle.mapparts.specs.Limits.{max_groups};
     ghost use Rattle.osdmap.specs.Maps.{pool_at};
     ghost use Rattle.pgtable.specs.Tables.{pool_table, held_in, RunsMore};
 

@@ -10,7 +10,8 @@ use crate::regroup::Regroup;
 use crate::table::{PgTable, ups_of};
 use crate::update::Update;
 use crush::Work;
-use osdmap::{Change, OsdMap};
+use maptypes::Change;
+use osdmap::OsdMap;
 use refusal::Memory;
 use std::alloc::Global;
 

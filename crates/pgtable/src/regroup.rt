@@ -6,7 +6,7 @@ ghost use Rattle.std.specs.Option.{option_copied};
 ghost use Rattle.std.specs.List.Sorted.{IsNonDecreasingBy};
 ghost use Rattle.keylist.specs.Order.{IsRising};
 ghost use Rattle.crush.specs.Limits.{max_size};
-ghost use Rattle.stated.specs.Exceptions.{place_of, key_of};
+ghost use Rattle.maptypes.specs.Exceptions.{place_of, key_of};
 ghost use Rattle.pgtable.specs.Candidates.{IsCandidates};
 ghost use Rattle.pgtable.specs.Patches.{LeadsFrom, changed_map, leaves_raw_sets, said_after};
 
@@ -15,9 +15,9 @@ use crate::mapped::stored;
 use crush::Work;
 use grouptable::OsdSet;
 use keylist::{entry_of, has};
-use osdmap::{Change, Exception, OsdMap, Pg, Pool};
+use maptypes::{Blank, Change, Exception, Pg, Pool};
+use osdmap::OsdMap;
 use refusal::{Memory, Refusal};
-use stated::Blank;
 use std::alloc::Global;
 
 /// A map, and a change that it does not refuse and that leaves all raw sets.

@@ -7,7 +7,7 @@ use crate::pool_table::PoolTable;
 use crate::table::PgTable;
 use crate::update::Update;
 use crush::Work;
-use osdmap::Pool;
+use maptypes::Pool;
 use refusal::Memory;
 use std::alloc::Global;
 

@@ -7,7 +7,8 @@ ghost use Rattle.pgtable.specs.Tables.{ups_of};
 use crate::pool_table::PoolTable;
 use crate::shown::shown;
 use crush::Work;
-use osdmap::{OsdMap, Pg, UpSet};
+use maptypes::Pg;
+use osdmap::{OsdMap, UpSet};
 use refusal::Memory;
 use std::alloc::Global;
 use std::marker::Model;
@@ -22,7 +23,7 @@ pub struct PgTable {
 impl Model for PgTable {
     ghost use Rattle.std.specs.Prelude.{◌≤◌, length};
     ghost use Rattle.buckets.specs.Limits.{max_devices};
-    ghost use Rattle.stated.specs.Limits.{max_pools};
+    ghost use Rattle.mapparts.specs.Limits.{max_pools};
     ghost use Rattle.pgtable.specs.Tables.{TableFacts};
 
     ghost Value = { TableFacts };
@@ -58,7 +59,7 @@ impl PgTable {
     ghost use Rattle.std.specs.List.{find, sum_by};
     ghost use Rattle.std.specs.Option.{option_copied, option_map_or};
     ghost use Rattle.buckets.specs.Limits.{max_devices};
-    ghost use Rattle.stated.specs.Limits.{max_pools};
+    ghost use Rattle.mapparts.specs.Limits.{max_pools};
     ghost use Rattle.grouptable.specs.Sets.{groups_of};
     ghost use Rattle.osdmap.specs.Maps.{ClusterMap};
     ghost use Rattle.pgtable.specs.Index.{up_at, index_of, count_of, count_in};

@@ -14,9 +14,9 @@ use crate::mapped::mapped;
 use crush::Work;
 use grouptable::OsdSet;
 use keylist::has;
-use osdmap::{Change, OsdMap, Pg, Pool, Reweight};
+use maptypes::{Change, Entry, Pg, Pool, Reweight};
+use osdmap::OsdMap;
 use refusal::Memory;
-use stated::Entry;
 use std::alloc::Global;
 
 /// A map, a change that it does not refuse, and the map after the change.

@@ -8,14 +8,14 @@ use Rattle.keylist.specs.Keys.{entry_at}
 use Rattle.keylist.proofs.Tests.{and_first, and_second}
 use Rattle.crush.specs.declared.step.RuleKind.{RuleKind}
 use Rattle.crush.specs.declared.step.RuleKind.TheVariants.{Replicated, Erasure}
-use Rattle.stated.specs.declared.exception.Exception.{Exception}
-use Rattle.stated.specs.declared.exception.Pair.{Pair}
-use Rattle.stated.specs.declared.pg.Pg.{Pg}
-use Rattle.stated.specs.Pools.{PoolFacts}
-use Rattle.stated.specs.Exceptions.{place_of, key_of, said_of, is_exception, all_named, has_group, is_sound, target, sides, is_set, are_pairs}
+use Rattle.maptypes.specs.declared.exception.Exception.{Exception}
+use Rattle.maptypes.specs.declared.exception.Pair.{Pair}
+use Rattle.maptypes.specs.declared.pg.Pg.{Pg}
+use Rattle.maptypes.specs.Pools.{PoolFacts}
+use Rattle.maptypes.specs.Exceptions.{place_of, key_of, said_of, is_exception, all_named, has_group, is_sound, target, sides, is_set, are_pairs}
 use Rattle.osdmap.specs.Maps.{ClusterMap, osd_exists, HoldsTogether}
 use Rattle.osdmap.specs.Mapped.{is_weightless, replaced, with_pair, with_items, mapped}
-use Rattle.stated.specs.Sets.{is_of}
+use Rattle.maptypes.specs.Sets.{is_of}
 use Rattle.osdmap.specs.Sets.{kept, kept_in}
 use Rattle.osdmap.specs.Placement.{group_of, existing, placed, raw_set, mapped_set}
 use Rattle.osdmap.proofs.PlacementLemmas.{found_passes}

@@ -4,8 +4,8 @@ use Rattle.std.specs.Prelude.{map, slice_index}
 use Rattle.std.specs.List.{All, list_any, fold, flat_map}
 use Rattle.std.proofs.lemmas.List.Elements.{All-nil, All-cons, All-head, All-tail}
 use Rattle.std.proofs.lemmas.List.Concat.{flat_map-cons}
-use Rattle.stated.specs.declared.exception.Pair.{Pair}
-use Rattle.stated.specs.Exceptions.{said_of, sides}
+use Rattle.maptypes.specs.declared.exception.Pair.{Pair}
+use Rattle.maptypes.specs.Exceptions.{said_of, sides}
 use Rattle.osdmap.specs.Mapped.{is_weightless, with_pair, with_items, mapped}
 use Rattle.osdmap.specs.Placement.{group_of, raw_set, mapped_set}
 use Rattle.placement_laws.specs.Mapping.{Agree, MappedReadsNamed, AlikeMapAlike}

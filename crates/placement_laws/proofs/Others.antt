@@ -20,19 +20,19 @@ use Rattle.buckets.specs.declared.bucket.Bucket.{Bucket}
 use Rattle.crush.specs.Grammar.{IsLawfulRule, rule_limits_ok, rule_ok, is_rule, takes_known}
 use Rattle.crush.specs.Paths as paths
 use Rattle.crush_laws.proofs.RunsReached.{run_reads_reached}
-use Rattle.stated.specs.declared.change.ChangeParts.{ChangeParts}
-use Rattle.stated.specs.declared.change.Reweight.{Reweight}
-use Rattle.stated.specs.declared.exception.Exception.{Exception}
-use Rattle.stated.specs.declared.exception.Pair.{Pair}
-use Rattle.stated.specs.declared.pg.Pg.{Pg}
-use Rattle.stated.specs.declared.rules.NumberedRule.{NumberedRule}
-use Rattle.stated.specs.Incrementals.{Step}
-use Rattle.stated.specs.Growth.{Growth, grown}
-use Rattle.stated.specs.Pools.{PoolFacts, IsWithinLimits}
-use Rattle.stated.specs.CrushMaps.{is_rule_over, rule_at}
+use Rattle.maptypes.specs.declared.change.ChangeParts.{ChangeParts}
+use Rattle.maptypes.specs.declared.change.Reweight.{Reweight}
+use Rattle.maptypes.specs.declared.exception.Exception.{Exception}
+use Rattle.maptypes.specs.declared.exception.Pair.{Pair}
+use Rattle.maptypes.specs.declared.pg.Pg.{Pg}
+use Rattle.maptypes.specs.declared.rules.NumberedRule.{NumberedRule}
+use Rattle.maptypes.specs.Incrementals.{Step}
+use Rattle.maptypes.specs.Growth.{Growth, grown}
+use Rattle.maptypes.specs.Pools.{PoolFacts, IsWithinLimits}
+use Rattle.maptypes.specs.CrushMaps.{is_rule_over, rule_at}
 use Rattle.crush.specs.Run.{run_of}
 use Rattle.crush.specs.World.{world_of}
-use Rattle.stated.specs.Exceptions.{place_of, key_of, said_of, is_among, has_group, all_named, is_exception, is_sound, target, sides, stays, exceptions_after}
+use Rattle.maptypes.specs.Exceptions.{place_of, key_of, said_of, is_among, has_group, all_named, is_exception, is_sound, target, sides, stays, exceptions_after}
 use Rattle.osdmap.specs.Maps.{ClusterMap, pool_at, osd_exists, has_rule, HoldsTogether}
 use Rattle.osdmap.specs.Changes.{pools_kept, pools_after, with_weight, apply, pools_there}
 use Rattle.osdmap.specs.Evals.{reaches_reweighted, is_touched, is_named, names_reweighted, concerns}

@@ -1,9 +1,9 @@
 -- What the mapped set of a group goes by.
 use Rattle.std.specs.Prelude.{◌≡◌, ℕ, List, [], ◌++◌, Option, unwrap_or, slice_index}
 use Rattle.std.specs.List.{All, flat_map}
-use Rattle.stated.specs.declared.exception.Pair.{Pair}
-use Rattle.stated.specs.Pools.{PoolFacts}
-use Rattle.stated.specs.Exceptions.{said_of, sides}
+use Rattle.maptypes.specs.declared.exception.Pair.{Pair}
+use Rattle.maptypes.specs.Pools.{PoolFacts}
+use Rattle.maptypes.specs.Exceptions.{said_of, sides}
 use Rattle.osdmap.specs.Maps.{ClusterMap}
 use Rattle.osdmap.specs.Mapped.{mapped}
 use Rattle.osdmap.specs.Placement.{group_of, raw_set, mapped_set}

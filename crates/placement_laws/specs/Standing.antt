@@ -1,7 +1,7 @@
 -- Which OSDs stand in the sets of a group.
 use Rattle.std.specs.Prelude.{◌≡◌, ℕ, true, ◌&&◌, All, IfSome}
-use Rattle.stated.specs.Pools.{PoolFacts}
-use Rattle.stated.specs.Sets.{stands}
+use Rattle.maptypes.specs.Pools.{PoolFacts}
+use Rattle.maptypes.specs.Sets.{stands}
 use Rattle.osdmap.specs.Maps.{ClusterMap, osd_exists, osd_is_up, HoldsTogether}
 use Rattle.osdmap.specs.Placement.{mapped_set, up_set}
 

@@ -1,7 +1,7 @@
 -- Groups that a change leaves where they are.
 use Rattle.std.specs.Prelude.{◌≡◌, ◌<◌, ℕ, false, Some, None}
-use Rattle.stated.specs.Incrementals.{Step}
-use Rattle.stated.specs.Pools.{PoolFacts}
+use Rattle.maptypes.specs.Incrementals.{Step}
+use Rattle.maptypes.specs.Pools.{PoolFacts}
 use Rattle.osdmap.specs.Maps.{ClusterMap, pool_at, HoldsTogether}
 use Rattle.osdmap.specs.Changes.{change_fault, apply}
 use Rattle.osdmap.specs.Evals.{is_evaluated}

@@ -1,8 +1,8 @@
 -- The history of a member that is alone is what its own answers tell of.
 use Rattle.std.proofs.Common.{◌≡◌, ◌∙◌, ◌++◌, ℕ, suc, Bool, true, List, [], ◌∷◌, inl, inr, refl, sym, ap, append-nil, append_assoc}
 use Rattle.std.specs.List.{concat}
-use Rattle.stated.specs.Incrementals.{Step}
-use Rattle.stated.specs.declared.profile.Profile.{Profile}
+use Rattle.maptypes.specs.Incrementals.{Step}
+use Rattle.mapparts.specs.declared.profile.Profile.{Profile}
 use Rattle.osdmap.specs.Maps.{ClusterMap}
 use Rattle.session.specs.Transcripts.{IsTranscript, TakesLine}
 use Rattle.session.specs.Answers.{Sight, AddsTold, session_with}

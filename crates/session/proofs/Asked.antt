@@ -5,8 +5,8 @@ use Rattle.std.specs.declared.vec.Vec.{Vec}
 use Rattle.std.specs.declared.alloc.Global.{Global}
 use Rattle.refusal.specs.declared.refused.Refusal.{Refusal}
 use Rattle.refusal.specs.declared.refused.Refusal.TheVariants.{SeatSpent, Memory as OutOfMemory}
-use Rattle.stated.specs.declared.change.ChangeParts.{ChangeParts}
-use Rattle.stated.specs.Incrementals.{Step}
+use Rattle.maptypes.specs.declared.change.ChangeParts.{ChangeParts}
+use Rattle.maptypes.specs.Incrementals.{Step}
 use Rattle.osdmap.specs.Maps.{ClusterMap}
 use Rattle.osdmap.specs.Changes.{IsLawful, after}
 use Rattle.mapjson.specs.Written.{written}
@@ -23,7 +23,7 @@ use Rattle.session.specs.Texts.{epoch_text, dump_text, ok_text, moved_text, refu
 use Rattle.session.specs.Replies.{reply_text}
 use Rattle.session.specs.Commands.{ask, command_in, question_in, task_in}
 use Rattle.session.specs.Transcripts.{TakesLine}
-use Rattle.stated.specs.declared.profile.Profile.{Profile}
+use Rattle.mapparts.specs.declared.profile.Profile.{Profile}
 use Rattle.session.specs.Answers.{Asks, AddsOwn, Sight, session_with}
 use Rattle.session.specs.Sessions.{seen_by}
 use Rattle.session.proofs.Histories.{goes_on_same}

@@ -1,6 +1,6 @@
 -- Histories that go on.
 use Rattle.std.proofs.Common.{◌∙◌, ◌++◌, List, [], ap, sym, append-nil, append_assoc}
-use Rattle.stated.specs.Incrementals.{Step}
+use Rattle.maptypes.specs.Incrementals.{Step}
 use Rattle.osdmap.specs.Maps.{ClusterMap}
 use Rattle.osdmap.specs.Changes.{IsLawful}
 use Rattle.epochlog.specs.Epochs.{Begins}

@@ -2,7 +2,7 @@
 use Rattle.std.proofs.Common.{◌≡◌, List, [], refl, sym, subst, inl, Result, Ok, Err}
 use Rattle.refusal.specs.declared.refused.Refusal.TheVariants.{Memory as OutOfMemory}
 use Rattle.refusal.specs.declared.refused.Refusal.{Refusal}
-use Rattle.stated.specs.Incrementals.{Step}
+use Rattle.maptypes.specs.Incrementals.{Step}
 use Rattle.std.specs.Result.{IsErrAnd}
 use Rattle.osdmap.specs.Maps.{ClusterMap}
 use Rattle.epochlog.specs.Epochs.{OneBegins}

@@ -1,6 +1,6 @@
 -- What the answers of a session tell of its history.
 use Rattle.std.specs.Prelude.{◌≡◌, ◌⊎◌, ℕ, List, [], ◌∷◌}
-use Rattle.stated.specs.Incrementals.{Step}
+use Rattle.maptypes.specs.Incrementals.{Step}
 use Rattle.session.specs.Texts.{ok_text, moved_text}
 
 -- an answer tells of an incremental, by its epoch: `ok EPOCH evals N` or `moved N epoch EPOCH`

@@ -2,9 +2,9 @@
 use Rattle.std.specs.Prelude.{◌≡◌, ◌⊎◌, ℕ, ◌<◌, ◌≤◌, Bool, true, List, [], ◌∷◌, ◌++◌, codes, Option, Some, None, Result, Err, MatchResult}
 use Rattle.std.specs.declared.vec.Vec.{Vec}
 use Rattle.std.specs.declared.alloc.Global.{Global}
-use Rattle.stated.specs.declared.pg.Pg.{Pg}
-use Rattle.stated.specs.declared.change.ChangeParts.{ChangeParts}
-use Rattle.stated.specs.Incrementals.{Step}
+use Rattle.maptypes.specs.declared.pg.Pg.{Pg}
+use Rattle.maptypes.specs.declared.change.ChangeParts.{ChangeParts}
+use Rattle.maptypes.specs.Incrementals.{Step}
 use Rattle.refusal.specs.declared.refused.Refusal.{Refusal}
 use Rattle.refusal.specs.declared.refused.Refusal.TheVariants.{BadCommand, SeatSpent, AwaitSpent}
 use Rattle.refusal.specs.Outcomes.{Makes}
@@ -13,7 +13,7 @@ use Rattle.osdmap.specs.Placement.{group_fault}
 use Rattle.osdmap.specs.Changes.{after}
 use Rattle.epochlog.specs.Epochs.{OneBegins}
 use Rattle.pgtable.specs.Index.{up_at}
-use Rattle.stated.specs.declared.profile.Profile.{Profile}
+use Rattle.mapparts.specs.declared.profile.Profile.{Profile}
 use Rattle.mapjson.specs.ChangeTexts.{change_text_fault, StatesChange}
 use Rattle.mapjson.specs.Written.{written}
 use Rattle.state.specs.Answers.{FindsUp, FindsCount, FindsGroups}

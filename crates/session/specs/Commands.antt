@@ -4,8 +4,8 @@ use Rattle.std.specs.List.{onto_first}
 use Rattle.std.specs.Option.{option_map, option_and_then}
 use Rattle.std.specs.Str.{bytes_eq}
 use Rattle.balancer.specs.Limits.{max_moves}
-use Rattle.stated.specs.Digits.{below, number_in}
-use Rattle.stated.specs.PgText.{group_in}
+use Rattle.mapparts.specs.Digits.{below, number_in}
+use Rattle.maptypes.specs.GroupText.{group_in}
 use Rattle.session.specs.declared.command.Command.{Command as Read}
 use Rattle.session.specs.declared.command.Command.TheVariants.{Ask, Change, Await, Balance, Follower}
 use Rattle.session.specs.declared.command.Question.{Question}

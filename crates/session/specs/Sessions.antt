@@ -1,6 +1,6 @@
 -- A session and its monitor.
 use Rattle.std.specs.Prelude.{◌≡◌, ◌++◌, List, [], length, Option, Some, None, IfSome, Bool, ℕ}
-use Rattle.stated.specs.Incrementals.{Step}
+use Rattle.maptypes.specs.Incrementals.{Step}
 use Rattle.monitor.specs.Members.{Monitored}
 use Rattle.monitor.specs.Followers.{Followed, Follows}
 use Rattle.monitor.specs.declared.member.Member.{Member}

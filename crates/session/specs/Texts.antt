@@ -1,11 +1,11 @@
 -- The bytes of each answer.
 use Rattle.std.specs.Prelude.{ℕ, List, [], ◌∷◌, ◌++◌, codes, Option, Some, None, Result, Ok, Err}
 use Rattle.std.specs.Fmt.{decimal}
-use Rattle.stated.specs.declared.pg.Pg.{Pg}
+use Rattle.maptypes.specs.declared.pg.Pg.{Pg}
 use Rattle.refusal.specs.declared.refused.Refusal.{Refusal}
 use Rattle.refusal.specs.declared.refused.Refusal.TheVariants.{BadJson, BadField, BadLimit, BadForest, BadRule, BadPool, BadOsd, BadException, StaleEpoch, UnknownOsd, BadWeight, UnknownPool, PoolExists, UnknownGroup, BadNewException, DuplicatePart, JournalFull, BalanceRule, Memory, SeatSpent, NotSealed, BadCommand, AwaitSpent}
 use Rattle.refusal.specs.Refusals.{number_of, name_of}
-use Rattle.stated.specs.PgText.{group_text}
+use Rattle.maptypes.specs.GroupText.{group_text}
 use Rattle.osdmap.specs.Primary.{primary_of}
 use Rattle.osdmap.specs.SetText.{osd_text, place_text, list_text}
 

@@ -7,9 +7,9 @@ ghost use Rattle.session.specs.Commands.{is_newline, osd_in, epoch_in, two_words
 
 use crate::plan::Plan;
 use balancer::limits::MAX_MOVES;
+use mapparts::number;
+use maptypes::Pg;
 use memchr::memchr;
-use osdmap::Pg;
-use stated::number;
 
 /// The base of numbers in a script.
 const DECIMAL: u32 = 10;

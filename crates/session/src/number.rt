@@ -2,10 +2,10 @@
 
 ghost use Rattle.std.specs.Prelude.{◌≡◌, ◌++◌, decimal, OnOk};
 ghost use Rattle.std.specs.String.{string_bytes};
-ghost use Rattle.stated.specs.PgText.{group_text};
+ghost use Rattle.maptypes.specs.GroupText.{group_text};
 
 use itoa::Buffer;
-use osdmap::Pg;
+use maptypes::Pg;
 use std::alloc::AllocError;
 
 /// Adds a number in decimal.

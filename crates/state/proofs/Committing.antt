@@ -1,7 +1,7 @@
 -- A commit that nothing refuses, from the seal on.
 use Rattle.std.proofs.Common.{◌≡◌, ◌∙◌, ap, ℕ, ◌+◌, ◌-◌, ◌^◌, ◌<◌, ◌≤◌, [], ◌∷◌, ◌++◌, length, arith, Some, slice_get}
-use Rattle.stated.specs.declared.change.ChangeParts.{ChangeParts}
-use Rattle.stated.specs.Incrementals.{Step}
+use Rattle.maptypes.specs.declared.change.ChangeParts.{ChangeParts}
+use Rattle.maptypes.specs.Incrementals.{Step}
 use Rattle.epochlog.specs.Epochs.{Seen, longer, epoch_of}
 use Rattle.pgtable.specs.Tables.{TableFacts}
 use Rattle.state.specs.States.{StateFacts, IsKept, max_epoch, next_step, longer_by}

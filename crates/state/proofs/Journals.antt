@@ -1,8 +1,8 @@
 -- Journals: what one more change does to a lawful one, and to what a pass has seen.
 use Rattle.std.proofs.Common.{◌≡◌, ◌∙◌, sym, ap, ℕ, zero, suc, ◌+◌, ◌<◌, List, [], ◌∷◌, ◌++◌, length, refl, arith, None, Some, subst, true, false, not, nat_lt, ◌==◌, if◌then◌else◌, length-append, slice_get}
-use Rattle.stated.specs.declared.change.ChangeParts.{ChangeParts}
+use Rattle.maptypes.specs.declared.change.ChangeParts.{ChangeParts}
 use Rattle.osdmap.specs.Maps.{ClusterMap}
-use Rattle.stated.specs.Incrementals.{Step}
+use Rattle.maptypes.specs.Incrementals.{Step}
 use Rattle.osdmap.specs.Changes.{apply, after, change_fault, IsLawful, epoch_after}
 use Rattle.epochlog.specs.Epochs.{Line, Seen, longer, last_epoch, epoch_of}
 use Rattle.pgtable.specs.Tables.{TableFacts, IsTableOf}

@@ -3,7 +3,7 @@ use Rattle.std.specs.Prelude.{◌≡◌, ℕ, List, Option, Some, Result}
 use Rattle.refusal.specs.declared.refused.Refusal.{Refusal}
 use Rattle.refusal.specs.declared.refused.Refusal.TheVariants.{UnknownOsd}
 use Rattle.refusal.specs.Outcomes.{refused_unless, Judges, Gives}
-use Rattle.stated.specs.declared.pg.Pg.{Pg}
+use Rattle.maptypes.specs.declared.pg.Pg.{Pg}
 use Rattle.osdmap.specs.Maps.{ClusterMap, osd_exists}
 use Rattle.osdmap.specs.Placement.{group_fault}
 use Rattle.pgtable.specs.Index.{up_at, count_of, index_of}

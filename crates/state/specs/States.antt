@@ -2,10 +2,10 @@
 use Rattle.std.specs.Prelude.{◌≡◌, ℕ, ◌+◌, ◌-◌, ◌^◌, ◌==◌, min, not, [], ◌∷◌, ◌++◌, length, nat_lt, Option, Some, None, Result, OnErr, ◌⊎◌, MatchResult, if◌then◌else◌}
 use Rattle.refusal.specs.declared.refused.Refusal.{Refusal}
 use Rattle.refusal.specs.declared.refused.Refusal.TheVariants.{StaleEpoch, JournalFull, Memory as OutOfMemory, NotSealed}
-use Rattle.stated.specs.declared.change.ChangeParts.{ChangeParts}
-use Rattle.stated.specs.Incrementals.{Step}
-use Rattle.stated.specs.Limits.{max_first_epoch}
-use Rattle.stated.specs.Pools.{total_groups}
+use Rattle.maptypes.specs.declared.change.ChangeParts.{ChangeParts}
+use Rattle.maptypes.specs.Incrementals.{Step}
+use Rattle.mapparts.specs.Limits.{max_first_epoch}
+use Rattle.maptypes.specs.Pools.{total_groups}
 use Rattle.osdmap.specs.Maps.{ClusterMap}
 use Rattle.osdmap.specs.Evals.{evals_of}
 use Rattle.osdmap.specs.Changes.{change_fault, apply, after, IsLawful}

@@ -1,7 +1,8 @@
 //! What is asked of a state.
 
 use crate::state::State;
-use osdmap::{Pg, UpSet};
+use maptypes::Pg;
+use osdmap::UpSet;
 use refusal::Refusal;
 use std::alloc::Global;
 

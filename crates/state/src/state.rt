@@ -5,12 +5,13 @@ ghost use Rattle.osdmap.specs.Changes.{change_fault, apply};
 ghost use Rattle.pgtable.specs.Tables.{IsTableOf, RunsMore};
 ghost use Rattle.pgtable.specs.Patches.{LeadsTo};
 ghost use Rattle.osdmap.specs.Stored.{HasRoomFor};
-ghost use Rattle.stated.specs.Pools.{total_groups};
+ghost use Rattle.maptypes.specs.Pools.{total_groups};
 ghost use Rattle.state.specs.States.{counted, IsReady};
 
 use crush::Work;
 use epochlog::{Pass, Row};
-use osdmap::{Change, Incremental, OsdMap};
+use maptypes::{Change, Incremental};
+use osdmap::OsdMap;
 use pgtable::{Patch, PgTable};
 use refusal::{Memory, Refusal};
 use std::alloc::Global;

@@ -2,20 +2,17 @@
 ghost use Rattle.std.specs.Prelude.{◌≡◌, true};
 ghost use Rattle.std.specs.List.{list_all};
 ghost use Rattle.std.specs.Option.{option_map_or};
-ghost use Rattle.stated.specs.CrushMaps.{crush_fits};
-ghost use Rattle.stated.specs.Growth.{growth_fits};
-ghost use Rattle.stated.specs.Limits.{max_entries};
-ghost use Rattle.stated.specs.Parts.{has_between, is_osd_id, pg_fits, pool_fits};
+ghost use Rattle.mapparts.specs.Parts.{crush_fits, growth_fits, has_between, is_osd_id, pg_fits, pool_fits};
+ghost use Rattle.mapparts.specs.Limits.{max_entries};
 ghost use Rattle.mapjson.specs.ChangeTexts.{is_pool_id, reweight_fits, entries_fit, change_fits, change_is_plain};
 
+use mapparts::fits::crush_fits;
+use mapparts::limits::{MAX_ENTRIES, MAX_POOL_ID};
+use mapparts::numbers::{has_between, is_between, is_osd_id};
+use mapparts::plain::{crush_is_plain, growths_are_plain, is_plain_list, pools_are_plain};
+use mapparts::pools::{all_growths_fit, all_pools_fit};
+use mapparts::{CrushParts, GrowPart, PgParts, PoolPart, exceptions_fit, pg_fits};
 use partjson::{RawChange, RawReweight};
-use stated::fits::crush_fits;
-use stated::grow::all_growths_fit;
-use stated::limits::{MAX_ENTRIES, MAX_POOL_ID};
-use stated::numbers::{has_between, is_between, is_osd_id};
-use stated::plain::{crush_is_plain, growths_are_plain, is_plain_list, pools_are_plain};
-use stated::pool::all_pools_fit;
-use stated::{CrushParts, GrowPart, PgParts, PoolPart, exceptions_fit, pg_fits};
 
 /// The greatest epoch.
 const MAX_EPOCH: i128 = u64::MAX as i128;

@@ -3,23 +3,21 @@ ghost use Rattle.std.specs.Prelude.{◌≡◌, true, IsTrue, All, IfOk, map, pos
 ghost use Rattle.std.specs.List.{list_all};
 ghost use Rattle.std.specs.Option.{option_map_or};
 ghost use Rattle.buckets.specs.Limits.{max_devices};
-ghost use Rattle.stated.specs.CrushMaps.{crush_fits, crush_fault, IsCrushOf};
-ghost use Rattle.stated.specs.Growth.{growth_fits, grows_evenly, growth_of};
+ghost use Rattle.mapparts.specs.Parts.{crush_fits, growth_fits, grows_evenly, has_enough_groups, is_between, is_osd_id, pool_fits};
+ghost use Rattle.maptypes.specs.CrushMaps.{crush_fault, IsCrushOf};
+ghost use Rattle.maptypes.specs.Values.{growth_of, pool_of, pg_of};
 ghost use Rattle.refusal.specs.declared.refused.Refusal.TheVariants.{BadPool};
 ghost use Rattle.refusal.specs.Outcomes.{refused_unless};
-ghost use Rattle.stated.specs.Parts.{has_enough_groups, is_between, is_osd_id, pool_fits, pool_of, pg_of};
 ghost use Rattle.refusal.specs.Outcomes.{Makes};
 ghost use Rattle.mapjson.specs.ChangeTexts.{reweight_fits, change_fits, reweight_within, parts_within, new_crush_fault, IsCrushStated, are_even};
 
 use buckets::limits::MAX_DEVICES;
 use keylist::Entries;
+use mapparts::numbers::word;
+use mapparts::{CrushParts, GrowPart, PgParts, PoolPart, Profile};
+use maptypes::{ChangeParts, CrushMap, Grow, Pg, Pool, Reweight, exceptions_of};
 use partjson::{RawChange, RawReweight};
 use refusal::{Memory, Refusal};
-use stated::numbers::word;
-use stated::{
-    ChangeParts, CrushMap, CrushParts, Grow, GrowPart, Pg, PgParts, Pool, PoolPart, Profile,
-    Reweight, exceptions_of,
-};
 use std::alloc::{AllocError, Global};
 
 /// Numbers that are words, as words.
@@ -31,7 +29,7 @@ fn words(alloc: Global, numbers: &[i128]) -> Result<Vec<u32>, AllocError>
 }
 
 /// A reweight that is within the limits.
-#[tactic(auto, unfolding(crate::specs::ChangeTexts::reweight_fits), using(stated::proofs::Within::osd_id_word))]
+#[tactic(auto, unfolding(crate::specs::ChangeTexts::reweight_fits), using(mapparts::proofs::Within::osd_id_word))]
 fn reweight(stated: &RawReweight) -> Reweight
     requires { IsTrue (reweight_fits stated.now) }
     ensures { result ≡ reweight_within stated.now }
@@ -54,7 +52,7 @@ fn reweights(alloc: Global, stated: &[RawReweight]) -> Result<Vec<Reweight>, All
 fn groups(alloc: Global, stated: &[PgParts]) -> Result<Vec<Pg>, AllocError>
     ensures { IfOk result (λ found. found.items ≡ map pg_of stated.now) }
 {
-    stated.iter().map(|one| one.group()).collect(alloc)
+    stated.iter().map(|one| Pg::of_parts(one)).collect(alloc)
 }
 
 /// Pools whose numbers are within the limits: `BadPool` (15) where one of them has more groups for placement than
@@ -100,7 +98,7 @@ pub(super) fn crush_within(
 }
 
 /// The CRUSH map over 1,024 devices that parts within the limits state: `BadForest` (13), `BadRule` (14).
-#[tactic(auto, unfolding(stated::specs::CrushMaps::crush_fits))]
+#[tactic(auto, unfolding(mapparts::specs::Parts::crush_fits))]
 fn crush_stated(alloc: Global, parts: &CrushParts) -> Result<CrushMap, Refusal>
     requires { crush_fits parts.now ≡ true }
     ensures { Makes result (crush_fault parts.now.buckets parts.now.rules max_devices)
@@ -140,7 +138,7 @@ pub(super) fn parts_within(
 }
 
 /// The base of a change that is within the limits.
-#[tactic(auto, unfolding(crate::specs::ChangeTexts::change_fits, stated::specs::Parts::is_between))]
+#[tactic(auto, unfolding(crate::specs::ChangeTexts::change_fits, mapparts::specs::Parts::is_between))]
 pub(super) fn base_within(change: &RawChange) -> u64
     requires { change_fits change.now ≡ true }
     ensures { result ≡ nat_abs change.now.base }

@@ -2,17 +2,19 @@
 
 use crate::map::OsdMap;
 use keylist::in_order;
+use mapparts::ExceptionPart;
+use maptypes::{Entry, Exception, StandsFor, exceptions_of};
 use refusal::Refusal;
-use stated::{Entry, EntryPart, Exception, ExceptionPart, exceptions_of};
 use std::alloc::Global;
 
 impl OsdMap {
     ghost use Rattle.std.specs.Prelude.{◌≡◌, true, map};
     ghost use Rattle.std.specs.List.{list_all};
     ghost use Rattle.refusal.specs.declared.refused.Refusal.TheVariants.{BadException};
-    ghost use Rattle.stated.specs.Exceptions.{key_of, is_exception};
+    ghost use Rattle.maptypes.specs.Exceptions.{key_of, is_exception};
     ghost use Rattle.osdmap.specs.Maps.{osd_exists};
-    ghost use Rattle.stated.specs.Parts.{exceptions_fit, exception_of};
+    ghost use Rattle.mapparts.specs.Parts.{exceptions_fit};
+    ghost use Rattle.maptypes.specs.Values.{exception_of};
     ghost use Rattle.refusal.specs.Outcomes.{Makes};
     ghost use Rattle.osdmap.specs.Stated.{exceptions_ok};
     ghost use Rattle.refusal.specs.Outcomes.{refused_unless};
@@ -47,7 +49,7 @@ impl OsdMap {
 
     /// The exceptions of the map that parts within the limits state, by group upwards: `BadException` (17) where one of
     /// them is none, or has the group of another.
-    pub(crate) fn exceptions_in<E: Entry, P: EntryPart<E>>(
+    pub(crate) fn exceptions_in<E: Entry, P: StandsFor<E>>(
         &self,
         alloc: Global,
         parts: &[ExceptionPart<P>],

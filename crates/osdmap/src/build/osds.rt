@@ -4,15 +4,16 @@ ghost use Rattle.std.specs.Prelude.{◌≡◌, true, map, length, nat_abs, nat_l
 ghost use Rattle.std.specs.List.{list_all};
 ghost use Rattle.refusal.specs.declared.refused.Refusal.TheVariants.{BadOsd};
 ghost use Rattle.keylist.specs.Keys.{is_distinct};
-ghost use Rattle.stated.specs.Parts.{osd_fits};
+ghost use Rattle.mapparts.specs.Parts.{osd_fits};
 ghost use Rattle.refusal.specs.Outcomes.{Makes};
 ghost use Rattle.osdmap.specs.Stated.{osd_ok};
 ghost use Rattle.refusal.specs.Outcomes.{refused_unless};
 ghost use Rattle.osdmap.specs.Built.{osds_fit, state_of, rows_of, row_presence, row_weight};
 
+use mapparts::OsdPart;
+use mapparts::numbers::word;
+use maptypes::{OsdState, Presence};
 use refusal::Refusal;
-use stated::numbers::word;
-use stated::{OsdPart, OsdState, Presence};
 use std::alloc::{AllocError, Global};
 
 /// Whether an OSD is below `max_osd`, and exists where it is up.

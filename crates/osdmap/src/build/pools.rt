@@ -5,7 +5,8 @@ ghost use Rattle.std.specs.List.{find, list_all};
 ghost use Rattle.std.specs.Option.{option_copied};
 ghost use Rattle.refusal.specs.declared.refused.Refusal.TheVariants.{BadPool};
 ghost use Rattle.osdmap.specs.Maps.{is_kind, has_rule};
-ghost use Rattle.stated.specs.Parts.{pool_fits, pool_of};
+ghost use Rattle.mapparts.specs.Parts.{pool_fits};
+ghost use Rattle.maptypes.specs.Values.{pool_of};
 ghost use Rattle.refusal.specs.Outcomes.{Makes};
 ghost use Rattle.osdmap.specs.Stated.{pool_ok};
 ghost use Rattle.refusal.specs.Outcomes.{refused_unless};
@@ -14,8 +15,9 @@ ghost use Rattle.osdmap.specs.Built.{pools_fit};
 
 use crush::RuleKind;
 use keylist::in_order;
+use mapparts::PoolPart;
+use maptypes::{NumberedRule, Pool};
 use refusal::Refusal;
-use stated::{NumberedRule, Pool, PoolPart};
 use std::alloc::Global;
 
 /// The rule of an id.
@@ -44,7 +46,7 @@ pub(crate) fn has_rule(rules: &[NumberedRule], pool: Pool) -> bool
 
 /// The pool that a part within the limits states: `BadPool` (15) where it has more groups for placement than groups, or
 /// no rule of its kind.
-#[tactic(auto, unfolding(crate::specs::Stated::pool_ok, stated::specs::Parts::has_enough_groups))]
+#[tactic(auto, unfolding(crate::specs::Stated::pool_ok, mapparts::specs::Parts::has_enough_groups))]
 fn pool_of(rules: &[NumberedRule], part: &PoolPart) -> Result<Pool, Refusal>
     requires { pool_fits part.now ≡ true }
     ensures { Makes result (refused_unless (pool_ok rules.now part.now) BadPool) (λ pool. pool ≡ pool_of part.now) }

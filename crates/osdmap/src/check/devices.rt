@@ -8,7 +8,7 @@ ghost use Rattle.osdmap.specs.Changes.{has_devices_below};
 use crate::map::OsdMap;
 use buckets::Bucket;
 use crush::Forest;
-use stated::Change;
+use maptypes::Change;
 
 /// Whether each device of a bucket is below a number.
 fn is_below(bucket: &Bucket, max_osd: u32) -> bool

@@ -1,12 +1,12 @@
 //! The groups that a change names, and what it says of them: `UnknownGroup` (25), `BadNewException` (26).
 
 use crate::map::OsdMap;
-use stated::{Change, Entry, Exception, NamesGroup, Pg};
+use maptypes::{Change, Entry, Exception, NamesGroup, Pg};
 
 impl OsdMap {
     ghost use Rattle.std.specs.Prelude.{◌≡◌};
     ghost use Rattle.std.specs.List.{list_all};
-    ghost use Rattle.stated.specs.Exceptions.{has_group, is_sound};
+    ghost use Rattle.maptypes.specs.Exceptions.{has_group, is_sound};
     ghost use Rattle.osdmap.specs.Changes.{pools_after, names_groups, excepts_soundly};
 
     /// Whether a group is there after a change.

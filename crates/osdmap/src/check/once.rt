@@ -4,7 +4,7 @@ ghost use Rattle.std.specs.Prelude.{◌≡◌};
 ghost use Rattle.osdmap.specs.Changes.{names_once};
 
 use keylist::{are_apart, are_distinct};
-use stated::Change;
+use maptypes::Change;
 
 /// Whether no key stands twice in a part, or in two parts of which one undoes the other.
 #[tactic(auto, unfolding(crate::specs::Changes::names_once))]

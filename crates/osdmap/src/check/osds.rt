@@ -4,8 +4,8 @@ ghost use Rattle.std.specs.Prelude.{◌≡◌};
 ghost use Rattle.osdmap.specs.Changes.{weighs_rightly};
 
 use crate::map::OsdMap;
-use stated::limits::FULL_WEIGHT;
-use stated::{Change, Entry, Exception, Reweight};
+use mapparts::limits::FULL_WEIGHT;
+use maptypes::{Change, Entry, Exception, Reweight};
 
 /// Whether each reweight is at most the whole.
 #[tactic(auto, unfolding(crate::specs::Changes::weighs_rightly))]
@@ -19,7 +19,7 @@ pub(crate) fn weighs_rightly(change: &Change) -> bool
 impl OsdMap {
     ghost use Rattle.std.specs.Prelude.{◌≡◌};
     ghost use Rattle.std.specs.List.{list_all};
-    ghost use Rattle.stated.specs.Exceptions.{all_named};
+    ghost use Rattle.maptypes.specs.Exceptions.{all_named};
     ghost use Rattle.osdmap.specs.Maps.{osd_exists};
     ghost use Rattle.osdmap.specs.Changes.{names_osds};
 

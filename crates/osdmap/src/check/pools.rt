@@ -3,13 +3,13 @@
 use crate::in_place::grown;
 use crate::map::OsdMap;
 use keylist::{has, last_of};
-use stated::{Change, Grow, NamesGroup, Pool};
+use maptypes::{Change, Grow, NamesGroup, Pool};
 
 impl OsdMap {
     ghost use Rattle.std.specs.Prelude.{◌≡◌};
     ghost use Rattle.std.specs.List.{list_all};
     ghost use Rattle.keylist.specs.Keys.{entry_at};
-    ghost use Rattle.stated.specs.Exceptions.{has_pool, has_pool_of};
+    ghost use Rattle.maptypes.specs.Exceptions.{has_pool, has_pool_of};
     ghost use Rattle.osdmap.specs.Maps.{pool_at};
     ghost use Rattle.osdmap.specs.Changes.{pools_kept, pools_there, pools_after, names_pools, brings_new};
 
@@ -83,7 +83,7 @@ impl OsdMap {
     }
 
     /// Whether the pool of each group that is named is there then.
-    #[tactic(auto, unfolding(stated::specs::Exceptions::has_pool_of))]
+    #[tactic(auto, unfolding(maptypes::specs::Exceptions::has_pool_of))]
     fn have_pools<G: NamesGroup>(&self, change: &Change, groups: &[G]) -> bool
         ensures { result ≡ list_all (λ g. has_pool_of (pools_there self.now.map change.now) (G.named g)) groups.now }
     {

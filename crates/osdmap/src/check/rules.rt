@@ -4,16 +4,16 @@ ghost use Rattle.std.specs.Prelude.{◌≡◌};
 ghost use Rattle.std.specs.List.{list_all};
 ghost use Rattle.std.specs.List.Sorted.{IsNonDecreasingBy};
 ghost use Rattle.std.specs.Prelude.{◌<◌, ◌^◌, map};
-ghost use Rattle.stated.specs.Growth.{grown};
-ghost use Rattle.stated.specs.Pools.{total_groups};
+ghost use Rattle.maptypes.specs.Growth.{grown};
+ghost use Rattle.maptypes.specs.Pools.{total_groups};
 ghost use Rattle.osdmap.specs.Maps.{has_rule};
 
 use crate::build::has_rule;
 use crate::in_place::grown;
 use crate::map::OsdMap;
 use keylist::{are_distinct, has, put_count};
-use stated::limits::MAX_TOTAL_GROUPS;
-use stated::{Change, Grow, NumberedRule, Pool};
+use mapparts::limits::MAX_TOTAL_GROUPS;
+use maptypes::{Change, Grow, NumberedRule, Pool};
 
 /// Whether each of some pools has a rule of its kind among some.
 fn have_rules(pools: &[Pool], rules: &[NumberedRule]) -> bool
@@ -37,10 +37,10 @@ fn total_groups(pools: &[Pool], growths: &[Grow]) -> u128
 
 impl OsdMap {
     ghost use Rattle.std.specs.Prelude.{◌≡◌, ◌<◌, ◌^◌, true, length, nat_le, map};
-    ghost use Rattle.stated.specs.Growth.{grown};
-    ghost use Rattle.stated.specs.Pools.{total_groups};
+    ghost use Rattle.maptypes.specs.Growth.{grown};
+    ghost use Rattle.maptypes.specs.Pools.{total_groups};
     ghost use Rattle.std.specs.List.{list_all};
-    ghost use Rattle.stated.specs.Profiles.{most_pools};
+    ghost use Rattle.mapparts.specs.Profiles.{most_pools};
     ghost use Rattle.osdmap.specs.Maps.{has_rule};
     ghost use Rattle.osdmap.specs.Changes.{pools_kept, pools_there, rules_after, brings_new, grows_from, leaves_few_groups, brings_rightly};
 
@@ -102,7 +102,7 @@ impl OsdMap {
     {
         let _ = &self.pools;
         let new: &[Pool] = &change.parts().new_pools;
-        let most = change.parts().profile.max_pools();
+        let most = change.parts().profile.most_pools();
         let kept = self.count_kept(change);
         kept <= most && put_count(&[], new) <= most - kept
     }

@@ -1,6 +1,6 @@
 use Rattle.std.proofs.Common.{◌≡◌, ℕ, ◌<◌, [], false, length, get_or, take}
 use Rattle.grouptable.specs.Sets.{joined}
-use Rattle.stated.specs.Sets.{stands}
+use Rattle.maptypes.specs.Sets.{stands}
 use Rattle.grouptable.proofs.build.add_group.Given as goal
 
 abbrev pub invariant-loop-i : goal.invariant-loop-i

@@ -1,4 +1,4 @@
-use Rattle.stated.specs.Ordered.{IsChange}
+use Rattle.maptypes.specs.Ordered.{IsChange}
 use Rattle.map_laws.proofs.OwnParts.{states_itself_after}
 use Rattle.map_laws.proofs.maps.change_leads_to_a_map.Goals as goal
 

@@ -3,7 +3,7 @@ use Rattle.std.specs.List.{fold, filter}
 use Rattle.keylist.specs.Keys.{has_key}
 use Rattle.keylist.specs.Puts.{put}
 use Rattle.keylist.proofs.KeyedOrder.{rising-filter}
-use Rattle.stated.specs.Exceptions.{place_of, key_of, exceptions_after}
+use Rattle.maptypes.specs.Exceptions.{place_of, key_of, exceptions_after}
 use Rattle.osdmap.proofs.Leaving.{filter_twice}
 use Rattle.osdmap.proofs.in_place.change_exceptions.Goals as goal
 

@@ -1,5 +1,5 @@
 use Rattle.keylist.proofs.KeyedOrder.{rising-filter}
-use Rattle.stated.specs.Pools.{PoolFacts}
+use Rattle.maptypes.specs.Pools.{PoolFacts}
 use Rattle.osdmap.proofs.in_place.change_pools.Goals as goal
 
 pub put_all-requires-clause-old : goal.put_all-requires-clause-old

@@ -1,6 +1,6 @@
 use Rattle.std.proofs.Common.{◌<◌, length, arith}
 use Rattle.std.proofs.Math.ListN.{length-set}
-use Rattle.stated.specs.Growth.{grown}
+use Rattle.maptypes.specs.Growth.{grown}
 use Rattle.osdmap.proofs.Growing.{grew_more, rest_same}
 use Rattle.osdmap.proofs.in_place.grow_all.Goals as goal
 

@@ -1,5 +1,5 @@
 use Rattle.std.proofs.Common.{◌≡◌, map, take, drop, length}
-use Rattle.stated.specs.Growth.{grown}
+use Rattle.maptypes.specs.Growth.{grown}
 use Rattle.osdmap.proofs.in_place.grow_all.Given as goal
 
 -- the pools before the place have grown, those from it on stand as they did

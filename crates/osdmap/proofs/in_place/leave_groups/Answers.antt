@@ -1,5 +1,5 @@
 use Rattle.std.proofs.Common.{rules}
-use Rattle.stated.specs.Exceptions.{place_of, key_of}
+use Rattle.maptypes.specs.Exceptions.{place_of, key_of}
 use Rattle.osdmap.proofs.Leaving.{none_leave}
 use Rattle.osdmap.proofs.in_place.leave_groups.Goals as goal
 

@@ -2,8 +2,8 @@ use Rattle.std.proofs.Common.{◌≡◌, ◌∙◌, Bool, true, false, Some, cod
 use Rattle.clap.specs.Matches.{found_of}
 use Rattle.clap.specs.Walk.{one_of, rows_of}
 use Rattle.clap.proofs.WalkLemmas.{one_text-rows}
-use Rattle.stated.specs.declared.profile.Profile.{Profile}
-use Rattle.stated.specs.declared.profile.Profile.TheVariants.{Plain, Stock}
+use Rattle.mapparts.specs.declared.profile.Profile.{Profile}
+use Rattle.mapparts.specs.declared.profile.Profile.TheVariants.{Plain, Stock}
 use Rattle.osdmapd.specs.CommandLine.{stock_word}
 use Rattle.osdmapd.proofs.line.profile_in.Goals as goal
 

@@ -1,6 +1,6 @@
 use Rattle.std.proofs.Common.{◌≡◌, ◌++◌, drop}
 use Rattle.std.specs.String.{string_bytes}
-use Rattle.stated.specs.PgText.{group_text}
+use Rattle.maptypes.specs.GroupText.{group_text}
 use Rattle.osdmap.specs.SetText.{more_texts}
 use Rattle.session.proofs.reply.push_list.Given as goal
 

@@ -1,5 +1,5 @@
 use Rattle.std.proofs.Common.{◌≡◌, ℕ, ◌<◌, true, false, length, take}
-use Rattle.stated.specs.Sets.{stands}
+use Rattle.maptypes.specs.Sets.{stands}
 use Rattle.balancer.specs.Boards.{may_go}
 use Rattle.balancer.specs.Marks.{is_shut}
 use Rattle.balancer.proofs.board.Board.look_again_at.Given as goal

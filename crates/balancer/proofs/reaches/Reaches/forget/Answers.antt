@@ -1,6 +1,6 @@
 use Rattle.std.proofs.Common.{◌∙◌, refl, None}
 use Rattle.std.proofs.lemmas.List.Folds.{list_any_more}
-use Rattle.stated.specs.Sets.{is_of}
+use Rattle.maptypes.specs.Sets.{is_of}
 use Rattle.balancer.proofs.reaches.Reaches.forget.Goals as goal
 
 pub loop-place-preserved : goal.loop-place-preserved

@@ -1,5 +1,5 @@
 use Rattle.std.proofs.Common.{◌≡◌, ℕ, ℤ, Some, false, take}
-use Rattle.stated.specs.Sets.{stands}
+use Rattle.maptypes.specs.Sets.{stands}
 use Rattle.balancer.specs.Reaches.{bound_of}
 use Rattle.balancer.proofs.reaches.Reaches.forget.Given as goal
 

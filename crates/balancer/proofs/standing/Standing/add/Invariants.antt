@@ -1,5 +1,5 @@
 use Rattle.std.proofs.Common.{◌≡◌, true, take}
-use Rattle.stated.specs.Sets.{stands}
+use Rattle.maptypes.specs.Sets.{stands}
 use Rattle.balancer.specs.Standing.{AreLonger, IsKnownAt}
 use Rattle.balancer.proofs.standing.Standing.add.Given as goal
 

@@ -1,7 +1,7 @@
 use Rattle.std.proofs.Common.{◌≡◌, map, take, true}
 use Rattle.std.specs.List.{list_all}
-use Rattle.stated.specs.Growth.{growth_of}
-use Rattle.stated.specs.Growth.{grows_evenly}
+use Rattle.maptypes.specs.Values.{growth_of}
+use Rattle.mapparts.specs.Parts.{grows_evenly}
 use Rattle.mapjson.proofs.change.within.growths.Given as goal
 
 abbrev pub invariant-loop-part : goal.invariant-loop-part

@@ -1,7 +1,7 @@
 use Rattle.std.proofs.Common.{◌≡◌, map, take, true}
 use Rattle.std.specs.List.{list_all}
-use Rattle.stated.specs.Parts.{pool_of}
-use Rattle.stated.specs.Parts.{has_enough_groups}
+use Rattle.maptypes.specs.Values.{pool_of}
+use Rattle.mapparts.specs.Parts.{has_enough_groups}
 use Rattle.mapjson.proofs.change.within.pools.Given as goal
 
 abbrev pub invariant-loop-part : goal.invariant-loop-part

@@ -3,8 +3,8 @@ use Rattle.std.proofs.lemmas.Int.{to_z-of_z}
 use mir.Syntax.{w128}
 use mir.Val.{SFits}
 use Rattle.keylist.proofs.Each.{list_all-at}
-use Rattle.stated.specs.Parts.{osd_fits}
-use Rattle.stated.proofs.Narrowed.{osd_id}
+use Rattle.mapparts.specs.Parts.{osd_fits}
+use Rattle.maptypes.proofs.Narrowed.{osd_id}
 use Rattle.std.proofs.Math.ListN.{length-set}
 use Rattle.std.proofs.lemmas.List.{get_or_default}
 use Rattle.osdmap.specs.Built.{state_of}

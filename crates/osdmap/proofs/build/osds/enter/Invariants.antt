@@ -1,7 +1,7 @@
 use Rattle.std.proofs.Common.{◌≡◌, ℕ, ◌<◌, map, take, drop, get_or, length, nat_abs, None}
 use Rattle.std.specs.Prelude.{is_some}
 use Rattle.std.specs.Option.{option_map}
-use Rattle.stated.specs.declared.parts.OsdPart.{OsdPart}
+use Rattle.mapparts.specs.declared.parts.OsdPart.{OsdPart}
 use Rattle.keylist.specs.Keys.{is_distinct}
 use Rattle.osdmap.specs.Marks.{are_new}
 use Rattle.osdmap.specs.Stated.{listed_osd}

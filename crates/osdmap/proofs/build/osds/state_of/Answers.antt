@@ -2,7 +2,7 @@ use Rattle.std.proofs.Common.{rules}
 use Rattle.std.proofs.lemmas.Int.{to_z-of_z}
 use mir.Syntax.{w128}
 use mir.Val.{SFits}
-use Rattle.stated.proofs.Narrowed.{osd_weight}
+use Rattle.maptypes.proofs.Narrowed.{osd_weight}
 use Rattle.osdmap.proofs.build.osds.state_of.Goals as goal
 
 pub word-requires : goal.word-requires

@@ -3,8 +3,8 @@ use Rattle.std.specs.List.{list_all}
 use Rattle.keylist.proofs.Each.{not_all}
 use Rattle.refusal.specs.declared.refused.Refusal.TheVariants.{BadPool}
 use Rattle.refusal.specs.Outcomes.{refused_unless}
-use Rattle.stated.specs.Parts.{pool_of}
-use Rattle.stated.proofs.Judged.{refused, stops}
+use Rattle.maptypes.specs.Values.{pool_of}
+use Rattle.maptypes.proofs.Judged.{refused, stops}
 use Rattle.osdmap.specs.Stated.{pool_ok}
 use Rattle.osdmap.proofs.build.pools.pools_made.Goals as goal
 

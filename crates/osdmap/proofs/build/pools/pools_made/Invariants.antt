@@ -1,6 +1,6 @@
 use Rattle.std.proofs.Common.{◌≡◌, map, take, true}
 use Rattle.std.specs.List.{list_all}
-use Rattle.stated.specs.Parts.{pool_of}
+use Rattle.maptypes.specs.Values.{pool_of}
 use Rattle.osdmap.specs.Stated.{pool_ok}
 use Rattle.osdmap.proofs.build.pools.pools_made.Given as goal
 

@@ -1,9 +1,9 @@
 use Rattle.std.proofs.Common.{nat_abs, refl}
 use Rattle.refusal.specs.declared.refused.Refusal.TheVariants.{BadPool}
-use Rattle.stated.specs.declared.parts.PoolPart.{PoolPart}
-use Rattle.stated.specs.Pools.{PoolFacts}
-use Rattle.stated.specs.Parts.{pool_of}
-use Rattle.stated.proofs.Judged.{ordered}
+use Rattle.mapparts.specs.declared.parts.PoolPart.{PoolPart}
+use Rattle.maptypes.specs.Pools.{PoolFacts}
+use Rattle.maptypes.specs.Values.{pool_of}
+use Rattle.maptypes.proofs.Judged.{ordered}
 use Rattle.osdmap.proofs.build.pools.pools_of.Goals as goal
 
 pub returns : goal.returns

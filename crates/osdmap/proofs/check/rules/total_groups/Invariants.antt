@@ -1,6 +1,6 @@
 use Rattle.std.proofs.Common.{◌≡◌, ◌≤◌, ◌*◌, ◌^◌, map, take}
-use Rattle.stated.specs.Growth.{grown}
-use Rattle.stated.specs.Pools.{total_groups}
+use Rattle.maptypes.specs.Growth.{grown}
+use Rattle.maptypes.specs.Pools.{total_groups}
 use Rattle.osdmap.proofs.check.rules.total_groups.Given as goal
 
 -- so many groups the pools so far have

@@ -1,9 +1,9 @@
 use Rattle.std.proofs.Common.{◌≡◌, ◌∙◌, ◌≤◌, ap, sym, subst, refl, rules, arith, length}
 use Rattle.osdmap.specs.Maps.{ClusterMap, HoldsTogether}
 use Rattle.osdmap.specs.Stored.{StoredMap}
-use Rattle.stated.specs.CrushMaps.{CrushFacts}
-use Rattle.stated.specs.Incrementals.{Step}
-use Rattle.stated.specs.Ordered.{IsChange}
+use Rattle.maptypes.specs.CrushMaps.{CrushFacts}
+use Rattle.maptypes.specs.Incrementals.{Step}
+use Rattle.maptypes.specs.Ordered.{IsChange}
 use Rattle.osdmap.specs.Changes.{apply}
 use Rattle.osdmap.proofs.Accepted.{accepted}
 use Rattle.osdmap.proofs.AfterLemmas.{length-with_up}

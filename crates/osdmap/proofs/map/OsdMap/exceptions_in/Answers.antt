@@ -1,7 +1,7 @@
 use Rattle.std.proofs.Common.{◌∙◌, sym, inr}
-use Rattle.stated.specs.Exceptions.{key_of}
+use Rattle.maptypes.specs.Exceptions.{key_of}
 use Rattle.refusal.specs.declared.refused.Refusal.TheVariants.{BadException}
-use Rattle.stated.proofs.Judged.{ordered_itself, fails_both}
+use Rattle.maptypes.proofs.Judged.{ordered_itself, fails_both}
 use Rattle.osdmap.proofs.map.OsdMap.exceptions_in.Goals as goal
 
 pub returns-then-not-are_exceptions : goal.returns-then-not-are_exceptions

@@ -1,8 +1,8 @@
 use Rattle.std.proofs.Common.{◌≡◌, ◌≤◌, ◌*◌, ◌^◌, not, map, take}
 use Rattle.std.specs.List.{filter}
 use Rattle.keylist.specs.Keys.{has_key}
-use Rattle.stated.specs.Growth.{grown}
-use Rattle.stated.specs.Pools.{PoolFacts, total_groups}
+use Rattle.maptypes.specs.Growth.{grown}
+use Rattle.maptypes.specs.Pools.{PoolFacts, total_groups}
 use Rattle.osdmap.proofs.map.OsdMap.groups_kept.Given as goal
 
 -- so many groups have those that stay of the pools so far

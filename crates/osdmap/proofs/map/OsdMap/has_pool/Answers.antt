@@ -1,5 +1,5 @@
 use Rattle.std.proofs.Common.{rules}
-use Rattle.stated.specs.Pools.{PoolFacts}
+use Rattle.maptypes.specs.Pools.{PoolFacts}
 use Rattle.keylist.proofs.KeyedMaps.{has-entry}
 use Rattle.osdmap.proofs.map.OsdMap.has_pool.Goals as goal
 

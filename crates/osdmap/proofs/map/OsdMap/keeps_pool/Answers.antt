@@ -1,5 +1,5 @@
 use Rattle.std.proofs.Common.{rules}
-use Rattle.stated.specs.Pools.{PoolFacts}
+use Rattle.maptypes.specs.Pools.{PoolFacts}
 use Rattle.osdmap.specs.Changes.{pools_kept}
 use Rattle.keylist.proofs.KeyedMaps.{has-entry}
 use Rattle.osdmap.proofs.map.OsdMap.keeps_pool.Goals as goal

@@ -1,5 +1,5 @@
 use Rattle.std.proofs.Common.{◌≡◌, ◌∙◌, ◌≤◌, sym, rules, subst}
-use Rattle.stated.specs.Pools.{total_groups}
+use Rattle.maptypes.specs.Pools.{total_groups}
 use Rattle.osdmap.specs.Stored.{StoredMap}
 use Rattle.osdmap.proofs.GroupTotals.{empty, few_stay}
 use Rattle.osdmap.proofs.map.OsdMap.leaves_few_groups.Goals as goal

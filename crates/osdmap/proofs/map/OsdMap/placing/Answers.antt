@@ -1,6 +1,6 @@
 use Rattle.std.proofs.Common.{◌==◌}
 use Rattle.osdmap.specs.Maps.{has_rule}
-use Rattle.stated.specs.Pools.{PoolFacts}
+use Rattle.maptypes.specs.Pools.{PoolFacts}
 use Rattle.osdmap.proofs.PlacementLemmas.{found_passes}
 use Rattle.osdmap.proofs.map.OsdMap.placing.Goals as goal
 

@@ -1,7 +1,7 @@
 use Rattle.std.proofs.Common.{◌==◌, subst, rules}
 use Rattle.osdmap.specs.Stored.{StoredMap}
 use Rattle.osdmap.specs.Maps.{HoldsTogether, has_rule}
-use Rattle.stated.specs.Pools.{PoolFacts}
+use Rattle.maptypes.specs.Pools.{PoolFacts}
 use Rattle.osdmap.proofs.PlacementLemmas.{found_passes}
 use Rattle.osdmap.proofs.map.OsdMap.pool_of.Goals as goal
 

@@ -1,7 +1,7 @@
 use Rattle.std.proofs.Common.{◌∙◌, sym, inr, arith}
 use Rattle.osdmap.specs.Stored.{StoredMap}
 use Rattle.osdmap.specs.Stated.{map_fault, IsStated}
-use Rattle.stated.proofs.Judged.{stops}
+use Rattle.maptypes.proofs.Judged.{stops}
 use Rattle.osdmap.proofs.Built.{parts_fit_each, fault_limit}
 use Rattle.osdmap.proofs.Excepted.{fault_bare, fault_explicit, fault_items, no_fault_with, is_stated_with, holds_with}
 use Rattle.osdmap.proofs.map.OsdMap.stock.Goals as goal

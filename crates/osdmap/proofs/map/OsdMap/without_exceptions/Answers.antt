@@ -2,8 +2,8 @@ use Rattle.std.proofs.Common.{◌≡◌, ◌∙◌, ap, map, refl, nat_abs, rule
 use Rattle.std.proofs.lemmas.Int.{to_z-of_z}
 use mir.Syntax.{w128}
 use mir.Val.{SFits}
-use Rattle.stated.proofs.Judged.{stops}
-use Rattle.stated.proofs.Within.{word_between}
+use Rattle.maptypes.proofs.Judged.{stops}
+use Rattle.mapparts.proofs.Within.{word_between}
 use Rattle.osdmap.specs.Stored.{StoredMap}
 use Rattle.osdmap.specs.Stated.{map_fault, IsStated}
 use Rattle.osdmap.specs.Built.{without_exceptions, rows_of, row_presence, row_weight}

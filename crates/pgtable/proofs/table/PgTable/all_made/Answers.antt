@@ -1,7 +1,7 @@
 use Rattle.std.proofs.Common.{◌≡◌, ◌∙◌, ◌<◌, refl, ap, length, arith}
 use Rattle.std.proofs.lemmas.List.Sums.{sum_by_more, sum_by_more_le}
 use Rattle.std.proofs.lemmas.Option.{slice_get_read}
-use Rattle.stated.specs.Pools.{PoolFacts}
+use Rattle.maptypes.specs.Pools.{PoolFacts}
 use Rattle.pgtable.specs.Patches.{evals_in}
 use Rattle.pgtable.proofs.Found.{found_at}
 use Rattle.pgtable.proofs.Making.{make_more, make_ends, evals_all, evals_whole}

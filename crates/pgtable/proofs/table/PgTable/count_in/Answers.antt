@@ -1,7 +1,7 @@
 use Rattle.std.proofs.Common.{◌∙◌, not, refl, arith}
 use Rattle.std.specs.Prelude.{◌==◌}
 use Rattle.std.proofs.lemmas.List.Filters.{length-filter_both}
-use Rattle.stated.specs.declared.pg.Pg.{Pg}
+use Rattle.maptypes.specs.declared.pg.Pg.{Pg}
 use Rattle.pgtable.specs.Index.{index_of}
 use Rattle.pgtable.proofs.Shows.{count_shown}
 use Rattle.pgtable.proofs.table.PgTable.count_in.Goals as goal

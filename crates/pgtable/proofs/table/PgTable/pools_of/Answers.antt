@@ -1,4 +1,4 @@
-use Rattle.stated.specs.Pools.{PoolFacts}
+use Rattle.maptypes.specs.Pools.{PoolFacts}
 use Rattle.pgtable.proofs.Found.{found_at}
 use Rattle.pgtable.proofs.table.PgTable.pools_of.Goals as goal
 

@@ -1,6 +1,6 @@
 use Rattle.std.proofs.Common.{◌≡◌, map, take}
 use Rattle.std.specs.List.{sum_by}
-use Rattle.stated.specs.Pools.{PoolFacts}
+use Rattle.maptypes.specs.Pools.{PoolFacts}
 use Rattle.pgtable.specs.Tables.{pool_table, RunsMore}
 use Rattle.pgtable.proofs.table.PgTable.pools_of.Given as goal
 

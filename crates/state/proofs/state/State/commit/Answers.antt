@@ -2,7 +2,7 @@ use Rattle.std.proofs.Common.{◌≡◌, ◌∙◌, ◌+◌, [], ◌∷◌, ◌+
 use Rattle.osdmap.specs.Maps.{ClusterMap}
 use Rattle.osdmap.specs.Evals.{evals_of}
 use Rattle.osdmap.specs.Changes.{apply}
-use Rattle.stated.specs.Incrementals.{Step}
+use Rattle.maptypes.specs.Incrementals.{Step}
 use Rattle.epochlog.specs.Epochs.{Seen, epoch_of}
 use Rattle.state.specs.States.{StateFacts, fault_in, counted, ran, committed, next_step, longer_by}
 use Rattle.state.proofs.Journals.{IsAccepted, accepted, IsKept-committed, pass-epoch, with_parts}

@@ -1,0 +1,3 @@
+pub mod Within
+mod DigitsLeft
+mod PgTexts

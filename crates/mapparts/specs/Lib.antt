@@ -1,0 +1,6 @@
+pub mod Limits
+pub mod Digits
+pub mod PgText
+pub mod Parts
+pub mod Plain
+pub mod Profiles

@@ -1,0 +1,36 @@
+-- Profiles: which kinds of buckets (Ceph, crush.h) the texts of maps and changes may state, and whose limits hold.
+use Rattle.std.specs.Prelude.{ℕ, Bool, true, false, List}
+use Rattle.std.specs.List.{list_all}
+use Rattle.buckets.specs.declared.bucket.BucketKind.{BucketKind}
+use Rattle.buckets.specs.declared.bucket.BucketKind.TheVariants.{Uniform, List as Listed, Tree, Straw2}
+use Rattle.mapparts.specs.declared.parts.BucketPart.{BucketPart}
+use Rattle.mapparts.specs.declared.profile.Profile.{Profile}
+use Rattle.mapparts.specs.declared.profile.Profile.TheVariants.{Plain, Stock}
+use Rattle.mapparts.specs.Limits.{max_pools}
+use Rattle.mapparts.specs.Plain.{plain_pools}
+
+-- whether the limits are those of stock clusters
+abbrev pub is_stock : Profile → Bool
+is_stock Plain = false
+is_stock Stock = true
+
+-- how many pools a cluster has at most
+abbrev pub most_pools : Profile → ℕ
+most_pools Plain = plain_pools
+most_pools Stock = max_pools
+
+-- whether each profile has buckets of this kind
+abbrev pub is_plain_kind : BucketKind → Bool
+is_plain_kind Uniform = true
+is_plain_kind Listed = true
+is_plain_kind Tree = true
+is_plain_kind Straw2 = false
+
+-- whether each profile has the kinds of all these buckets
+abbrev pub are_plain_kinds : List BucketPart → Bool
+are_plain_kinds buckets = list_all (λ b. is_plain_kind b.kind) buckets
+
+-- whether a profile has the kinds of all these buckets
+abbrev pub has_kinds : Profile → List BucketPart → Bool
+has_kinds Plain buckets = are_plain_kinds buckets
+has_kinds Stock buckets = true

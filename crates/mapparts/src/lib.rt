@@ -1,0 +1,29 @@
+//! Maps and changes as texts state them: parts whose numbers are any whole numbers, and which of them are within the
+//! limits. The values that such parts stand for are those of `maptypes`.
+//!
+//! - `limits`, `plain`, `profile`: the limits of all maps, those of plain clusters, and which of them hold
+//! - `parts`: the parts
+//! - `numbers`, `numeral`: numbers between bounds, and numbers that digits write
+//! - `pg_parts`: the parts of a group in its text
+//! - `fits`, `pools`, `exceptions`: whether parts are within the limits
+#![tactic(auto)]
+
+pub mod exceptions;
+pub mod fits;
+pub mod limits;
+pub mod numbers;
+mod numeral;
+pub mod parts;
+pub mod pg_parts;
+pub mod plain;
+pub mod pools;
+pub mod profile;
+
+pub use exceptions::{EntryPart, exceptions_fit, pg_fits};
+pub use numeral::number;
+pub use parts::{
+    BucketPart, ChoosePart, CrushParts, ExceptionPart, GrowPart, ItemPart, MapParts, OsdPart,
+    PairPart, PoolPart, RulePart, StepPart,
+};
+pub use pg_parts::PgParts;
+pub use profile::Profile;

@@ -1,0 +1,8 @@
+pub mod Whole
+pub mod Narrowed
+pub mod Judged
+pub mod CrushFits
+pub mod CrushWith
+pub mod GroupTexts
+mod Shorts
+pub mod Totals

@@ -1,0 +1,10 @@
+pub mod Exceptions
+pub mod GroupText
+pub mod Sets
+pub mod Shorts
+pub mod Pools
+pub mod Growth
+pub mod Values
+pub mod CrushMaps
+pub mod Ordered
+pub mod Incrementals

@@ -1,0 +1,92 @@
+//! The exceptions that parts within their limits stand for.
+
+ghost use Rattle.std.specs.Prelude.{◌≡◌, ◌≤◌, true, map, length, IfOk};
+ghost use Rattle.std.specs.List.{list_all};
+ghost use Rattle.mapparts.specs.Parts.{exception_fits, exceptions_fit};
+ghost use Rattle.maptypes.specs.Values.{exception_of};
+
+use crate::exception::{Exception, Pair};
+use crate::pg::Pg;
+use crate::short::{Blank, Short};
+use mapparts::numbers::word;
+use mapparts::{EntryPart, ExceptionPart, PairPart};
+use refusal::Memory;
+use std::alloc::Global;
+
+/// A part that stands for an entry of an exception.
+pub trait StandsFor<E>: EntryPart {
+    ghost use Rattle.std.specs.Prelude.{◌≡◌, true};
+
+    ghost entry_of: { Self → E };
+
+    /// The entry that it stands for.
+    fn entry(&self) -> E
+        requires { Self.within self.now ≡ true }
+        ensures { result ≡ entry_of self.now };
+}
+
+impl StandsFor<u32> for i128 {
+    ghost use Rattle.std.specs.Prelude.{nat_abs};
+
+    ghost entry_of = { nat_abs };
+
+    fn entry(&self) -> u32 {
+        word(*self)
+    }
+}
+
+impl StandsFor<Pair> for PairPart {
+    ghost use Rattle.maptypes.specs.Values.{pair_of};
+
+    ghost entry_of = { pair_of };
+
+    fn entry(&self) -> Pair {
+        Pair {
+            from: word(self.from),
+            to: word(self.to),
+        }
+    }
+}
+
+/// The entries that at most 10 parts within their limits stand for, in their order.
+fn entries_of<E: Blank, P: StandsFor<E>>(parts: &[P]) -> Short<E>
+    requires few { length parts.now ≤ 10 }
+    requires fits { list_all P.within parts.now ≡ true }
+    ensures { result ≡ map P.entry_of parts.now }
+{
+    let mut entries = Short::new();
+    for part in parts {
+        entries.push(part.entry());
+    }
+    entries
+}
+
+/// The exception that a part within its limits stands for.
+fn exception_of<E: Blank, P: StandsFor<E>>(part: &ExceptionPart<P>) -> Exception<E>
+    requires { exception_fits P.within part.now ≡ true }
+    ensures { result ≡ exception_of P.entry_of part.now }
+{
+    Exception {
+        pg: Pg::of_parts(&part.pg),
+        entries: entries_of(&part.entries),
+    }
+}
+
+/// The exceptions that parts within their limits stand for, in their order.
+///
+/// # Errors
+///
+/// `Memory` (30) where there is no memory for them.
+pub fn exceptions_of<E: Blank, P: StandsFor<E>>(
+    alloc: Global,
+    parts: &[ExceptionPart<P>],
+) -> Result<Vec<Exception<E>>, Memory>
+    requires { exceptions_fit P.within parts.now ≡ true }
+    ensures { IfOk result (λ es. es.items ≡ map (exception_of P.entry_of) parts.now) }
+{
+    let mut exceptions = Vec::with_capacity(alloc, parts.len())?;
+    for part in parts {
+        exceptions.push(exception_of(part))?;
+    }
+    Ok(exceptions)
+}

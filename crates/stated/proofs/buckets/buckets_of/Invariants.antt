@@ -1,6 +1,0 @@
-use Rattle.std.proofs.Common.{◌≡◌, map, take}
-use Rattle.stated.specs.Parts.{bucket_of}
-use Rattle.stated.proofs.buckets.buckets_of.Given as goal
-
-abbrev pub invariant-loop-part : goal.invariant-loop-part
-invariant-loop-part l = l.buckets.items ≡ map bucket_of (take l.part-index l.parts)

@@ -1,5 +1,0 @@
-use Rattle.std.proofs.Common.{◌≡◌, map, take}
-use Rattle.stated.proofs.entry_part.entries_of.Given as goal
-
-abbrev pub invariant-loop-part : goal.invariant-loop-part
-invariant-loop-part g l = l.entries ≡ map g.P.EntryPart.entry_of (take l.part-index l.parts)
