@@ -9,18 +9,18 @@ use Rattle.std.proofs.lemmas.List.Elements.{All-nil, All-append, All-push, All-w
 use Rattle.std.proofs.lemmas.List.Folds.{list_any_more, list_any-append}
 use Rattle.maptypes.specs.Sets.{is_of, stands}
 use Rattle.balancer.specs.declared.group.Group.{Group}
-use Rattle.balancer.specs.Standing.{row_of, put_in, IsIn, IsKnownAt, AreLonger, AreRowsOf}
+use Rattle.balancer.specs.Standing.{row_of, put_in, HasNumber, IsKnownAt, AreLonger, AreRowsOf}
 
 -- a number that stands in a list does so where it gets longer
-in_more : (n : ℕ) (row more : List ℕ) → IsIn n row → IsIn n (row ++ more)
+in_more : (n : ℕ) (row more : List ℕ) → HasNumber n row → HasNumber n (row ++ more)
 in_more n row more there = list_any-append (λ k. k == n) row more ∙ rw there refl
 
 -- so does one that comes behind
-in_end : (n : ℕ) (row : List ℕ) → IsIn n (row ++ n ∷ [])
+in_end : (n : ℕ) (row : List ℕ) → HasNumber n (row ++ n ∷ [])
 in_end n row = list_any-append (λ k. k == n) row (n ∷ []) ∙ rw (eq-eqb n n refl) (or-true (list_any (λ k. k == n) row))
 
 -- it does so at a place
-pub place_in : (n : ℕ) (row : List ℕ) → IsIn n row → (k : ℕ) × (k < length row) × (get_or row k n ≡ n)
+pub place_in : (n : ℕ) (row : List ℕ) → HasNumber n row → (k : ℕ) × (k < length row) × (get_or row k n ≡ n)
 place_in n [] there = absurd (false≢true there)
 place_in n (x ∷ xs) there = elim (cases_Bool (eqb x n)) [
   | inl here ↦ (0, omega arith, eqb-true x n here)
@@ -61,7 +61,7 @@ longer_put n osd before rows longer = record { many = length-set rows osd (row_o
     ]
 
 -- what is known stays known
-known_longer : (n k osd : ℕ) (before after : List (List ℕ)) → AreLonger n before after → IsIn k (row_of before osd) → IsIn k (row_of after osd)
+known_longer : (n k osd : ℕ) (before after : List (List ℕ)) → AreLonger n before after → HasNumber k (row_of before osd) → HasNumber k (row_of after osd)
 known_longer n k osd before after longer there = let (more, is, all) = longer.each osd in rw is (in_more k (row_of before osd) more there)
 
 -- at one place more there is no OSD
@@ -86,7 +86,7 @@ known_put n osd rows places i d inside here known = λ other below stood.
       | inr not ↦
           let same : osd ≡ other = eqb-true osd other (rw not at both) in
           let at_end : row_of (put_in rows osd n) osd ≡ row_of rows osd ++ n ∷ [] = get_or-set_same rows osd (row_of rows osd ++ n ∷ []) [] (rw same room) in
-          subst (λ o. IsIn n (row_of (put_in rows osd n) o)) same (rw at_end (in_end n (row_of rows osd)))
+          subst (λ o. HasNumber n (row_of (put_in rows osd n) o)) same (rw at_end (in_end n (row_of rows osd)))
     ]
 
 -- ---- the groups that stand on each OSD
@@ -116,7 +116,7 @@ rows_more gs i g before after rows inside at longer known = record { there = the
         (All-weaker (λ n. n < length (take i gs)) (λ n. n < length (take (i + 1) gs)) (λ n low. omega (arith, low, long, longer_by)) (row_of before osd) (rows.there osd))
         (All-weaker (λ n. n ≡ i) (λ n. n < length (take (i + 1) gs)) (λ n same. omega (arith, same, longer_by)) more all))
 
-    each : (osd n : ℕ) (h : Group) → osd < length after → n < length (take (i + 1) gs) → get_or (take (i + 1) gs) n h ≡ h → stands osd h.places ≡ true → IsIn n (row_of after osd)
+    each : (osd n : ℕ) (h : Group) → osd < length after → n < length (take (i + 1) gs) → get_or (take (i + 1) gs) n h ≡ h → stands osd h.places ≡ true → HasNumber n (row_of after osd)
     each osd n h below low is stood = elim (cases_lt n i) [
       | inl earlier ↦
           let was : get_or (take i gs) n h ≡ h = get_or-take i gs n h earlier ∙ sym (get_or-take (i + 1) gs n h (omega (arith, earlier))) ∙ is in

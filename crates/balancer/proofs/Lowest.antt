@@ -15,7 +15,7 @@ use Rattle.keylist.proofs.Counts.{count_by-cons}
 use Rattle.balancer.specs.declared.group.Group.{Group}
 use Rattle.balancer.specs.Boards.{may_go}
 use Rattle.balancer.specs.Leaving.{may_leave}
-use Rattle.balancer.specs.Standing.{row_of, sooner, IsIn, AreRowsOf}
+use Rattle.balancer.specs.Standing.{row_of, sooner, HasNumber, AreRowsOf}
 use Rattle.balancer.proofs.Closed.{goer_leaves}
 use Rattle.balancer.proofs.Listing.{place_in}
 use Rattle.balancer.proofs.Marking.{none_found}
@@ -99,7 +99,7 @@ lowest_more q gs row i n h lowest is inside at there is_h = by_lowest lowest is
 
 -- the lowest of all that pass, where those that pass are all among the numbers
 pub lowest_is : (q : Group → Bool) (gs : List Group) (row : List ℕ) (lowest : Option ℕ) → IsLowest q gs row lowest
-    → ((n : ℕ) (g : Group) → n < length gs → get_or gs n g ≡ g → q g ≡ true → IsIn n row) → lowest ≡ position q gs
+    → ((n : ℕ) (g : Group) → n < length gs → get_or gs n g ≡ g → q g ≡ true → HasNumber n row) → lowest ≡ position q gs
 lowest_is q gs row lowest is covers = by_position (position q gs) refl lowest is
   where
     by_position : (o : Option ℕ) → position q gs ≡ o → (l : Option ℕ) → IsLowest q gs row l → l ≡ o

@@ -20,7 +20,7 @@ use Rattle.std.specs.List.{count_by}
 use Rattle.osdmap.specs.Placement.{mapped_set}
 use Rattle.balancer.specs.Greedy.{gap, is_good, beats, after_moves}
 use Rattle.balancer.specs.Boards.{IsGood, IsReached, CoversPair, CoversFrom, group_at, may_go}
-use Rattle.balancer.specs.Reaches.{bound_of, IsBound, AreBounds, reach_of}
+use Rattle.balancer.specs.Widths.{bound_of, IsBound, AreBounds, best_gap}
 use Rattle.balancer.proofs.Deviating.{pool_now, candidate_now, total_now, beside_now, goes_now}
 use Rattle.balancer.proofs.Allowing.{once_stands, good_candidates, good_wide, good_goes, good_from}
 use Rattle.balancer.proofs.Marking.{stays_where_not}
@@ -94,10 +94,10 @@ module _ (m : ClusterMap) (p : PoolFacts) where
       first false b e = refl
 
   -- how far the best move so far goes is known of an OSD from which it covers all
-  pub covered_bound : (osds : List ℕ) (from : ℕ) (best : Option Move) → ((to : ℕ) → is_candidate m p to ≡ true → Contains osds to) → CoversFrom m p best from osds → IsBound m p from (reach_of m p best)
+  pub covered_bound : (osds : List ℕ) (from : ℕ) (best : Option Move) → ((to : ℕ) → is_candidate m p to ≡ true → Contains osds to) → CoversFrom m p best from osds → IsBound m p from (best_gap m p best)
   covered_bound osds from best in_osds covers to g below good = by_best best (All-contains (λ x. CoversPair m p best from x) osds to covers (in_osds to (good_candidates m p (move_of from to g) good).1))
     where
-      by_best : (b : Option Move) → CoversPair m p b from to → int_lt (reach_of m p b) (gap m p from to) ≡ false
+      by_best : (b : Option Move) → CoversPair m p b from to → int_lt (best_gap m p b) (gap m p from to) ≡ false
       by_best None pair = absurd (false≢true (sym (pair.each g below) ∙ good))
       by_best (Some v) pair = no_further (move_of from to g) v (pair.each g below good)
 

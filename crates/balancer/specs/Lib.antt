@@ -8,4 +8,4 @@ pub mod Leaving
 pub mod Standing
 pub mod Marks
 pub mod Reached
-pub mod Reaches
+pub mod Widths

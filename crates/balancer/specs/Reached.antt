@@ -7,7 +7,7 @@ use Rattle.balancer.specs.Shares.{is_candidate, candidate_osds, deviation}
 use Rattle.balancer.specs.Greedy.{after_moves, gap}
 use Rattle.balancer.specs.Boards.{IsOrder}
 use Rattle.balancer.specs.Marks.{IsMarked}
-use Rattle.balancer.specs.Reaches.{bound_of}
+use Rattle.balancer.specs.Widths.{bound_of}
 
 -- the map that the plan goes by
 abbrev pub cluster : Board → ClusterMap

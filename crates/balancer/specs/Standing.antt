@@ -9,8 +9,8 @@ abbrev pub row_of : List (List ℕ) → ℕ → List ℕ
 row_of rows osd = slice_index_or rows osd []
 
 -- a number stands in a list
-abbrev pub IsIn : ℕ → List ℕ → Type 0
-IsIn n row = list_any (λ k. k == n) row ≡ true
+abbrev pub HasNumber : ℕ → List ℕ → Type 0
+HasNumber n row = list_any (λ k. k == n) row ≡ true
 
 -- a number comes behind those of an OSD
 abbrev pub put_in : List (List ℕ) → ℕ → ℕ → List (List ℕ)
@@ -23,13 +23,13 @@ pub record AreLonger (n : ℕ) (before after : List (List ℕ)) : Type 0 where
 
 -- a number is known of each OSD at some places
 abbrev pub IsKnownAt : ℕ → List (List ℕ) → (ℕ → Type 0) → Type 0
-IsKnownAt n rows Stands = (osd : ℕ) → osd < length rows → Stands osd → IsIn n (row_of rows osd)
+IsKnownAt n rows Stands = (osd : ℕ) → osd < length rows → Stands osd → HasNumber n (row_of rows osd)
 
 -- each group that stands on an OSD is known there, and what is known are groups
 pub record AreRowsOf (gs : List Group) (rows : List (List ℕ)) : Type 0 where
   pub there : (osd : ℕ) → All (λ n. n < length gs) (row_of rows osd)
   pub each : (osd n : ℕ) (g : Group) → osd < length rows → n < length gs → slice_index_or gs n g ≡ g
-      → stands osd g.places ≡ true → IsIn n (row_of rows osd)
+      → stands osd g.places ≡ true → HasNumber n (row_of rows osd)
 
 -- ---- the lowest group that passes a test
 

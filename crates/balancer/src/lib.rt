@@ -11,7 +11,7 @@ pub mod limits;
 mod marks;
 pub mod moves;
 mod plans;
-mod reaches;
+mod widths;
 mod search;
 mod shares;
 mod standing;

@@ -9,7 +9,7 @@ use crate::group::Group;
 use crate::leaving::may_leave;
 use crate::marks::Marks;
 use crate::moves::Move;
-use crate::reaches::Reaches;
+use crate::widths::Widths;
 use refusal::Memory;
 use std::alloc::Global;
 
@@ -42,7 +42,7 @@ impl Board<'_> {
     ghost use Rattle.balancer.specs.declared.group.Group.{Group};
     ghost use Rattle.balancer.specs.Marks.{is_shut, NoneGoes, IsLookedAt};
     ghost use Rattle.maptypes.specs.Sets.{stands};
-    ghost use Rattle.balancer.specs.Reaches.{bound_of, IsBound, AreBounds, reach_of};
+    ghost use Rattle.balancer.specs.Widths.{bound_of, IsBound, AreBounds, best_gap};
     ghost use Rattle.balancer.specs.Boards.{may_go, is_wanted, IsGood, IsBest, IsBetter, CoversPair, CoversFrom};
 
     /// The deviation of an OSD.
@@ -272,9 +272,9 @@ impl Board<'_> {
     }
 
     /// How far the best move so far goes: by how much the deviations of its OSDs differ.
-    fn reach(&self, best: Option<Move>) -> i128
+    fn best_gap(&self, best: Option<Move>) -> i128
         requires { IfSome best (λ v. IsGood (reached self.now) self.now.frame.pool v) }
-        ensures { result ≡ reach_of (reached self.now) self.now.frame.pool best }
+        ensures { result ≡ best_gap (reached self.now) self.now.frame.pool best }
     {
         match best {
             Some(best) => self.gap(best.from, best.to),
@@ -303,37 +303,37 @@ impl Board<'_> {
     pub fn best(
         &self,
         marks: &mut Marks,
-        reaches: &mut Reaches,
+        widths: &mut Widths,
         order: &mut Vec<(i128, u32)>,
     ) -> Result<Option<Move>, Memory>
         requires marks { IsMarkedOn self.now marks.old }
-        requires reaches { AreBounds (reached self.now) self.now.frame.pool reaches.old }
+        requires widths { AreBounds (reached self.now) self.now.frame.pool widths.old }
         requires order { AreAll self.now order.old.items }
         ensures order { OnOk result (AreAll self.now order.new.items) }
         ensures best { IfOk result (λ best. MatchOption best (good_moves (reached self.now) self.now.frame.pool ≡ [])
             (λ v. IsBest (reached self.now) self.now.frame.pool v)) }
         ensures marks { OnOk result (IsMarkedOn self.now marks.new) }
-        ensures reaches { OnOk result (AreBounds (reached self.now) self.now.frame.pool reaches.new) }
+        ensures widths { OnOk result (AreBounds (reached self.now) self.now.frame.pool widths.new) }
     {
         self.order(order)?;
         let mut best = None;
         for from in &self.frame.osds {
-            if self.is_passed(*from, best, reaches.at(*from)) {
+            if self.is_passed(*from, best, widths.at(*from)) {
                 continue;
             }
             best = self.better_from(*from, order, best, marks);
-            reaches.set(*from, Some(self.reach(best)));
+            widths.set(*from, Some(self.best_gap(best)));
         }
         Ok(best)
     }
 
     /// Moves to an OSD that has become emptier may go further than was known.
-    fn widen(&self, emptier: u32, reaches: &mut Reaches)
+    fn widen(&self, emptier: u32, widths: &mut Widths)
         requires { takes_part self.now emptier ≡ true }
-        ensures { AreWidened self.now emptier reaches.old reaches.new }
+        ensures { AreWidened self.now emptier widths.old widths.new }
     {
         for from in &self.frame.osds {
-            reaches.widen(*from, self.gap(*from, emptier));
+            widths.widen(*from, self.gap(*from, emptier));
         }
     }
 
@@ -345,6 +345,7 @@ impl Board<'_> {
         let Some(from) = place else {
             return;
         };
+        // The domain where the group was last found not to go. An OSD without a domain takes no group.
         let mut blocked = None;
         for to in 0..self.frame.map.max_osd() {
             if !marks.is_shut(from, to) {
@@ -376,23 +377,23 @@ impl Board<'_> {
 
     /// Makes a good move, and looks again at what was known of the OSDs on which its group then stands; or `Memory`
     /// (30).
-    fn go(&mut self, step: Move, marks: &mut Marks, reaches: &mut Reaches) -> Result<(), Memory>
+    fn go(&mut self, step: Move, marks: &mut Marks, widths: &mut Widths) -> Result<(), Memory>
         requires good { IsGood (reached self.old)
             self.old.frame.pool step }
         requires marks { IsMarkedOn self.old marks.old }
-        requires reaches { AreBounds (reached self.old) self.old.frame.pool reaches.old }
+        requires widths { AreBounds (reached self.old) self.old.frame.pool widths.old }
         ensures moves { OnOk result (self.new.moves.items ≡ self.old.moves.items ++ step ∷ []) }
         ensures map { cluster self.new ≡ cluster self.old }
         ensures pool { self.new.frame.pool ≡ self.old.frame.pool }
         ensures marks { OnOk result
             (IsMarkedOn self.new marks.new) }
-        ensures reaches { OnOk result (AreBounds (reached self.new) self.new.frame.pool reaches.new) }
+        ensures widths { OnOk result (AreBounds (reached self.new) self.new.frame.pool widths.new) }
     {
         self.make(step)?;
-        self.widen(step.from, reaches);
+        self.widen(step.from, widths);
         if let Some(group) = self.groups.get(step.group as usize) {
             self.look_again_at(group, marks);
-            reaches.forget(group.places.as_slice());
+            widths.forget(group.places.as_slice());
         }
         Ok(())
     }
@@ -409,11 +410,11 @@ impl Board<'_> {
         ensures pool { self.new.frame.pool ≡ self.old.frame.pool }
     {
         let mut marks = Marks::new(alloc, self.frame.map.max_osd())?;
-        let mut reaches = Reaches::new(alloc, self.frame.map.max_osd())?;
+        let mut widths = Widths::new(alloc, self.frame.map.max_osd())?;
         let mut order = self.listed(alloc)?;
         for _count in 0..limit {
-            match self.best(&mut marks, &mut reaches, &mut order)? {
-                Some(step) => self.go(step, &mut marks, &mut reaches)?,
+            match self.best(&mut marks, &mut widths, &mut order)? {
+                Some(step) => self.go(step, &mut marks, &mut widths)?,
                 None => return Ok(()),
             }
         }

@@ -10,12 +10,12 @@ use Rattle.mapparts.specs.Profiles.{is_stock}
 use Rattle.partjson.specs.Profiles.{map_in}
 
 -- what is wrong with parts by the limits of a profile
-abbrev pub fault_in : Profile → MapParts → Option Refusal
-fault_in profile p = if is_stock profile then map_fault p else plain_map_fault p
+abbrev pub map_fault_in : Profile → MapParts → Option Refusal
+map_fault_in profile p = if is_stock profile then map_fault p else plain_map_fault p
 
 -- a text that states no map, or a map with a fault
 abbrev pub fault_of_stated : Profile → Result MapParts Refusal → Option Refusal
-fault_of_stated profile (Ok parts) = fault_in profile parts
+fault_of_stated profile (Ok parts) = map_fault_in profile parts
 fault_of_stated profile (Err refusal) = Some refusal
 
 -- why a text is refused as a map, by the kinds of buckets that it may state and the limits

@@ -7,7 +7,7 @@ ghost use Rattle.refusal.specs.Outcomes.{Makes};
 ghost use Rattle.osdmap.specs.PartsOf.{parts_of};
 ghost use Rattle.jsonstream.specs.Json.{stated_by};
 ghost use Rattle.partjson.specs.StatedMaps.{stated_map};
-ghost use Rattle.mapjson.specs.MapTexts.{fault_in, map_text_fault, StatesMap};
+ghost use Rattle.mapjson.specs.MapTexts.{map_fault_in, map_text_fault, StatesMap};
 ghost use Rattle.osdmap.specs.Stated.{IsStated};
 ghost use Rattle.mapjson.specs.ChangeTexts.{change_text_fault, StatesChange};
 ghost use Rattle.mapjson.specs.Written.{written};
@@ -35,7 +35,7 @@ pub fn read_map(alloc: Global, bytes: &[u8], profile: Profile) -> Result<OsdMap,
 
 /// The map that parts state by the limits of a profile.
 fn map_of(alloc: Global, parts: MapParts, profile: Profile) -> Result<OsdMap, Refusal>
-    ensures { Makes result (fault_in profile parts) (λ m. IsStated parts m.map) }
+    ensures { Makes result (map_fault_in profile parts) (λ m. IsStated parts m.map) }
 {
     if profile.is_stock() {
         OsdMap::stock(alloc, parts)

@@ -13,7 +13,7 @@ use Rattle.jsonstream.specs.Json.{stated_by}
 use Rattle.mapparts.specs.declared.profile.Profile.{Profile}
 use Rattle.mapparts.specs.declared.profile.Profile.TheVariants.{Plain, Stock}
 use Rattle.partjson.specs.Profiles.{map_in}
-use Rattle.mapjson.specs.MapTexts.{fault_in, fault_of_stated, map_text_fault, StatesMap}
+use Rattle.mapjson.specs.MapTexts.{map_fault_in, fault_of_stated, map_text_fault, StatesMap}
 use Rattle.monitor.specs.Opening.{can_open}
 
 -- parts with no fault by the limits of plain clusters have none
@@ -25,7 +25,7 @@ no_plain_fault p none = go (map_is_plain p) none
     go false none = absurd (cc)
 
 -- so have parts with none by those of a profile
-no_fault : (profile : Profile) (p : MapParts) → fault_in profile p ≡ None → map_fault p ≡ None
+no_fault : (profile : Profile) (p : MapParts) → map_fault_in profile p ≡ None → map_fault p ≡ None
 no_fault Plain p none = no_plain_fault p none
 no_fault Stock p none = none
 

@@ -8,8 +8,8 @@ is_refused bytes (Ok n) = n == 0 && not (length bytes == 0)
 is_refused bytes (Err failed) = true
 
 -- a write puts the first bytes, as many as it answers, behind those before; a failed one none
-abbrev pub Puts : List ℕ → List ℕ → List ℕ → Result ℕ WriteFailed → Type 0
-Puts before bytes after r =
+abbrev pub PutsFirst : List ℕ → List ℕ → List ℕ → Result ℕ WriteFailed → Type 0
+PutsFirst before bytes after r =
     MatchResult r (λ n. (n ≤ length bytes) × (after ≡ before ++ take n bytes)) (λ _. after ≡ before)
 
 -- all the bytes but the rest are put behind those before

@@ -13,7 +13,7 @@ pub struct WriteFailed;
 /// Takes the bytes of answers.
 pub trait Sink {
     ghost use Rattle.std.specs.Prelude.{◌≡◌, ℕ, List, Bool, true, false, OnOk, is_err};
-    ghost use Rattle.session.specs.Sinks.{is_refused, Puts};
+    ghost use Rattle.session.specs.Sinks.{is_refused, PutsFirst};
 
     /// The bytes put so far.
     ghost written: { Self → List ℕ };
@@ -31,7 +31,7 @@ pub trait Sink {
     /// other may follow it.
     fn write(&mut self, bytes: &[u8]) -> Result<usize, WriteFailed>
         requires { has_failed self.old ≡ false }
-        ensures puts { Puts (written self.old) bytes.now (written self.new) result }
+        ensures puts { PutsFirst (written self.old) bytes.now (written self.new) result }
         ensures fails { has_failed self.new ≡ is_refused bytes.now result }
         ensures waits { waits self.new ≡ waits self.old };
 

@@ -12,7 +12,7 @@ pub is_passed-requires-clause-bound : goal.is_passed-requires-clause-bound
 is_passed-requires-clause-bound c =
     let b = c.args.self.now in
     let n = after_moves b.frame.map.now.map b.frame.pool b.moves.items in
-    known_bound n b.frame.pool c.loop-from.reaches _ c.at.result c.loop-from.invariant.reaches c.at.ensures
+    known_bound n b.frame.pool c.loop-from.widths _ c.at.result c.loop-from.invariant.widths c.at.ensures
 
 pub better_from-best-requires-clause-from : goal.better_from-best-requires-clause-from
 better_from-best-requires-clause-from c =
@@ -29,7 +29,7 @@ loop-from-preserved-then-is_passed c =
       good = c.loop-from.invariant.good;
       covers = all_more_from n b.frame.pool c.loop-from.best c.loop-from.best b.frame.osds.items b.frame.osds.items c.loop-from.from-index inside (same_best n b.frame.pool c.loop-from.best c.loop-from.invariant.good) c.loop-from.invariant.covers (rw c.deref-from-items.ensures.value at c.is_passed.ensures c.if-is_passed.true);
       marks = c.loop-from.invariant.marks;
-      reaches = c.loop-from.invariant.reaches;
+      widths = c.loop-from.invariant.widths;
     }
 
 pub loop-from-preserved : goal.loop-from-preserved
@@ -38,12 +38,12 @@ loop-from-preserved c =
     let n = after_moves b.frame.map.now.map b.frame.pool b.moves.items in
     let inside : c.loop-from.from-index < length b.frame.osds.items = rw c.deref-from-items.ensures.value at c.loop-from-test.true in
     let covers = c.better_from-best.ensures.covers in
-    let fits : SFits w128 c.reach.result = search rules in
+    let fits : SFits w128 c.best_gap.result = search rules in
     record {
       good = c.better_from-best.ensures.better.good;
       covers = all_more_from n b.frame.pool c.loop-from.best c.better_from-best.result b.frame.osds.items b.frame.osds.items c.loop-from.from-index inside c.better_from-best.ensures.better c.loop-from.invariant.covers (rw c.deref-from-items.ensures.value at covers);
       marks = c.better_from-best.ensures.marks;
-      reaches = rw (c.set.ensures, to_z-of_z w128 c.reach.result fits, c.reach.ensures) (bounds_more n b.frame.pool c.loop-from.reaches _ _ (covered_bound n b.frame.pool b.frame.osds.items _ c.better_from-best.result (osd_in b.frame.map.now.map b.frame.pool b.moves.items b.frame.osds.items b.frame.osds_are) covers) c.loop-from.invariant.reaches);
+      widths = rw (c.set.ensures, to_z-of_z w128 c.best_gap.result fits, c.best_gap.ensures) (bounds_more n b.frame.pool c.loop-from.widths _ _ (covered_bound n b.frame.pool b.frame.osds.items _ c.better_from-best.result (osd_in b.frame.map.now.map b.frame.pool b.moves.items b.frame.osds.items b.frame.osds_are) covers) c.loop-from.invariant.widths);
     }
 
 pub returns-clause-best : goal.returns-clause-best

@@ -3,7 +3,7 @@ use Rattle.std.specs.Prelude.{IfSome}
 use Rattle.balancer.specs.Greedy.{after_moves}
 use Rattle.balancer.specs.Boards.{IsGood, CoversAll}
 use Rattle.balancer.specs.Marks.{IsMarked}
-use Rattle.balancer.specs.Reaches.{AreBounds}
+use Rattle.balancer.specs.Widths.{AreBounds}
 use Rattle.balancer.proofs.board.Board.best.Given as goal
 
 abbrev pub invariant-loop-from : goal.invariant-loop-from
@@ -11,5 +11,5 @@ invariant-loop-from l = record {
   good : IfSome l.best (λ v. IsGood (after_moves l.self.frame.map.now.map l.self.frame.pool l.self.moves.items) l.self.frame.pool v);
   covers : CoversAll (after_moves l.self.frame.map.now.map l.self.frame.pool l.self.moves.items) l.self.frame.pool l.best (take l.from-index l.self.frame.osds.items) l.self.frame.osds.items;
   marks : IsMarked l.self.frame.map.now.map l.self.frame.pool l.self.groups.items l.marks;
-  reaches : AreBounds (after_moves l.self.frame.map.now.map l.self.frame.pool l.self.moves.items) l.self.frame.pool l.reaches;
+  widths : AreBounds (after_moves l.self.frame.map.now.map l.self.frame.pool l.self.moves.items) l.self.frame.pool l.widths;
 }

@@ -25,8 +25,8 @@ widen-requires c =
     let b = c.args.self.now in
     rw (c.make.ensures.map, c.make.ensures.pool) (good_ends b.frame.map.now.map b.frame.pool b.moves.items c.args.step c.requires.good).0
 
-pub returns-in-Some-clause-reaches : goal.returns-in-Some-clause-reaches
-returns-in-Some-clause-reaches c =
+pub returns-in-Some-clause-widths : goal.returns-in-Some-clause-widths
+returns-in-Some-clause-widths c =
     let b = c.args.self.now in
     let m = b.frame.map.now.map in
     let p = b.frame.pool in
@@ -39,7 +39,7 @@ returns-in-Some-clause-reaches c =
     in
     let places : c.as_slice.result.now ≡ (group_at next p v.group).places = c.as_slice.ensures.value ∙ ap (λ (g : Group). g.places) kept in
     rw (c.make.ensures.map, c.make.ensures.pool, c.in_ok-make.ensures.moves)
-    (bounds_moved m p b.moves.items v c.requires.good b.reached b.frame.pool_is c.args.reaches.now c.forget.new.self c.requires.reaches
+    (bounds_moved m p b.moves.items v c.requires.good b.reached b.frame.pool_is c.args.widths.now c.forget.new.self c.requires.widths
     (λ f bound known.
     let left = c.forget.ensures f bound known in
     let wide = c.widen.ensures f bound left.0 in

@@ -20,7 +20,7 @@ loop-count-preserved c =
       map = c.go.ensures.map ∙ i.map;
       pool = c.go.ensures.pool ∙ i.pool;
       marks = c.in_ok-go-in-Some.ensures.marks;
-      reaches = c.in_ok-go-in-Some.ensures.reaches;
+      widths = c.in_ok-go-in-Some.ensures.widths;
     }
 
 pub returns-clause-moves : goal.returns-clause-moves

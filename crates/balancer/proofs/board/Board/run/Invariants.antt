@@ -3,7 +3,7 @@ use Rattle.std.specs.List.Sorted.{IsPermutation}
 use Rattle.balancer.specs.Shares.{candidate_osds}
 use Rattle.balancer.specs.Greedy.{after_moves}
 use Rattle.balancer.specs.Marks.{IsMarked}
-use Rattle.balancer.specs.Reaches.{AreBounds}
+use Rattle.balancer.specs.Widths.{AreBounds}
 use Rattle.balancer.proofs.Running.{IsUnderWay}
 use Rattle.balancer.proofs.board.Board.run.Given as goal
 
@@ -14,5 +14,5 @@ invariant-loop-count l = record {
   map : l.self.frame.map.now.map ≡ l.initial.self.frame.map.now.map;
   pool : l.self.frame.pool ≡ l.initial.self.frame.pool;
   marks : IsMarked l.self.frame.map.now.map l.self.frame.pool l.self.groups.items l.marks;
-  reaches : AreBounds (after_moves l.self.frame.map.now.map l.self.frame.pool l.self.moves.items) l.self.frame.pool l.reaches;
+  widths : AreBounds (after_moves l.self.frame.map.now.map l.self.frame.pool l.self.moves.items) l.self.frame.pool l.widths;
 }

@@ -6,7 +6,7 @@ use Rattle.std.specs.Prelude.{int_lt}
 use Rattle.std.specs.List.{Contains}
 use Rattle.std.proofs.lemmas.Bool.{cases_lt}
 use Rattle.std.proofs.lemmas.List.{get_or_default}
-use Rattle.balancer.specs.Reaches.{bound_of}
+use Rattle.balancer.specs.Widths.{bound_of}
 use Rattle.balancer.specs.Greedy.{after_moves, gap}
 use Rattle.balancer.proofs.Searching.{candidate_at}
 use Rattle.balancer.proofs.Choosing.{candidate_in}
@@ -53,5 +53,5 @@ returns c = λ f bound known. (
       let at = subst (λ (xs : List ℕ). Contains xs f) (sym b.frame.osds_are) (candidate_in b.frame.map.now.map b.frame.pool f is) in
       let f_is : get_or osds at.0 0 ≡ f = get_or_default osds at.0 0 f at.1 ∙ at.2 in
       subst (λ x. int_lt bound (gap n b.frame.pool x c.args.emptier) ≡ false) f_is
-      (c.loop-from.invariant.1 at.0 bound (omega (arith, past, at.1)) (subst (λ x. bound_of c.loop-from.reaches x ≡ Some bound) (sym f_is) known)),
+      (c.loop-from.invariant.1 at.0 bound (omega (arith, past, at.1)) (subst (λ x. bound_of c.loop-from.widths x ≡ Some bound) (sym f_is) known)),
 )

@@ -1,7 +1,7 @@
 use Rattle.std.proofs.Common.{◌∙◌, refl, None}
 use Rattle.std.proofs.lemmas.List.Folds.{list_any_more}
 use Rattle.maptypes.specs.Sets.{is_of}
-use Rattle.balancer.proofs.reaches.Reaches.forget.Goals as goal
+use Rattle.balancer.proofs.widths.Widths.forget.Goals as goal
 
 pub loop-place-preserved : goal.loop-place-preserved
 loop-place-preserved c = λ f b known.

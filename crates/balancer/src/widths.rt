@@ -2,7 +2,7 @@
 
 ghost use Rattle.std.specs.Prelude.{◌≡◌, ℕ, ℤ, int_lt, false, Some, None, replicate, slice_set, IfOk};
 ghost use Rattle.maptypes.specs.Sets.{is_of, stands};
-ghost use Rattle.balancer.specs.Reaches.{bound_of};
+ghost use Rattle.balancer.specs.Widths.{bound_of};
 
 use refusal::Memory;
 use std::alloc::Global;
@@ -11,26 +11,26 @@ use std::marker::Model;
 /// For each OSD that a group would leave, by number: by how much the deviations of the two OSDs of a good move differ
 /// at most, where that is known.
 #[derive(Drop)]
-pub(crate) struct Reaches {
+pub(crate) struct Widths {
     bounds: Vec<Option<i128>>,
 }
 
-impl Model for Reaches {
+impl Model for Widths {
     ghost use Rattle.std.specs.Prelude.{List, Option, ℤ};
 
     ghost Value = { List (Option ℤ) };
 
-    ghost view = { λ reaches. reaches.bounds.items };
+    ghost view = { λ widths. widths.bounds.items };
 }
 
-impl Reaches {
+impl Widths {
     /// Of so many OSDs nothing is known; or `Memory` (30).
     pub fn new(alloc: Global, count: u32) -> Result<Self, Memory>
-        ensures { IfOk result (λ reaches. reaches ≡ replicate count None) }
+        ensures { IfOk result (λ widths. widths ≡ replicate count None) }
     {
         let mut bounds = Vec::new(alloc);
         bounds.resize(count as usize, None)?;
-        Ok(Reaches { bounds })
+        Ok(Widths { bounds })
     }
 
     /// What is known of an OSD.

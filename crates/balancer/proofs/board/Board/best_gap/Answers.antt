@@ -4,7 +4,7 @@ use mir.Val.{SFits}
 use Rattle.std.proofs.lemmas.Int.{to_z-of_z}
 use Rattle.balancer.proofs.Deviating.{total_now}
 use Rattle.balancer.proofs.Searching.{best_ends}
-use Rattle.balancer.proofs.board.Board.reach.Goals as goal
+use Rattle.balancer.proofs.board.Board.best_gap.Goals as goal
 
 pub gap-requires-clause-from : goal.gap-requires-clause-from
 gap-requires-clause-from c = (best_ends c.args.self.now.frame.map.now.map c.args.self.now.frame.pool c.args.self.now.moves.items c.args.best c.in-Some.best c.requires c.in-Some.is).0

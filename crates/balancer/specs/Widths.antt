@@ -23,6 +23,6 @@ abbrev pub AreBounds : ClusterMap → PoolFacts → List (Option ℤ) → Type 0
 AreBounds m p bounds = (from : ℕ) (bound : ℤ) → bound_of bounds from ≡ Some bound → IsBound m p from bound
 
 -- how far the best move so far goes; where there is none, how far a move may go that is not good
-abbrev pub reach_of : ClusterMap → PoolFacts → Option Move → ℤ
-reach_of m p None = pos (total_weight m p)
-reach_of m p (Some v) = gap m p v.from v.to
+abbrev pub best_gap : ClusterMap → PoolFacts → Option Move → ℤ
+best_gap m p None = pos (total_weight m p)
+best_gap m p (Some v) = gap m p v.from v.to

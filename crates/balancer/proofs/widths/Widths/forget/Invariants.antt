@@ -1,7 +1,7 @@
 use Rattle.std.proofs.Common.{◌≡◌, ℕ, ℤ, Some, false, take}
 use Rattle.maptypes.specs.Sets.{stands}
-use Rattle.balancer.specs.Reaches.{bound_of}
-use Rattle.balancer.proofs.reaches.Reaches.forget.Given as goal
+use Rattle.balancer.specs.Widths.{bound_of}
+use Rattle.balancer.proofs.widths.Widths.forget.Given as goal
 
 abbrev pub invariant-loop-place : goal.invariant-loop-place
 invariant-loop-place l =
