@@ -1,5 +1,5 @@
 -- Lines of a text that are answered, one after the other, and what is left of it.
-use Rattle.std.specs.Prelude.{◌≡◌, ℕ, false, List, [], ◌∷◌, ◌++◌, ◌+◌, length, All, Option, Some, IfSome}
+use Rattle.std.specs.Prelude.{◌≡◌, ℕ, false, List, [], ◌∷◌, ◌++◌, ◌+◌, ◌≤◌, length, All, Option, Some, IfSome}
 use Rattle.std.specs.Io.KnownBytes.{Keeps, Consumes}
 use Rattle.session.specs.declared.command.Question.{Question}
 use Rattle.session.specs.declared.error.SessionError.{SessionError}
@@ -16,6 +16,19 @@ IsPart text = All (λ c. is_newline c ≡ false) text
 abbrev pub BeginsWith : List ℕ → Question → List ℕ → Type 0
 BeginsWith text question others =
     (line : List ℕ) × IsPart line × (text ≡ line ++ 10 ∷ others) × (command_in line ≡ Some (ask question))
+
+-- a line with no newline asks this
+abbrev pub IsAsking : List ℕ → Question → Type 0
+IsAsking line question = IsPart line × (command_in line ≡ Some (ask question))
+
+-- a text whose first line is this, and what stands behind its newline
+abbrev pub begun_by : List ℕ → List ℕ → List ℕ
+begun_by line others = line ++ 10 ∷ others
+
+-- what is left of a text behind its first line or further on, as lines by these numbers end in it
+abbrev pub IsLeft : ℕ → ℕ → List ℕ → List ℕ → Type 0
+IsLeft number next others rest =
+    (next + length rest ≤ number + (length others + 1)) × (length rest ≤ length others)
 
 -- these lines end in a text, and the rest is left of it, whatever comes behind
 abbrev pub Cuts : List ℕ → List (List ℕ) → List ℕ → Type 0

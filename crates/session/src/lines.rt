@@ -96,10 +96,10 @@ impl<'a, R: Wait, G: Gate> Desk<'a, R, G> {
     ghost use Rattle.std.specs.Prelude.{◌≡◌, ◌≤◌, ◌<◌, ◌+◌, ◌^◌, ◌++◌, ◌∷◌, ℕ, List, true, false, length, None, Some, OnOk, IfOk, IfErr, IfSome};
     ghost use Rattle.monitor.specs.Members.{IsMemberOf};
     ghost use Rattle.monitor.specs.Sharing.{IsSharing};
-    ghost use Rattle.session.specs.Commands.{ask, command_in, lines_in};
-    ghost use Rattle.session.specs.Sessions.{session_at, sees, Puts, IsFollowerOf};
+    ghost use Rattle.session.specs.Commands.{lines_in};
+    ghost use Rattle.session.specs.Sessions.{session_at, sees, asked_in, Puts, IsFollowerOf};
     ghost use Rattle.session.specs.Transcripts.{IsTranscript, TakesLine, StopsFrom};
-    ghost use Rattle.session.specs.Readings.{IsPart, Passes, StopsAt, Halted};
+    ghost use Rattle.session.specs.Readings.{IsPart, IsLeft, IsAsking, begun_by, Passes, StopsAt, Halted};
     ghost use Rattle.session.specs.Ends.{Halts, has_sink_failed};
 
     /// Does the command of a line of the room's number, and puts its answer whole.
@@ -201,23 +201,18 @@ impl<'a, R: Wait, G: Gate> Desk<'a, R, G> {
         requires member { IsMemberOf self.now.monitor.now member.old }
         requires follower { IsFollowerOf self.now.monitor.now room.old.follower }
         requires unfailed { W.has_failed sink.old ≡ false }
-        requires open { (line : ℕ) → G.lets self.now.gate.now line true }
-        requires ready { W.waits sink.old ≡ false }
-        requires line { IsPart asking.line.now }
-        requires asks { command_in asking.line.now ≡ Some (ask asking.question) }
-        requires few { room.old.number + length (asking.line.now ++ 10 ∷ asking.rest.now) < 2 ^ 64 }
+        requires shares { ((line : ℕ) → G.lets self.now.gate.now line true) × (W.waits sink.old ≡ false) }
+        requires asks { IsAsking asking.line.now asking.question }
+        requires few { room.old.number + length (begun_by asking.line.now asking.rest.now) < 2 ^ 64 }
         ensures member { IsMemberOf self.now.monitor.now member.new }
         ensures follower { IsFollowerOf self.now.monitor.now room.new.follower }
-        ensures fewer { IfOk result (λ rest. room.new.number + length rest.now
-            ≤ room.old.number + (length asking.entry.rest.now + 1)) }
-        ensures shorter { IfOk result (λ rest. length rest.now ≤ length asking.entry.rest.now) }
+        ensures left { IfOk result (λ rest. IsLeft room.old.number room.new.number asking.entry.rest.now rest.now) }
         ensures ok { IfOk result (λ rest. Puts (W.written sink.old) (W.written sink.new) (λ put.
-            Passes (session_at self.now G.lets) room.old.number (sees member.old room.old)
-            (asking.entry.line.now ++ 10 ∷ asking.entry.rest.now) put room.new.number (sees member.new room.new)
-            rest.now)) }
+            Passes (session_at self.now G.lets) room.old.number (sees member.old room.old) (asked_in asking.entry) put
+            room.new.number (sees member.new room.new) rest.now)) }
         ensures err { IfErr result (λ error. Puts (W.written sink.old) (W.written sink.new) (λ out.
             Halted (session_at self.now G.lets) error room.old.number (sees member.old room.old)
-            (asking.entry.line.now ++ 10 ∷ asking.entry.rest.now) out (sees member.new room.new))) }
+            (asked_in asking.entry) out (sees member.new room.new))) }
         ensures failed { W.has_failed sink.new ≡ has_sink_failed result }
     {
         let shared = match self.monitor.share(self.rt, member) {
@@ -252,19 +247,17 @@ impl<'a, R: Wait, G: Gate> Desk<'a, R, G> {
         requires follower { IsFollowerOf self.now.monitor.now room.old.follower }
         requires unfailed { W.has_failed sink.old ≡ false }
         requires line { IsPart first.line.now }
-        requires few { room.old.number + length (first.line.now ++ 10 ∷ first.rest.now) < 2 ^ 64 }
+        requires few { room.old.number + length (begun_by first.line.now first.rest.now) < 2 ^ 64 }
         ensures member { IsMemberOf self.now.monitor.now member.new }
         ensures follower { IsFollowerOf self.now.monitor.now room.new.follower }
-        ensures fewer { IfOk result (λ rest. room.new.number + length rest.now
-            ≤ room.old.number + (length first.entry.rest.now + 1)) }
-        ensures shorter { IfOk result (λ rest. length rest.now ≤ length first.entry.rest.now) }
+        ensures left { IfOk result (λ rest. IsLeft room.old.number room.new.number first.entry.rest.now rest.now) }
         ensures ok { IfOk result (λ rest. Puts (W.written sink.old) (W.written sink.new) (λ put.
             Passes (session_at self.now G.lets) room.old.number (sees member.old room.old)
-            (first.entry.line.now ++ 10 ∷ first.entry.rest.now) put room.new.number (sees member.new room.new)
-            rest.now)) }
+            (begun_by first.entry.line.now first.entry.rest.now) put
+            room.new.number (sees member.new room.new) rest.now)) }
         ensures err { IfErr result (λ error. Puts (W.written sink.old) (W.written sink.new) (λ out.
             Halted (session_at self.now G.lets) error room.old.number (sees member.old room.old)
-            (first.entry.line.now ++ 10 ∷ first.entry.rest.now) out (sees member.new room.new))) }
+            (begun_by first.entry.line.now first.entry.rest.now) out (sees member.new room.new))) }
         ensures failed { W.has_failed sink.new ≡ has_sink_failed result }
     {
         if let Some(Command::Ask(question)) = read_command(first.line) {

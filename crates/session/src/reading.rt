@@ -77,9 +77,9 @@ impl<'a, R: Wait, G: Gate> Desk<'a, R, G> {
     ghost use Rattle.monitor.specs.Members.{IsMemberOf};
     ghost use Rattle.session.specs.Commands.{lines_in};
     ghost use Rattle.session.specs.Answers.{Sight};
-    ghost use Rattle.session.specs.Sessions.{session_at, sees, Puts, sight_of, IsFollowerOf};
+    ghost use Rattle.session.specs.Sessions.{session_at, sees, Puts, sight_of, IsFollowerOf, stand, PassesOn, StopsOn};
     ghost use Rattle.session.specs.Transcripts.{TakesLine, IsTranscript, StopsFrom};
-    ghost use Rattle.session.specs.Readings.{IsPart, Passes, StopsAt, Halted, StopsTaking, StopsReading};
+    ghost use Rattle.session.specs.Readings.{IsPart, Passes, StopsAt, Halted, StopsReading};
     ghost use Rattle.session.specs.Ends.{Halts, has_sink_failed};
 
     /// Answers the line that has begun, with its end behind it.
@@ -103,8 +103,7 @@ impl<'a, R: Wait, G: Gate> Desk<'a, R, G> {
             (reading.old.begun.items ++ end.now) answer (sees member.new reading.new.room))) }
         ensures err { IfErr result (λ error. (part : List ℕ)
             × (W.written sink.new ≡ W.written sink.old ++ part)
-            × StopsAt (session_at self.now G.lets) error
-            reading.old.room.number (sees member.old reading.old.room)
+            × StopsAt (session_at self.now G.lets) error reading.old.room.number (sees member.old reading.old.room)
             (reading.old.begun.items ++ end.now) part (sees member.new reading.new.room)) }
         ensures failed { W.has_failed sink.new ≡ has_sink_failed result }
     {
@@ -165,16 +164,12 @@ impl<'a, R: Wait, G: Gate> Desk<'a, R, G> {
         ensures follower { IsFollowerOf self.now.monitor.now reading.new.room.follower }
         ensures begun { OnOk result (IsPart reading.new.begun.items) }
         ensures ended { IfOk result (λ ended. ended ≡ true → IsAtEnd (B.remaining reader.new)) }
-        ensures ok { OnOk result ((text : List ℕ) × (put : List ℕ)
-            × Consumes (B.remaining reader.old) (B.remaining reader.new) text
-            × Passes (session_at self.now G.lets) reading.old.room.number
-            (sees member.old reading.old.room) (reading.old.begun.items ++ text) put
-            reading.new.room.number (sees member.new reading.new.room) reading.new.begun.items
-            × (W.written sink.new ≡ W.written sink.old ++ put)) }
+        ensures ok { OnOk result ((text : List ℕ) × Consumes (B.remaining reader.old) (B.remaining reader.new) text
+            × Puts (W.written sink.old) (W.written sink.new) (λ put. PassesOn (session_at self.now G.lets)
+            (stand member.old reading.old) text put (stand member.new reading.new))) }
         ensures err { IfErr result (λ error. Puts (W.written sink.old) (W.written sink.new) (λ out.
-            StopsTaking (session_at self.now G.lets) (B.remaining reader.old) (B.remaining reader.new) error
-            reading.old.room.number (sees member.old reading.old.room) reading.old.begun.items out
-            (sees member.new reading.new.room))) }
+            StopsOn (session_at self.now G.lets) (B.remaining reader.old) (B.remaining reader.new) error
+            (stand member.old reading.old) out (sees member.new reading.new.room))) }
         ensures failed { W.has_failed sink.new ≡ has_sink_failed result }
     {
         flush(sink)?;

@@ -22,7 +22,7 @@ loop-first-smaller g c =
     let line = c.in-Some.first.line.now in
     let others = c.in-Some.first.rest.now in
     let lens : length c.loop-first.rest.now ≡ length line + suc (length others) = ap length c.in-Some.ensures.1 ∙ length-append line (10 ∷ others) in
-    let less = c.in_ok-rest.ensures.shorter in
+    let less = c.in_ok-rest.ensures.left.1 in
     let smaller : length c.in_ok-rest.rest.now < length c.loop-first.rest.now = omega (arith, lens) in
     smaller
 
@@ -44,7 +44,7 @@ loop-first-preserved g c =
     let (more, passes, on) = c.in_ok-rest.ensures.ok in
     let here : Passes m next between rest more after last end = subst (λ t. Passes m next between t more after last end) (sym c.in-Some.ensures.1) passes in
     let lens : length rest ≡ length line + suc (length others) = ap length c.in-Some.ensures.1 ∙ length-append line (10 ∷ others) in
-    let fewer = c.in_ok-rest.ensures.fewer in (
+    let fewer = c.in_ok-rest.ensures.left.0 in (
       (
         put ++ more,
         passes_more m number next after first between last text put rest more end passed here,

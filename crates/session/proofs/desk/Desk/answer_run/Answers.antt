@@ -20,8 +20,8 @@ returns-in-Err-clause-ok g c =
     let answer = refusal_text c.in-Err.refusal in
     let own = own_same monitor.alone c.args.member.now.pass c.share.new.member.pass answer c.share.ensures.alone in
     let asked = asks_refused monitor.first before.member now.member c.args.asking.question c.in-Err.refusal c.share.ensures.goes_on c.in-Err.ensures.spent.0 in
-    let taken = takes_question monitor.first (length monitor.row.cells) monitor.profile monitor.alone lets number before now line c.args.asking.question answer c.requires.open c.requires.asks asked refl own in
-    (answer, passes_line (session_of monitor lets) number before now line c.args.asking.rest.now answer c.requires.line taken, c.in_ok-put_answer-in-Err.ensures.out)
+    let taken = takes_question monitor.first (length monitor.row.cells) monitor.profile monitor.alone lets number before now line c.args.asking.question answer c.requires.shares.0 c.requires.asks.1 asked refl own in
+    (answer, passes_line (session_of monitor lets) number before now line c.args.asking.rest.now answer c.requires.asks.0 taken, c.in_ok-put_answer-in-Err.ensures.out)
 
 pub returns-in_err-put_answer-in-Err-clause-err : goal.returns-in_err-put_answer-in-Err-clause-err
 returns-in_err-put_answer-in-Err-clause-err g c =
@@ -40,10 +40,10 @@ returns-in_err-put_answer-in-Err-clause-err g c =
     let own = own_same monitor.alone c.args.member.now.pass c.share.new.member.pass answer c.share.ensures.alone in
     let asked = asks_refused monitor.first before.member now.member c.args.asking.question c.in-Err.refusal c.share.ensures.goes_on c.in-Err.ensures.spent.0 in
     let (cut, more, stopped) = cut_line m number before now line answer out after (Err error)
-    (some_line line c.args.asking.question c.requires.asks) (c.requires.open number) (rw c.requires.asks (asked, refl), own) c.in_err-put_answer-in-Err.ensures.out in
+    (some_line line c.args.asking.question c.requires.asks.1) (c.requires.shares.0 number) (rw c.requires.asks.1 (asked, refl), own) c.in_err-put_answer-in-Err.ensures.out in
     handed_on (λ (e : SessionError). (x : List ℕ) × Halted m e number before (line ++ 10 ∷ others) x now × (after ≡ out ++ x))
     c.from_residual.result error c.from_residual.ensures.1
-    (cut, halted_line m error number before now line others cut c.requires.line stopped, more)
+    (cut, halted_line m error number before now line others cut c.requires.asks.0 stopped, more)
 
 pub returns-clause-ok : goal.returns-clause-ok
 returns-clause-ok g c =
@@ -58,7 +58,7 @@ returns-clause-ok g c =
     let answer = line_of reply_text c.answer_of-answer.result in
     let own = own_same monitor.alone c.args.member.now.pass c.share.new.member.pass answer c.share.ensures.alone in
     let asked = asks_from monitor.first before.member now.member c.args.asking.question answer c.share.ensures.goes_on c.answer_of-answer.ensures in
-    let taken = takes_question monitor.first (length monitor.row.cells) monitor.profile monitor.alone lets number before now line c.args.asking.question answer c.requires.open c.requires.asks asked refl own in
+    let taken = takes_question monitor.first (length monitor.row.cells) monitor.profile monitor.alone lets number before now line c.args.asking.question answer c.requires.shares.0 c.requires.asks.1 asked refl own in
     elim c.match-put_answer.branch [
       | in-Ok-put_answer w ↦
           let same = same_sight c.give_back.new.member c.share.new.member w.answer_shared-done.new.room.follower c.args.room.now.follower
@@ -66,7 +66,7 @@ returns-clause-ok g c =
           rw (w.done-is, w.room-is, w.sink-is, same)
           (on_behind m number w.answer_shared-done.new.room.number before now line others answer (g.W.Sink.written c.args.sink.now)
           (g.W.Sink.written c.put_answer-2.new.sink) (g.W.Sink.written w.answer_shared-done.new.sink) w.answer_shared-done.result
-          c.requires.line taken w.in-Ok-put_answer.ensures.out w.answer_shared-done.ensures.ok)
+          c.requires.asks.0 taken w.in-Ok-put_answer.ensures.out w.answer_shared-done.ensures.ok)
       | in-Err-put_answer w ↦ rw w.done-is tt
     ]
 
@@ -83,7 +83,7 @@ returns-clause-err g c =
     let answer = line_of reply_text c.answer_of-answer.result in
     let own = own_same monitor.alone c.args.member.now.pass c.share.new.member.pass answer c.share.ensures.alone in
     let asked = asks_from monitor.first before.member now.member c.args.asking.question answer c.share.ensures.goes_on c.answer_of-answer.ensures in
-    let taken = takes_question monitor.first (length monitor.row.cells) monitor.profile monitor.alone lets number before now line c.args.asking.question answer c.requires.open c.requires.asks asked refl own in
+    let taken = takes_question monitor.first (length monitor.row.cells) monitor.profile monitor.alone lets number before now line c.args.asking.question answer c.requires.shares.0 c.requires.asks.1 asked refl own in
     let put = g.W.Sink.written c.args.sink.now in
     let mid = g.W.Sink.written c.put_answer-2.new.sink in
     elim c.match-put_answer.branch [
@@ -93,11 +93,11 @@ returns-clause-err g c =
           rw (w.done-is, w.room-is, w.sink-is, same)
           (stops_on m number w.answer_shared-done.new.room.number before now line others answer put mid
           (g.W.Sink.written w.answer_shared-done.new.sink) w.answer_shared-done.result
-          c.requires.line taken w.in-Ok-put_answer.ensures.out w.answer_shared-done.ensures.err)
+          c.requires.asks.0 taken w.in-Ok-put_answer.ensures.out w.answer_shared-done.ensures.err)
       | in-Err-put_answer w ↦
           let same = same_sight c.give_back.new.member c.share.new.member c.args.room.now.follower c.args.room.now.follower c.give_back.ensures.pass refl in
           let error = w.in-Err-put_answer.error in
           let (cut, more, stopped) = cut_line m number before now line answer put mid (Err error)
-          (some_line line c.args.asking.question c.requires.asks) (c.requires.open number) (rw c.requires.asks (asked, refl), own) w.in-Err-put_answer.ensures.out in
-          rw (w.done-is, w.room-is, w.sink-is, same) (cut, halted_line m error number before now line others cut c.requires.line stopped, more)
+          (some_line line c.args.asking.question c.requires.asks.1) (c.requires.shares.0 number) (rw c.requires.asks.1 (asked, refl), own) w.in-Err-put_answer.ensures.out in
+          rw (w.done-is, w.room-is, w.sink-is, same) (cut, halted_line m error number before now line others cut c.requires.asks.0 stopped, more)
     ]

@@ -36,7 +36,7 @@ loop-preserved g c =
     let now = c.take_more.new.reading.begun.items in
     let before = g.W.Sink.written c.args.sink.now in
     let (read, put, takes, passed, out) = c.loop.invariant.0 in
-    let (text, more, gives, on, then) = c.in_ok-take_more.ensures.ok in (
+    let (text, gives, (more, on, then)) = c.in_ok-take_more.ensures.ok in (
       (
         read ++ text,
         put ++ more,
@@ -89,7 +89,7 @@ returns-then-branch-clause-ok g c =
     let next = c.take_more.new.reading.room.number in
     let begun = c.take_more.new.reading.begun.items in
     let (read, put, takes, passed, out) = c.loop.invariant.0 in
-    let (text, more, gives, on, then) = c.in_ok-take_more.ensures.ok in
+    let (text, gives, (more, on, then)) = c.in_ok-take_more.ensures.ok in
     let all = passes_on m 1 c.loop.reading.room.number next first between now read text put more c.loop.reading.begun.items begun passed on in
     told_reading m known left next first now last (read ++ text) (put ++ more) begun before (g.W.Sink.written c.take_more.new.sink)
     (g.W.Sink.written c.finish.new.sink) (λ (l : Sight). l.member ≡ c.finish.new.member.pass.history) c.finish.result
@@ -110,7 +110,7 @@ returns-then-branch-clause-err g c =
     let next = c.take_more.new.reading.room.number in
     let begun = c.take_more.new.reading.begun.items in
     let (read, put, takes, passed, out) = c.loop.invariant.0 in
-    let (text, more, gives, on, then) = c.in_ok-take_more.ensures.ok in
+    let (text, gives, (more, on, then)) = c.in_ok-take_more.ensures.ok in
     let all = passes_on m 1 c.loop.reading.room.number next first between now read text put more c.loop.reading.begun.items begun passed on in
     stopped_reading m known left next first now last (read ++ text) (put ++ more) begun before (g.W.Sink.written c.take_more.new.sink)
     (g.W.Sink.written c.finish.new.sink) (λ (l : Sight). l.member ≡ c.finish.new.member.pass.history) c.finish.result

@@ -52,20 +52,20 @@ returns-in_default-clause-ok g c =
     let number = c.args.reading.now.room.number in
     let first = seen_by c.args.member.now c.args.reading.now.room.follower in (
       [],
-      [],
       consumes_none _ _ (rw c.in_default.is at c.in_ok-taken.ensures.came),
-      passes_nothing m number first c.args.reading.now.begun.items,
-      c.in_ok-flush.ensures.same ∙ sym (append-nil _),
+      (
+        [],
+        passes_nothing m number first c.args.reading.now.begun.items,
+        c.in_ok-flush.ensures.same ∙ sym (append-nil _),
+      ),
     )
 
 pub returns-clause-ok : goal.returns-clause-ok
 returns-clause-ok g c =
     let (put, passed, out) = c.in_ok-answer_part.ensures.ok in (
       take c.in-Some.taken c.read_some.new.chunk,
-      put,
       (rw c.in-Some.is at c.in_ok-taken.ensures.came).1,
-      passed,
-      out ∙ ap (λ o. o ++ put) c.in_ok-flush.ensures.same,
+      (put, passed, out ∙ ap (λ o. o ++ put) c.in_ok-flush.ensures.same),
     )
 
 pub returns-in_err-taken-clause-err : goal.returns-in_err-taken-clause-err
