@@ -14,8 +14,8 @@ use Rattle.maptypes.specs.declared.pg.Pg.{Pg}
 use Rattle.maptypes.specs.Exceptions.{place_of, key_of, said_of}
 use Rattle.maptypes.specs.Pools.{PoolFacts}
 use Rattle.osdmap.specs.Maps.{ClusterMap}
-use Rattle.osdmap.specs.Mapped.{is_weightless, replaced, with_pair, with_items, mapped}
-use Rattle.maptypes.specs.Sets.{is_of, stands}
+use Rattle.osdmap.specs.Mapped.{is_weightless, with_pair, with_items, mapped}
+use Rattle.maptypes.specs.Sets.{replaced, is_of, stands}
 use Rattle.osdmap.specs.Placement.{group_of, placed, raw_set, mapped_set}
 use Rattle.balancer.specs.declared.moves.Move.{Move}
 use Rattle.balancer.specs.Moves.{pair_of_move, pairs_in, lengthened, moved, is_same_set, does_replace}

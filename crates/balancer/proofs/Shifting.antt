@@ -13,8 +13,7 @@ use Rattle.keylist.proofs.KeyedOrder.{rising_head, rising_tail, rising-filter}
 use Rattle.maptypes.specs.declared.exception.Pair.{Pair}
 use Rattle.maptypes.specs.Pools.{PoolFacts}
 use Rattle.osdmap.specs.Maps.{ClusterMap, pool_at, osd_is_up, HoldsTogether}
-use Rattle.osdmap.specs.Mapped.{replaced}
-use Rattle.maptypes.specs.Sets.{is_of, stands}
+use Rattle.maptypes.specs.Sets.{replaced, is_of, stands}
 use Rattle.osdmap.specs.Placement.{mapped_set}
 use Rattle.pgtable.specs.Index.{count_in}
 use Rattle.pgtable.specs.Tables.{sets_of}

@@ -18,8 +18,8 @@ use Rattle.maptypes.specs.declared.pg.Pg.{Pg}
 use Rattle.maptypes.specs.Exceptions.{place_of, key_of, sides, are_pairs, is_exception, has_group, all_named, is_sound}
 use Rattle.maptypes.specs.Pools.{PoolFacts}
 use Rattle.osdmap.specs.Maps.{ClusterMap, pool_at, osd_exists, HoldsTogether}
-use Rattle.osdmap.specs.Mapped.{replaced, with_pair}
-use Rattle.maptypes.specs.Sets.{is_of, stands}
+use Rattle.osdmap.specs.Mapped.{with_pair}
+use Rattle.maptypes.specs.Sets.{replaced, is_of, stands}
 use Rattle.osdmap.specs.Placement.{group_of, steps_of, mapped_set}
 use Rattle.osdmap.proofs.PlacementLemmas.{found_passes}
 use Rattle.balancer.specs.declared.moves.Move.{Move}

@@ -9,8 +9,8 @@ use Rattle.keylist.specs.Keys.{entry_at}
 use Rattle.maptypes.specs.Exceptions.{place_of, key_of, said_of}
 use Rattle.maptypes.specs.Pools.{PoolFacts}
 use Rattle.osdmap.specs.Maps.{ClusterMap, HoldsTogether}
-use Rattle.osdmap.specs.Mapped.{is_weightless, replaced}
-use Rattle.maptypes.specs.Sets.{is_of, stands}
+use Rattle.osdmap.specs.Mapped.{is_weightless}
+use Rattle.maptypes.specs.Sets.{replaced, is_of, stands}
 use Rattle.osdmap.specs.Placement.{group_of, steps_of, mapped_set}
 use Rattle.balancer.specs.declared.moves.Move.{Move}
 use Rattle.balancer.specs.declared.group.Group.{Group}

@@ -3,8 +3,8 @@
 ghost use Rattle.std.specs.Prelude.{◌≡◌, ◌<◌, ◌≤◌, length, position, Some, IfOk};
 ghost use Rattle.std.specs.List.{list_any};
 ghost use Rattle.osdmap.specs.Maps.{pool_at};
-ghost use Rattle.osdmap.specs.Mapped.{is_weightless, replaced};
-ghost use Rattle.maptypes.specs.Sets.{is_of};
+ghost use Rattle.osdmap.specs.Mapped.{is_weightless};
+ghost use Rattle.maptypes.specs.Sets.{replaced, is_of};
 ghost use Rattle.osdmap.specs.Placement.{mapped_set};
 ghost use Rattle.balancer.specs.Moves.{pairs_in};
 ghost use Rattle.balancer.specs.Boards.{is_fixed, group_at, board_groups, gone};

@@ -11,10 +11,10 @@ pub mod limits;
 mod marks;
 pub mod moves;
 mod plans;
-mod widths;
 mod search;
 mod shares;
 mod standing;
+mod widths;
 
 pub use moves::Move;
 pub use plans::plan;

@@ -6,3 +6,5 @@ pub mod CrushWith
 pub mod GroupTexts
 mod Shorts
 pub mod Totals
+mod SetTexts
+mod Replaced

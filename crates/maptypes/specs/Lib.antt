@@ -1,6 +1,7 @@
 pub mod Exceptions
 pub mod GroupText
 pub mod Sets
+pub mod SetText
 pub mod Shorts
 pub mod Pools
 pub mod Growth

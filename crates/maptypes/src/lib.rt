@@ -5,6 +5,7 @@
 //! - `pool`, `grow`: pools, and what they grow to
 //! - `short`, `exception`, `exception_parts`: lists of at most 10 entries, exceptions, and those that parts stand for
 //! - `osd`: what a map has of an OSD
+//! - `up_set`: the set of a group
 //! - `rules`, `forest_parts`, `rule_parts`, `crush_map`: rules under their ids, buckets and steps that parts stand for,
 //!   and CRUSH maps
 //! - `change`: changes and incrementals
@@ -23,6 +24,7 @@ pub mod pool;
 mod rule_parts;
 pub mod rules;
 pub mod short;
+pub mod up_set;
 
 pub use change::{Change, ChangeParts, Incremental, Reweight};
 pub use crush_map::CrushMap;
@@ -34,3 +36,4 @@ pub use pg::Pg;
 pub use pool::Pool;
 pub use rules::NumberedRule;
 pub use short::{Blank, Short};
+pub use up_set::UpSet;

@@ -12,8 +12,6 @@ mod Growing
 mod GroupTotals
 pub mod Kept
 pub mod PlacementLemmas
-mod Replaced
-mod SetTexts
 pub mod BuildLemmas
 mod Listing
 pub mod Built

@@ -3,11 +3,8 @@ pub mod Marks
 pub mod Changes
 pub mod Mapped
 pub mod Placement
-pub mod Sets
 pub mod Stated
 pub mod Stored
-pub mod Primary
-pub mod SetText
 pub mod Evals
 pub mod Built
 pub mod PartsOf

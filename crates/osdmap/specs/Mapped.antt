@@ -1,17 +1,12 @@
 -- What exceptions make of the set of a group (Ceph, OSDMap.cc: _apply_upmap).
-use Rattle.std.specs.Prelude.{ℕ, ◌==◌, Bool, ◌||◌, List, [], ◌∷◌, map, Option, Some, None, slice_index, if◌then◌else◌}
+use Rattle.std.specs.Prelude.{ℕ, ◌==◌, Bool, ◌||◌, List, map, Option, Some, None, slice_index, if◌then◌else◌}
 use Rattle.std.specs.List.{list_any, fold}
 use Rattle.maptypes.specs.declared.exception.Pair.{Pair}
-use Rattle.maptypes.specs.Sets.{is_of}
+use Rattle.maptypes.specs.Sets.{is_of, replaced}
 
 -- whether an OSD is out for good: its reweight is 0
 abbrev pub is_weightless : List ℕ → ℕ → Bool
 is_weightless weights osd = slice_index weights osd == 0
-
--- one OSD goes to another where it first stands
-unfoldable pub replaced : Pair → List (Option ℕ) → List (Option ℕ)
-replaced pair [] = []
-replaced pair (place ∷ places) = if is_of pair.from place then Some pair.to ∷ places else place ∷ replaced pair places
 
 -- a pair acts only where the OSD that it brings stands nowhere, and takes a share
 unfoldable pub with_pair : List ℕ → List (Option ℕ) → Pair → List (Option ℕ)

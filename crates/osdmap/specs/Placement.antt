@@ -11,7 +11,7 @@ use Rattle.maptypes.specs.declared.exception.Pair.{Pair}
 use Rattle.refusal.specs.declared.refused.Refusal.{Refusal}
 use Rattle.refusal.specs.declared.refused.Refusal.TheVariants.{UnknownPool, UnknownGroup}
 use Rattle.maptypes.specs.Pools.{PoolFacts}
-use Rattle.osdmap.specs.Sets.{kept}
+use Rattle.maptypes.specs.Sets.{kept}
 use Rattle.maptypes.specs.Exceptions.{said_of}
 use Rattle.osdmap.specs.Mapped.{mapped}
 use Rattle.maptypes.specs.CrushMaps.{rule_at}

@@ -9,13 +9,11 @@ mod copy;
 mod in_place;
 pub mod map;
 mod placement;
-pub mod up_set;
 
 pub use map::OsdMap;
 pub use mapparts::{MapParts, Profile};
 pub use maptypes::{
     Change, ChangeParts, CrushMap, Exception, Explicit, Grow, Incremental, Items, NumberedRule,
-    OsdState, Pair, Pg, Pool, Presence, Reweight,
+    OsdState, Pair, Pg, Pool, Presence, Reweight, UpSet,
 };
 pub use placement::{Placing, stable_mod};
-pub use up_set::UpSet;

@@ -6,9 +6,8 @@ ghost use Rattle.mapparts.specs.Limits.{max_groups};
 ghost use Rattle.osdmap.specs.Placement.{mask_of, stable_mod};
 
 use crate::map::OsdMap;
-use crate::up_set::UpSet;
 use crush::{Placement, Rule, Work};
-use maptypes::{Pair, Pg, Pool};
+use maptypes::{Pair, Pg, Pool, UpSet};
 use refusal::{Memory, Refusal};
 use rjenkins::hash2;
 
@@ -107,7 +106,7 @@ impl OsdMap {
     ghost use Rattle.std.specs.List.{list_any, fold};
     ghost use Rattle.osdmap.specs.Maps.{pool_at, has_rule};
     ghost use Rattle.osdmap.specs.Mapped.{is_weightless, with_pair, mapped};
-    ghost use Rattle.osdmap.specs.Sets.{kept};
+    ghost use Rattle.maptypes.specs.Sets.{kept};
     ghost use Rattle.osdmap.specs.Placement.{group_fault, existing, upward, placed, raw_set, mapped_with, mapped_set, up_set, IsPlacedBy, RunsOnce};
 
     /// The OSD of a device, where it exists.

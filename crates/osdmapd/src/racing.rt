@@ -6,9 +6,8 @@ ghost use Rattle.monitor.specs.Followers.{Follows};
 
 use crate::tests::{FOUR_DEVICES, commit_now, opened};
 use crossbeam_utils::Backoff;
-use maptypes::Pg;
+use maptypes::{Pg, UpSet};
 use monitor::{Follower, Member, Monitor};
-use osdmap::UpSet;
 use refusal::Refusal;
 use std::alloc::Global;
 use std::sync::Wait;

@@ -18,9 +18,8 @@ use Rattle.grouptable.proofs.Steps.{filter_same}
 use Rattle.maptypes.specs.declared.pg.Pg.{Pg}
 use Rattle.maptypes.specs.Pools.{PoolFacts}
 use Rattle.osdmap.specs.Maps.{ClusterMap, pool_at, osd_is_up}
-use Rattle.osdmap.specs.Sets.{kept}
+use Rattle.maptypes.specs.Sets.{kept, stands}
 use Rattle.osdmap.specs.Placement.{group_of, upward, mapped_set, up_set}
-use Rattle.maptypes.specs.Sets.{stands}
 use Rattle.placement_laws.proofs.Standing.{up_are_mapped_and_up}
 use Rattle.pgtable.specs.declared.pool_table.PoolTable.{PoolTable}
 use Rattle.pgtable.specs.Index.{up_at, groups_in, stands_in, index_of, count_in}

@@ -4,12 +4,11 @@ use Rattle.std.specs.List.{find, flat_map, range_with_len}
 use Rattle.std.specs.Option.{option_map, option_map_or}
 use Rattle.crush.specs.Run.{Ran}
 use Rattle.grouptable.specs.Sets.{groups_of}
-use Rattle.maptypes.specs.Sets.{Places}
+use Rattle.maptypes.specs.Sets.{Places, kept}
 use Rattle.maptypes.specs.declared.pg.Pg.{Pg}
 use Rattle.maptypes.specs.Pools.{PoolFacts}
 use Rattle.osdmap.specs.Maps.{ClusterMap, osd_is_up, HoldsTogether}
 use Rattle.osdmap.specs.Placement.{group_of, mapped_set}
-use Rattle.osdmap.specs.Sets.{kept}
 use Rattle.pgtable.specs.declared.pool_table.PoolTable.{PoolTable}
 
 -- what callers see of a table: for each pool the sets of its groups by number, and for each OSD whether it is up

@@ -9,8 +9,8 @@ ghost use Rattle.pgtable.specs.Tables.{sets_of, RunsMore};
 
 use crush::Work;
 use grouptable::OsdSet;
-use maptypes::Pool;
-use osdmap::{OsdMap, Placing, UpSet};
+use maptypes::{Pool, UpSet};
+use osdmap::{OsdMap, Placing};
 use refusal::Memory;
 use std::alloc::Global;
 

@@ -1,12 +1,12 @@
 //! Stored sets as callers see them.
 
 ghost use Rattle.std.specs.Prelude.{◌≡◌, map, option_and_then};
-ghost use Rattle.osdmap.specs.Sets.{kept};
+ghost use Rattle.maptypes.specs.Sets.{kept};
 ghost use Rattle.pgtable.specs.Tables.{upward_in};
 
 use crush::RuleKind;
 use grouptable::OsdSet;
-use osdmap::UpSet;
+use maptypes::UpSet;
 
 /// The OSD of a place, where there is one that is up.
 fn shown_place(place: Option<u16>, up: &[bool]) -> Option<u32>

@@ -14,9 +14,8 @@ use Rattle.maptypes.specs.declared.pg.Pg.{Pg}
 use Rattle.maptypes.specs.Pools.{PoolFacts}
 use Rattle.maptypes.specs.Exceptions.{place_of, key_of, said_of, is_exception, all_named, has_group, is_sound, target, sides, is_set, are_pairs}
 use Rattle.osdmap.specs.Maps.{ClusterMap, osd_exists, HoldsTogether}
-use Rattle.osdmap.specs.Mapped.{is_weightless, replaced, with_pair, with_items, mapped}
-use Rattle.maptypes.specs.Sets.{is_of}
-use Rattle.osdmap.specs.Sets.{kept, kept_in}
+use Rattle.osdmap.specs.Mapped.{is_weightless, with_pair, with_items, mapped}
+use Rattle.maptypes.specs.Sets.{replaced, is_of, kept, kept_in}
 use Rattle.osdmap.specs.Placement.{group_of, existing, placed, raw_set, mapped_set}
 use Rattle.osdmap.proofs.PlacementLemmas.{found_passes}
 use Rattle.placement_laws.specs.Standing.{MappedExist}

@@ -36,7 +36,7 @@ use Rattle.maptypes.specs.Exceptions.{place_of, key_of, said_of, is_among, has_g
 use Rattle.osdmap.specs.Maps.{ClusterMap, pool_at, osd_exists, has_rule, HoldsTogether}
 use Rattle.osdmap.specs.Changes.{pools_kept, pools_after, with_weight, apply, pools_there}
 use Rattle.osdmap.specs.Evals.{reaches_reweighted, is_touched, is_named, names_reweighted, concerns}
-use Rattle.osdmap.specs.Sets.{kept}
+use Rattle.maptypes.specs.Sets.{kept}
 use Rattle.osdmap.specs.Placement.{placement_input, group_of, existing, placed, raw_set, steps_of}
 use Rattle.osdmap.proofs.PlacementLemmas.{found_passes}
 use Rattle.osdmap.proofs.Grown.{entry-grown}

@@ -7,8 +7,7 @@ use Rattle.std.proofs.lemmas.List.Concat.{flat_map-cons}
 use Rattle.crush.specs.declared.step.RuleKind.{RuleKind}
 use Rattle.crush.specs.declared.step.RuleKind.TheVariants.{Replicated, Erasure}
 use Rattle.osdmap.specs.Maps.{ClusterMap, osd_is_up}
-use Rattle.maptypes.specs.Sets.{is_of, stands}
-use Rattle.osdmap.specs.Sets.{kept, kept_in}
+use Rattle.maptypes.specs.Sets.{is_of, stands, kept, kept_in}
 use Rattle.osdmap.specs.Placement.{upward, mapped_set, up_set}
 use Rattle.placement_laws.specs.Standing.{UpAreMappedAndUp}
 

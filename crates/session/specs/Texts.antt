@@ -6,8 +6,8 @@ use Rattle.refusal.specs.declared.refused.Refusal.{Refusal}
 use Rattle.refusal.specs.declared.refused.Refusal.TheVariants.{BadJson, BadField, BadLimit, BadForest, BadRule, BadPool, BadOsd, BadException, StaleEpoch, UnknownOsd, BadWeight, UnknownPool, PoolExists, UnknownGroup, BadNewException, DuplicatePart, JournalFull, BalanceRule, Memory, SeatSpent, NotSealed, BadCommand, AwaitSpent}
 use Rattle.refusal.specs.Refusals.{number_of, name_of}
 use Rattle.maptypes.specs.GroupText.{group_text}
-use Rattle.osdmap.specs.Primary.{primary_of}
-use Rattle.osdmap.specs.SetText.{osd_text, place_text, list_text}
+use Rattle.maptypes.specs.Sets.{primary_of}
+use Rattle.maptypes.specs.SetText.{osd_text, place_text, list_text}
 
 -- what ends each answer
 abbrev pub newline : List ℕ

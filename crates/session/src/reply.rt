@@ -1,14 +1,13 @@
 //! What the commands of a script answer, and its line.
 ghost use Rattle.std.specs.Prelude.{◌≡◌, ◌++◌, codes, decimal, OnOk};
 ghost use Rattle.std.specs.String.{string_bytes};
-ghost use Rattle.osdmap.specs.SetText.{place_text, osd_text, list_text};
+ghost use Rattle.maptypes.specs.SetText.{place_text, osd_text, list_text};
 ghost use Rattle.session.specs.Texts.{count_text, epoch_text, dump_text, up_text, groups_text, refusal_text, line_of};
 ghost use Rattle.session.specs.Replies.{up_word, epoch_word, dump_word, reply_text};
 ghost use Rattle.maptypes.specs.GroupText.{group_text};
 
 use crate::number::{push_group, push_number};
-use maptypes::Pg;
-use osdmap::UpSet;
+use maptypes::{Pg, UpSet};
 use refusal::Refusal;
 use std::alloc::AllocError;
 

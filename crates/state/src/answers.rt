@@ -1,8 +1,7 @@
 //! What is asked of a state.
 
 use crate::state::State;
-use maptypes::Pg;
-use osdmap::UpSet;
+use maptypes::{Pg, UpSet};
 use refusal::Refusal;
 use std::alloc::Global;
 

@@ -4,7 +4,7 @@ ghost use Rattle.std.specs.Prelude.{◌≡◌, ◌==◌, true, map};
 ghost use Rattle.std.specs.List.{find, list_all};
 ghost use Rattle.std.specs.Option.{option_copied};
 ghost use Rattle.refusal.specs.declared.refused.Refusal.TheVariants.{BadPool};
-ghost use Rattle.osdmap.specs.Maps.{is_kind, has_rule};
+ghost use Rattle.osdmap.specs.Maps.{has_rule};
 ghost use Rattle.mapparts.specs.Parts.{pool_fits};
 ghost use Rattle.maptypes.specs.Values.{pool_of};
 ghost use Rattle.refusal.specs.Outcomes.{Makes};
@@ -13,7 +13,6 @@ ghost use Rattle.refusal.specs.Outcomes.{refused_unless};
 ghost use Rattle.keylist.specs.Order.{Rises};
 ghost use Rattle.osdmap.specs.Built.{pools_fit};
 
-use crush::RuleKind;
 use keylist::in_order;
 use mapparts::PoolPart;
 use maptypes::{NumberedRule, Pool};
@@ -27,19 +26,12 @@ fn rule_at(rules: &[NumberedRule], id: u32) -> Option<&NumberedRule>
     rules.iter().find(|rule| rule.id == id)
 }
 
-/// Whether two kinds are the same.
-fn is_kind(kind: RuleKind, other: RuleKind) -> bool
-    ensures { result ≡ is_kind kind other }
-{
-    kind == other
-}
-
 /// Whether the rules have the pool's rule, and it is of the pool's kind.
 pub(crate) fn has_rule(rules: &[NumberedRule], pool: Pool) -> bool
     ensures { result ≡ has_rule rules.now pool }
 {
     match rule_at(rules, pool.rule()) {
-        Some(rule) => is_kind(rule.rule.kind(), pool.kind()),
+        Some(rule) => rule.rule.kind() == pool.kind(),
         None => false,
     }
 }

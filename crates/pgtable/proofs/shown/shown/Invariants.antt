@@ -1,6 +1,6 @@
 use Rattle.std.proofs.Common.{◌≡◌, ◌≤◌, map, take, length}
 use Rattle.std.specs.Prelude.{option_and_then}
-use Rattle.osdmap.specs.Sets.{kept}
+use Rattle.maptypes.specs.Sets.{kept}
 use Rattle.pgtable.specs.Tables.{upward_in}
 use Rattle.pgtable.proofs.shown.shown.Given as goal
 

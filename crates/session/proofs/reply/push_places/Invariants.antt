@@ -1,6 +1,6 @@
 use Rattle.std.proofs.Common.{◌≡◌, ◌++◌, drop}
 use Rattle.std.specs.String.{string_bytes}
-use Rattle.osdmap.specs.SetText.{more_texts, place_text}
+use Rattle.maptypes.specs.SetText.{more_texts, place_text}
 use Rattle.session.proofs.reply.push_places.Given as goal
 
 -- the text so far, with the places that are left

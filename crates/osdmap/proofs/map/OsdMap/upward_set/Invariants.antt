@@ -1,5 +1,5 @@
 use Rattle.std.proofs.Common.{◌≡◌, ◌≤◌, ◌++◌, map, drop, length, option_and_then}
-use Rattle.osdmap.specs.Sets.{kept}
+use Rattle.maptypes.specs.Sets.{kept}
 use Rattle.osdmap.specs.Placement.{upward}
 use Rattle.osdmap.proofs.map.OsdMap.upward_set.Given as goal
 

@@ -1,5 +1,5 @@
 use Rattle.std.proofs.Common.{◌≡◌, ◌≤◌, ◌++◌, map, drop, length, Some}
-use Rattle.osdmap.proofs.up_set.UpSet.of.Given as goal
+use Rattle.maptypes.proofs.up_set.UpSet.of.Given as goal
 
 -- the places so far, and those of the rest, come to those of all
 abbrev pub invariant-loop-osd : goal.invariant-loop-osd

@@ -1,6 +1,6 @@
 -- The text of a set, place by place.
 use Rattle.std.proofs.Common.{◌≡◌, ℕ, ◌+◌, ◌<◌, List, [], ◌∷◌, ◌++◌, length, drop, get_or, Option, refl, ap, ◌∙◌, append_assoc, drop-cons, add-one}
-use Rattle.osdmap.specs.SetText.{more_texts, place_text}
+use Rattle.maptypes.specs.SetText.{more_texts, place_text}
 
 -- the next of the places that are left, behind its comma
 pub next_place : (done whole : List ℕ) (places : List (Option ℕ)) (i : ℕ) (place other : Option ℕ) → i < length places

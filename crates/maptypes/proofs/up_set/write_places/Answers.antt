@@ -1,7 +1,7 @@
 use Rattle.std.proofs.Common.{refl, None, arith}
 use Rattle.std.proofs.Output.{has_written_append}
-use Rattle.osdmap.proofs.SetTexts.{next_place}
-use Rattle.osdmap.proofs.up_set.write_places.Goals as goal
+use Rattle.maptypes.proofs.SetTexts.{next_place}
+use Rattle.maptypes.proofs.up_set.write_places.Goals as goal
 
 pub loop-place-preserved : goal.loop-place-preserved
 loop-place-preserved g c = λ plain.

@@ -1,6 +1,6 @@
 use Rattle.std.proofs.Common.{◌≡◌, drop}
-use Rattle.osdmap.specs.Primary.{primary_of}
-use Rattle.osdmap.proofs.up_set.first_osd.Given as goal
+use Rattle.maptypes.specs.Sets.{primary_of}
+use Rattle.maptypes.proofs.up_set.first_osd.Given as goal
 
 -- no place so far has an OSD
 abbrev pub invariant-loop-place : goal.invariant-loop-place

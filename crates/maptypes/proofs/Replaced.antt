@@ -5,8 +5,7 @@ use Rattle.std.specs.List.{position_or_len}
 use Rattle.std.proofs.lemmas.Grind.{common_steps}
 use Rattle.std.proofs.lemmas.List.{set_past}
 use Rattle.maptypes.specs.declared.exception.Pair.{Pair}
-use Rattle.osdmap.specs.Mapped.{replaced}
-use Rattle.maptypes.specs.Sets.{is_of}
+use Rattle.maptypes.specs.Sets.{replaced, is_of}
 
 -- the first place is written, if there is one
 replaced_first : (pair : Pair) (xs : List (Option ℕ)) → replaced pair xs ≡ set xs (position_or_len (is_of pair.from) xs) (Some pair.to)

@@ -1,6 +1,6 @@
 use Rattle.std.proofs.Common.{sym, ap, ◌∙◌, set, Some}
-use Rattle.osdmap.proofs.Replaced.{replaced_nowhere, replaced_at}
-use Rattle.osdmap.proofs.up_set.UpSet.replace.Goals as goal
+use Rattle.maptypes.proofs.Replaced.{replaced_nowhere, replaced_at}
+use Rattle.maptypes.proofs.up_set.UpSet.replace.Goals as goal
 
 pub returns-in_default : goal.returns-in_default
 returns-in_default c =

@@ -1,14 +1,14 @@
-//! The set of a group.
+//! The set of a group: the OSDs that store it, by their places.
 
 ghost use Rattle.std.specs.Prelude.{◌≡◌, Some, position};
 ghost use Rattle.std.specs.Fmt.{DisplaysOnOk};
 ghost use Rattle.std.specs.List.{list_any};
-ghost use Rattle.maptypes.specs.Sets.{is_of};
-ghost use Rattle.osdmap.specs.Primary.{primary_of};
-ghost use Rattle.osdmap.specs.SetText.{place_text, list_text};
+ghost use Rattle.maptypes.specs.Sets.{is_of, primary_of};
+ghost use Rattle.maptypes.specs.SetText.{place_text, list_text};
 
+use crate::exception::Pair;
+use crate::short::Short;
 use crush::RuleKind;
-use maptypes::{Pair, Short};
 use std::alloc::AllocError;
 use std::fmt;
 use std::marker::Model;
@@ -68,12 +68,9 @@ fn first_osd(places: &[Option<u32>]) -> Option<u32>
 }
 
 impl UpSet {
-    ghost use Rattle.osdmap.specs.Primary.{primary_of};
+    ghost use Rattle.maptypes.specs.Sets.{primary_of, replaced, is_of, kept_in};
     ghost use Rattle.std.specs.Prelude.{◌≡◌, ◌≤◌, ◌<◌, [], ◌∷◌, ◌++◌, length, map, Some};
     ghost use Rattle.std.specs.List.{list_any};
-    ghost use Rattle.osdmap.specs.Mapped.{replaced};
-    ghost use Rattle.maptypes.specs.Sets.{is_of};
-    ghost use Rattle.osdmap.specs.Sets.{kept_in};
 
     /// The set without a place.
     pub fn new() -> Self
@@ -100,7 +97,7 @@ impl UpSet {
     }
 
     /// One more place.
-    pub(crate) fn push(&mut self, place: Option<u32>)
+    pub fn push(&mut self, place: Option<u32>)
         requires { length self.old < 10 }
         ensures { self.new ≡ self.old ++ place ∷ [] }
     {
@@ -108,7 +105,7 @@ impl UpSet {
     }
 
     /// The set of some OSDs, in order.
-    pub(crate) fn of(osds: &[u32]) -> UpSet
+    pub fn of(osds: &[u32]) -> UpSet
         requires { length osds.now ≤ 10 }
         ensures { result ≡ map (λ osd. Some osd) osds.now }
     {
@@ -120,14 +117,14 @@ impl UpSet {
     }
 
     /// Whether an OSD stands in the set.
-    pub(crate) fn has(&self, osd: u32) -> bool
+    pub fn has(&self, osd: u32) -> bool
         ensures { result ≡ list_any (is_of osd) self.now }
     {
         has_osd(self.places(), osd)
     }
 
     /// One OSD goes to another where it first stands.
-    pub(crate) fn replace(&mut self, pair: Pair)
+    pub fn replace(&mut self, pair: Pair)
         ensures { self.new ≡ replaced pair self.old }
     {
         if let Some(place) = place_of(self.places(), pair.from) {
@@ -175,7 +172,7 @@ fn write_places<W: fmt::Write>(f: &mut fmt::Formatter<W>, places: &[Option<u32>]
 /// `[3,none,0]`: the places in order.
 impl fmt::Display for UpSet {
     ghost use Rattle.std.specs.Prelude.{Some};
-    ghost use Rattle.osdmap.specs.SetText.{set_text};
+    ghost use Rattle.maptypes.specs.SetText.{set_text};
 
     ghost output = { λ set. Some (set_text set) };
 

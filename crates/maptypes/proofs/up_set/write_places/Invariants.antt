@@ -1,7 +1,7 @@
 use Rattle.std.proofs.Common.{◌≡◌, ℕ, List, ◌++◌, drop}
 use Rattle.std.specs.Fmt.{HasWritten, IsPlainFormatter}
-use Rattle.osdmap.specs.SetText.{more_texts, list_text, place_text}
-use Rattle.osdmap.proofs.up_set.write_places.Given as goal
+use Rattle.maptypes.specs.SetText.{more_texts, list_text, place_text}
+use Rattle.maptypes.proofs.up_set.write_places.Given as goal
 
 -- what is written so far, with the places that are left
 abbrev pub invariant-loop-place : goal.invariant-loop-place
