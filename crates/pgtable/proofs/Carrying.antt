@@ -7,7 +7,7 @@ use Rattle.std.proofs.lemmas.Bool.{cases_order}
 use Rattle.std.proofs.lemmas.List.{length-set, length-map}
 use Rattle.std.proofs.lemmas.Option.{slice_get-map}
 use Rattle.pgtable.specs.declared.pool_table.PoolTable.{PoolTable}
-use Rattle.pgtable.specs.declared.patch.Kept.{Kept}
+use Rattle.pgtable.specs.declared.patch.KeptTable.{KeptTable}
 use Rattle.pgtable.specs.Patches.{carried, FitsAt, FitAll}
 
 -- ---- lists by places
@@ -55,28 +55,28 @@ same_lists (x ∷ xs) (y ∷ ys) long same =
 -- ---- so far
 
 -- the first tables have what stays, and all others are as they were
-pub record Carries (old0 pools0 : List PoolTable) (kept0 : List (Option Kept)) (i : ℕ) (old pools : List PoolTable) (kept : List (Option Kept)) : Type 0 where
+pub record Carries (old0 pools0 : List PoolTable) (kept0 : List (Option KeptTable)) (i : ℕ) (old pools : List PoolTable) (kept : List (Option KeptTable)) : Type 0 where
   pub long : length pools ≡ length pools0
   pub kept_long : length kept ≡ length kept0
   pub old_long : length old ≡ length old0
   pub done : (k : ℕ) → k < i → slice_get pools k ≡ slice_get (map (λ e. carried old0 e.0 e.1) (zip pools0 kept0)) k
   pub rest : (k : ℕ) → i ≤ k → slice_get pools k ≡ slice_get pools0 k
   pub kept_rest : (k : ℕ) → i ≤ k → slice_get kept k ≡ slice_get kept0 k
-  pub olds : (k : ℕ) (b : Kept) → i ≤ k → slice_get kept0 k ≡ Some (Some b) → slice_get old b.at ≡ slice_get old0 b.at
+  pub olds : (k : ℕ) (b : KeptTable) → i ≤ k → slice_get kept0 k ≡ Some (Some b) → slice_get old b.at ≡ slice_get old0 b.at
 
 -- a table carried from its place is the same from any list that has it there
-same_sets : (old0 old : List PoolTable) (q : PoolTable) (one : Option Kept) → ((b : Kept) → one ≡ Some b → slice_get old b.at ≡ slice_get old0 b.at) → carried old q one ≡ carried old0 q one
+same_sets : (old0 old : List PoolTable) (q : PoolTable) (one : Option KeptTable) → ((b : KeptTable) → one ≡ Some b → slice_get old b.at ≡ slice_get old0 b.at) → carried old q one ≡ carried old0 q one
 same_sets old0 old q None same = refl
 same_sets old0 old q (Some k) same = rw (same k refl) refl
 
 -- what fits the tables at first fits them as long as its place is untouched
-pub fits_now : (old0 old : List PoolTable) (k : Kept) → length old ≡ length old0 → slice_get old k.at ≡ slice_get old0 k.at → FitsAt old0 k → FitsAt old k
+pub fits_now : (old0 old : List PoolTable) (k : KeptTable) → length old ≡ length old0 → slice_get old k.at ≡ slice_get old0 k.at → FitsAt old0 k → FitsAt old k
 fits_now old0 old k long same fits = record {
   inside = omega (arith, long, fits.inside);
   patch = rw same fits.patch;
 }
 
-module _ (old0 pools0 : List PoolTable) (kept0 : List (Option Kept)) (fits : FitAll old0 pools0 kept0) where
+module _ (old0 pools0 : List PoolTable) (kept0 : List (Option KeptTable)) (fits : FitAll old0 pools0 kept0) where
   pub carry_begins : Carries old0 pools0 kept0 0 old0 pools0 kept0
   carry_begins = record {
     long = refl;
@@ -88,14 +88,14 @@ module _ (old0 pools0 : List PoolTable) (kept0 : List (Option Kept)) (fits : Fit
     olds = λ k b past is. refl;
   }
 
-  module _ (i : ℕ) (old pools : List PoolTable) (kept : List (Option Kept)) (sofar : Carries old0 pools0 kept0 i old pools kept) where
-    pub carry_fits : (k : Kept) → slice_get kept i ≡ Some (Some k) → FitsAt old k
+  module _ (i : ℕ) (old pools : List PoolTable) (kept : List (Option KeptTable)) (sofar : Carries old0 pools0 kept0 i old pools kept) where
+    pub carry_fits : (k : KeptTable) → slice_get kept i ≡ Some (Some k) → FitsAt old k
     carry_fits k is =
         let at = sym (sofar.kept_rest i (omega arith)) ∙ is in
         fits_now old0 old k sofar.old_long (sofar.olds i k (omega arith) at) (fits.each i k at)
 
-    pub carry_step : (before after : PoolTable) (one : Option Kept) (old' : List PoolTable) → slice_get pools i ≡ Some before → slice_get kept i ≡ Some one → after ≡ carried old before one
-        → ((j : ℕ) → ((k : Kept) → one ≡ Some k → j ≢ k.at) → slice_get old' j ≡ slice_get old j) → length old' ≡ length old → i < length pools0
+    pub carry_step : (before after : PoolTable) (one : Option KeptTable) (old' : List PoolTable) → slice_get pools i ≡ Some before → slice_get kept i ≡ Some one → after ≡ carried old before one
+        → ((j : ℕ) → ((k : KeptTable) → one ≡ Some k → j ≢ k.at) → slice_get old' j ≡ slice_get old j) → length old' ≡ length old → i < length pools0
         → Carries old0 pools0 kept0 (i + 1) old' (set pools i after) (set kept i None)
     carry_step before after one old' here is made others same inside =
         let at0 = sym (sofar.rest i (omega arith)) ∙ here in

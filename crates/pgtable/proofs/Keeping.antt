@@ -25,7 +25,7 @@ use Rattle.placement_laws.proofs.Others.{others_stay, pool_there}
 use Rattle.pgtable.specs.declared.pool_table.PoolTable.{PoolTable}
 use Rattle.pgtable.specs.Tables.{TableFacts, sets_of, pool_table, IsTableOf, pool_in}
 use Rattle.grouptable.specs.Tables.{IsPatchFor}
-use Rattle.pgtable.specs.declared.patch.Kept.{Kept}
+use Rattle.pgtable.specs.declared.patch.KeptTable.{KeptTable}
 use Rattle.pgtable.specs.Patches.{LeadsFrom, KeepsPool, concerned, changes_of, evals_in}
 use Rattle.pgtable.proofs.Shows.{find_map}
 use Rattle.pgtable.proofs.Carrying.{same_lists}
@@ -166,7 +166,7 @@ module _ (m after : ClusterMap) (c : ChangeParts) (p : PoolFacts) (leads : Leads
     pub ascend_there : (cs : List (ℕ × Places)) → cs ≡ changes_of after c p → AllPairs (λ a b. a.0 < b.0) cs
     ascend_there cs made = rw made (changes_ascend after c p)
 
-    pub keeps_pool : (q : PoolTable) (k : Kept) → k.at ≡ at → q ≡ get_or t.pools at q → k.patch.changes.items ≡ changes_of after c p → IsPatchFor q.groups k.patch → KeepsPool t.pools after p k
+    pub keeps_pool : (q : PoolTable) (k : KeptTable) → k.at ≡ at → q ≡ get_or t.pools at q → k.patch.changes.items ≡ changes_of after c p → IsPatchFor q.groups k.patch → KeepsPool t.pools after p k
     keeps_pool q k placed here made fits =
         let there : slice_get t.pools k.at ≡ Some (pool_table m p) = rw placed at_place in
         let same : q ≡ pool_table m p = here ∙ get_or_from_slice_get t.pools at (pool_table m p) q at_place in

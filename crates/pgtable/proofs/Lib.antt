@@ -4,6 +4,6 @@ pub mod Touched
 pub mod Carrying
 pub mod Keeping
 pub mod Making
-pub mod Concerned
+pub mod Concerning
 pub mod States
 pub mod Regrouping

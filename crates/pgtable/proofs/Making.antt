@@ -14,7 +14,7 @@ use Rattle.maptypes.specs.Pools.{PoolFacts, IsWithinLimits}
 use Rattle.osdmap.specs.Maps.{ClusterMap, HoldsTogether}
 use Rattle.osdmap.specs.Evals.{is_evaluated, evals_of}
 use Rattle.pgtable.specs.declared.pool_table.PoolTable.{PoolTable}
-use Rattle.pgtable.specs.declared.patch.Kept.{Kept}
+use Rattle.pgtable.specs.declared.patch.KeptTable.{KeptTable}
 use Rattle.pgtable.specs.Tables.{pool_table}
 use Rattle.pgtable.specs.Patches.{carried, KeepsPool, MakesPool, MakesAll, evals_in}
 
@@ -53,14 +53,14 @@ element (x ∷ xs) (suc i) inside = element xs i (omega arith)
 -- ---- so far
 
 -- the tables of the first pools
-pub record Makes (old : List PoolTable) (m : ClusterMap) (i : ℕ) (pools : List PoolTable) (kept : List (Option Kept)) : Type 0 where
+pub record Makes (old : List PoolTable) (m : ClusterMap) (i : ℕ) (pools : List PoolTable) (kept : List (Option KeptTable)) : Type 0 where
   pub long : length pools ≡ i
   pub kept_long : length kept ≡ i
   pub tables : map (λ e. carried old e.0 e.1) (zip pools kept) ≡ map (pool_table m) (take i m.pools)
-  pub each : (k : ℕ) (p : PoolFacts) (b : Kept) → slice_get m.pools k ≡ Some p → slice_get kept k ≡ Some (Some b) → KeepsPool old m p b
+  pub each : (k : ℕ) (p : PoolFacts) (b : KeptTable) → slice_get m.pools k ≡ Some p → slice_get kept k ≡ Some (Some b) → KeepsPool old m p b
 
 module _ (old : List PoolTable) (m : ClusterMap) where
-  pub make_begins : (pools : List PoolTable) (kept : List (Option Kept)) → pools ≡ [] → kept ≡ [] → Makes old m 0 pools kept
+  pub make_begins : (pools : List PoolTable) (kept : List (Option KeptTable)) → pools ≡ [] → kept ≡ [] → Makes old m 0 pools kept
   make_begins pools kept e f = rw (e, f) (record {
     long = refl;
     kept_long = refl;
@@ -68,7 +68,7 @@ module _ (old : List PoolTable) (m : ClusterMap) where
     each = λ k p b there is. let wrong : None ≡ Some (Some b) = is in absurd (cc);
   })
 
-  pub make_more : (i : ℕ) (p : PoolFacts) (pools : List PoolTable) (kept : List (Option Kept)) (q : PoolTable) (one : Option Kept) → Makes old m i pools kept → slice_get m.pools i ≡ Some p → MakesPool old m p q one → Makes old m (i + 1) (pools ++ q ∷ []) (kept ++ one ∷ [])
+  pub make_more : (i : ℕ) (p : PoolFacts) (pools : List PoolTable) (kept : List (Option KeptTable)) (q : PoolTable) (one : Option KeptTable) → Makes old m i pools kept → slice_get m.pools i ≡ Some p → MakesPool old m p q one → Makes old m (i + 1) (pools ++ q ∷ []) (kept ++ one ∷ [])
   make_more i p pools kept q one sofar there made =
       let inside = slice_get_within m.pools i p there in
       let long : length (pools ++ q ∷ []) ≡ length pools + 1 = length-append pools (q ∷ []) in
@@ -84,7 +84,7 @@ module _ (old : List PoolTable) (m : ClusterMap) where
         each = λ k r b at kept_at. by_place k r b at kept_at (cases_lt k i);
       }
     where
-      by_place : (k : ℕ) (r : PoolFacts) (b : Kept) → slice_get m.pools k ≡ Some r → slice_get (kept ++ one ∷ []) k ≡ Some (Some b) → (k < i) ⊎ (i ≤ k) → KeepsPool old m r b
+      by_place : (k : ℕ) (r : PoolFacts) (b : KeptTable) → slice_get m.pools k ≡ Some r → slice_get (kept ++ one ∷ []) k ≡ Some (Some b) → (k < i) ⊎ (i ≤ k) → KeepsPool old m r b
       by_place k r b at kept_at cases = elim cases [
         | inl before ↦ sofar.each k r b at (sym (get_before kept one k (omega (arith, sofar.kept_long, before))) ∙ kept_at)
         | inr behind ↦
@@ -102,7 +102,7 @@ module _ (old : List PoolTable) (m : ClusterMap) where
       let is : p.id ≡ r.id = cc in
       omega arith
 
-  pub make_ends : (pools : List PoolTable) (kept : List (Option Kept)) → HoldsTogether m → Makes old m (length m.pools) pools kept → MakesAll old m pools kept
+  pub make_ends : (pools : List PoolTable) (kept : List (Option KeptTable)) → HoldsTogether m → Makes old m (length m.pools) pools kept → MakesAll old m pools kept
   make_ends pools kept holds sofar = record {
     long = sofar.long;
     fits = record {
@@ -117,7 +117,7 @@ module _ (old : List PoolTable) (m : ClusterMap) where
     tables = sofar.tables ∙ ap (map (pool_table m)) (take_all (length m.pools) m.pools (omega arith));
   }
     where
-      inside : (i : ℕ) (one : Option Kept) → slice_get kept i ≡ Some one → i < length m.pools
+      inside : (i : ℕ) (one : Option KeptTable) → slice_get kept i ≡ Some one → i < length m.pools
       inside i one is = omega (arith, slice_get_within kept i one is, sofar.kept_long)
 
       pool : (i : ℕ) → i < length m.pools → PoolFacts

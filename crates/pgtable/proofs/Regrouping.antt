@@ -34,7 +34,8 @@ use Rattle.osdmap.proofs.Kept.{HoldsTogether-after}
 use Rattle.placement_laws.proofs.Others.{raw_stays}
 use Rattle.pgtable.specs.declared.pool_table.PoolTable.{PoolTable}
 use Rattle.pgtable.specs.Tables.{TableFacts, sets_of, pool_table, tables_of, IsTableOf}
-use Rattle.pgtable.specs.Patches.{changed_map, LeadsFrom, is_empty, leaves_pools, leaves_raw_sets, said_after, regrouped, FitGroups, RegroupsPool, RegroupsAll, changes_of, evals_in}
+use Rattle.pgtable.specs.Patches.{changed_map, LeadsFrom, is_empty, leaves_pools, leaves_raw_sets, said_after, regrouped, FitGroups, RegroupsPool, RegroupsAll, concerned, changes_of, evals_in}
+use Rattle.pgtable.proofs.Concerning.{concerned_alike}
 use Rattle.pgtable.proofs.Carrying.{same_lists, get_set_other, get_set_same, long_zip, get_zip}
 use Rattle.pgtable.proofs.Found.{found_at, mapped_small}
 use Rattle.pgtable.proofs.Keeping.{sets_kept, changes_within, changes_ascend}
@@ -160,6 +161,10 @@ placed_then m c p id n places explicit items s holds there upmap pairs same firs
     made
     ∙ all_same m.weights m.weights explicit (said_after c.old_upmap c.new_upmap (said_of m.explicit (group_of p n)) (group_of p n)) items (said_after c.old_items c.new_items (said_of m.items (group_of p n)) (group_of p n)) (raw_set m p n) (raw_set m p n) refl (rw same at first) (rw same at second) refl
     ∙ mapped_then m c p n s holds there upmap pairs
+
+-- the groups that the change concerns by the map before it are those that it concerns by the map after it
+pub numbers_regrouped : (m : ClusterMap) (c : ChangeParts) (p : PoolFacts) (numbers : List ℕ) → LeavesRawSets c → numbers ≡ concerned m c p → numbers ≡ concerned (changed_map m c) c p
+numbers_regrouped m c p numbers s is = is ∙ concerned_alike m (changed_map m c) c p s.weight
 
 -- ---- tables
 

@@ -11,7 +11,7 @@ use Rattle.maptypes.specs.declared.change.Reweight.{Reweight}
 use Rattle.maptypes.specs.Exceptions.{place_of, key_of}
 use Rattle.maptypes.specs.Pools.{PoolFacts}
 use Rattle.osdmap.specs.Maps.{ClusterMap}
-use Rattle.osdmap.specs.Evals.{concerns, is_named}
+use Rattle.osdmap.specs.Evals.{concerns}
 use Rattle.osdmap.specs.Placement.{group_of}
 
 -- the groups of some exceptions
@@ -54,13 +54,6 @@ concerned_number m c p g = number_at (λ n. concerns m c (group_of p n)) (p.id *
 -- the numbers of some groups
 abbrev pub numbers_in : ClusterMap → ChangeParts → PoolFacts → List Pg → List ℕ
 numbers_in m c p groups = filter_map (concerned_number m c p) groups
-
--- the same of a group that a change names
-abbrev pub named_number : ChangeParts → PoolFacts → Pg → Option ℕ
-named_number c p g = number_at (λ n. is_named c (group_of p n)) (p.id * 2 ^ 32) p.pg_num (place_of g)
-
-abbrev pub named_numbers : ChangeParts → PoolFacts → List Pg → List ℕ
-named_numbers c p groups = filter_map (named_number c p) groups
 
 -- groups in ascending order, among which are all that a change concerns
 pub record IsCandidates (m : ClusterMap) (c : ChangeParts) (groups : List Pg) : Type 0 where

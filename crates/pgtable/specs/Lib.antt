@@ -2,3 +2,4 @@ pub mod Index
 pub mod Tables
 pub mod Candidates
 pub mod Patches
+pub mod After

@@ -18,7 +18,7 @@ use Rattle.maptypes.specs.Pools.{PoolFacts}
 use Rattle.osdmap.specs.Maps.{ClusterMap, HoldsTogether}
 use Rattle.osdmap.specs.Changes.{change_fault, apply}
 use Rattle.pgtable.specs.declared.pool_table.PoolTable.{PoolTable}
-use Rattle.pgtable.specs.declared.patch.Kept.{Kept}
+use Rattle.pgtable.specs.declared.patch.KeptTable.{KeptTable}
 use Rattle.pgtable.specs.declared.patch.NewTables.{NewTables}
 use Rattle.pgtable.specs.declared.patch.Brought.{Brought}
 use Rattle.pgtable.specs.declared.patch.Brought.TheVariants.{Groups, Pools}
@@ -82,7 +82,7 @@ abbrev pub sets_at : List PoolTable → ℕ → List Places
 sets_at old at = option_map_or (λ q. q.groups) (slice_get old at) []
 
 -- a pool's table as a patch makes it: anew, or that of an old one with other sets for some groups
-abbrev pub carried : List PoolTable → PoolTable → Option Kept → PoolTable
+abbrev pub carried : List PoolTable → PoolTable → Option KeptTable → PoolTable
 carried old q None = q
 carried old q (Some k) = record { pool = q.pool; groups = changed (sets_at old k.at) k.patch.changes.items }
 
@@ -108,31 +108,31 @@ pub record RegroupsAll (old : List PoolTable) (m : ClusterMap) (patches : List (
   pub tables : map (λ e. regrouped e.0 e.1) (zip old patches) ≡ tables_of m
 
 -- what is kept is there, and gets other sets for groups that it has
-pub record FitsAt (old : List PoolTable) (k : Kept) : Type 0 where
+pub record FitsAt (old : List PoolTable) (k : KeptTable) : Type 0 where
   pub inside : k.at < length old
   pub patch : IsPatchFor (sets_at old k.at) k.patch
 
 -- each table that is kept fits, and none is kept twice
-pub record FitAll (old pools : List PoolTable) (kept : List (Option Kept)) : Type 0 where
+pub record FitAll (old pools : List PoolTable) (kept : List (Option KeptTable)) : Type 0 where
   pub same : length kept ≡ length pools
-  pub each : (i : ℕ) (k : Kept) → slice_get kept i ≡ Some (Some k) → FitsAt old k
-  pub apart : (i j : ℕ) (a b : Kept) → i < j → slice_get kept i ≡ Some (Some a) → slice_get kept j ≡ Some (Some b) →
-      a.at ≢ b.at
+  pub each : (i : ℕ) (k : KeptTable) → slice_get kept i ≡ Some (Some k) → FitsAt old k
+  pub apart : (i j : ℕ) (a b : KeptTable) → i < j → slice_get kept i ≡ Some (Some a) →
+      slice_get kept j ≡ Some (Some b) → a.at ≢ b.at
 
 -- what is kept of a pool's table gets the sets of a map
-pub record KeepsPool (old : List PoolTable) (m : ClusterMap) (p : PoolFacts) (k : Kept) : Type 0 where
+pub record KeepsPool (old : List PoolTable) (m : ClusterMap) (p : PoolFacts) (k : KeptTable) : Type 0 where
   pub fits : FitsAt old k
   pub id : option_map (λ q. q.pool.id) (slice_get old k.at) ≡ Some p.id
   pub sets : changed (sets_at old k.at) k.patch.changes.items ≡ sets_of m p
 
 -- a pool's table as it is made, with what is kept, gets the sets of a map
-pub record MakesPool (old : List PoolTable) (m : ClusterMap) (p : PoolFacts) (q : PoolTable) (one : Option Kept) :
+pub record MakesPool (old : List PoolTable) (m : ClusterMap) (p : PoolFacts) (q : PoolTable) (one : Option KeptTable) :
     Type 0 where
   pub table : carried old q one ≡ pool_table m p
-  pub kept : (k : Kept) → one ≡ Some k → KeepsPool old m p k
+  pub kept : (k : KeptTable) → one ≡ Some k → KeepsPool old m p k
 
 -- the tables as they are made, with what is kept, are those of a map
-pub record MakesAll (old : List PoolTable) (m : ClusterMap) (pools : List PoolTable) (kept : List (Option Kept)) :
+pub record MakesAll (old : List PoolTable) (m : ClusterMap) (pools : List PoolTable) (kept : List (Option KeptTable)) :
     Type 0 where
   pub long : length pools ≡ length m.pools
   pub fits : FitAll old pools kept

@@ -1,31 +1,16 @@
 //! The groups that a change can concern.
 
-ghost use Rattle.std.specs.Prelude.{◌≡◌, ◌*◌, ◌^◌, true, None, IfOk, OnOk};
+ghost use Rattle.std.specs.Prelude.{◌≡◌, None, IfOk, OnOk};
 ghost use Rattle.keylist.specs.Order.{IsRising};
 ghost use Rattle.maptypes.specs.Exceptions.{place_of, key_of};
 ghost use Rattle.osdmap.specs.Changes.{change_fault};
-ghost use Rattle.osdmap.specs.Evals.{is_named};
-ghost use Rattle.pgtable.specs.Candidates.{excepted_groups, merged, NamedRise, IsCandidates, named_in, candidates, number_at};
-ghost use Rattle.pgtable.specs.Patches.{changed_map, leaves_raw_sets};
+ghost use Rattle.pgtable.specs.Candidates.{excepted_groups, merged, NamedRise, IsCandidates, named_in, candidates};
 
-use keylist::{has, put_all};
-use maptypes::{Blank, Change, Exception, Pg, Pool};
+use keylist::put_all;
+use maptypes::{Blank, Change, Exception, Pg};
 use osdmap::OsdMap;
 use refusal::Memory;
 use std::alloc::Global;
-
-/// Whether exceptions of a group go or come with a change.
-#[tactic(auto, unfolding(osdmap::specs::Evals::is_named))]
-pub(crate) fn is_named(change: &Change, pg: Pg) -> bool
-    ensures { result ≡ is_named change.now pg }
-{
-    let parts = change.parts();
-    let place = pg.place();
-    has(&parts.old_upmap, place)
-        || has(&parts.old_items, place)
-        || has(&parts.new_upmap, place)
-        || has(&parts.new_items, place)
-}
 
 /// The groups of some exceptions, in their order; or `Memory` (30).
 fn groups_of<E: Blank>(alloc: Global, exceptions: &[Exception<E>]) -> Result<Vec<Pg>, Memory>
@@ -53,7 +38,7 @@ fn join(groups: &mut Vec<Pg>, others: &[Pg]) -> Result<(), Memory>
 }
 
 /// What a change names that a map does not refuse is in ascending order, each once: for proofs alone.
-pub(crate) fn rise(_map: &OsdMap, change: &Change)
+pub(crate) fn names_rise(_map: &OsdMap, change: &Change)
     requires { change_fault _map.now.map change.now ≡ None }
     ensures { NamedRise change.now }
 {
@@ -102,39 +87,7 @@ pub(crate) fn candidates(
     requires { change_fault before.now.map change.now ≡ None }
     ensures { IfOk result (λ groups. IsCandidates after.now.map change.now groups.items) }
 {
-    rise(before, change);
+    names_rise(before, change);
     let groups = with_excepted(alloc, change, after)?;
     Ok(groups)
-}
-
-/// The same where the change leaves all raw sets, without the map after it: the groups that the change names; or
-/// `Memory` (30).
-pub(crate) fn candidates_named(
-    alloc: Global,
-    map: &OsdMap,
-    change: &Change,
-) -> Result<Vec<Pg>, Memory>
-    requires lawful { change_fault map.now.map change.now ≡ None }
-    requires leaves { leaves_raw_sets change.now ≡ true }
-    ensures { IfOk result (λ groups. IsCandidates (changed_map map.now.map change.now) change.now groups.items) }
-{
-    rise(map, change);
-    let groups = named(alloc, change)?;
-    Ok(groups)
-}
-
-/// The number in a pool of a group, where it stands in it.
-pub(crate) fn number_of(pool: &Pool, group: Pg) -> Option<u32>
-    ensures { result ≡ number_at (λ _. true) (pool.now.id * 2 ^ 32) pool.now.pg_num (place_of group) }
-{
-    let first = Pg {
-        pool: pool.id(),
-        number: 0,
-    };
-    let number = group.place().checked_sub(first.place())?;
-    if number < u64::from(pool.pg_num()) {
-        Some(number as u32)
-    } else {
-        None
-    }
 }

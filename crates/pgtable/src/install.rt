@@ -2,18 +2,18 @@
 
 ghost use Rattle.std.specs.Prelude.{◌≡◌, ◌≢◌, ℕ, length, map, slice_get, Some, IfSome};
 ghost use Rattle.std.specs.List.{zip};
-ghost use Rattle.pgtable.specs.declared.patch.Kept.{Kept};
+ghost use Rattle.pgtable.specs.declared.patch.KeptTable.{KeptTable};
 ghost use Rattle.grouptable.specs.Tables.{IsPatchFor};
 ghost use Rattle.pgtable.specs.Patches.{carried, regrouped, FitsAt, FitAll, FitGroups};
 
-use crate::patch::{Brought, Kept, NewTables, Patch};
+use crate::patch::{Brought, KeptTable, NewTables, Patch};
 use crate::pool_table::PoolTable;
 use crate::table::PgTable;
 use grouptable::GroupPatch;
 use std::mem;
 
 /// Takes what stays of a pool's table out of the old ones, and gives some groups other sets.
-fn carry_one(old: &mut [PoolTable], table: &mut PoolTable, kept: Kept)
+fn carry_one(old: &mut [PoolTable], table: &mut PoolTable, kept: KeptTable)
     requires { FitsAt old.old kept }
     ensures table { table.new ≡ carried old.old table.old (Some kept) }
     ensures others { (j : ℕ) → j ≢ kept.at → slice_get old.new j ≡ slice_get old.old j }
@@ -23,11 +23,12 @@ fn carry_one(old: &mut [PoolTable], table: &mut PoolTable, kept: Kept)
     table.groups.install(kept.patch);
 }
 
-/// The same where something stays.
-fn carry(old: &mut [PoolTable], table: &mut PoolTable, kept: Option<Kept>)
-    requires { (k : Kept) → kept ≡ Some k → FitsAt old.old k }
+/// Takes what stays of a pool's table out of the old ones, where something stays, and gives some groups other sets.
+fn carry(old: &mut [PoolTable], table: &mut PoolTable, kept: Option<KeptTable>)
+    requires { (k : KeptTable) → kept ≡ Some k → FitsAt old.old k }
     ensures table { table.new ≡ carried old.old table.old kept }
-    ensures others { (j : ℕ) → ((k : Kept) → kept ≡ Some k → j ≢ k.at) → slice_get old.new j ≡ slice_get old.old j }
+    ensures others { (j : ℕ) → ((k : KeptTable) → kept ≡ Some k → j ≢ k.at)
+        → slice_get old.new j ≡ slice_get old.old j }
     ensures long { length old.new ≡ length old.old }
 {
     if let Some(kept) = kept {
@@ -36,7 +37,7 @@ fn carry(old: &mut [PoolTable], table: &mut PoolTable, kept: Option<Kept>)
 }
 
 /// Takes what stays out of the old tables, into the places of the new ones.
-fn carry_all(old: &mut [PoolTable], pools: &mut [PoolTable], mut kept: Vec<Option<Kept>>)
+fn carry_all(old: &mut [PoolTable], pools: &mut [PoolTable], mut kept: Vec<Option<KeptTable>>)
     requires { FitAll old.old pools.old kept.items }
     ensures { pools.new ≡ map (λ e. carried old.old e.0 e.1) (zip pools.old kept.items) }
 {

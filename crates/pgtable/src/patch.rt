@@ -3,9 +3,9 @@
 use crate::pool_table::PoolTable;
 use grouptable::GroupPatch;
 
-/// The table of a pool that stays, with other sets for some groups.
+/// The table of a pool that stays, by its place among the old ones, with other sets for some groups.
 #[derive(Drop)]
-pub(crate) struct Kept {
+pub(crate) struct KeptTable {
     /// Where it stands among the old ones.
     pub at: usize,
     /// The other sets.
@@ -16,7 +16,7 @@ pub(crate) struct Kept {
 #[derive(Drop)]
 pub(crate) struct NewTables {
     pub pools: Vec<PoolTable>,
-    pub kept: Vec<Option<Kept>>,
+    pub kept: Vec<Option<KeptTable>>,
 }
 
 /// What a change makes of the tables of pools.

@@ -4,7 +4,7 @@ ghost use Rattle.std.specs.Prelude.{◌≡◌, true, length};
 ghost use Rattle.osdmap.specs.Marks.{are_below};
 ghost use Rattle.pgtable.specs.Patches.{is_empty, leaves_pools, leaves_raw_sets, ups_turned};
 
-use crate::candidates::{candidates, candidates_named};
+use crate::candidates::candidates;
 use crate::patch::{Brought, Patch};
 use crate::regroup::Regroup;
 use crate::table::{PgTable, ups_of};
@@ -95,7 +95,8 @@ impl PgTable {
     }
 
     /// All that a change makes of the table of a map that does not refuse it, where it leaves all raw sets: the map
-    /// after it need not be there. Or `Memory` (30).
+    /// after it need not be there, and as no OSD gets another reweight the exceptions before it serve for those after
+    /// it. Or `Memory` (30).
     fn prepare_groups(
         &self,
         alloc: Global,
@@ -112,7 +113,7 @@ impl PgTable {
     {
         map.holds_together();
         let _ = change.parts();
-        let groups = candidates_named(alloc, map, change)?;
+        let groups = candidates(alloc, map, change, map)?;
         let regroup = Regroup {
             map,
             change,
@@ -139,8 +140,12 @@ impl PgTable {
         Ok(up)
     }
 
-    /// All that a change makes of the table of a map that does not refuse it; or `Memory` (30). It tells the
-    /// evaluations of the change, and `work` counts a rule run for each of them, and no other.
+    /// All that a change makes of the table of a map that does not refuse it. It tells the evaluations of the change,
+    /// and `work` counts a rule run for each of them, and no other.
+    ///
+    /// # Errors
+    ///
+    /// Returns `Memory` (30) if an allocation is refused. `work` may then count some of the runs.
     pub fn prepare(
         &self,
         alloc: Global,

@@ -2,7 +2,9 @@
 
 ghost use Rattle.std.specs.Prelude.{◌≡◌, ◌==◌, position};
 
-use crate::patch::{Kept, NewTables};
+use crate::concerned::concerned;
+use crate::mapped::with_sets;
+use crate::patch::{KeptTable, NewTables};
 use crate::pool_table::PoolTable;
 use crate::table::PgTable;
 use crate::update::Update;
@@ -41,7 +43,7 @@ impl PgTable {
         update: &Update,
         pool: &Pool,
         work: &mut Work,
-    ) -> Result<(Kept, usize), Memory>
+    ) -> Result<(KeptTable, usize), Memory>
         requires table { IsTableOf self.now update.now.before.now.map }
         requires there { pool_at update.now.after.now.map.pools pool.now.id ≡ Some pool.now }
         requires untouched { is_touched update.now.after.now.map update.now.change.now pool.now ≡ false }
@@ -50,12 +52,14 @@ impl PgTable {
         ensures runs { OnOk result (RunsMore (evals_in update.now.after.now.map update.now.change.now pool.now)
             work.old work.new) }
     {
-        update.leads();
+        update.leads_from();
+        update.has_candidates();
         let at = self.place(pool.id());
-        let changes = update.changes(alloc, pool, work)?;
+        let numbers = concerned(alloc, update.after, update.change, pool, update.groups)?;
+        let changes = with_sets(alloc, &update.after.placing(pool), &numbers, work)?;
         let evals = changes.len();
         let patch = self.pools()[at].groups.prepare(alloc, changes)?;
-        Ok((Kept { at, patch }, evals))
+        Ok((KeptTable { at, patch }, evals))
     }
 
     /// A pool's table as a change makes it: anew, or kept with other sets for some groups; and how many of its groups
@@ -66,7 +70,7 @@ impl PgTable {
         update: &Update,
         pool: &Pool,
         work: &mut Work,
-    ) -> Result<(PoolTable, Option<Kept>, usize), Memory>
+    ) -> Result<(PoolTable, Option<KeptTable>, usize), Memory>
         requires table { IsTableOf self.now update.now.before.now.map }
         requires there { pool_at update.now.after.now.map.pools pool.now.id ≡ Some pool.now }
         ensures made { IfOk result (λ r. MakesPool self.now.pools update.now.after.now.map pool.now r.0 r.1) }
@@ -96,7 +100,7 @@ impl PgTable {
         ensures runs { OnOk result (RunsMore (evals_of update.now.after.now.map update.now.change.now)
             work.old work.new) }
     {
-        update.leads();
+        update.leads_from();
         let _ = work.runs();
         let mut pools = Vec::with_capacity(alloc, update.after.pools().len())?;
         let mut kept = Vec::with_capacity(alloc, update.after.pools().len())?;

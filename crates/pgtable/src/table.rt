@@ -65,7 +65,11 @@ impl PgTable {
     ghost use Rattle.pgtable.specs.Index.{up_at, index_of, count_of, count_in};
     ghost use Rattle.pgtable.specs.Tables.{IsTableOf, pool_in, tables_of, shown_at, shown_groups, shown_in, RunsMore};
 
-    /// The table of a map, by a run of a rule for each of its groups; or `Memory` (30).
+    /// The table of a map, by a run of a rule for each of its groups.
+    ///
+    /// # Errors
+    ///
+    /// Returns `Memory` (30) if an allocation is refused.
     pub fn build(alloc: Global, map: &OsdMap, work: &mut Work) -> Result<PgTable, Memory>
         ensures table { IfOk result (λ t. IsTableOf t map.now.map) }
         ensures runs { OnOk result (RunsMore (sum_by (λ p. p.pg_num) map.now.map.pools) work.old work.new) }
@@ -182,7 +186,11 @@ impl PgTable {
         self.shown_in(pool, osd)
     }
 
-    /// The groups in whose up set an OSD stands, by pool upwards, then by number; or `Memory` (30).
+    /// The groups in whose up set an OSD stands, by pool upwards, then by number.
+    ///
+    /// # Errors
+    ///
+    /// Returns `Memory` (30) if an allocation is refused.
     pub fn groups(&self, alloc: Global, osd: u32) -> Result<Vec<Pg>, Memory>
         ensures { IfOk result (λ groups. (m : ClusterMap) → IsTableOf self.now m → groups.items ≡ index_of m osd) }
     {

@@ -1,4 +1,4 @@
-use Rattle.pgtable.proofs.Concerned.{candidates_have}
+use Rattle.pgtable.proofs.Concerning.{candidates_have}
 use Rattle.pgtable.proofs.candidates.candidates.Goals as goal
 
 pub returns : goal.returns

@@ -1,4 +1,4 @@
-use Rattle.pgtable.proofs.Concerned.{groups_rise_all}
+use Rattle.pgtable.proofs.Concerning.{groups_rise_all}
 use Rattle.pgtable.proofs.candidates.groups_of.Goals as goal
 
 pub returns-clause-rising : goal.returns-clause-rising

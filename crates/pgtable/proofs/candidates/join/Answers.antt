@@ -1,4 +1,4 @@
-use Rattle.pgtable.proofs.Concerned.{joined_rise}
+use Rattle.pgtable.proofs.Concerning.{joined_rise}
 use Rattle.pgtable.proofs.candidates.join.Goals as goal
 
 pub returns-clause-rising : goal.returns-clause-rising

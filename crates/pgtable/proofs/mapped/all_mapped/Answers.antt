@@ -6,4 +6,4 @@ use Rattle.pgtable.proofs.mapped.all_mapped.Goals as goal
 pub loop-number-preserved : goal.loop-number-preserved
 loop-number-preserved c =
     let more = map-range_with_len_more (mapped_set c.args.map.now.map c.args.pool.now) 0 c.loop-number.number c.loop-number.number (omega arith) in
-    (c.in_ok-push.ensures.items ∙ rw (c.loop-number.invariant.0, c.in_ok-mapped.ensures.set, c.placing-placing.ensures.map, c.placing-placing.ensures.pool) (sym more), omega (arith, c.in_ok-mapped.ensures.run, c.loop-number.invariant.1))
+    (c.in_ok-push.ensures.items ∙ rw (c.loop-number.invariant.0, c.in_ok-set.ensures.set, c.placing-placing.ensures.map, c.placing-placing.ensures.pool) (sym more), omega (arith, c.in_ok-set.ensures.run, c.loop-number.invariant.1))

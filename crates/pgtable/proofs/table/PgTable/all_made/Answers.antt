@@ -11,7 +11,7 @@ pub made-requires-clause-there : goal.made-requires-clause-there
 made-requires-clause-there c =
     let inside = rw c.pools-pool-items.ensures at c.loop-pool-test.true in
     let is = rw c.pools-pool-items.ensures at c.pool-item.is in
-    found_at (λ (p : PoolFacts). p.id) c.args.update.now.after.now.map.pools c.loop-pool.pool-index c.pool-item.result c.leads.ensures.holds_after.pools_rise inside is
+    found_at (λ (p : PoolFacts). p.id) c.args.update.now.after.now.map.pools c.loop-pool.pool-index c.pool-item.result c.leads_from.ensures.holds_after.pools_rise inside is
 
 pub loop-pool-preserved : goal.loop-pool-preserved
 loop-pool-preserved c =
@@ -32,7 +32,7 @@ returns-clause-made c =
     let past = rw c.pools-pool-items.ensures at c.loop-pool-test.false in
     let end = rw c.pools-pool-items.ensures at c.loop-pool.auto.pool-index-end in
     let e : c.loop-pool.pool-index ≡ length c.args.update.now.after.now.map.pools = omega (arith, past, end) in
-    make_ends c.args.self.now.pools c.args.update.now.after.now.map c.loop-pool.pools.items c.loop-pool.kept.items c.leads.ensures.holds_after (rw e at c.loop-pool.invariant.made)
+    make_ends c.args.self.now.pools c.args.update.now.after.now.map c.loop-pool.pools.items c.loop-pool.kept.items c.leads_from.ensures.holds_after (rw e at c.loop-pool.invariant.made)
 
 pub overflow_add-evals : goal.overflow_add-evals
 overflow_add-evals c =
@@ -41,7 +41,7 @@ overflow_add-evals c =
     let inside : c.loop-pool.pool-index < length m.pools = rw c.pools-pool-items.ensures at c.loop-pool-test.true in
     let is = rw c.pools-pool-items.ensures at c.pool-item.is in
     let last = ap (evals_in m change) is in
-    omega (arith, sum_by_more_le (evals_in m change) m.pools c.loop-pool.pool-index c.pool-item.result inside, last, evals_whole m change c.leads.ensures.holds_after, c.in_ok-table.ensures.evals, c.loop-pool.invariant.evals)
+    omega (arith, sum_by_more_le (evals_in m change) m.pools c.loop-pool.pool-index c.pool-item.result inside, last, evals_whole m change c.leads_from.ensures.holds_after, c.in_ok-table.ensures.evals, c.loop-pool.invariant.evals)
 
 pub returns-clause-evals : goal.returns-clause-evals
 returns-clause-evals c =

@@ -2,7 +2,8 @@ use Rattle.std.proofs.Common.{◌≡◌, ◌∙◌, ◌<◌, refl, ap, length, a
 use Rattle.std.proofs.lemmas.List.Sums.{sum_by_more, sum_by_more_le}
 use Rattle.std.proofs.lemmas.Option.{slice_get_read}
 use Rattle.pgtable.specs.declared.pool_table.PoolTable.{PoolTable}
-use Rattle.pgtable.specs.Patches.{changed_map, evals_in}
+use Rattle.pgtable.specs.Patches.{evals_in}
+use Rattle.pgtable.specs.After.{map_after}
 use Rattle.pgtable.proofs.Regrouping.{leaving, table_at, regroup_more, regrouped_all, evals_regrouped, evals_of_regrouped}
 use Rattle.pgtable.proofs.table.PgTable.all_regrouped.Goals as goal
 
@@ -25,7 +26,7 @@ loop-table-preserved c =
     let inside : c.loop-table.table-index < length c.args.self.now.pools = rw c.pools-table-items.ensures.pools at c.loop-table-test.true in
     let is = rw c.pools-table-items.ensures.pools at c.table-item.is in
     let there = slice_get_read c.args.self.now.pools _ c.loop-table.table-index c.table-item.result refl inside is in
-    let after = changed_map c.args.regroup.now.map.now.map c.args.regroup.now.change.now in
+    let after = map_after c.args.regroup.now in
     let evals = λ (q : PoolTable). evals_in after c.args.regroup.now.change.now q.pool in
     let more = regroup_more c.args.self.now.pools after c.loop-table.table-index c.table-item.result c.loop-table.patches.items c.in_ok-patch.patch c.loop-table.invariant.made there c.in_ok-patch.ensures.made in
     let sum = sum_by_more evals c.args.self.now.pools c.loop-table.table-index c.table-item.result inside in
@@ -49,7 +50,7 @@ overflow_add-evals c =
     let change = c.args.regroup.now.change.now in
     let inside : c.loop-table.table-index < length c.args.self.now.pools = rw c.pools-table-items.ensures.pools at c.loop-table-test.true in
     let is = rw c.pools-table-items.ensures.pools at c.table-item.is in
-    let evals = λ (q : PoolTable). evals_in (changed_map m change) change q.pool in
+    let evals = λ (q : PoolTable). evals_in (map_after c.args.regroup.now) change q.pool in
     let last = ap evals is in
     let few = evals_of_regrouped c.args.self.now m change c.requires (leaving change c.holds.ensures.leaves) c.holds.ensures.leads.holds_after in
     omega (arith, sum_by_more_le evals c.args.self.now.pools c.loop-table.table-index c.table-item.result inside, last, few, c.in_ok-patch.ensures.evals, c.loop-table.invariant.evals)

@@ -2,13 +2,14 @@ use Rattle.std.proofs.Common.{◌≡◌, take}
 use Rattle.std.specs.List.{sum_by}
 use Rattle.pgtable.specs.declared.pool_table.PoolTable.{PoolTable}
 use Rattle.pgtable.specs.Tables.{RunsMore}
-use Rattle.pgtable.specs.Patches.{changed_map, evals_in}
+use Rattle.pgtable.specs.Patches.{evals_in}
+use Rattle.pgtable.specs.After.{map_after}
 use Rattle.pgtable.proofs.Regrouping.{Regroups}
 use Rattle.pgtable.proofs.table.PgTable.all_regrouped.Given as goal
 
 abbrev pub invariant-loop-table : goal.invariant-loop-table
 invariant-loop-table l = record {
-  made : Regroups l.self.pools (changed_map l.regroup.map.now.map l.regroup.change.now) l.table-index l.patches.items;
-  evals : l.evals ≡ sum_by (λ (q : PoolTable). evals_in (changed_map l.regroup.map.now.map l.regroup.change.now) l.regroup.change.now q.pool) (take l.table-index l.self.pools);
-  runs : RunsMore (sum_by (λ (q : PoolTable). evals_in (changed_map l.regroup.map.now.map l.regroup.change.now) l.regroup.change.now q.pool) (take l.table-index l.self.pools)) l.initial.work l.work;
+  made : Regroups l.self.pools (map_after l.regroup) l.table-index l.patches.items;
+  evals : l.evals ≡ sum_by (λ (q : PoolTable). evals_in (map_after l.regroup) l.regroup.change.now q.pool) (take l.table-index l.self.pools);
+  runs : RunsMore (sum_by (λ (q : PoolTable). evals_in (map_after l.regroup) l.regroup.change.now q.pool) (take l.table-index l.self.pools)) l.initial.work l.work;
 }

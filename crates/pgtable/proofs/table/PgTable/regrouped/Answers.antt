@@ -1,45 +1,64 @@
-use Rattle.std.proofs.Common.{ap, arith}
-use Rattle.pgtable.specs.Patches.{changed_map}
-use Rattle.pgtable.proofs.Keeping.{evals_concerned, evals_changes}
-use Rattle.pgtable.proofs.Regrouping.{leaving, none_touched, no_entries, within_regrouped, ascend_regrouped, regroups_none, regroups_some}
+use Rattle.std.proofs.Common.{◌∙◌, ap, arith}
+use Rattle.pgtable.specs.After.{map_after}
+use Rattle.pgtable.proofs.Keeping.{concerned_within, evals_concerned, evals_changes}
+use Rattle.pgtable.proofs.Regrouping.{leaving, none_touched, numbers_regrouped, no_entries, within_regrouped, ascend_regrouped, regroups_none, regroups_some}
 use Rattle.pgtable.proofs.table.PgTable.regrouped.Goals as goal
 
+pub with_sets-requires : goal.with_sets-requires
+with_sets-requires c = let r = c.args.regroup.now in rw (c.deref.ensures.value ∙ c.in_ok-numbers.ensures) (concerned_within r.map.now.map r.change.now c.args.table.now.pool)
+
 pub prepare-requires-clause-within : goal.prepare-requires-clause-within
-prepare-requires-clause-within c = within_regrouped c.args.regroup.now.map.now.map c.args.regroup.now.change.now c.args.table.now _ c.requires.table c.in_ok-changes.ensures.changes
+prepare-requires-clause-within c =
+    let r = c.args.regroup.now in
+    let s = leaving r.change.now c.holds.ensures.leaves in
+    let changes = rw (numbers_regrouped r.map.now.map r.change.now c.args.table.now.pool _ s (c.deref.ensures.value ∙ c.in_ok-numbers.ensures)) at c.in_ok-changes.ensures.changes in
+    within_regrouped r.map.now.map r.change.now c.args.table.now _ c.requires.table changes
 
 pub prepare-requires-clause-ascending : goal.prepare-requires-clause-ascending
-prepare-requires-clause-ascending c = ascend_regrouped c.args.regroup.now.map.now.map c.args.regroup.now.change.now c.args.table.now _ c.requires.table c.in_ok-changes.ensures.changes
+prepare-requires-clause-ascending c =
+    let r = c.args.regroup.now in
+    let s = leaving r.change.now c.holds.ensures.leaves in
+    let changes = rw (numbers_regrouped r.map.now.map r.change.now c.args.table.now.pool _ s (c.deref.ensures.value ∙ c.in_ok-numbers.ensures)) at c.in_ok-changes.ensures.changes in
+    ascend_regrouped r.map.now.map r.change.now c.args.table.now _ c.requires.table changes
 
 pub returns-then-is_empty-clause-made : goal.returns-then-is_empty-clause-made
 returns-then-is_empty-clause-made c =
-    let s = leaving c.args.regroup.now.change.now c.holds.ensures.leaves in
-    regroups_none c.args.regroup.now.map.now.map c.args.regroup.now.change.now c.args.table.now _ c.requires.table c.in_ok-changes.ensures.changes c.holds.ensures.leads s c.requires.there (no_entries c.in_ok-changes.changes.items _ _ c.is_empty.ensures c.if-is_empty.true (omega (arith, c.in_ok-changes.changes.ok)))
+    let r = c.args.regroup.now in
+    let s = leaving r.change.now c.holds.ensures.leaves in
+    let changes = rw (numbers_regrouped r.map.now.map r.change.now c.args.table.now.pool _ s (c.deref.ensures.value ∙ c.in_ok-numbers.ensures)) at c.in_ok-changes.ensures.changes in
+    regroups_none r.map.now.map r.change.now c.args.table.now _ c.requires.table changes c.holds.ensures.leads s c.requires.there (no_entries c.in_ok-changes.changes.items _ _ c.is_empty.ensures c.if-is_empty.true (omega (arith, c.in_ok-changes.changes.ok)))
 
 pub returns-then-is_empty-clause-evals : goal.returns-then-is_empty-clause-evals
 returns-then-is_empty-clause-evals c =
-    let s = leaving c.args.regroup.now.change.now c.holds.ensures.leaves in
-    let after = changed_map c.args.regroup.now.map.now.map c.args.regroup.now.change.now in
-    evals_changes after c.args.regroup.now.change.now c.args.table.now.pool c.in_ok-changes.changes.items _ (none_touched after c.args.regroup.now.change.now c.args.table.now.pool s) c.in_ok-changes.ensures.changes (omega (arith, c.in_ok-changes.changes.ok))
+    let r = c.args.regroup.now in
+    let s = leaving r.change.now c.holds.ensures.leaves in
+    let changes = rw (numbers_regrouped r.map.now.map r.change.now c.args.table.now.pool _ s (c.deref.ensures.value ∙ c.in_ok-numbers.ensures)) at c.in_ok-changes.ensures.changes in
+    evals_changes (map_after r) r.change.now c.args.table.now.pool c.in_ok-changes.changes.items _ (none_touched (map_after r) r.change.now c.args.table.now.pool s) changes (omega (arith, c.in_ok-changes.changes.ok))
 
 pub returns-then-is_empty-clause-runs : goal.returns-then-is_empty-clause-runs
 returns-then-is_empty-clause-runs c =
-    let s = leaving c.args.regroup.now.change.now c.holds.ensures.leaves in
-    let after = changed_map c.args.regroup.now.map.now.map c.args.regroup.now.change.now in
-    rw (evals_concerned after c.args.regroup.now.change.now c.args.table.now.pool (none_touched after c.args.regroup.now.change.now c.args.table.now.pool s)) c.in_ok-changes.ensures.runs
+    let r = c.args.regroup.now in
+    let s = leaving r.change.now c.holds.ensures.leaves in
+    let runs = rw (numbers_regrouped r.map.now.map r.change.now c.args.table.now.pool _ s (c.deref.ensures.value ∙ c.in_ok-numbers.ensures)) at c.in_ok-changes.ensures.runs in
+    rw (evals_concerned (map_after r) r.change.now c.args.table.now.pool (none_touched (map_after r) r.change.now c.args.table.now.pool s)) runs
 
 pub returns-clause-made : goal.returns-clause-made
 returns-clause-made c =
-    let s = leaving c.args.regroup.now.change.now c.holds.ensures.leaves in
-    regroups_some c.args.regroup.now.map.now.map c.args.regroup.now.change.now c.args.table.now _ c.requires.table c.in_ok-changes.ensures.changes c.holds.ensures.leads s c.requires.there c.in_ok-patch.patch (ap (λ v. v.items) c.in_ok-patch.ensures.made) c.in_ok-patch.ensures.fits
+    let r = c.args.regroup.now in
+    let s = leaving r.change.now c.holds.ensures.leaves in
+    let changes = rw (numbers_regrouped r.map.now.map r.change.now c.args.table.now.pool _ s (c.deref.ensures.value ∙ c.in_ok-numbers.ensures)) at c.in_ok-changes.ensures.changes in
+    regroups_some r.map.now.map r.change.now c.args.table.now _ c.requires.table changes c.holds.ensures.leads s c.requires.there c.in_ok-patch.patch (ap (λ v. v.items) c.in_ok-patch.ensures.made) c.in_ok-patch.ensures.fits
 
 pub returns-clause-evals : goal.returns-clause-evals
 returns-clause-evals c =
-    let s = leaving c.args.regroup.now.change.now c.holds.ensures.leaves in
-    let after = changed_map c.args.regroup.now.map.now.map c.args.regroup.now.change.now in
-    evals_changes after c.args.regroup.now.change.now c.args.table.now.pool c.in_ok-changes.changes.items _ (none_touched after c.args.regroup.now.change.now c.args.table.now.pool s) c.in_ok-changes.ensures.changes (omega (arith, c.in_ok-changes.changes.ok))
+    let r = c.args.regroup.now in
+    let s = leaving r.change.now c.holds.ensures.leaves in
+    let changes = rw (numbers_regrouped r.map.now.map r.change.now c.args.table.now.pool _ s (c.deref.ensures.value ∙ c.in_ok-numbers.ensures)) at c.in_ok-changes.ensures.changes in
+    evals_changes (map_after r) r.change.now c.args.table.now.pool c.in_ok-changes.changes.items _ (none_touched (map_after r) r.change.now c.args.table.now.pool s) changes (omega (arith, c.in_ok-changes.changes.ok))
 
 pub returns-clause-runs : goal.returns-clause-runs
 returns-clause-runs c =
-    let s = leaving c.args.regroup.now.change.now c.holds.ensures.leaves in
-    let after = changed_map c.args.regroup.now.map.now.map c.args.regroup.now.change.now in
-    rw (evals_concerned after c.args.regroup.now.change.now c.args.table.now.pool (none_touched after c.args.regroup.now.change.now c.args.table.now.pool s)) c.in_ok-changes.ensures.runs
+    let r = c.args.regroup.now in
+    let s = leaving r.change.now c.holds.ensures.leaves in
+    let runs = rw (numbers_regrouped r.map.now.map r.change.now c.args.table.now.pool _ s (c.deref.ensures.value ∙ c.in_ok-numbers.ensures)) at c.in_ok-changes.ensures.runs in
+    rw (evals_concerned (map_after r) r.change.now c.args.table.now.pool (none_touched (map_after r) r.change.now c.args.table.now.pool s)) runs

@@ -29,7 +29,7 @@ use Rattle.osdmap.proofs.Coming.{comes}
 use Rattle.keylist.proofs.KeyedOrder.{rising_head, rising_tail, rising_from, rising-filter}
 use Rattle.keylist.proofs.Tests.{and_first, and_second}
 use Rattle.keylist.proofs.Each.{same_tests}
-use Rattle.pgtable.specs.Candidates.{NamedRise, excepted_groups, merged, named_in, candidates_by, candidates, number_at, concerned_number, named_numbers}
+use Rattle.pgtable.specs.Candidates.{NamedRise, excepted_groups, merged, named_in, candidates_by, candidates, number_at}
 use Rattle.pgtable.specs.Candidates as spec
 use Rattle.pgtable.specs.Patches.{concerned}
 use Rattle.pgtable.proofs.Keeping.{among}
@@ -368,18 +368,11 @@ concerns_named m c g none = rw (none_reweighted target c (said_of m.explicit g) 
     or_nothing true = refl
     or_nothing false = refl
 
--- these are among the groups that it names
-pub named_have : (m : ClusterMap) (c : ChangeParts) (g : Pg) → c.weight ≡ [] → concerns m c g ≡ true → has_key place_of (named_in c) (place_of g) ≡ true
-named_have m c g none loud = named_has c g (sym (concerns_named m c g none) ∙ loud)
-
--- and are found among these in their order
-pub named_found : (m : ClusterMap) (c : ChangeParts) (p : PoolFacts) (groups : List Pg) → c.weight ≡ [] → IsRising place_of groups → ((g : Pg) → concerns m c g ≡ true → has_key place_of groups (place_of g) ≡ true)
-    → named_numbers c p groups ≡ concerned m c p
-named_found m c p groups none up complete =
-    over_places (λ n. is_named c (group_of p n)) (p.id * 2 ^ 32) p.pg_num groups
-    ∙ numbers_all (λ n. is_named c (group_of p n)) (p.id * 2 ^ 32) p.pg_num (map place_of groups) (places_rise groups up)
-    (λ j less yes. key_among place_of groups (p.id * 2 ^ 32 + j) ∙ complete (group_of p j) (concerns_named m c (group_of p j) none ∙ yes))
-    ∙ filter_agree (λ n. is_named c (group_of p n)) (λ n. concerns m c (group_of p n)) (λ n. sym (concerns_named m c (group_of p n) none)) (range_with_len 0 p.pg_num)
+-- so it concerns the same groups of a pool by whatever map
+pub concerned_alike : (m n : ClusterMap) (c : ChangeParts) (p : PoolFacts) → c.weight ≡ [] → concerned m c p ≡ concerned n c p
+concerned_alike m n c p none =
+    filter_agree (λ k. concerns m c (group_of p k)) (λ k. concerns n c (group_of p k))
+    (λ k. concerns_named m c (group_of p k) none ∙ sym (concerns_named n c (group_of p k) none)) (range_with_len 0 p.pg_num)
 
 -- the groups of exceptions with rising keys, and groups with others among them, rise
 pub groups_rise_all : {E : Type 0} (es : List (Exception E)) (gs : List Pg) (i : ℕ) → IsRising key_of es → gs ≡ excepted_groups (take i es) → length es ≤ i → IsRising place_of gs
