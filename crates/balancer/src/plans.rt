@@ -115,8 +115,12 @@ fn planned<'a>(
 }
 
 /// The change that makes the greedy plan for a pool, of at most `limit` moves, 1 to 1,024, and how many moves it is,
-/// for a map and its table. `UnknownPool` (23) where there is no such pool; else `BalanceRule` (29) where its rule has
-/// more than one block; else `Memory` (30). Nothing refuses the change at this map.
+/// for a map and its table. Nothing refuses the change at this map.
+///
+/// # Errors
+///
+/// `UnknownPool` (23) where there is no such pool; else `BalanceRule` (29) where its rule has more than one block; else
+/// `Memory` (30) where there is no memory for it.
 pub fn plan(
     alloc: Global,
     map: &OsdMap,

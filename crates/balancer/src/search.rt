@@ -363,7 +363,8 @@ impl Board<'_> {
         }
     }
 
-    /// The same for each OSD on which the group stands.
+    /// Looks again at what is known to be shut from each OSD on which a group stands: where the group may go, it is
+    /// open.
     fn look_again_at(&self, group: &Group, marks: &mut Marks)
         ensures { (from to : ℕ) → to < length (cluster self.now).presences → is_shut marks.new from to ≡ true
             → (is_shut marks.old from to ≡ true)

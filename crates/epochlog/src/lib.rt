@@ -2,6 +2,11 @@
 //! passes, which know what a reader has seen of it.
 //!
 //! No call waits, and only `Row::new` and `Row::pass` take memory.
+//!
+//! - `row`: a row of sealed epochs, and its limits
+//! - `pass`: what a reader has seen of a row
+//! - `error`: why an incremental is not sealed
+//! - `tests`: a row and its passes by an example
 #![tactic(auto)]
 
 mod error;

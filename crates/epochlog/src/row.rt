@@ -37,8 +37,12 @@ impl Model for Row {
 }
 
 impl Row {
-    /// A row with no epoch sealed, for the epochs after `first`. `BadLimit` (12) where `first` is not 1 to
-    /// 2,147,483,648 or `capacity` not 1 to 65,536 epochs; else `Memory` (30).
+    /// A row with no epoch sealed, for the epochs after `first`.
+    ///
+    /// # Errors
+    ///
+    /// `BadLimit` (12) where `first` is not 1 to 2,147,483,648 or `capacity` not 1 to 65,536 epochs; else `Memory` (30)
+    /// where there is no memory for it.
     pub fn new(alloc: Global, first: u64, capacity: u32) -> Result<Row, Refusal>
         ensures made { Gives result (refused_unless (is_within_limits first capacity) BadLimit)
             (λ row. (row.first ≡ first) × (length row.cells ≡ capacity)) }
@@ -61,7 +65,9 @@ impl Row {
 
     /// A pass that has seen nothing, with room for the whole row.
     ///
-    /// Fails only for want of memory (30).
+    /// # Errors
+    ///
+    /// `Memory` (30) where there is no memory for it.
     pub fn pass(&self, alloc: Global) -> Result<Pass, Memory>
         ensures row { IfOk result (λ pass. pass.row ≡ self.now) }
         ensures history { IfOk result (λ pass. pass.history ≡ []) }
@@ -73,6 +79,8 @@ impl Row {
     }
 
     /// Seals the epoch after those that the pass has seen, which is that of the incremental, and answers it.
+    ///
+    /// # Errors
     ///
     /// `NotSealed` (32) with the very box where another sealed the epoch first: the pass is as it was.
     pub fn seal(

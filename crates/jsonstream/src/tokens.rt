@@ -68,7 +68,11 @@ fn number_in(text: &str) -> Option<Option<i128>>
     }
 }
 
-/// The next token: `BadJson` (10) where there is none.
+/// The next token.
+///
+/// # Errors
+///
+/// `BadJson` (10) where there is none.
 pub fn next_token<'a>(reader: &mut Reader<'a>) -> Result<Token<'a>, Refusal>
     ensures { MatchResult result (λ t. reader.old ≡ token_of t ∷ reader.new)
         (λ e. (e ≡ Refusal.BadJson) × (reader.old ≡ [])) }
@@ -76,7 +80,11 @@ pub fn next_token<'a>(reader: &mut Reader<'a>) -> Result<Token<'a>, Refusal>
     reader.next().ok_or(Refusal::BadJson)
 }
 
-/// The next key, or none at the end of the object: `BadJson` (10) where neither comes.
+/// The next key, or none at the end of the object.
+///
+/// # Errors
+///
+/// `BadJson` (10) where neither comes.
 pub fn next_key<'a>(reader: &mut Reader<'a>) -> Result<Option<&'a str>, Refusal>
     ensures { MatchResult result
         (λ k. read_key reader.old ≡ Some (option_map (λ s. s.now) k, reader.new))
@@ -85,7 +93,11 @@ pub fn next_key<'a>(reader: &mut Reader<'a>) -> Result<Option<&'a str>, Refusal>
     reader.next_key().map_err(|_| Refusal::BadJson)
 }
 
-/// Passes the value that begins with a token: `BadJson` (10) where none does.
+/// Passes the value that begins with a token.
+///
+/// # Errors
+///
+/// `BadJson` (10) where no value that nests at most `depth` deep begins with it.
 #[cycle(skip)]
 pub fn finish(token: Token<'_>, reader: &mut Reader<'_>, depth: usize) -> Result<(), Refusal>
     ensures value { StepsOver (next depth (token_of token.entry ∷ reader.old)) result reader.new }
@@ -111,7 +123,11 @@ pub fn finish(token: Token<'_>, reader: &mut Reader<'_>, depth: usize) -> Result
     }
 }
 
-/// Passes what is left of a list: `BadJson` (10) where it does not end.
+/// Passes what is left of a list.
+///
+/// # Errors
+///
+/// `BadJson` (10) where it does not end, or something in it is no value or nests deeper than `depth`.
 #[cycle(skip)]
 pub fn skip_list(reader: &mut Reader<'_>, depth: usize) -> Result<(), Refusal>
     ensures value { StepsOver (rest_of_list depth reader.old) result reader.new }
@@ -124,7 +140,11 @@ pub fn skip_list(reader: &mut Reader<'_>, depth: usize) -> Result<(), Refusal>
     Ok(())
 }
 
-/// Passes what is left of an object: `BadJson` (10) where it does not end.
+/// Passes what is left of an object.
+///
+/// # Errors
+///
+/// `BadJson` (10) where it does not end, or something in it is no value or nests deeper than `depth`.
 #[cycle(skip)]
 pub fn skip_object(reader: &mut Reader<'_>, depth: usize) -> Result<(), Refusal>
     ensures value { StepsOver (rest_of_object depth reader.old) result reader.new }
@@ -137,7 +157,11 @@ pub fn skip_object(reader: &mut Reader<'_>, depth: usize) -> Result<(), Refusal>
     Ok(())
 }
 
-/// Passes a value: `BadJson` (10) where none comes.
+/// Passes a value.
+///
+/// # Errors
+///
+/// `BadJson` (10) where no value comes that nests at most `depth` deep.
 pub fn skip(reader: &mut Reader<'_>, depth: usize) -> Result<(), Refusal>
     ensures { MatchResult result (λ _. (d : Data) × (next depth reader.old ≡ Some (d, reader.new)))
         (λ e. (e ≡ Refusal.BadJson) × (next depth reader.old ≡ None)) }
@@ -157,8 +181,11 @@ fn digits<'a>(token: &Token<'a>) -> Option<&'a str>
     }
 }
 
-/// The whole number that a value is, `None` where it is another value: `BadJson` (10) where none comes. It takes no
-/// memory.
+/// The whole number that a value is, `None` where it is another value. It takes no memory.
+///
+/// # Errors
+///
+/// `BadJson` (10) where no value comes that nests at most `depth` deep.
 pub fn number(reader: &mut Reader<'_>, depth: usize) -> Result<Option<i128>, Refusal>
     ensures { TakesPlain (parse_map number_in_data (next depth reader.old)) result reader.new }
 {
@@ -177,7 +204,11 @@ fn is_list(token: &Token<'_>) -> bool
     matches!(token, Token::BeginArray)
 }
 
-/// Whether a list begins, whose values come then; any other value is passed: `BadJson` (10) where no value comes.
+/// Whether a list begins, whose values come then; any other value is passed.
+///
+/// # Errors
+///
+/// `BadJson` (10) where no value comes, a list begins where `depth` is 0, or another value nests deeper than `depth`.
 pub fn list_begins(reader: &mut Reader<'_>, depth: usize) -> Result<bool, Refusal>
     ensures { MatchResult result
         (λ begins. MatchBool begins
@@ -203,7 +234,12 @@ fn is_object(token: &Token<'_>) -> bool
     matches!(token, Token::BeginObject)
 }
 
-/// Whether an object begins, whose members come then; any other value is passed: `BadJson` (10) where no value comes.
+/// Whether an object begins, whose members come then; any other value is passed.
+///
+/// # Errors
+///
+/// `BadJson` (10) where no value comes, an object begins where `depth` is 0, or another value nests deeper than
+/// `depth`.
 pub fn object_begins(reader: &mut Reader<'_>, depth: usize) -> Result<bool, Refusal>
     ensures { MatchResult result
         (λ begins. MatchBool begins
@@ -232,7 +268,11 @@ fn quoted<'a>(token: &Token<'a>) -> Option<&'a str>
     }
 }
 
-/// The text that a value is, `None` where it is another value: `BadJson` (10) where none comes.
+/// The text that a value is, `None` where it is another value.
+///
+/// # Errors
+///
+/// `BadJson` (10) where no value comes that nests at most `depth` deep.
 pub fn text<'a>(reader: &mut Reader<'a>, depth: usize) -> Result<Option<&'a str>, Refusal>
     ensures { MatchResult result
         (λ t. parse_map as_str (next depth reader.old) ≡ Some (option_map (λ s. s.now) t, reader.new))
@@ -256,8 +296,11 @@ fn truth(token: &Token<'_>) -> Option<bool>
     }
 }
 
-/// Whether a value is true or false, `None` where it is another value: `BadJson` (10) where none comes. It takes no
-/// memory.
+/// Whether a value is true or false, `None` where it is another value. It takes no memory.
+///
+/// # Errors
+///
+/// `BadJson` (10) where no value comes that nests at most `depth` deep.
 pub fn flag(reader: &mut Reader<'_>, depth: usize) -> Result<Option<bool>, Refusal>
     ensures { TakesPlain (parse_map as_bool (next depth reader.old)) result reader.new }
 {

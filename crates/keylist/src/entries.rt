@@ -66,7 +66,11 @@ impl<T: Drop> Entries<T> {
 }
 
 impl<T: Copy + Drop> Entries<T> {
-    /// The same elements once more, or `Memory` (30).
+    /// A copy of the elements.
+    ///
+    /// # Errors
+    ///
+    /// `Memory` (30) where there is no memory for it.
     pub fn copy(&self, alloc: Global) -> Result<Entries<T>, Memory>
         ensures { IfOk result (λ copy. copy ≡ self.now) }
     {

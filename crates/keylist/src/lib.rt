@@ -1,4 +1,11 @@
 //! Lists as contracts see them, and lists whose entries have keys: where the keys rise, such a list is a finite map.
+//!
+//! - `entries`: a vector that contracts see as a list
+//! - `key`: what has a key among its like
+//! - `order`: entries in ascending order of their keys
+//! - `find`: look-ups by halving
+//! - `in_place`, `replace`: lists changed where they stand, and entries put in place of those with their keys
+//! - `merge`: how many entries two lists have as one
 #![tactic(auto)]
 
 mod entries;

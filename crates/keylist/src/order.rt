@@ -10,7 +10,11 @@ use crate::entries::Entries;
 use crate::key::Keyed;
 use refusal::{Memory, Refusal};
 
-/// The entries by key upwards, those of one key in their order; or `Memory` (30).
+/// The entries by key upwards, those of one key in their order.
+///
+/// # Errors
+///
+/// `Memory` (30) where there is no memory for it.
 pub fn sorted<K: Keyed>(mut entries: Vec<K>) -> Result<Vec<K>, Memory>
     ensures { IfOk result (λ r. SortsBy K.key_of entries.items r.items) }
 {
@@ -26,14 +30,22 @@ pub fn are_distinct<K: Keyed>(entries: &[K]) -> bool
     entries.is_sorted_by(|a, b| a.key() < b.key())
 }
 
-/// The same entries in ascending order of their keys, those of one key in their order; or `Memory` (30).
+/// The entries in ascending order of their keys, those of one key in their order.
+///
+/// # Errors
+///
+/// `Memory` (30) where there is no memory for it.
 pub fn ordered<K: Keyed>(entries: Entries<K>) -> Result<Entries<K>, Memory>
     ensures { IfOk result (SortsBy K.key_of entries) }
 {
     Ok(Entries::new(sorted(entries.into_vec())?))
 }
 
-/// The entries by key upwards; `refusal` where a key stands twice, or `Memory` (30).
+/// The entries by key upwards.
+///
+/// # Errors
+///
+/// `refusal` where a key stands twice; or `Memory` (30) where there is no memory for it.
 pub fn in_order<K: Keyed>(entries: Vec<K>, refusal: Refusal) -> Result<Vec<K>, Refusal>
     ensures { Makes result (refused_unless (is_distinct (map K.key_of entries.items)) refusal)
         (λ r. Rises K.key_of entries.items r.items) }

@@ -61,7 +61,7 @@ fn follow(alloc: Global, monitor: &Monitor) -> Result<u64, Memory>
     Ok(follower.epoch())
 }
 
-/// The same in a thread of its own.
+/// The epoch that a follower reaches by now in a thread of its own.
 fn follow_beside<R: Wait + Threads + Sync>(
     rt: &R,
     alloc: Global,

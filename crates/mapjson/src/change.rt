@@ -30,7 +30,7 @@ pub(crate) fn change_within(
     change_of(alloc, change, profile)
 }
 
-/// The same within the limits of all changes.
+/// The base and the parts of a change that a text states, where the limits of all changes are its only ones.
 fn change_of(
     alloc: Global,
     change: &RawChange,

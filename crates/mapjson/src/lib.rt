@@ -1,4 +1,8 @@
 //! Maps and changes as JSON text (RFC 8259).
+//!
+//! - `change`: the change that the stated parts of one stand for, and why there is none
+//! - `change/limits`, `change/within`: the limits of stated parts, and the change of parts within them
+//! - `written`: what is written of a map, as JSON values
 #![tactic(auto)]
 
 ghost use Rattle.std.specs.Prelude.{◌≡◌, Ok, IfOk};
@@ -24,9 +28,13 @@ use partjson::{read_change_parts, read_map_parts};
 use refusal::{Memory, Refusal};
 use std::alloc::Global;
 
-/// The map that a text states: `BadJson` (10) where the text is not UTF-8, is no JSON or nests deeper than 127;
-/// `BadField` (11) where it does not state a map of the kinds of buckets that the profile has; else what
-/// [`OsdMap::new`], or under `Stock` [`OsdMap::stock`], answers for the parts that it states. `Memory` (30).
+/// The map that a text states.
+///
+/// # Errors
+///
+/// `BadJson` (10) where the text is not UTF-8, is no JSON or nests deeper than 127; else `BadField` (11) where it does
+/// not state a map of the kinds of buckets that the profile has; else those of [`OsdMap::new`], or under `Stock` of
+/// [`OsdMap::stock`], for the parts that it states; or `Memory` (30) where there is no memory for it.
 pub fn read_map(alloc: Global, bytes: &[u8], profile: Profile) -> Result<OsdMap, Refusal>
     ensures { Makes result (map_text_fault profile bytes.now) (λ m. StatesMap profile bytes.now m.map) }
 {
@@ -44,16 +52,25 @@ fn map_of(alloc: Global, parts: MapParts, profile: Profile) -> Result<OsdMap, Re
     }
 }
 
-/// The base and the change that a text states: `BadJson` (10) where the text is not UTF-8, is no JSON or nests deeper
-/// than 127; `BadField` (11) where it does not state a change that brings no kinds of buckets but those of the profile;
-/// `BadLimit` (12) where a number or a length is outside its limits: a base of 0 to 2^64 - 1, ids of pools of 1 to
-/// 65,535, OSDs of 0 to 1,023, reweights of 0 to 4,294,967,295, groups' numbers of at most 32 bits, at most 10 OSDs or
-/// pairs of a group, lists of at most 262,144 entries, of a new pool what [`osdmap::Pool`] has, of a growth what
-/// [`osdmap::Grow`] has, of a new CRUSH map what a map's buckets and rules have, and under `Plain` also the limits of
-/// plain clusters ([`mapparts::plain`], lists of at most 131,072 entries among them); `BadForest` (13) where the new
-/// buckets are no well-formed forest over 1,024 devices; `BadRule` (14) where a new rule is outside the grammar, takes
-/// a bucket that is not among them, or has the id of another; `BadPool` (15) where the `pgp_num` of a new or growing
-/// pool is above its `pg_num`. Each is tested over the whole text before the next. `Memory` (30).
+/// The base and the change that a text states.
+///
+/// # Errors
+///
+/// The first of these, each tested over the whole text:
+///
+/// - `BadJson` (10): the text is not UTF-8, is no JSON or nests deeper than 127.
+/// - `BadField` (11): it does not state a change that brings no kinds of buckets but those of the profile.
+/// - `BadLimit` (12): a number or a length is outside its limits: a base of 0 to 2^64 - 1, ids of pools of 1 to 65,535,
+///   OSDs of 0 to 1,023, reweights of 0 to 4,294,967,295, groups' numbers of at most 32 bits, at most 10 OSDs or pairs
+///   of a group, lists of at most 262,144 entries, of a new pool what [`osdmap::Pool`] has, of a growth what
+///   [`osdmap::Grow`] has, of a new CRUSH map what a map's buckets and rules have, and under `Plain` also the limits of
+///   plain clusters ([`mapparts::plain`], lists of at most 131,072 entries among them).
+/// - `BadForest` (13): the new buckets are no well-formed forest over 1,024 devices.
+/// - `BadRule` (14): a new rule is outside the grammar, takes a bucket that is not among them, or has the id of
+///   another.
+/// - `BadPool` (15): the `pgp_num` of a new or growing pool is above its `pg_num`.
+///
+/// Or `Memory` (30) where there is no memory for it.
 pub fn read_change(alloc: Global, bytes: &[u8], profile: Profile) -> Result<(u64, Change), Refusal>
     ensures { Makes result (change_text_fault profile bytes.now) (StatesChange profile bytes.now) }
 {
@@ -65,7 +82,11 @@ pub fn read_change(alloc: Global, bytes: &[u8], profile: Profile) -> Result<(u64
 
 /// The text of a map: compact JSON, each object with all its keys in byte order, buckets by id from -1 downwards,
 /// rules, pools and OSDs by id upwards, exceptions by group upwards, items, steps, explicit sets and pairs in their
-/// order. An OSD that does not exist and has reweight 0 is left out. Or 30 (Memory).
+/// order. An OSD that does not exist and has reweight 0 is left out.
+///
+/// # Errors
+///
+/// `Memory` (30) where there is no memory for it.
 pub fn write_map(alloc: Global, map: &OsdMap) -> Result<Vec<u8>, Memory>
     ensures text { IfOk result (λ bytes. bytes.items ≡ written map.now.map) }
     ensures utf8 { IfOk result (λ bytes. IsUtf8 bytes.items) }

@@ -126,7 +126,11 @@ impl Change {
     ghost use Rattle.maptypes.specs.Pools.{IsWithinLimits};
     ghost use Rattle.maptypes.specs.Ordered.{IsOrdered, IsInOrder};
 
-    /// The change of these parts, each put into ascending order of its keys, doubles in their order; or `Memory` (30).
+    /// The change of these parts, each put into ascending order of its keys, doubles in their order.
+    ///
+    /// # Errors
+    ///
+    /// `Memory` (30) where there is no memory for it.
     pub fn new(parts: ChangeParts) -> Result<Change, Memory>
         ensures { IfOk result (IsOrdered parts) }
     {

@@ -148,7 +148,7 @@ fn are_lawful(rules: &[NumberedRule])
     }
 }
 
-/// Each of some rules once more.
+/// Copies of some rules.
 fn copied(alloc: Global, rules: &[NumberedRule]) -> Result<Vec<NumberedRule>, Memory>
     ensures { IfOk result (λ copies. copies.items ≡ rules.now) }
 {
@@ -174,9 +174,13 @@ impl CrushMap {
     ghost use Rattle.mapparts.specs.Parts.{has_between, bucket_fits, rule_fits};
     ghost use Rattle.maptypes.specs.CrushMaps.{rule_at, rules_fault, crush_fault, IsCrushMap, IsCrushWith, IsCrushOf};
 
-    /// The CRUSH map over the devices below `max_osd` that parts within the limits state: `BadForest` (13) where its
-    /// buckets are no well-formed forest, else `BadRule` (14) where a rule is outside the grammar, takes a bucket that
-    /// the forest has not, or has the id of another; `Memory` (30).
+    /// The CRUSH map over the devices below `max_osd` that parts within the limits state.
+    ///
+    /// # Errors
+    ///
+    /// `BadForest` (13) where the buckets are no well-formed forest; else `BadRule` (14) where a rule is outside the
+    /// grammar, takes a bucket that the forest has not, or has the id of another; or `Memory` (30) where there is no
+    /// memory for it.
     pub fn stated(
         alloc: Global,
         buckets: &[BucketPart],
@@ -200,9 +204,13 @@ impl CrushMap {
         })
     }
 
-    /// The CRUSH map of a forest and of rules over it: `BadLimit` (12) where there are none or more than 32, or an id
-    /// is above 255; else `BadRule` (14) where an id stands twice, or a rule takes a bucket that the forest has not;
-    /// `Memory` (30).
+    /// The CRUSH map of a forest and of rules over it.
+    ///
+    /// # Errors
+    ///
+    /// `BadLimit` (12) where there are no rules or more than 32, or an id is above 255; else `BadRule` (14) where an id
+    /// stands twice, or a rule takes a bucket that the forest has not; or `Memory` (30) where there is no memory for
+    /// it.
     pub fn new(alloc: Global, forest: Forest, rules: Vec<NumberedRule>) -> Result<CrushMap, Refusal>
         ensures { Makes result (rules_fault forest rules.items) (IsCrushWith forest rules.items) }
     {
@@ -243,7 +251,11 @@ impl CrushMap {
             .map(|rule| &rule.rule)
     }
 
-    /// The same CRUSH map once more, or `Memory` (30).
+    /// A copy of the CRUSH map.
+    ///
+    /// # Errors
+    ///
+    /// `Memory` (30) where there is no memory for it.
     pub fn copy(&self, alloc: Global) -> Result<CrushMap, Memory>
         ensures { IfOk result (λ copy. copy ≡ self.now) }
     {

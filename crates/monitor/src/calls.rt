@@ -20,8 +20,12 @@ impl Monitor {
     ghost use Rattle.monitor.specs.Balances.{AnswersBalance, AddsPlan};
     ghost use Rattle.monitor.specs.Members.{IsMemberOf, IsSpent, DrawsOnce, StaysAlone};
 
-    /// The epoch and the up set of a group: `UnknownPool` (23), else `UnknownGroup` (25). `SeatSpent` (31) once the
-    /// member's seat has made its draws, and only then. It takes no memory. Members share the lock.
+    /// The epoch and the up set of a group. It takes no memory. Members share the lock.
+    ///
+    /// # Errors
+    ///
+    /// `SeatSpent` (31) once the member's seat has made its draws, and only then; else `UnknownPool` (23) where the map
+    /// has no such pool; else `UnknownGroup` (25) where the pool has no such group.
     pub fn up<R: Wait>(&self, rt: &R, member: &mut Member, pg: Pg) -> Result<(u64, UpSet), Refusal>
         requires { IsMemberOf self.now member.old }
         ensures member { IsMemberOf self.now member.new }
@@ -38,8 +42,12 @@ impl Monitor {
         answer
     }
 
-    /// The epoch, and in how many groups' up sets an OSD stands: `UnknownOsd` (21). `SeatSpent` (31) once the
-    /// member's seat has made its draws, and only then. It takes no memory. Members share the lock.
+    /// The epoch, and in how many groups' up sets an OSD stands. It takes no memory. Members share the lock.
+    ///
+    /// # Errors
+    ///
+    /// `SeatSpent` (31) once the member's seat has made its draws, and only then; else `UnknownOsd` (21) where the OSD
+    /// does not exist.
     pub fn count<R: Wait>(
         &self,
         rt: &R,
@@ -61,9 +69,13 @@ impl Monitor {
         answer
     }
 
-    /// The epoch, and the groups in whose up set an OSD stands, by pool upwards, then by number: `UnknownOsd` (21),
-    /// else `Memory` (30). `SeatSpent` (31) once the member's seat has made its draws, and only then. Members share the
+    /// The epoch, and the groups in whose up set an OSD stands, by pool upwards, then by number. Members share the
     /// lock.
+    ///
+    /// # Errors
+    ///
+    /// `SeatSpent` (31) once the member's seat has made its draws, and only then; else `UnknownOsd` (21) where the OSD
+    /// does not exist; else `Memory` (30) where there is no memory for it.
     pub fn groups<R: Wait>(
         &self,
         rt: &R,
@@ -86,8 +98,11 @@ impl Monitor {
         answer
     }
 
-    /// The epoch. `SeatSpent` (31) once the member's seat has made its draws, and only then. It takes no memory.
-    /// Members share the lock.
+    /// The epoch. It takes no memory. Members share the lock.
+    ///
+    /// # Errors
+    ///
+    /// `SeatSpent` (31) once the member's seat has made its draws, and only then.
     pub fn epoch<R: Wait>(&self, rt: &R, member: &mut Member) -> Result<u64, Refusal>
         requires { IsMemberOf self.now member.old }
         ensures member { IsMemberOf self.now member.new }
@@ -103,8 +118,12 @@ impl Monitor {
         Ok(epoch)
     }
 
-    /// The text of the map, as `mapjson::write_map` writes it: `Memory` (30). `SeatSpent` (31) once the member's
-    /// seat has made its draws, and only then. Members share the lock.
+    /// The text of the map, as `mapjson::write_map` writes it. Members share the lock.
+    ///
+    /// # Errors
+    ///
+    /// `SeatSpent` (31) once the member's seat has made its draws, and only then; else `Memory` (30) where there is no
+    /// memory for it.
     pub fn dump<R: Wait>(
         &self,
         rt: &R,
@@ -130,9 +149,12 @@ impl Monitor {
     /// Commits a change to the map of the epoch `base`: the new epoch, and for how many groups a rule was run, which
     /// are those whose placement it can alter. The member has the lock alone.
     ///
+    /// # Errors
+    ///
     /// `SeatSpent` (31) once the member's seat has made its draws, and only then; else `StaleEpoch` (20) with the
     /// present epoch where `base` is another; else what [`osdmap::OsdMap::check`] refuses (21, 22, 23, 24, 13, 15, 25,
-    /// 26, 27); else `JournalFull` (28); else `Memory` (30), or `NotSealed` (32) where another sealed the epoch.
+    /// 26, 27); else `JournalFull` (28) where the journal has its capacity; else `Memory` (30) where there is no memory
+    /// for it, or `NotSealed` (32) where another sealed the epoch.
     pub fn commit<R: Wait>(
         &self,
         rt: &R,
@@ -161,9 +183,12 @@ impl Monitor {
     /// in one hold of the lock: the epoch then, and how many moves. Where no move is good, nothing is committed, also
     /// where the journal is full.
     ///
-    /// `SeatSpent` (31) once the member's seat has made its draws, and only then; `UnknownPool` (23), else
-    /// `BalanceRule` (29) where the pool's rule has more than one block; else `Memory` (30), and where a move is good
-    /// `JournalFull` (28) or `NotSealed` (32).
+    /// # Errors
+    ///
+    /// `SeatSpent` (31) once the member's seat has made its draws, and only then; else `UnknownPool` (23) where there
+    /// is no such pool; else `BalanceRule` (29) where the pool's rule has more than one block; else `Memory` (30) where
+    /// there is no memory for it, or where a move is good `JournalFull` (28) or `NotSealed` (32) as for
+    /// [`Monitor::commit`].
     pub fn balance<R: Wait>(
         &self,
         rt: &R,

@@ -81,7 +81,11 @@ impl Follower {
     ghost use Rattle.mapjson.specs.Written.{written};
     ghost use Rattle.monitor.specs.Followers.{Follows, GoesOnFrom, Advances, IsCaughtUp};
 
-    /// A follower of this monitor, at the first map. The one error is `Memory` (30).
+    /// A follower of this monitor, at the first map.
+    ///
+    /// # Errors
+    ///
+    /// `Memory` (30) where there is no memory for it.
     pub fn new(alloc: Global, monitor: &Monitor) -> Result<Follower, Memory>
         ensures { IfOk result (λ follower.
             Follows monitor.now follower × (follower.history ≡ []) × (follower.map ≡ monitor.now.first)) }
@@ -138,8 +142,12 @@ impl Follower {
     }
 
     /// Applies what the row shows after the follower's epoch, one incremental after another, and answers the epoch that
-    /// it has reached: the last one that its pass has seen, or the one before that of a change that its map refuses.
-    /// After `Memory` (30) it stands at an epoch that it has fully applied. It waits for no one.
+    /// it has reached: the last one that its pass has seen, or the one before that of a change that its map refuses. It
+    /// waits for no one.
+    ///
+    /// # Errors
+    ///
+    /// `Memory` (30) where there is no memory for it. The follower then stands at an epoch that it has fully applied.
     pub fn catch_up(&mut self, alloc: Global, monitor: &Monitor) -> Result<u64, Memory>
         requires { Follows monitor.now self.old }
         ensures goes_on { GoesOnFrom self.old self.new }
@@ -150,8 +158,12 @@ impl Follower {
         Ok(self.epoch())
     }
 
-    /// The epoch and the up set of a group by the follower's map: `UnknownPool` (23), else `UnknownGroup` (25), else
-    /// `Memory` (30).
+    /// The epoch and the up set of a group by the follower's map.
+    ///
+    /// # Errors
+    ///
+    /// `UnknownPool` (23) where the map has no such pool; else `UnknownGroup` (25) where the pool has no such group;
+    /// else `Memory` (30) where there is no memory for it.
     pub fn up(&mut self, pg: Pg) -> Result<(u64, UpSet), Refusal>
         ensures answer { Gives result (group_fault self.old.map pg)
             (λ answer. (answer.0 ≡ self.old.map.epoch) × (Some answer.1 ≡ up_at self.old.map pg)) }
@@ -161,7 +173,11 @@ impl Follower {
         Ok((self.map.epoch(), set))
     }
 
-    /// The text of the follower's map, as `mapjson::write_map` writes it. The one error is `Memory` (30).
+    /// The text of the follower's map, as `mapjson::write_map` writes it.
+    ///
+    /// # Errors
+    ///
+    /// `Memory` (30) where there is no memory for it.
     pub fn dump(&self, alloc: Global) -> Result<Vec<u8>, Memory>
         ensures text { IfOk result (λ text. text.items ≡ written self.now.map) }
         ensures utf8 { IfOk result (λ text. IsUtf8 text.items) }

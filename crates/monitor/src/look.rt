@@ -27,8 +27,11 @@ impl Monitor {
     ghost use Rattle.monitor.specs.Members.{IsMemberOf, IsSpent, StaysAlone, draws_made};
     ghost use Rattle.monitor.specs.Looking.{IsLookOf};
 
-    /// Shares the lock, to look at the state. `Err` (31, `SeatSpent`), once the member's seat has made its draws and
-    /// only then, is the member. It takes no memory.
+    /// Shares the lock, to look at the state. It takes no memory.
+    ///
+    /// # Errors
+    ///
+    /// The member (31, `SeatSpent`), once its seat has made its draws and only then. What it has seen is as it was.
     pub fn look<R: Wait>(&self, rt: &R, member: Member) -> Result<Look<'_>, Member>
         requires { IsMemberOf self.now member }
         ensures ok { IfOk result (λ look.

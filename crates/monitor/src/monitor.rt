@@ -51,7 +51,11 @@ impl Monitor {
         self.profile
     }
 
-    /// A pass that has seen nothing, to join what members have seen. The one error is `Memory` (30).
+    /// A pass that has seen nothing, to join what members have seen.
+    ///
+    /// # Errors
+    ///
+    /// `Memory` (30) where there is no memory for it.
     #[tactic(auto, using(crate::proofs::Histories::lawful_none))]
     pub fn pass(&self, alloc: Global) -> Result<Pass, Memory>
         ensures { IfOk result (λ pass. IsPassOf self.now pass × (pass.history ≡ [])) }

@@ -124,8 +124,10 @@ impl Monitor {
     /// seat of so many draws: each call of a member that takes the lock spends a draw, and a second only where the lent
     /// state has not seen what the member has. The members have seen nothing.
     ///
+    /// # Errors
+    ///
     /// `BadLimit` (12) exactly where the map's epoch is not 1 to 2,147,483,648, `journal` not 1 to 65,536 epochs,
-    /// `seats` not 1 to 1,024 or `draws` not 1 to 2^40; else `Memory` (30).
+    /// `seats` not 1 to 1,024 or `draws` not 1 to 2^40; else `Memory` (30) where there is no memory for it.
     pub fn open_limited(
         alloc: Global,
         map: OsdMap,
@@ -143,6 +145,10 @@ impl Monitor {
     }
 
     /// A monitor as [`Monitor::open_limited`] opens it, each seat with the most draws, which are 2^40.
+    ///
+    /// # Errors
+    ///
+    /// Those of [`Monitor::open_limited`].
     pub fn open(
         alloc: Global,
         map: OsdMap,

@@ -48,8 +48,12 @@ impl Monitor {
 
     /// Shares the lock, for several questions to one state: [`Monitor::shown`] lends it, and [`Monitor::give_back`]
     /// ends the hold. Until then the member has no seat, and asks nothing else. Where the lent state has not seen what
-    /// the member has, it draws again. `SeatSpent` (31), once the member's seat has made its draws and only then, with
-    /// the member as it was. It takes no memory.
+    /// the member has, it draws again. It takes no memory.
+    ///
+    /// # Errors
+    ///
+    /// `SeatSpent` (31), once the member's seat has made its draws and only then. The member then has its seat, and
+    /// what it has seen is as it was.
     pub fn share<R: Wait>(&self, rt: &R, member: &mut Member) -> Result<Shared<'_>, Refusal>
         requires { IsMemberOf self.now member.old }
         ensures goes_on { GoesOn self.now.first member.old.pass.history member.new.pass.history }

@@ -105,7 +105,7 @@ excepts_soundly m c =
     list_all (is_sound is_set (pools_after m c)) c.new_upmap
     && list_all (is_sound are_pairs (pools_after m c)) c.new_items
 
--- no key stands twice in a part, nor in two of which one undoes the other
+-- no key stands twice in a part, nor in both parts of a couple
 unfoldable pub names_once : ChangeParts → Bool
 names_once c =
     is_distinct (map (λ id. id) c.old_pools ++ map (λ p. p.id) c.new_pools)

@@ -32,8 +32,12 @@ impl OsdMap {
     ghost use Rattle.osdmap.specs.Changes.{apply, change_fault};
     ghost use Rattle.osdmap.specs.Stored.{HasRoomFor};
 
-    /// Makes room for a change, so that it can be made without memory, and lays a copy of its forest and rules ready;
-    /// or `Memory` (30). What the map says stays.
+    /// Makes room for a change, so that it can be made without memory, and lays a copy of its forest and rules ready.
+    /// What the map says stays, also where this fails.
+    ///
+    /// # Errors
+    ///
+    /// `Memory` (30) where there is no memory for it.
     pub fn reserve_for(&mut self, alloc: Global, change: &Change) -> Result<(), Memory>
         ensures same { self.new.map ≡ self.old.map }
         ensures room { OnOk result (HasRoomFor change.now self.new) }
@@ -90,7 +94,11 @@ impl OsdMap {
         self.change_to(incremental.epoch(), incremental.change());
     }
 
-    /// The map after a change that it does not refuse, one epoch on; or `Memory` (30).
+    /// The map after a change that it does not refuse, one epoch on.
+    ///
+    /// # Errors
+    ///
+    /// `Memory` (30) where there is no memory for it.
     pub fn after(&self, alloc: Global, change: &Change) -> Result<OsdMap, Memory>
         requires lawful { change_fault self.now.map change.now ≡ None }
         requires epoch { self.now.map.epoch + 1 < 2 ^ 64 }

@@ -46,8 +46,11 @@ impl OsdMap {
         })
     }
 
-    /// The map of a plain cluster that parts state: `BadLimit` (12) where there is more of something than in plain
-    /// clusters; else what [`OsdMap::stock`] answers.
+    /// The map of a plain cluster that parts state.
+    ///
+    /// # Errors
+    ///
+    /// `BadLimit` (12) where there is more of something than in plain clusters; else those of [`OsdMap::stock`].
     pub fn new(alloc: Global, parts: MapParts) -> Result<OsdMap, Refusal>
         ensures { Makes result (plain_map_fault parts) (λ m. IsStated parts m.map) }
     {
@@ -57,8 +60,13 @@ impl OsdMap {
         OsdMap::stock(alloc, parts)
     }
 
-    /// The map that parts state: `BadLimit` (12), `BadForest` (13), `BadRule` (14), `BadPool` (15), `BadOsd` (16) or
-    /// `BadException` (17) where something is wrong, the first of these, each tested over the whole map; `Memory` (30).
+    /// The map that parts state.
+    ///
+    /// # Errors
+    ///
+    /// `BadLimit` (12), `BadForest` (13), `BadRule` (14), `BadPool` (15), `BadOsd` (16) or `BadException` (17) where
+    /// something is wrong: the first of these, each tested over the whole map ([`Refusal`] has the meaning of each); or
+    /// `Memory` (30) where there is no memory for it.
     pub fn stock(alloc: Global, parts: MapParts) -> Result<OsdMap, Refusal>
         ensures { Makes result (map_fault parts) (λ m. IsStated parts m.map) }
     {

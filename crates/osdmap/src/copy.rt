@@ -1,4 +1,4 @@
-//! The same map once more.
+//! A copy of a map.
 
 use crate::map::OsdMap;
 use refusal::Memory;
@@ -7,7 +7,11 @@ use std::alloc::Global;
 impl OsdMap {
     ghost use Rattle.std.specs.Prelude.{◌≡◌, IfOk};
 
-    /// The same map once more, or `Memory` (30).
+    /// A copy of the map.
+    ///
+    /// # Errors
+    ///
+    /// `Memory` (30) where there is no memory for it.
     pub fn copy(&self, alloc: Global) -> Result<OsdMap, Memory>
         ensures { IfOk result (λ m. m.map ≡ self.now.map) }
     {

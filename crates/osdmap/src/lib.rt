@@ -1,5 +1,15 @@
 //! The map of a cluster: its forest, rules, pools and OSDs, the changes that make the next map of it, and where it
 //! places the groups of its pools.
+//!
+//! - `map`: the map of a cluster, and the look-ups in it
+//! - `build`: the map that parts state
+//! - `build/pools`, `build/osds`, `build/exceptions`: its pools, its OSDs and its exceptions
+//! - `copy`: a copy of a map
+//! - `check`: what a map refuses of a change
+//! - `check/osds`, `check/pools`, `check/devices`, `check/rules`, `check/groups`, `check/once`: where each number is
+//!   looked for
+//! - `apply`, `in_place`: the map after a change, and changes made where the lists of a map stand
+//! - `placement`, `up_set`: where a map places the groups of its pools, and the set of a group
 #![tactic(auto)]
 
 mod apply;

@@ -78,7 +78,11 @@ impl Placing<'_> {
     }
 
     /// The mapped set of the group of a number, by one run of the rule, which `work` counts, also where its set is not
-    /// wanted; or `Memory` (30).
+    /// wanted.
+    ///
+    /// # Errors
+    ///
+    /// `Memory` (30) where there is no memory for the run, which is not counted then.
     #[tactic(auto, unfolding(crate::specs::Placement::mapped_set, crate::specs::Mapped::mapped))]
     pub fn mapped(&self, number: u32, work: &mut Work) -> Result<UpSet, Memory>
         ensures set { IfOk result (λ set. set ≡ mapped_set self.now.map.now.map self.now.pool number) }
@@ -241,7 +245,12 @@ impl OsdMap {
     }
 
     /// The raw set of a group: the OSDs that its pool's rule places and that exist (Ceph, `_pg_to_raw_osds`). It takes
-    /// one run of the rule, which `work` counts. `UnknownPool` (23), `UnknownGroup` (25), else `Memory` (30).
+    /// one run of the rule, which `work` counts.
+    ///
+    /// # Errors
+    ///
+    /// `UnknownPool` (23) where the map has no such pool; else `UnknownGroup` (25) where the pool has no such group;
+    /// else `Memory` (30) where there is no memory for the run. No run is counted then.
     pub fn raw_of(&self, pg: Pg, work: &mut Work) -> Result<UpSet, Refusal>
         ensures set { Gives result (group_fault self.now.map pg) (λ set. IsPlacedBy raw_set self.now.map pg set) }
         ensures run { RunsOnce work.old work.new result }
@@ -252,7 +261,11 @@ impl OsdMap {
 
     /// The mapped set of a group: its raw set under its exceptions (Ceph, `_apply_upmap`). Where one of the OSDs of its
     /// explicit set has reweight 0, neither that set nor its pairs act. It takes one run of the rule, which `work`
-    /// counts. `UnknownPool` (23), `UnknownGroup` (25), else `Memory` (30).
+    /// counts.
+    ///
+    /// # Errors
+    ///
+    /// Those of [`OsdMap::raw_of`].
     pub fn mapped_of(&self, pg: Pg, work: &mut Work) -> Result<UpSet, Refusal>
         ensures set { Gives result (group_fault self.now.map pg) (λ set. IsPlacedBy mapped_set self.now.map pg set) }
         ensures run { RunsOnce work.old work.new result }
@@ -262,8 +275,11 @@ impl OsdMap {
     }
 
     /// The mapped set that a group would have if an explicit set and pairs were its exceptions, in place of those that
-    /// the map has. Like its own it takes one run of the rule, which `work` counts. `UnknownPool` (23), `UnknownGroup`
-    /// (25), else `Memory` (30).
+    /// the map has. Like its own it takes one run of the rule, which `work` counts.
+    ///
+    /// # Errors
+    ///
+    /// Those of [`OsdMap::raw_of`].
     pub fn mapped_with(
         &self,
         pg: Pg,
@@ -283,7 +299,12 @@ impl OsdMap {
     }
 
     /// The up set of a group: its mapped set without OSDs that are down (Ceph, `_raw_to_up_osds`). It takes one run of
-    /// the rule, which `work` counts. `UnknownPool` (23), `UnknownGroup` (25), else `Memory` (30).
+    /// the rule, which `work` counts.
+    ///
+    /// # Errors
+    ///
+    /// `UnknownPool` (23) where the map has no such pool; else `UnknownGroup` (25) where the pool has no such group;
+    /// else `Memory` (30) where there is no memory for the run. No run is counted then.
     #[tactic(auto, unfolding(crate::specs::Placement::up_set))]
     pub fn up_of(&self, pg: Pg, work: &mut Work) -> Result<UpSet, Refusal>
         ensures set { Gives result (group_fault self.now.map pg) (λ set. IsPlacedBy up_set self.now.map pg set) }

@@ -1,5 +1,14 @@
 //! The parts of maps and changes as JSON texts (RFC 8259) state them, read from the tokens of a text with no
 //! tree of its values; their numbers are untested.
+//!
+//! - `map`, `change`: maps and changes
+//! - `forest`, `rules`, `pools`, `exceptions`: buckets, rules and their steps, pools and OSDs, groups and their
+//!   exceptions
+//! - `objects`, `slots`: what a value can state, objects, and the slots of their members
+//! - `lists`: lists of any length, and of two or three values
+//! - `values`, `words`: numbers and flags, and words
+//! - `profile`: what texts state, where their profile has it
+//! - `whole`: what a whole text states
 #![tactic(auto)]
 
 ghost use Rattle.jsonstream.specs.Json.{Answers, stated_by};
@@ -26,10 +35,14 @@ use mapparts::{MapParts, Profile};
 use refusal::Refusal;
 use std::alloc::Global;
 
-/// The parts of the map that a text states: `BadJson` (10) where the text is not UTF-8, is no JSON or nests
-/// deeper than 127; `BadField` (11) where it does not state a map: all keys but those of the exceptions must
-/// be there and no other may be, in a map whose version is not 2 no rule sets tries, and no bucket is of a kind
-/// that the profile has not. `Memory` (30).
+/// The parts of the map that a text states.
+///
+/// # Errors
+///
+/// `BadJson` (10) where the text is not UTF-8, is no JSON or nests deeper than 127; else `BadField` (11) where it does
+/// not state a map: all keys but those of the exceptions must be there and no other may be, in a map whose version is
+/// not 2 no rule sets tries, and no bucket is of a kind that the profile has not; or `Memory` (30) where there is no
+/// memory for it.
 pub fn read_map_parts(alloc: Global, bytes: &[u8], profile: Profile) -> Result<MapParts, Refusal>
     ensures { Answers result (stated_by (map_in profile) bytes.now) }
 {
@@ -37,9 +50,13 @@ pub fn read_map_parts(alloc: Global, bytes: &[u8], profile: Profile) -> Result<M
     map_allowed(profile, parts).ok_or(Refusal::BadField)
 }
 
-/// The parts of the change that a text states: `BadJson` (10) where the text is not UTF-8, is no JSON or
-/// nests deeper than 127; `BadField` (11) where it does not state a change: the base must be there, and no
-/// key but the twelve of a change may be, nor a bucket of a kind that the profile has not. `Memory` (30).
+/// The parts of the change that a text states.
+///
+/// # Errors
+///
+/// `BadJson` (10) where the text is not UTF-8, is no JSON or nests deeper than 127; else `BadField` (11) where it does
+/// not state a change: the base must be there, and no key but the twelve of a change may be, nor a bucket of a kind
+/// that the profile has not; or `Memory` (30) where there is no memory for it.
 pub fn read_change_parts(
     alloc: Global,
     bytes: &[u8],

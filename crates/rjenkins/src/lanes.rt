@@ -16,7 +16,7 @@ fn right(k: u32, a: u32x4, b: u32x4, c: u32x4) -> u32x4
     (a - b - c) ^ (c >> u32x4::splat(k))
 }
 
-/// The same, shifted to the left.
+/// In each lane a word less two others, xor the last of these shifted to the left.
 #[inline(always)]
 fn left(k: u32, a: u32x4, b: u32x4, c: u32x4) -> u32x4
     requires { k < 32 }

@@ -40,7 +40,7 @@ impl<T> Known<T> {
         ensures { (note.new.cell ≡ note.old.cell) × (note.new.known ≡ from.now.known) }
     {}
 
-    /// The same knowledge once more.
+    /// A copy of what is known.
     pub fn again(&self) -> Known<T>
         ensures { result ≡ self.now }
     {

@@ -1,4 +1,8 @@
 //! Values that are sealed once each in a row that many read without a lock, and what a reader has seen of it.
+//!
+//! - `row`: a row of cells that are sealed once each
+//! - `pass`, `known`: what a reader has seen of a row, and what is known of one cell
+//! - `tests`: a row and its passes by examples
 #![tactic(auto)]
 
 mod known;

@@ -28,7 +28,9 @@ impl<T> Model for Row<T> {
 impl<T> Row<T> {
     /// A row of empty cells.
     ///
-    /// Fails only for want of memory.
+    /// # Errors
+    ///
+    /// `AllocError` where there is no memory for it.
     pub fn new(alloc: Global, capacity: usize) -> Result<Row<T>, AllocError>
         ensures { IfOk result (λ row. length row ≡ capacity) }
     {
@@ -48,7 +50,9 @@ impl<T> Row<T> {
 
     /// A pass that has seen nothing, with room for the whole row.
     ///
-    /// Fails only for want of memory.
+    /// # Errors
+    ///
+    /// `AllocError` where there is no memory for it.
     pub fn pass(&self, alloc: Global) -> Result<Pass<T>, AllocError>
         ensures row { IfOk result (λ pass. pass.row ≡ self.now) }
         ensures history { IfOk result (λ pass. pass.history ≡ []) }
@@ -61,7 +65,11 @@ impl<T> Row<T> {
         Ok(Pass::unread(tokens))
     }
 
-    /// Seals the cell after those that the pass has seen. Gives the box back where another sealed it first.
+    /// Seals the cell after those that the pass has seen.
+    ///
+    /// # Errors
+    ///
+    /// The box, where another sealed the cell first: the pass is as it was.
     pub fn seal(&self, pass: &mut Pass<T>, value: Box<T>) -> Result<(), Box<T>>
     where
         T: Drop,

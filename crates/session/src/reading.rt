@@ -217,9 +217,11 @@ impl<'a, R: Wait, G: Gate> Desk<'a, R, G> {
     /// reads on, and each read begins with all answers out. The session ends with the input; what stands behind the
     /// last newline is a line.
     ///
-    /// It stops as `run` does, and with `Write` also where the sink cannot have all out; with `Memory` also where a
-    /// line found no memory; and with `Read` where a read failed, or more lines came than 64 bits count: each line that
-    /// has ended before that is answered then, and nothing else is out.
+    /// # Errors
+    ///
+    /// Those of `run`; `Write` also where the sink cannot have all out; `Memory` also where a line found no memory; and
+    /// `Read` where a read failed, or more lines came than 64 bits count: each line that has ended before that is
+    /// answered then, and nothing else is out.
     pub fn run_from<B: Read, W: Sink>(
         &self,
         member: &mut Member,

@@ -26,10 +26,11 @@ impl<'a, R: Wait, G: Gate> Desk<'a, R, G> {
     /// member had seen before. The lines of the session's follower are answered by the follower's history, which is
     /// empty at first.
     ///
-    /// It stops with `Write` only where the sink has failed, which is not written to again; with `Memory` only where
-    /// the text of an answer found no memory and the sink has not failed; and with `Held` only where the gate answered
-    /// `false`, with nothing done for that line. What is out is then a beginning of the answers up to the last command
-    /// done.
+    /// # Errors
+    ///
+    /// `Write` only where the sink has failed, which is not written to again; `Memory` only where the text of an answer
+    /// found no memory and the sink has not failed; and `Held` only where the gate answered `false`, with nothing done
+    /// for that line. What is out is then a beginning of the answers up to the last command done.
     pub fn run<W: Sink>(
         &self,
         member: &mut Member,

@@ -27,8 +27,11 @@ pub trait Sink {
     /// Whether bytes that were put may not be out yet.
     ghost holds_back: { Self → Bool };
 
-    /// Puts the first of the bytes behind those before, and answers how many. A write that fails puts none, and no
-    /// other may follow it.
+    /// Puts the first of the bytes behind those before, and answers how many.
+    ///
+    /// # Errors
+    ///
+    /// `WriteFailed` where the write fails: it puts none, and no other may follow it.
     fn write(&mut self, bytes: &[u8]) -> Result<usize, WriteFailed>
         requires { has_failed self.old ≡ false }
         ensures puts { PutsFirst (written self.old) bytes.now (written self.new) result }
@@ -43,7 +46,11 @@ pub trait Sink {
     fn may_wait(&self) -> bool
         ensures { result ≡ waits self.now };
 
-    /// Has all out that was put so far, and may wait for that. Where it fails, no write may follow it.
+    /// Has all out that was put so far, and may wait for that.
+    ///
+    /// # Errors
+    ///
+    /// `WriteFailed` where that fails: no write may follow it.
     fn flush(&mut self) -> Result<(), WriteFailed>
         requires { has_failed self.old ≡ false }
         ensures same { written self.new ≡ written self.old }
@@ -55,7 +62,11 @@ pub trait Sink {
         ensures { result ≡ true → holds_back self.now ≡ true };
 }
 
-/// Puts all the bytes. At an `Err` the sink has failed, and has a beginning of them.
+/// Puts all the bytes.
+///
+/// # Errors
+///
+/// `WriteFailed` where the sink has failed. The sink then has a beginning of the bytes.
 pub fn write_whole<W: Sink>(sink: &mut W, bytes: &[u8]) -> Result<(), WriteFailed>
     requires { W.has_failed sink.old ≡ false }
     ensures whole { OnOk result (W.written sink.new ≡ W.written sink.old ++ bytes.now) }

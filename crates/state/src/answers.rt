@@ -12,7 +12,11 @@ impl State {
     ghost use Rattle.pgtable.specs.Index.{up_at};
     ghost use Rattle.state.specs.Answers.{osd_fault, FindsUp, FindsCount, FindsGroups};
 
-    /// The epoch and the up set of a group: `UnknownPool` (23), else `UnknownGroup` (25). It takes no memory.
+    /// The epoch and the up set of a group. It takes no memory.
+    ///
+    /// # Errors
+    ///
+    /// `UnknownPool` (23) where the map has no such pool; else `UnknownGroup` (25) where the pool has no such group.
     pub fn answer_up(&self, pg: Pg) -> Result<(u64, UpSet), Refusal>
         ensures { FindsUp self.now.map pg result }
     {
@@ -45,7 +49,11 @@ impl State {
         }
     }
 
-    /// The epoch, and in how many groups' up sets an OSD stands: `UnknownOsd` (21). It takes no memory.
+    /// The epoch, and in how many groups' up sets an OSD stands. It takes no memory.
+    ///
+    /// # Errors
+    ///
+    /// `UnknownOsd` (21) where the OSD does not exist.
     pub fn answer_count(&self, osd: u32) -> Result<(u64, usize), Refusal>
         ensures { FindsCount self.now.map osd result }
     {
@@ -53,8 +61,11 @@ impl State {
         Ok((self.map.epoch(), self.table.count(osd)))
     }
 
-    /// The epoch, and the groups in whose up set an OSD stands, by pool upwards, then by number: `UnknownOsd` (21),
-    /// else `Memory` (30).
+    /// The epoch, and the groups in whose up set an OSD stands, by pool upwards, then by number.
+    ///
+    /// # Errors
+    ///
+    /// `UnknownOsd` (21) where the OSD does not exist; else `Memory` (30) where there is no memory for it.
     pub fn answer_groups(&self, alloc: Global, osd: u32) -> Result<(u64, Vec<Pg>), Refusal>
         ensures { FindsGroups (λ groups. groups.items) self.now.map osd result }
     {

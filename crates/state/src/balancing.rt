@@ -14,8 +14,11 @@ impl State {
     /// present epoch: the epoch then, and how many moves. Where no move is good, nothing is committed and the epoch
     /// stays, also where the journal is full. `pass` is as in `commit`.
     ///
-    /// `UnknownPool` (23), else `BalanceRule` (29) where the pool's rule has more than one block, else `Memory` (30),
-    /// `JournalFull` (28) or `NotSealed` (32) as in `commit`. After a refusal all is as before.
+    /// # Errors
+    ///
+    /// `UnknownPool` (23) where there is no such pool; else `BalanceRule` (29) where the pool's rule has more than one
+    /// block; else `Memory` (30) where there is no memory for it, or where a move is good `JournalFull` (28) or
+    /// `NotSealed` (32) as in `commit`. After an error all is as before, but that rules may have run and be counted.
     pub fn balance(
         &mut self,
         row: &Row,

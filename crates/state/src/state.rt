@@ -91,8 +91,11 @@ impl State {
     ghost use Rattle.pgtable.specs.Tables.{IsTableOf};
     ghost use Rattle.state.specs.States.{opened, max_epoch, Commits, fault_in};
 
-    /// The state at its beginning: no change yet. It is for a row whose first epoch is the map's. The one error is
-    /// `Memory` (30).
+    /// The state at its beginning: no change yet. It is for a row whose first epoch is the map's.
+    ///
+    /// # Errors
+    ///
+    /// `Memory` (30) where there is no memory for it.
     pub fn new(alloc: Global, map: OsdMap, row: &Row) -> Result<State, Memory>
         requires { row.now.first ≡ map.map.epoch }
         ensures { IfOk result (λ s. s ≡ opened map.map row.now) }
@@ -138,12 +141,15 @@ impl State {
 
     /// Applies a change to the present map, whose epoch `base` must be, and seals it in the row: the new epoch, and the
     /// number of groups whose rules it ran, which are those whose placement it can alter. `pass` is one of the caller
-    /// that has seen what the state has; it sees the change too.
+    /// that has seen what the state has; it sees the change too. All memory is taken before the seal; after it nothing
+    /// can fail.
     ///
-    /// `StaleEpoch` (20) with the present epoch where `base` is another; else what `OsdMap::check` refuses (21, 22, 23,
-    /// 24, 13, 15, 25, 26, 27); else `JournalFull` (28); else `Memory` (30), or `NotSealed` (32) where another sealed
-    /// the epoch. After a refusal all is as before, but that rules may have run and be counted. All memory is taken
-    /// before the seal; after it nothing can fail.
+    /// # Errors
+    ///
+    /// `StaleEpoch` (20) with the present epoch where `base` is another; else what [`OsdMap::check`] refuses (21, 22,
+    /// 23, 24, 13, 15, 25, 26, 27); else `JournalFull` (28) where the journal has its capacity; else `Memory` (30)
+    /// where there is no memory for it, or `NotSealed` (32) where another sealed the epoch. After an error all is as
+    /// before, but that rules may have run and be counted.
     pub fn commit(
         &mut self,
         row: &Row,

@@ -68,7 +68,8 @@ Leads first (takes s seat ∷ events) last = (next : LockWorld) × (v : View) ×
 Leads first (cuts seat ∷ events) last = (v : View) × (get_elem? first.views seat ≡ some v) × (0 < v.spare)
     × Leads (with_cut first seat v) events last
 
--- The same law from the world that a lock is made with, and also where seats are cut off between the steps
+-- The law of the lock as it is made: from one seat, from which up to 1,023 others may be cut off between the steps,
+-- every list of steps and cuts leads to a world that keeps the rule, and where a writer is alone
 abbrev pub ExcludesMade : Type 0
 ExcludesMade = (seats : ℕ) (events : List Event) (last : LockWorld) → 0 < seats → seats ≤ 1024
     → Leads (made_with seats) events last → KeepsRule last × IsAlone last.views

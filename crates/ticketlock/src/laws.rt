@@ -7,9 +7,9 @@ pub fn interleavings()
     ensures { Excludes }
 {}
 
-/// The same law for the lock as it is made: from one seat, from which up to 1,023 others may be cut off, every list of
-/// the steps and of such cuts leads to words and views that keep the rule, and a seat that writes stands beside no
-/// other that reads, closes or writes.
+/// For the lock as it is made: from one seat, from which up to 1,023 others may be cut off, every list of the steps and
+/// of such cuts leads to words and views that keep the rule, and a seat that writes stands beside no other that reads,
+/// closes or writes.
 pub fn interleavings_made()
     ensures { ExcludesMade }
 {}

@@ -42,8 +42,12 @@ fn seats_of(
 }
 
 impl<T: Fact + Drop> Lock<T> {
-    /// A lock of `value` with so many seats, 1 to 1,024, of which each may draw 2^40 times. Errors: 12 (BadLimit)
-    /// exactly where the number of seats is another, 30 (Memory).
+    /// A lock of `value` with so many seats, 1 to 1,024, of which each may draw 2^40 times.
+    ///
+    /// # Errors
+    ///
+    /// `BadLimit` (12) exactly where the number of seats is another; else `Memory` (30) where there is no memory for
+    /// it.
     pub fn new(alloc: Global, value: T, seats: u32) -> Result<(Lock<T>, Vec<Seat>), LockError>
         requires { T.fact value value }
         ensures seats { IfOk result (λ r. (vec_len r.1 ≡ seats) × All (IsNewOf r.0) r.1.items) }
@@ -54,8 +58,12 @@ impl<T: Fact + Drop> Lock<T> {
         Lock::with_limit(alloc, value, seats, MAX_DRAWS)
     }
 
-    /// A lock of `value` with so many seats, 1 to 1,024, of which each may draw so many times, 1 to 2^40. Errors: 12
-    /// (BadLimit) exactly where one of the two numbers is another, 30 (Memory).
+    /// A lock of `value` with so many seats, 1 to 1,024, of which each may draw so many times, 1 to 2^40.
+    ///
+    /// # Errors
+    ///
+    /// `BadLimit` (12) exactly where one of the two numbers is another; else `Memory` (30) where there is no memory for
+    /// it.
     pub fn with_limit(
         alloc: Global,
         value: T,

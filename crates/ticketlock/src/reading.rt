@@ -12,8 +12,11 @@ use crate::tokens::{QueuedRead, Seat, TurnRead};
 use std::marker::PhantomData;
 
 impl<T: Fact + Drop> Lock<T> {
-    /// Draws a ticket to read. `Err` (31, SeatSpent), exactly where the seat has made its draws, is the seat as it
-    /// was: no step was made.
+    /// Draws a ticket to read.
+    ///
+    /// # Errors
+    ///
+    /// The seat as it was (31, `SeatSpent`), exactly where it has made its draws: no step was made.
     pub fn draw_read(&self, seat: Seat) -> Result<QueuedRead, Seat>
         requires { IsSeatOf self.now seat }
         ensures own { MatchResult result (IsQueuedReadOf self.now) (IsSeatOf self.now) }
@@ -33,8 +36,11 @@ impl<T: Fact + Drop> Lock<T> {
         })
     }
 
-    /// Looks once at the reader word, and enters where it is the ticket. `Err` only where it was another, which is
-    /// noted.
+    /// Looks once at the reader word, and enters where it is the ticket.
+    ///
+    /// # Errors
+    ///
+    /// The caller, which still waits with its ticket, only where the word was another. That word is noted.
     pub fn poll_read(&self, queued: QueuedRead) -> Result<TurnRead, QueuedRead>
         requires { IsQueuedReadOf self.now queued }
         ensures own { MatchResult result (IsTurnReadOf self.now) (IsQueuedReadOf self.now) }

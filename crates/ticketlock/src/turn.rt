@@ -19,7 +19,11 @@ pub trait Turn<L> {
     /// What is known of the guard.
     ghost gives: { L → Self → Self.Guard → Type 0 };
 
-    /// Holds the lock. At `Err`, the turn as it was, a step at a slot of the value did not win.
+    /// Holds the lock.
+    ///
+    /// # Errors
+    ///
+    /// The turn as it was, where a step at a slot of the value did not win.
     fn hold(self, lock: L) -> Result<Self::Guard, Self>
         requires { is_at lock self }
         ensures ok { IfOk result (gives lock self) }
@@ -51,8 +55,11 @@ impl<'a, T: Fact + Drop + 'a> Turn<&'a Lock<T>> for TurnWrite {
 }
 
 impl<T: Fact + Drop> Lock<T> {
-    /// Holds the lock, once the turn of either kind has come. At `Err`, the turn as it was, a step at a slot of the
-    /// value did not win.
+    /// Holds the lock, once the turn of either kind has come.
+    ///
+    /// # Errors
+    ///
+    /// The turn as it was, where a step at a slot of the value did not win.
     pub fn try_hold<'a, U: Turn<&'a Lock<T>>>(&'a self, turn: U) -> Result<U::Guard, U>
         requires { U.is_at self turn }
         ensures ok { IfOk result (U.gives self.entry turn) }

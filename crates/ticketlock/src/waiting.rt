@@ -91,8 +91,11 @@ impl<T: Fact + Drop> Lock<T> {
         unreachable!()
     }
 
-    /// Waits until the lock is shared. `Err` (31, SeatSpent), exactly where the seat has made its draws, is the seat
-    /// as it was.
+    /// Waits until the lock is shared.
+    ///
+    /// # Errors
+    ///
+    /// The seat as it was (31, `SeatSpent`), exactly where it has made its draws.
     pub fn wait_read<R: Wait>(&self, rt: &R, seat: Seat) -> Result<ReadGuard<'_, T>, Seat>
         requires { IsSeatOf self.now seat }
         ensures own { IfOk result (IsReadOf self.now) }
@@ -104,8 +107,11 @@ impl<T: Fact + Drop> Lock<T> {
         Ok(self.wait_hold_read(rt, turn))
     }
 
-    /// Waits until the lock is held alone. `Err` (31, SeatSpent), exactly where the seat has made its draws, is the
-    /// seat as it was.
+    /// Waits until the lock is held alone.
+    ///
+    /// # Errors
+    ///
+    /// The seat as it was (31, `SeatSpent`), exactly where it has made its draws.
     pub fn wait_write<R: Wait>(&self, rt: &R, seat: Seat) -> Result<WriteGuard<'_, T>, Seat>
         requires { IsSeatOf self.now seat }
         ensures own { IfOk result (IsWriteOf self.now) }

@@ -12,8 +12,11 @@ use crate::write_guard::WriteGuard;
 use std::marker::PhantomData;
 
 impl<T: Fact + Drop> Lock<T> {
-    /// Draws a ticket to write. `Err` (31, SeatSpent), exactly where the seat has made its draws, is the seat as it
-    /// was: no step was made.
+    /// Draws a ticket to write.
+    ///
+    /// # Errors
+    ///
+    /// The seat as it was (31, `SeatSpent`), exactly where it has made its draws: no step was made.
     pub fn draw_write(&self, seat: Seat) -> Result<QueuedWrite, Seat>
         requires { IsSeatOf self.now seat }
         ensures own { MatchResult result (IsQueuedWriteOf self.now) (IsSeatOf self.now) }
@@ -33,8 +36,11 @@ impl<T: Fact + Drop> Lock<T> {
         })
     }
 
-    /// Looks once at the writer word: the turn has come where it is the ticket. `Err` only where it was another, which
-    /// is noted.
+    /// Looks once at the writer word: the turn has come where it is the ticket.
+    ///
+    /// # Errors
+    ///
+    /// The caller, which still waits with its ticket, only where the word was another. That word is noted.
     pub fn poll_write(&self, queued: QueuedWrite) -> Result<TurnWrite, QueuedWrite>
         requires { IsQueuedWriteOf self.now queued }
         ensures own { MatchResult result (IsTurnWriteOf self.now) (IsQueuedWriteOf self.now) }

@@ -6,7 +6,8 @@ ghost use Rattle.osdmap.specs.Changes.{names_once};
 use keylist::{are_apart, are_distinct};
 use maptypes::Change;
 
-/// Whether no key stands twice in a part, or in two parts of which one undoes the other.
+/// Whether no key stands twice in a part, or in both parts of a couple: old and new pools, new pools and growths, down
+/// and up, old and new explicit sets, old and new pairs.
 #[tactic(auto, unfolding(crate::specs::Changes::names_once))]
 pub(crate) fn names_once(change: &Change) -> bool
     ensures { result ≡ names_once change.now }
