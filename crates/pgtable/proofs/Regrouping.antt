@@ -35,7 +35,8 @@ use Rattle.placement_laws.proofs.Others.{raw_stays}
 use Rattle.pgtable.specs.declared.pool_table.PoolTable.{PoolTable}
 use Rattle.pgtable.specs.Tables.{TableFacts, sets_of, pool_table, tables_of, IsTableOf}
 use Rattle.pgtable.specs.Patches.{changed_map, LeadsFrom, is_empty, leaves_pools, leaves_raw_sets, said_after, regrouped, FitGroups, RegroupsPool, RegroupsAll, concerned, changes_of, evals_in}
-use Rattle.pgtable.proofs.Concerning.{concerned_alike}
+use Rattle.pgtable.specs.Candidates.{IsCandidates}
+use Rattle.pgtable.proofs.Concerning.{concerned_alike, concerned_found}
 use Rattle.pgtable.proofs.Carrying.{same_lists, get_set_other, get_set_same, long_zip, get_zip}
 use Rattle.pgtable.proofs.Found.{found_at, mapped_small}
 use Rattle.pgtable.proofs.Keeping.{sets_kept, changes_within, changes_ascend}
@@ -165,6 +166,11 @@ placed_then m c p id n places explicit items s holds there upmap pairs same firs
 -- the groups that the change concerns by the map before it are those that it concerns by the map after it
 pub numbers_regrouped : (m : ClusterMap) (c : ChangeParts) (p : PoolFacts) (numbers : List ℕ) → LeavesRawSets c → numbers ≡ concerned m c p → numbers ≡ concerned (changed_map m c) c p
 numbers_regrouped m c p numbers s is = is ∙ concerned_alike m (changed_map m c) c p s.weight
+
+-- where there is no candidate, the change concerns no group
+pub none_concerned : (m : ClusterMap) (c : ChangeParts) (p : PoolFacts) (groups : List Pg) → LeavesRawSets c → IsCandidates m c groups → is_empty groups ≡ true → [] ≡ concerned (changed_map m c) c p
+none_concerned m c p [] s all none = numbers_regrouped m c p [] s (concerned_found m c p [] all.rising all.all)
+none_concerned m c p (g ∷ gs) s all none = absurd (false≢true none)
 
 -- ---- tables
 

@@ -55,7 +55,7 @@ fn said_after<'a, E: Blank>(
 impl Regroup<'_> {
     ghost use Rattle.std.specs.Prelude.{◌≡◌, true};
     ghost use Rattle.pgtable.specs.Candidates.{IsCandidates};
-    ghost use Rattle.pgtable.specs.Patches.{LeadsFrom, leaves_raw_sets};
+    ghost use Rattle.pgtable.specs.Patches.{LeadsFrom, is_empty, leaves_raw_sets};
     ghost use Rattle.pgtable.specs.After.{map_after};
 
     /// What holds of the map and the change: for proofs alone.
@@ -65,6 +65,13 @@ impl Regroup<'_> {
         ensures candidates { IsCandidates self.now.map.now.map self.now.change.now self.now.groups.now }
     {
         let _ = &self.groups;
+    }
+
+    /// Whether the change concerns the exceptions of no group.
+    pub fn is_idle(&self) -> bool
+        ensures { result ≡ is_empty self.now.groups.now }
+    {
+        matches!(self.groups, [])
     }
 }
 

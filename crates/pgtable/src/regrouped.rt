@@ -35,6 +35,10 @@ impl PgTable {
             work.old work.new) }
     {
         regroup.holds();
+        if regroup.is_idle() {
+            let _ = work.runs();
+            return Ok((None, 0));
+        }
         let pool = &table.pool;
         let numbers = concerned(alloc, regroup.map, regroup.change, pool, regroup.groups)?;
         let changes = with_sets(alloc, &RegroupedPool { regroup, pool }, &numbers, work)?;

@@ -1,7 +1,8 @@
-use Rattle.std.proofs.Common.{◌∙◌, ap, arith}
+use Rattle.std.proofs.Common.{◌∙◌, [], ap, refl, sym, arith}
 use Rattle.pgtable.specs.After.{map_after}
+use Rattle.pgtable.specs.Patches.{with_sets}
 use Rattle.pgtable.proofs.Keeping.{concerned_within, evals_concerned, evals_changes}
-use Rattle.pgtable.proofs.Regrouping.{leaving, none_touched, numbers_regrouped, no_entries, within_regrouped, ascend_regrouped, regroups_none, regroups_some}
+use Rattle.pgtable.proofs.Regrouping.{leaving, none_touched, numbers_regrouped, no_entries, none_concerned, within_regrouped, ascend_regrouped, regroups_none, regroups_some}
 use Rattle.pgtable.proofs.table.PgTable.regrouped.Goals as goal
 
 pub with_sets-requires : goal.with_sets-requires
@@ -62,3 +63,25 @@ returns-clause-runs c =
     let s = leaving r.change.now c.holds.ensures.leaves in
     let runs = rw (numbers_regrouped r.map.now.map r.change.now c.args.table.now.pool _ s (c.deref.ensures.value ∙ c.in_ok-numbers.ensures)) at c.in_ok-changes.ensures.runs in
     rw (evals_concerned (map_after r) r.change.now c.args.table.now.pool (none_touched (map_after r) r.change.now c.args.table.now.pool s)) runs
+
+pub returns-then-is_idle-clause-made : goal.returns-then-is_idle-clause-made
+returns-then-is_idle-clause-made c =
+    let r = c.args.regroup.now in
+    let s = leaving r.change.now c.holds.ensures.leaves in
+    let none = none_concerned r.map.now.map r.change.now c.args.table.now.pool r.groups.now s c.holds.ensures.candidates (sym c.is_idle.ensures ∙ c.if-is_idle.true) in
+    regroups_none r.map.now.map r.change.now c.args.table.now [] c.requires.table (ap (with_sets (map_after r) c.args.table.now.pool) none) c.holds.ensures.leads s c.requires.there refl
+
+pub returns-then-is_idle-clause-evals : goal.returns-then-is_idle-clause-evals
+returns-then-is_idle-clause-evals c =
+    let r = c.args.regroup.now in
+    let s = leaving r.change.now c.holds.ensures.leaves in
+    let none = none_concerned r.map.now.map r.change.now c.args.table.now.pool r.groups.now s c.holds.ensures.candidates (sym c.is_idle.ensures ∙ c.if-is_idle.true) in
+    evals_changes (map_after r) r.change.now c.args.table.now.pool [] 0 (none_touched (map_after r) r.change.now c.args.table.now.pool s) (ap (with_sets (map_after r) c.args.table.now.pool) none) refl
+
+pub returns-then-is_idle-clause-runs : goal.returns-then-is_idle-clause-runs
+returns-then-is_idle-clause-runs c =
+    let r = c.args.regroup.now in
+    let s = leaving r.change.now c.holds.ensures.leaves in
+    let none = none_concerned r.map.now.map r.change.now c.args.table.now.pool r.groups.now s c.holds.ensures.candidates (sym c.is_idle.ensures ∙ c.if-is_idle.true) in
+    let evals = evals_changes (map_after r) r.change.now c.args.table.now.pool [] 0 (none_touched (map_after r) r.change.now c.args.table.now.pool s) (ap (with_sets (map_after r) c.args.table.now.pool) none) refl in
+    omega (arith, evals, c.runs.ensures)
