@@ -240,7 +240,7 @@ class Judged(Written):
     MADE, STALE = 'change {"base":1}\n', "20 StaleEpoch 1"
     ENDS = {"its answer", "no memory", "no memory at all"}
     # A run has two threads, whose growths do not always come in the same order: what differs each time counts.
-    TIMES = 3
+    TIMES = 10
 
     def stated(self):
         return two_blocks(), [("epoch", "epoch 1")]
