@@ -9,7 +9,7 @@
 //! - `check/osds`, `check/pools`, `check/devices`, `check/rules`, `check/groups`, `check/once`: where each number is
 //!   looked for
 //! - `apply`, `in_place`: the map after a change, and changes made where the lists of a map stand
-//! - `placement`, `up_set`: where a map places the groups of its pools, and the set of a group
+//! - `placement`: where a map places the groups of its pools
 #![tactic(auto)]
 
 mod apply;

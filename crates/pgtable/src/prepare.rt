@@ -145,7 +145,7 @@ impl PgTable {
     ///
     /// # Errors
     ///
-    /// Returns `Memory` (30) if an allocation is refused. `work` may then count some of the runs.
+    /// `Memory` (30) where there is no memory for it. `work` may then count some of the runs.
     pub fn prepare(
         &self,
         alloc: Global,

@@ -69,7 +69,7 @@ impl PgTable {
     ///
     /// # Errors
     ///
-    /// Returns `Memory` (30) if an allocation is refused.
+    /// `Memory` (30) where there is no memory for it.
     pub fn build(alloc: Global, map: &OsdMap, work: &mut Work) -> Result<PgTable, Memory>
         ensures table { IfOk result (λ t. IsTableOf t map.now.map) }
         ensures runs { OnOk result (RunsMore (sum_by (λ p. p.pg_num) map.now.map.pools) work.old work.new) }
@@ -190,7 +190,7 @@ impl PgTable {
     ///
     /// # Errors
     ///
-    /// Returns `Memory` (30) if an allocation is refused.
+    /// `Memory` (30) where there is no memory for it.
     pub fn groups(&self, alloc: Global, osd: u32) -> Result<Vec<Pg>, Memory>
         ensures { IfOk result (λ groups. (m : ClusterMap) → IsTableOf self.now m → groups.items ≡ index_of m osd) }
     {
