@@ -1,6 +1,6 @@
 #!/usr/bin/env python3
 """The pages say what stands in the repository: the program of docs/LIBRARY.md, the function of README.md, names,
-targets, options, files, links, and the figures of README.md.
+targets, options, files, links, crates and their files, and the figures of README.md.
 
     tests/pages.py
 """
@@ -117,6 +117,26 @@ def test_links():
             path = page.parent / name if name else page
             is_there = path.exists() and (not anchor or anchor in anchors(path))
             assert link.startswith("http") or is_there, (page.name, link)
+
+
+def test_tables_of_files():
+    """The table of files with which a crate begins names each file of its src/, and no other"""
+    tables = {}
+    for page in sorted((TOP / "crates").glob("*/src/lib.rt")):
+        entries = re.findall("^//! - ([^:]*):", page.read_text(encoding="utf-8"), re.MULTILINE)
+        files = {path.relative_to(page.parent).with_suffix("").as_posix() for path in page.parent.rglob("*.rt")} - {"lib"}
+        named = set(re.findall("`([^`]+)`", " ".join(entries)))
+        assert not entries or named == files, (page.parent.parent.name, named ^ files)
+        tables[page] = bool(entries) or len(files) < 2
+    assert sum(tables.values()) > 20 and all(tables.values()), [page for page, is_there in tables.items() if not is_there]
+
+
+def test_crates():
+    """crates/README.md and docs/DESIGN.md have a line for each crate, and for no other"""
+    crates = set(re.findall(r"^(\w+)\b[^:\n]*:", text("crates.txt"), re.MULTILINE))
+    floors = set(re.findall(r"\[`(\w+)`\]\(", text("crates", "README.md")))
+    layers = set(re.findall(r"^\| `(\w+)` \|", text("docs", "DESIGN.md").split("\n## Libraries\n")[0], re.MULTILINE))
+    assert len(crates) > 20 and floors == layers == crates, (floors ^ crates, layers ^ crates)
 
 
 def test_figures():
