@@ -67,7 +67,7 @@ impl Regroup<'_> {
         let _ = &self.groups;
     }
 
-    /// Whether the change concerns the exceptions of no group.
+    /// Whether there is no group whose exceptions the change can concern.
     pub fn is_idle(&self) -> bool
         ensures { result ≡ is_empty self.now.groups.now }
     {
