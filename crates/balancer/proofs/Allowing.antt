@@ -12,7 +12,7 @@ use Rattle.maptypes.specs.Sets.{is_of, stands}
 use Rattle.osdmap.specs.Placement.{group_of, steps_of, mapped_set, up_set}
 use Rattle.placement_laws.proofs.Standing.{up_are_mapped_and_up}
 use Rattle.balancer.specs.declared.moves.Move.{Move}
-use Rattle.balancer.specs.Shares.{is_candidate, total_weight, deviation}
+use Rattle.balancer.specs.Shares.{is_candidate, least_gap, deviation, Aim}
 use Rattle.balancer.specs.Moves.{pairs_in, last_level, levels_of, are_beside, has_way, has_own_domain, does_replace, stands_on, has_room, is_allowed}
 use Rattle.balancer.specs.Greedy.{gap, is_good}
 use Rattle.balancer.specs.Boards.{is_fixed, group_at, may_go}
@@ -66,32 +66,33 @@ module _ (m : ClusterMap) (p : PoolFacts) (v : Move) where
         (tests_fail (stands v.from (up_set m p v.group)) (does_replace m p v) (nat_lt (length (pairs_in m (group_of p v.group))) p.size) (are_beside m p v.from v.to) (has_way m (last_level (levels_of (steps_of m p))) v.from v.to set) (is_fixed m (group_of p v.group)) (stands v.to set))
   ]
 
-  -- ---- good moves
+-- ---- good moves
 
+module _ (m : ClusterMap) (p : PoolFacts) (cs : Aim) (v : Move) where
   -- a wide pair is of two OSDs
-  pub apart_if : int_lt (pos (total_weight m p)) (gap m p v.from v.to) ≡ true → v.from ≢ v.to
-  apart_if wide same = let level : deviation m p v.from ≡ deviation m p v.to = ap (deviation m p) same in narrow (total_weight m p) (deviation m p v.from) (deviation m p v.to) level wide
+  pub apart_if : int_lt (pos (least_gap m p cs)) (gap m p cs v.from v.to) ≡ true → v.from ≢ v.to
+  apart_if wide same = let level : deviation m p cs v.from ≡ deviation m p cs v.to = ap (deviation m p cs) same in narrow (least_gap m p cs) (deviation m p cs v.from) (deviation m p cs v.to) level wide
     where
       narrow : (t : ℕ) (x y : ℤ) → x ≡ y → int_lt (pos t) (x -ℤ y) ≡ true → ⊥
       narrow t x y e wide = grind (arith, ints)
 
   pub good_from : is_candidate m p v.from ≡ true → is_candidate m p v.to ≡ true → are_beside m p v.from v.to ≡ true → may_go m p v.from v.to (group_at m p v.group) ≡ true
-      → int_lt (pos (total_weight m p)) (gap m p v.from v.to) ≡ true → is_good m p v ≡ true
+      → int_lt (pos (least_gap m p cs)) (gap m p cs v.from v.to) ≡ true → is_good m p cs v ≡ true
   unfolding is_good
-  good_from from to beside goes wide = rw (allowed_is from to (apart_if wide), beside, goes, wide) refl
+  good_from from to beside goes wide = rw (allowed_is m p v from to (apart_if wide), beside, goes, wide) refl
 
-  pub good_wide : is_good m p v ≡ true → int_lt (pos (total_weight m p)) (gap m p v.from v.to) ≡ true
+  pub good_wide : is_good m p cs v ≡ true → int_lt (pos (least_gap m p cs)) (gap m p cs v.from v.to) ≡ true
   unfolding is_good
-  good_wide good = (and_parts (is_allowed m p v) (int_lt (pos (total_weight m p)) (gap m p v.from v.to)) good).1
+  good_wide good = (and_parts (is_allowed m p v) (int_lt (pos (least_gap m p cs)) (gap m p cs v.from v.to)) good).1
 
-  good_allowed : is_good m p v ≡ true → is_allowed m p v ≡ true
+  good_allowed : is_good m p cs v ≡ true → is_allowed m p v ≡ true
   unfolding is_good
-  good_allowed good = (and_parts (is_allowed m p v) (int_lt (pos (total_weight m p)) (gap m p v.from v.to)) good).0
+  good_allowed good = (and_parts (is_allowed m p v) (int_lt (pos (least_gap m p cs)) (gap m p cs v.from v.to)) good).0
 
   abbrev ends : Bool
   ends = is_candidate m p v.from && is_candidate m p v.to
 
-  ends_are : is_good m p v ≡ true → ends ≡ true
+  ends_are : is_good m p cs v ≡ true → ends ≡ true
   unfolding is_allowed
   ends_are good =
       let a = good_allowed good in
@@ -101,14 +102,14 @@ module _ (m : ClusterMap) (p : PoolFacts) (v : Move) where
       let e = (and_parts (ends && stands_on m p v) (does_replace m p v) d).0 in
       (and_parts ends (stands_on m p v) e).0
 
-  pub good_candidates : is_good m p v ≡ true → (is_candidate m p v.from ≡ true) × (is_candidate m p v.to ≡ true)
+  pub good_candidates : is_good m p cs v ≡ true → (is_candidate m p v.from ≡ true) × (is_candidate m p v.to ≡ true)
   good_candidates good = let both = and_parts (is_candidate m p v.from) (is_candidate m p v.to) (ends_are good) in (both.0, both.1)
 
-  pub good_apart : is_good m p v ≡ true → v.from ≢ v.to
+  pub good_apart : is_good m p cs v ≡ true → v.from ≢ v.to
   good_apart good = apart_if (good_wide good)
 
-  pub good_goes : is_good m p v ≡ true → (are_beside m p v.from v.to ≡ true) × (may_go m p v.from v.to (group_at m p v.group) ≡ true)
+  pub good_goes : is_good m p cs v ≡ true → (are_beside m p v.from v.to ≡ true) × (may_go m p v.from v.to (group_at m p v.group) ≡ true)
   good_goes good =
       let both = good_candidates good in
-      let parts = and_parts (are_beside m p v.from v.to) (may_go m p v.from v.to (group_at m p v.group)) (sym (allowed_is both.0 both.1 (good_apart good)) ∙ good_allowed good) in
+      let parts = and_parts (are_beside m p v.from v.to) (may_go m p v.from v.to (group_at m p v.group)) (sym (allowed_is m p v both.0 both.1 (good_apart good)) ∙ good_allowed good) in
       (parts.0, parts.1)

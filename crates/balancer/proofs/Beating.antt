@@ -1,5 +1,5 @@
 -- Which of two moves is taken rather than the other: an order in which any two moves compare.
-use Rattle.std.proofs.Common.{◌≡◌, ◌∙◌, refl, sym, ℕ, ◌≤◌, Bool, true, false, ◌&&◌, ◌||◌, eqb, ℤ, arith}
+use Rattle.std.proofs.Common.{◌≡◌, ◌∙◌, refl, sym, ℕ, ◌≤◌, Bool, true, false, ◌&&◌, ◌||◌, eqb, ℤ, arith, List}
 use mathlib.Core.Bool.{false≢true}
 use Rattle.std.specs.Prelude.{int_lt, nat_lt}
 use Rattle.std.specs.Ordering.{int_eq}
@@ -8,6 +8,7 @@ use Rattle.std.proofs.lemmas.Bool.Decides.{nat_tests}
 use Rattle.std.proofs.lemmas.Int.{ints}
 use Rattle.maptypes.specs.Pools.{PoolFacts}
 use Rattle.osdmap.specs.Maps.{ClusterMap}
+use Rattle.balancer.specs.Shares.{Aim}
 use Rattle.balancer.specs.declared.moves.Move.{Move}
 use Rattle.balancer.specs.Moves.{move_of}
 use Rattle.balancer.specs.Greedy.{gap, precedes, beats}
@@ -151,28 +152,28 @@ precedes_equal u v p q =
     let c : u.group ≡ v.group = is_equal u.group v.group third.0 in
     λ i. record { group = c i; from = a i; to = b i }
 
-module _ (m : ClusterMap) (p : PoolFacts) where
+module _ (m : ClusterMap) (p : PoolFacts) (cs : Aim) where
   abbrev of : Move → ℤ
-  of v = gap m p v.from v.to
+  of v = gap m p cs v.from v.to
 
-  pub beats_trans : (u v w : Move) → beats m p u v ≡ true → beats m p v w ≡ true → beats m p u w ≡ true
+  pub beats_trans : (u v w : Move) → beats m p cs u v ≡ true → beats m p cs v w ≡ true → beats m p cs u w ≡ true
   unfolding beats
   beats_trans u v w =
       lex_trans (int_lt (of v) (of u)) (int_lt (of w) (of v)) (int_lt (of w) (of u)) (int_eq (of u) (of v)) (int_eq (of v) (of w)) (int_eq (of u) (of w)) (precedes u v) (precedes v w) (precedes u w)
       (zlt_trans (of u) (of v) (of w)) (zlt_eq (of u) (of v) (of w)) (zeq_lt (of u) (of v) (of w)) (zeq_trans (of u) (of v) (of w)) (precedes_trans u v w)
 
-  pub beats_equal : (u v : Move) → beats m p u v ≡ false → beats m p v u ≡ false → u ≡ v
+  pub beats_equal : (u v : Move) → beats m p cs u v ≡ false → beats m p cs v u ≡ false → u ≡ v
   unfolding beats
   beats_equal u v here there =
       let parts = lex_equal (int_lt (of v) (of u)) (int_lt (of u) (of v)) (int_eq (of u) (of v)) (int_eq (of v) (of u)) (precedes u v) (precedes v u) (zeq_from_neither (of u) (of v)) here there in
       precedes_equal u v parts.1 parts.2
 
   -- what is not better than a move is not better than one that is taken rather than it
-  pub beats_less : (u v w : Move) → beats m p u v ≡ false → beats m p w v ≡ true → beats m p u w ≡ false
-  beats_less u v w not_better better = false_from_ne_true (beats m p u w) (λ yes. absurd (false≢true (sym not_better ∙ beats_trans u w v yes better)))
+  pub beats_less : (u v w : Move) → beats m p cs u v ≡ false → beats m p cs w v ≡ true → beats m p cs u w ≡ false
+  beats_less u v w not_better better = false_from_ne_true (beats m p cs u w) (λ yes. absurd (false≢true (sym not_better ∙ beats_trans u w v yes better)))
 
   -- of two moves of one pair that of the higher group is not better
-  pub higher_not_better : (from to g k : ℕ) → k ≤ g → beats m p (move_of from to g) (move_of from to k) ≡ false
+  pub higher_not_better : (from to g k : ℕ) → k ≤ g → beats m p cs (move_of from to g) (move_of from to k) ≡ false
   unfolding beats
   higher_not_better from to g k low =
       let x = of (move_of from to 0) in
@@ -183,7 +184,7 @@ module _ (m : ClusterMap) (p : PoolFacts) where
       none_first (int_lt x x) (int_eq x x) (nat_lt from from) (eqb from from) (nat_lt to to) (eqb to to) (nat_lt g k) less from_less to_less group_less
 
   -- what holds of the lowest group holds of each
-  pub lowest_not_better : (from to g : ℕ) (v : Move) → beats m p (move_of from to 0) v ≡ false → beats m p (move_of from to g) v ≡ false
+  pub lowest_not_better : (from to g : ℕ) (v : Move) → beats m p cs (move_of from to 0) v ≡ false → beats m p cs (move_of from to g) v ≡ false
   unfolding beats
   lowest_not_better from to g v none = lower (int_lt (of v) (of (move_of from to 0))) (int_eq (of (move_of from to 0)) (of v)) (nat_lt from v.from) (eqb from v.from) (nat_lt to v.to) (eqb to v.to) (nat_lt 0 v.group) (nat_lt g v.group) less none
     where
@@ -197,7 +198,7 @@ module _ (m : ClusterMap) (p : PoolFacts) where
       lower a b c d e f false false gives is = is
 
   -- a move between two others of one pair is of that pair
-  pub between_pair : (from to g k : ℕ) (b : Move) → beats m p (move_of from to g) b ≡ true → beats m p b (move_of from to k) ≡ true → (b.from ≡ from) × (b.to ≡ to)
+  pub between_pair : (from to g k : ℕ) (b : Move) → beats m p cs (move_of from to g) b ≡ true → beats m p cs b (move_of from to k) ≡ true → (b.from ≡ from) × (b.to ≡ to)
   unfolding beats
   between_pair from to g k b low high =
       let x = of (move_of from to g) in

@@ -1,5 +1,5 @@
 -- The change of a plan: nothing refuses it, and it leads to the map after the moves.
-use Rattle.std.proofs.Common.{◌≡◌, ◌≢◌, ◌∙◌, refl, sym, ap, subst, ℕ, suc, ◌+◌, ◌<◌, ◌≤◌, Bool, true, false, not, ◌&&◌, eqb, List, [], ◌∷◌, length, get_or, map, Option, Some, None, arith, eq-eqb}
+use Rattle.std.proofs.Common.{◌≡◌, ◌≢◌, ◌∙◌, refl, sym, ap, subst, ℕ, suc, ◌+◌, ◌<◌, ◌≤◌, Bool, true, false, not, ◌&&◌, eqb, List, [], ◌∷◌, length, get_or, map, Option, Some, None, arith, eq-eqb, ℤ}
 use mathlib.Core.Bool.{false≢true}
 use Rattle.std.specs.Prelude.{nat_le, nat_lt, is_some}
 use Rattle.std.specs.List.{filter, find, fold, list_all, range_with_len}
@@ -32,6 +32,7 @@ use Rattle.osdmap.specs.Placement.{group_of}
 use Rattle.osdmap.proofs.PlacementLemmas.{found_passes}
 use Rattle.pgtable.specs.Patches.{changed_map}
 use Rattle.pgtable.proofs.Shows.{find_map}
+use Rattle.balancer.specs.Shares.{Aim}
 use Rattle.balancer.specs.declared.moves.Move.{Move}
 use Rattle.balancer.specs.Moves.{moved, lengthened}
 use Rattle.balancer.specs.Greedy.{after_moves}
@@ -172,7 +173,7 @@ range_rises p n = λ i j d below inside.
     let second = get_or-range_with_len 0 n j d (omega arith) in
     omega (arith, first, second)
 
-module _ (m : ClusterMap) (p : PoolFacts) (moves : List Move) (reached : IsReached m p moves) where
+module _ (m : ClusterMap) (p : PoolFacts) (cs : Aim) (moves : List Move) (reached : IsReached m p cs moves) where
   abbrev now : ClusterMap
   now = after_moves m p moves
 

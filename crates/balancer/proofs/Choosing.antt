@@ -1,5 +1,5 @@
 -- The best move covers all good moves, and so is the one that the definition names.
-use Rattle.std.proofs.Common.{◌≡◌, ◌∙◌, refl, sym, ap, subst, ℕ, zero, suc, ◌<◌, Bool, true, false, not, List, [], ◌∷◌, length, get_or, map, Option, Some, None, inl, inr, arith}
+use Rattle.std.proofs.Common.{◌≡◌, ◌∙◌, refl, sym, ap, subst, ℕ, zero, suc, ◌<◌, Bool, true, false, not, List, [], ◌∷◌, length, get_or, map, Option, Some, None, inl, inr, arith, ℤ}
 use mathlib.Core.Bool.{false≢true}
 use Rattle.std.specs.Prelude.{IfSome, MatchOption}
 use Rattle.std.specs.List.{All, Contains, filter, find, flat_map, list_all, range_with_len}
@@ -13,7 +13,7 @@ use Rattle.keylist.proofs.Tests.{not_true}
 use Rattle.maptypes.specs.Pools.{PoolFacts}
 use Rattle.osdmap.specs.Maps.{ClusterMap}
 use Rattle.balancer.specs.declared.moves.Move.{Move}
-use Rattle.balancer.specs.Shares.{osds_of, is_candidate, candidate_osds}
+use Rattle.balancer.specs.Shares.{osds_of, is_candidate, candidate_osds, Aim}
 use Rattle.balancer.specs.Moves.{move_of}
 use Rattle.balancer.specs.Greedy.{is_good, all_moves, good_moves, beats, best_move, after_moves}
 use Rattle.balancer.specs.Boards.{IsGood, IsBest, IsCovered, CoversPair, CoversFrom, CoversAll}
@@ -75,49 +75,49 @@ all_flat P f (x ∷ xs) each = subst (All P) (sym (flat_map-cons f x xs)) (All-a
 
 -- ---- all moves
 
-module _ (m : ClusterMap) (p : PoolFacts) where
+module _ (m : ClusterMap) (p : PoolFacts) (cs : Aim) where
   moves_in : All (λ (v : Move). v.group < p.pg_num) (all_moves m p)
   moves_in =
       all_flat (λ (v : Move). v.group < p.pg_num) (λ from. flat_map (λ to. map (move_of from to) (range_with_len 0 p.pg_num)) (osds_of m)) (osds_of m)
       (λ from. all_flat (λ (v : Move). v.group < p.pg_num) (λ to. map (move_of from to) (range_with_len 0 p.pg_num)) (osds_of m)
       (λ to. All-map (λ (v : Move). v.group < p.pg_num) (move_of from to) (range_with_len 0 p.pg_num) (range_below p.pg_num)))
 
-  goods_are : All (λ v. IsGood m p v) (good_moves m p)
+  goods_are : All (λ v. IsGood m p cs v) (good_moves m p cs)
   goods_are = λ k d inside. record {
-    good = filter_passes (is_good m p) (all_moves m p) k d inside;
-    there = All-filter (is_good m p) (λ (v : Move). v.group < p.pg_num) (all_moves m p) moves_in k d inside;
+    good = filter_passes (is_good m p cs) (all_moves m p) k d inside;
+    there = All-filter (is_good m p cs) (λ (v : Move). v.group < p.pg_num) (all_moves m p) moves_in k d inside;
   }
 
-  good_there : (v : Move) → IsGood m p v → Contains (good_moves m p) v
+  good_there : (v : Move) → IsGood m p cs v → Contains (good_moves m p cs) v
   good_there v good =
-      let both = good_candidates m p v good.good in
+      let both = good_candidates m p cs v good.good in
       let from_in = contains_range (length m.presences) v.from (candidate_below m p v.from both.0) in
       let to_in = contains_range (length m.presences) v.to (candidate_below m p v.to both.1) in
       let group_in = contains_map (move_of v.from v.to) (range_with_len 0 p.pg_num) v.group (contains_range p.pg_num v.group good.there) in
       let pair_in = contains_flat (λ to. map (move_of v.from to) (range_with_len 0 p.pg_num)) (osds_of m) v.to v to_in group_in in
-      contains_filter (is_good m p) (all_moves m p) v (contains_flat (λ from. flat_map (λ to. map (move_of from to) (range_with_len 0 p.pg_num)) (osds_of m)) (osds_of m) v.from v from_in pair_in) good.good
+      contains_filter (is_good m p cs) (all_moves m p) v (contains_flat (λ from. flat_map (λ to. map (move_of from to) (range_with_len 0 p.pg_num)) (osds_of m)) (osds_of m) v.from v from_in pair_in) good.good
 
-  best_is : (v : Move) → IsGood m p v → ((u : Move) → IsGood m p u → beats m p u v ≡ false) → best_move m p ≡ Some v
+  best_is : (v : Move) → IsGood m p cs v → ((u : Move) → IsGood m p cs u → beats m p cs u v ≡ false) → best_move m p cs ≡ Some v
   unfolding best_move
-  best_is v good unbeaten = find_only q (good_moves m p) v (good_there v good) passes only
+  best_is v good unbeaten = find_only q (good_moves m p cs) v (good_there v good) passes only
     where
       q : Move → Bool
-      q w = list_all (λ u. not (beats m p u w)) (good_moves m p)
+      q w = list_all (λ u. not (beats m p cs u w)) (good_moves m p cs)
 
-      passes : list_all (λ u. not (beats m p u v)) (good_moves m p) ≡ true
-      passes = list_all-from (λ u. not (beats m p u v)) (good_moves m p) v (λ i inside. ap not (unbeaten (get_or (good_moves m p) i v) (goods_are i v inside)))
+      passes : list_all (λ u. not (beats m p cs u v)) (good_moves m p cs) ≡ true
+      passes = list_all-from (λ u. not (beats m p cs u v)) (good_moves m p cs) v (λ i inside. ap not (unbeaten (get_or (good_moves m p cs) i v) (goods_are i v inside)))
 
-      only : (w : Move) → Contains (good_moves m p) w → list_all (λ u. not (beats m p u w)) (good_moves m p) ≡ true → w ≡ v
+      only : (w : Move) → Contains (good_moves m p cs) w → list_all (λ u. not (beats m p cs u w)) (good_moves m p cs) ≡ true → w ≡ v
       only w there tests =
           let at = good_there v good in
-          let test = list_all-at (λ u. not (beats m p u w)) (good_moves m p) at.0 v at.1 tests in
-          let not_v : beats m p v w ≡ false = not_true (beats m p v w) (rw at.2 at test) in
-          beats_equal m p w v (unbeaten w (All-contains (λ u. IsGood m p u) (good_moves m p) w goods_are there)) not_v
+          let test = list_all-at (λ u. not (beats m p cs u w)) (good_moves m p cs) at.0 v at.1 tests in
+          let not_v : beats m p cs v w ≡ false = not_true (beats m p cs v w) (rw at.2 at test) in
+          beats_equal m p cs w v (unbeaten w (All-contains (λ u. IsGood m p cs u) (good_moves m p cs) w goods_are there)) not_v
 
-  none_good : ((u : Move) → IsGood m p u → ⊥) → good_moves m p ≡ []
-  none_good none = by_list (good_moves m p) goods_are
+  none_good : ((u : Move) → IsGood m p cs u → ⊥) → good_moves m p cs ≡ []
+  none_good none = by_list (good_moves m p cs) goods_are
     where
-      by_list : (vs : List Move) → All (λ v. IsGood m p v) vs → vs ≡ []
+      by_list : (vs : List Move) → All (λ v. IsGood m p cs v) vs → vs ≡ []
       by_list [] good = refl
       by_list (v ∷ vs) good = absurd (none v (good 0 v (omega arith)))
 
@@ -127,7 +127,7 @@ candidate_in m p osd is = contains_filter (is_candidate m p) (osds_of m) osd (co
 
 -- ---- what is covered
 
-module _ (m : ClusterMap) (p : PoolFacts) (moves : List Move) (osds : List ℕ) (are : osds ≡ candidate_osds m p) where
+module _ (m : ClusterMap) (p : PoolFacts) (cs : Aim) (moves : List Move) (osds : List ℕ) (are : osds ≡ candidate_osds m p) where
   abbrev later : ClusterMap
   later = after_moves m p moves
 
@@ -136,13 +136,13 @@ module _ (m : ClusterMap) (p : PoolFacts) (moves : List Move) (osds : List ℕ) 
       let here : is_candidate m p osd ≡ true = sym (candidate_now m p moves osd) ∙ is in
       subst (λ (xs : List ℕ). Contains xs osd) (sym are) (candidate_in m p osd here)
 
-  covered : (best : Option Move) (u : Move) → CoversAll later p best osds osds → IsGood later p u → IsCovered later p best u
+  covered : (best : Option Move) (u : Move) → CoversAll later p cs best osds osds → IsGood later p cs u → IsCovered later p cs best u
   covered best u covers good =
-      let both = good_candidates later p u good.good in
-      let from = All-contains (λ from. CoversFrom later p best from osds) osds u.from covers (osd_in u.from both.0) in
-      let to = All-contains (λ to. CoversPair later p best u.from to) osds u.to from (osd_in u.to both.1) in
+      let both = good_candidates later p cs u good.good in
+      let from = All-contains (λ from. CoversFrom later p cs best from osds) osds u.from covers (osd_in u.from both.0) in
+      let to = All-contains (λ to. CoversPair later p cs best u.from to) osds u.to from (osd_in u.to both.1) in
       to.each u.group good.there
 
-  pub chosen : (best : Option Move) → IfSome best (λ v. IsGood later p v) → CoversAll later p best osds osds → MatchOption best (good_moves later p ≡ []) (λ v. IsBest later p v)
-  chosen None good covers = none_good later p (λ u is. absurd (false≢true (sym (covered None u covers is) ∙ is.good)))
-  chosen (Some v) good covers = record { good = good; best = best_is later p v good (λ u is. covered (Some v) u covers is is.good) }
+  pub chosen : (best : Option Move) → IfSome best (λ v. IsGood later p cs v) → CoversAll later p cs best osds osds → MatchOption best (good_moves later p cs ≡ []) (λ v. IsBest later p cs v)
+  chosen None good covers = none_good later p cs (λ u is. absurd (false≢true (sym (covered None u covers is) ∙ is.good)))
+  chosen (Some v) good covers = record { good = good; best = best_is later p cs v good (λ u is. covered (Some v) u covers is is.good) }

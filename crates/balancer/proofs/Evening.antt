@@ -1,5 +1,5 @@
 -- A good move makes the pool more even; and the state of a plan after one more move.
-use Rattle.std.proofs.Common.{◌≡◌, ◌≢◌, ◌∙◌, refl, sym, ap, subst, ℕ, ◌+◌, ◌*◌, ◌-◌, ◌<◌, ◌≤◌, Bool, true, false, ◌||◌, eqb, ℤ, pos, List, [], ◌∷◌, ◌++◌, length, get_or, set, Option, Some, unwrap_or, inl, inr, arith, eq-eqb}
+use Rattle.std.proofs.Common.{◌≡◌, ◌≢◌, ◌∙◌, refl, sym, ap, subst, ℕ, ◌+◌, ◌*◌, ◌-◌, ◌<◌, ◌≤◌, Bool, true, false, ◌||◌, eqb, ℤ, pos, negsuc, List, [], ◌∷◌, ◌++◌, length, get_or, set, Option, Some, unwrap_or, inl, inr, arith, eq-eqb}
 use mathlib.Core.Bool.{false≢true}
 use Rattle.std.specs.Prelude.{◌+ℤ◌, ◌-ℤ◌, int_lt, nat_abs}
 use Rattle.std.proofs.lemmas.Bool.{cases_Bool, cases_lt, ne_eqb, eqb-true}
@@ -18,19 +18,18 @@ use Rattle.maptypes.specs.Exceptions.{place_of, key_of}
 use Rattle.maptypes.specs.Pools.{PoolFacts}
 use Rattle.osdmap.specs.Maps.{ClusterMap, pool_at, HoldsTogether}
 use Rattle.osdmap.specs.Placement.{group_of}
-use Rattle.pgtable.specs.Index.{count_in}
 use Rattle.balancer.specs.declared.group.Group.{Group}
 use Rattle.balancer.specs.declared.moves.Move.{Move}
-use Rattle.balancer.specs.Shares.{candidate_osds, weight_in_map, total_weight, places, deviation, square, unevenness}
+use Rattle.balancer.specs.Shares.{candidate_osds, total_weight, group_weight, least_gap, least_gain, deviation, square, unevenness, Aim}
 use Rattle.balancer.specs.Moves.{moved, pairs_in, pair_of_move, lengthened}
-use Rattle.balancer.specs.Greedy.{after_moves}
+use Rattle.balancer.specs.Greedy.{after_moves, gap}
 use Rattle.balancer.specs.Plans.{is_moved, items_at}
 use Rattle.balancer.specs.Boards.{IsGood, IsBoardOf, IsReached, deviations_of, gone, group_at}
 use Rattle.balancer.proofs.Moving.{said_moved, said_others}
-use Rattle.balancer.proofs.Deviating.{pool_now, total_now}
+use Rattle.balancer.proofs.Deviating.{pool_now, group_weight_now, gain_now}
 use Rattle.balancer.proofs.Allowing.{good_apart, good_wide}
 use Rattle.balancer.proofs.Stepping.{groups_moved, holds_moved}
-use Rattle.balancer.proofs.Shifting.{two_sum, candidates_rise, candidates_moved, total_moved, places_moved, weight_moved, from_in, to_in, count_from, count_to, deviation_from, deviation_to, deviation_other}
+use Rattle.balancer.proofs.Shifting.{two_sum, candidates_rise, candidates_moved, from_in, to_in, deviation_from, deviation_to, deviation_other}
 
 -- ---- squares
 
@@ -55,93 +54,116 @@ square_is a b = elim (cases_lt a b) [
     above : (x y j z : ℕ) → z ≡ j → x ≡ y + j → z * z + 2 * (x * y) ≡ x * x + y * y
     above x y j z e f = rw (e, f) (omega arith)
 
--- two differences that come closer by t each, and are farther apart than t
-closer : (a b c d t : ℕ) → b + c < a + d
-    → (square (pos a -ℤ pos b) + square (pos (c + t) -ℤ pos d)) + 2 * t ≤ square (pos (a + t) -ℤ pos b) + square (pos c -ℤ pos d)
-closer a b c d t apart =
-    let product : t * (b + c + 1) ≤ t * (a + d) = mul-le-mul_left t (omega arith) in
+-- two differences that come closer by t each, and are farther apart than t and s
+closer : (a b c d t s : ℕ) → b + c + s < a + d
+    → (square (pos a -ℤ pos b) + square (pos (c + t) -ℤ pos d)) + 2 * t * (1 + s) ≤ square (pos (a + t) -ℤ pos b) + square (pos c -ℤ pos d)
+closer a b c d t s apart =
+    let product : t * (b + c + s + 1) ≤ t * (a + d) = mul-le-mul_left t (omega arith) in
     by_squares (square (pos a -ℤ pos b)) (square (pos (c + t) -ℤ pos d)) (square (pos (a + t) -ℤ pos b)) (square (pos c -ℤ pos d))
     (square_is a b) (square_is (c + t) d) (square_is (a + t) b) (square_is c d) product
   where
-    by_squares : (p q r s : ℕ) → p + 2 * (a * b) ≡ a * a + b * b → q + 2 * ((c + t) * d) ≡ (c + t) * (c + t) + d * d
-        → r + 2 * ((a + t) * b) ≡ (a + t) * (a + t) + b * b → s + 2 * (c * d) ≡ c * c + d * d → t * (b + c + 1) ≤ t * (a + d) → (p + q) + 2 * t ≤ r + s
-    by_squares p q r s one two three four more = omega arith
+    by_squares : (p q r w : ℕ) → p + 2 * (a * b) ≡ a * a + b * b → q + 2 * ((c + t) * d) ≡ (c + t) * (c + t) + d * d
+        → r + 2 * ((a + t) * b) ≡ (a + t) * (a + t) + b * b → w + 2 * (c * d) ≡ c * c + d * d → t * (b + c + s + 1) ≤ t * (a + d) → (p + q) + 2 * t * (1 + s) ≤ r + w
+    by_squares p q r w one two three four more = omega arith
 
--- a difference of deviations above the weight of all, written as a sum
-apart_by : (t x w y u : ℕ) → int_lt (pos t) ((pos x -ℤ pos w) -ℤ (pos y -ℤ pos u)) ≡ true → t + w + y < x + u
-apart_by t x w y u wide = grind (arith, ints)
+-- a whole number is the difference of two natural ones, and greater than any one of them as one pleases
+as_difference : (z : ℤ) (t : ℕ) → (a : ℕ) × (b : ℕ) × (z ≡ pos (a + t) -ℤ pos b)
+as_difference (pos n) t = (n, t, omega (arith, ints))
+as_difference (negsuc n) t = (0, n + 1 + t, omega (arith, ints))
+
+-- two whole numbers that come closer by t each, and are farther apart than t and s
+closer_ints : (x y : ℤ) (t s : ℕ) → int_lt (pos (t + s)) (x -ℤ y) ≡ true → (square (x -ℤ pos t) + square (y +ℤ pos t)) + 2 * t * (1 + s) ≤ square x + square y
+closer_ints x y t s wide =
+    let first = as_difference x t in
+    let second = as_difference y 0 in
+    by_naturals first.0 first.1 second.0 second.1 first.2 second.2
+  where
+    by_naturals : (a b c d : ℕ) → x ≡ pos (a + t) -ℤ pos b → y ≡ pos (c + 0) -ℤ pos d → (square (x -ℤ pos t) + square (y +ℤ pos t)) + 2 * t * (1 + s) ≤ square x + square y
+    by_naturals a b c d x_is y_is =
+        let far : b + c + s < a + d = grind (arith, ints) in
+        let left : (x -ℤ pos t) ≡ (pos a -ℤ pos b) = omega (arith, ints) in
+        let right : (y +ℤ pos t) ≡ (pos (c + t) -ℤ pos d) = omega (arith, ints) in
+        let y_same : y ≡ (pos c -ℤ pos d) = omega (arith, ints) in
+        rw (left, right, x_is, y_same) (closer a b c d t s far)
+
+-- so many weights, of which there are 256 or more, are 256 of them and the others
+parted : (t k : ℕ) → 256 ≤ k → k * t + 255 ≡ 256 * t + ((k - 256) * t + 255)
+parted t k enough = parts (k - 256) k (omega arith)
+  where
+    parts : (j n : ℕ) → n ≡ 256 + j → n * t + 255 ≡ 256 * t + (j * t + 255)
+    parts j n e = rw e (omega arith)
+
+-- a gain of 1 and 255 more is one of 256 more
+raised : (a b t more : ℕ) → a + 2 * t * (1 + (more + 255)) ≤ b → a + 2 * t * (256 + more) ≤ b
+raised a b t more gain =
+    let sum : 1 + (more + 255) ≡ 256 + more = omega arith in
+    subst (λ n. a + 2 * t * n ≤ b) sum gain
 
 -- ---- the pool is more even
 
-module _ (m : ClusterMap) (p : PoolFacts) (v : Move) (good : IsGood m p v) (holds : HoldsTogether m) (there : pool_at m.pools p.id ≡ Some p) where
+module _ (m : ClusterMap) (p : PoolFacts) (cs : Aim) (v : Move) (good : IsGood m p cs v) (holds : HoldsTogether m) (there : pool_at m.pools p.id ≡ Some p) where
   abbrev next_map : ClusterMap
   next_map = moved m p v
 
-  ends_closer : (square (deviation next_map p v.from) + square (deviation next_map p v.to)) + 2 * total_weight m p ≤ square (deviation m p v.from) + square (deviation m p v.to)
-  unfolding deviation
-  ends_closer =
-      let wide = good_wide m p v good.good in
-      rw (total_moved m p v good holds there, places_moved m p v good holds there, weight_moved m p v good holds there v.from, weight_moved m p v good holds there v.to, sym (count_from m p v good holds there), count_to m p v good holds there)
-      (by_counts (count_in next_map p.id v.from) (count_in m p.id v.from) (count_in m p.id v.to) (total_weight m p) (places m p * weight_in_map m v.from) (places m p * weight_in_map m v.to) (sym (count_from m p v good holds there)) wide)
-    where
-      by_counts : (c e k t w u : ℕ) → e ≡ c + 1 → int_lt (pos t) ((pos (e * t) -ℤ pos w) -ℤ (pos (k * t) -ℤ pos u)) ≡ true
-          → (square (pos (c * t) -ℤ pos w) + square (pos ((k + 1) * t) -ℤ pos u)) + 2 * t ≤ square (pos ((c + 1) * t) -ℤ pos w) + square (pos (k * t) -ℤ pos u)
-      by_counts c e k t w u is wide =
-          let far = apart_by t (e * t) w (k * t) u wide in
-          let one : (k + 1) * t ≡ k * t + t = omega arith in
-          let two : (c + 1) * t ≡ c * t + t = omega arith in
-          let three : e * t ≡ c * t + t = rw is two in
-          rw (one, two) (closer (c * t) w (k * t) u t (omega (arith, far, three)))
+  above_least : 256 ≤ cs.apart → int_lt (pos (256 * total_weight m p + ((cs.apart - 256) * total_weight m p + 255))) (gap m p cs v.from v.to) ≡ true
+  unfolding least_gap
+  above_least enough = subst (λ n. int_lt (pos n) (gap m p cs v.from v.to) ≡ true) (parted (total_weight m p) cs.apart enough) (good_wide m p cs v good.good)
 
-  pub more_even : unevenness next_map p + 2 * total_weight m p ≤ unevenness m p
+  ends_closer : 256 ≤ cs.apart → (square (deviation next_map p cs v.from) + square (deviation next_map p cs v.to)) + least_gain m p cs ≤ square (deviation m p cs v.from) + square (deviation m p cs v.to)
+  unfolding group_weight least_gain
+  ends_closer enough =
+      rw (deviation_from m p cs v good holds there, deviation_to m p cs v good holds there)
+      (raised _ _ (256 * total_weight m p) ((cs.apart - 256) * total_weight m p) (closer_ints (deviation m p cs v.from) (deviation m p cs v.to) (256 * total_weight m p) ((cs.apart - 256) * total_weight m p + 255) (above_least enough)))
+
+  pub more_even : 256 ≤ cs.apart → unevenness next_map p cs + least_gain m p cs ≤ unevenness m p cs
   unfolding unevenness
-  more_even =
-      let sum = two_sum (λ osd. square (deviation m p osd)) (λ osd. square (deviation next_map p osd)) v.from v.to (candidate_osds m p) (candidates_rise m p) (from_in m p v good holds there) (to_in m p v good holds there) (good_apart m p v good.good)
-      (λ osd from to. ap square (deviation_other m p v good holds there osd from to)) in
-      rw (candidates_moved m p v good holds there) (omega (arith, sum, ends_closer))
+  more_even enough =
+      let sum = two_sum (λ osd. square (deviation m p cs osd)) (λ osd. square (deviation next_map p cs osd)) v.from v.to (candidate_osds m p) (candidates_rise m p) (from_in m p cs v good holds there) (to_in m p cs v good holds there) (good_apart m p cs v good.good)
+      (λ osd from to. ap square (deviation_other m p cs v good holds there osd from to)) in
+      rw (candidates_moved m p cs v good holds there) (omega (arith, sum, ends_closer enough))
 
   -- ---- the deviations of all OSDs
 
-  pub deviations_moved : deviations_of next_map p ≡ set (set (deviations_of m p) v.from (deviation m p v.from -ℤ pos (total_weight m p))) v.to (deviation m p v.to +ℤ pos (total_weight m p))
+  pub deviations_moved : deviations_of next_map p cs ≡ set (set (deviations_of m p cs) v.from (deviation m p cs v.from -ℤ pos (group_weight m p))) v.to (deviation m p cs v.to +ℤ pos (group_weight m p))
   unfolding moved
-  deviations_moved = sym (fill_by_all (deviation next_map p) new (length m.presences) (pos 0) long each)
+  deviations_moved = sym (fill_by_all (deviation next_map p cs) new (length m.presences) (pos 0) long each)
     where
       mid : List ℤ
-      mid = set (deviations_of m p) v.from (deviation m p v.from -ℤ pos (total_weight m p))
+      mid = set (deviations_of m p cs) v.from (deviation m p cs v.from -ℤ pos (group_weight m p))
 
       new : List ℤ
-      new = set (set (deviations_of m p) v.from (deviation m p v.from -ℤ pos (total_weight m p))) v.to (deviation m p v.to +ℤ pos (total_weight m p))
+      new = set (set (deviations_of m p cs) v.from (deviation m p cs v.from -ℤ pos (group_weight m p))) v.to (deviation m p cs v.to +ℤ pos (group_weight m p))
 
-      long_mid : length (set (deviations_of m p) v.from (deviation m p v.from -ℤ pos (total_weight m p))) ≡ length m.presences
-      long_mid = length-set (deviations_of m p) v.from (deviation m p v.from -ℤ pos (total_weight m p)) ∙ length-map-range_with_len (deviation m p) 0 (length m.presences)
+      long_mid : length (set (deviations_of m p cs) v.from (deviation m p cs v.from -ℤ pos (group_weight m p))) ≡ length m.presences
+      long_mid = length-set (deviations_of m p cs) v.from (deviation m p cs v.from -ℤ pos (group_weight m p)) ∙ length-map-range_with_len (deviation m p cs) 0 (length m.presences)
 
-      long : length (set (set (deviations_of m p) v.from (deviation m p v.from -ℤ pos (total_weight m p))) v.to (deviation m p v.to +ℤ pos (total_weight m p))) ≡ length m.presences
-      long = length-set (set (deviations_of m p) v.from (deviation m p v.from -ℤ pos (total_weight m p))) v.to (deviation m p v.to +ℤ pos (total_weight m p)) ∙ long_mid
+      long : length (set (set (deviations_of m p cs) v.from (deviation m p cs v.from -ℤ pos (group_weight m p))) v.to (deviation m p cs v.to +ℤ pos (group_weight m p))) ≡ length m.presences
+      long = length-set (set (deviations_of m p cs) v.from (deviation m p cs v.from -ℤ pos (group_weight m p))) v.to (deviation m p cs v.to +ℤ pos (group_weight m p)) ∙ long_mid
 
-      each : (k : ℕ) → k < length m.presences → get_or (set (set (deviations_of m p) v.from (deviation m p v.from -ℤ pos (total_weight m p))) v.to (deviation m p v.to +ℤ pos (total_weight m p))) k (pos 0) ≡ deviation (moved m p v) p k
+      each : (k : ℕ) → k < length m.presences → get_or (set (set (deviations_of m p cs) v.from (deviation m p cs v.from -ℤ pos (group_weight m p))) v.to (deviation m p cs v.to +ℤ pos (group_weight m p))) k (pos 0) ≡ deviation (moved m p v) p cs k
       each k below = elim (cases_Bool (eqb k v.to)) [
         | inl here ↦
             let same : k ≡ v.to = eqb-true k v.to here in
-            let inside : v.to < length (set (deviations_of m p) v.from (deviation m p v.from -ℤ pos (total_weight m p))) = omega (arith, long_mid, same, below) in
-            rw same (get_or-set_same (set (deviations_of m p) v.from (deviation m p v.from -ℤ pos (total_weight m p))) v.to (deviation m p v.to +ℤ pos (total_weight m p)) (pos 0) inside ∙ sym (deviation_to m p v good holds there))
+            let inside : v.to < length (set (deviations_of m p cs) v.from (deviation m p cs v.from -ℤ pos (group_weight m p))) = omega (arith, long_mid, same, below) in
+            rw same (get_or-set_same (set (deviations_of m p cs) v.from (deviation m p cs v.from -ℤ pos (group_weight m p))) v.to (deviation m p cs v.to +ℤ pos (group_weight m p)) (pos 0) inside ∙ sym (deviation_to m p cs v good holds there))
         | inr apart ↦
             let not_to : k ≢ v.to = λ e. absurd (false≢true (sym apart ∙ eq-eqb k v.to e)) in
-            get_or-set_other (set (deviations_of m p) v.from (deviation m p v.from -ℤ pos (total_weight m p))) v.to k (deviation m p v.to +ℤ pos (total_weight m p)) (pos 0) not_to
+            get_or-set_other (set (deviations_of m p cs) v.from (deviation m p cs v.from -ℤ pos (group_weight m p))) v.to k (deviation m p cs v.to +ℤ pos (group_weight m p)) (pos 0) not_to
             ∙ elim (cases_Bool (eqb k v.from)) [
               | inl here ↦
                   let same : k ≡ v.from = eqb-true k v.from here in
-                  let inside : v.from < length (deviations_of m p) = omega (arith, length-map-range_with_len (deviation m p) 0 (length m.presences), same, below) in
-                  rw same (get_or-set_same (deviations_of m p) v.from (deviation m p v.from -ℤ pos (total_weight m p)) (pos 0) inside ∙ sym (deviation_from m p v good holds there))
+                  let inside : v.from < length (deviations_of m p cs) = omega (arith, length-map-range_with_len (deviation m p cs) 0 (length m.presences), same, below) in
+                  rw same (get_or-set_same (deviations_of m p cs) v.from (deviation m p cs v.from -ℤ pos (group_weight m p)) (pos 0) inside ∙ sym (deviation_from m p cs v good holds there))
               | inr away ↦
                   let not_from : k ≢ v.from = λ e. absurd (false≢true (sym away ∙ eq-eqb k v.from e)) in
-                  get_or-set_other (deviations_of m p) v.from k (deviation m p v.from -ℤ pos (total_weight m p)) (pos 0) not_from
-                  ∙ get_or-map-range_with_len (deviation m p) 0 (length m.presences) k k (pos 0) below (omega arith) ∙ sym (deviation_other m p v good holds there k not_from not_to)
+                  get_or-set_other (deviations_of m p cs) v.from k (deviation m p cs v.from -ℤ pos (group_weight m p)) (pos 0) not_from
+                  ∙ get_or-map-range_with_len (deviation m p cs) 0 (length m.presences) k k (pos 0) below (omega arith) ∙ sym (deviation_other m p cs v good holds there k not_from not_to)
             ]
       ]
 
 -- ---- one more move
 
-module _ (m : ClusterMap) (p : PoolFacts) (moves : List Move) (v : Move) (good : IsGood (after_moves m p moves) p v) (reached : IsReached m p moves) (there : pool_at m.pools p.id ≡ Some p) where
+module _ (m : ClusterMap) (p : PoolFacts) (cs : Aim) (moves : List Move) (v : Move) (good : IsGood (after_moves m p moves) p cs v) (reached : IsReached m p cs moves) (there : pool_at m.pools p.id ≡ Some p) where
   abbrev now : ClusterMap
   now = after_moves m p moves
 
@@ -177,26 +199,26 @@ module _ (m : ClusterMap) (p : PoolFacts) (moves : List Move) (v : Move) (good :
       earlier true e = refl
       earlier false e = absurd (false≢true e)
 
-  pub reached_more : IsReached m p (moves ++ v ∷ [])
-  reached_more = record {
-    holds = subst HoldsTogether (sym after_more) (holds_moved now p v good reached.holds there_now);
+  pub reached_more : 256 ≤ cs.apart → IsReached m p cs (moves ++ v ∷ [])
+  reached_more enough = record {
+    holds = subst HoldsTogether (sym after_more) (holds_moved now p cs v good reached.holds there_now);
     there = All-push (λ (w : Move). w.group < p.pg_num) moves v reached.there good.there;
     named = subst (λ (n : ClusterMap). (k : ℕ) → is_moved (moves ++ v ∷ []) k ≡ true → entry_at key_of n.items (place_of (group_of p k)) ≡ Some (items_at n p k)) (sym after_more) named_more;
-    evens = subst (λ (n : ClusterMap). unevenness n p + 2 * total_weight m p * length (moves ++ v ∷ []) ≤ unevenness m p) (sym after_more) evens_more;
+    evens = subst (λ (n : ClusterMap). unevenness n p cs + least_gain m p cs * length (moves ++ v ∷ []) ≤ unevenness m p cs) (sym after_more) evens_more;
   }
     where
-      evens_more : unevenness (moved (after_moves m p moves) p v) p + 2 * total_weight m p * length (moves ++ v ∷ []) ≤ unevenness m p
-      evens_more = by_sums (unevenness (moved (after_moves m p moves) p v) p) (unevenness (after_moves m p moves) p) (unevenness m p) (total_weight m p) (length moves) (length (moves ++ v ∷ []))
-          (length_push moves v) (rw (total_now m p moves) at (more_even (after_moves m p moves) p v good reached.holds there_now)) reached.evens
+      evens_more : unevenness (moved (after_moves m p moves) p v) p cs + least_gain m p cs * length (moves ++ v ∷ []) ≤ unevenness m p cs
+      evens_more = by_sums (unevenness (moved (after_moves m p moves) p v) p cs) (unevenness (after_moves m p moves) p cs) (unevenness m p cs) (least_gain m p cs) (length moves) (length (moves ++ v ∷ []))
+          (length_push moves v) (rw (gain_now m p cs moves) at (more_even (after_moves m p moves) p cs v good reached.holds there_now enough)) reached.evens
         where
-          by_sums : (x y z t k j : ℕ) → j ≡ k + 1 → x + 2 * t ≤ y → y + 2 * t * k ≤ z → x + 2 * t * j ≤ z
+          by_sums : (x y z t k j : ℕ) → j ≡ k + 1 → x + t ≤ y → y + t * k ≤ z → x + t * j ≤ z
           by_sums x y z t k j long step before = rw long (omega arith)
 
-  pub board_more : (gs : List Group) (ds : List ℤ) (g : Group) (x y : ℤ) → IsBoardOf now p gs ds → g ≡ group_at now p v.group → x ≡ deviation now p v.from → y ≡ deviation now p v.to
-      → IsBoardOf (after_moves m p (moves ++ v ∷ [])) p (set gs v.group (gone g v)) (set (set ds v.from (x -ℤ pos (total_weight m p))) v.to (y +ℤ pos (total_weight m p)))
+  pub board_more : (gs : List Group) (ds : List ℤ) (g : Group) (x y : ℤ) → IsBoardOf now p cs gs ds → g ≡ group_at now p v.group → x ≡ deviation now p cs v.from → y ≡ deviation now p cs v.to
+      → IsBoardOf (after_moves m p (moves ++ v ∷ [])) p cs (set gs v.group (gone g v)) (set (set ds v.from (x -ℤ pos (group_weight m p))) v.to (y +ℤ pos (group_weight m p)))
   board_more gs ds g x y board is_g is_x is_y =
-      subst (λ n. IsBoardOf n p (set gs v.group (gone g v)) (set (set ds v.from (x -ℤ pos (total_weight m p))) v.to (y +ℤ pos (total_weight m p)))) (sym after_more)
+      subst (λ n. IsBoardOf n p cs (set gs v.group (gone g v)) (set (set ds v.from (x -ℤ pos (group_weight m p))) v.to (y +ℤ pos (group_weight m p)))) (sym after_more)
       (record {
-        groups = rw (board.groups, is_g) (sym (groups_moved now p v good));
-        deviations = rw (board.deviations, is_x, is_y, sym (total_now m p moves)) (sym (deviations_moved now p v good reached.holds there_now));
+        groups = rw (board.groups, is_g) (sym (groups_moved now p cs v good));
+        deviations = rw (board.deviations, is_x, is_y, sym (group_weight_now m p moves)) (sym (deviations_moved now p cs v good reached.holds there_now));
       })

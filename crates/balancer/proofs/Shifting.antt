@@ -1,7 +1,7 @@
 -- What a good move makes of the counts and the deviations.
-use Rattle.std.proofs.Common.{◌≡◌, ◌≢◌, ◌∙◌, refl, sym, ap, ℕ, zero, suc, ◌+◌, ◌*◌, ◌<◌, Bool, true, false, ◌||◌, cond, eqb, pos, List, [], ◌∷◌, length, get_or, set, Option, Some, None, inl, inr, arith, eq-eqb}
+use Rattle.std.proofs.Common.{◌≡◌, ◌≢◌, ◌∙◌, refl, sym, ap, ℕ, zero, suc, ◌+◌, ◌*◌, ◌<◌, Bool, true, false, ◌||◌, cond, eqb, pos, List, [], ◌∷◌, length, get_or, set, Option, Some, None, inl, inr, arith, eq-eqb, ℤ}
 use mathlib.Core.Bool.{false≢true}
-use Rattle.std.specs.Prelude.{◌+ℤ◌, ◌-ℤ◌}
+use Rattle.std.specs.Prelude.{◌+ℤ◌, ◌-ℤ◌, ◌*ℤ◌}
 use Rattle.std.specs.List.{Contains, list_any, count_by, sum_by, range_with_len}
 use Rattle.std.proofs.lemmas.Bool.{cases_Bool, ne_eqb, eqb-true}
 use Rattle.std.proofs.lemmas.Int.{ints}
@@ -18,7 +18,7 @@ use Rattle.osdmap.specs.Placement.{mapped_set}
 use Rattle.pgtable.specs.Index.{count_in}
 use Rattle.pgtable.specs.Tables.{sets_of}
 use Rattle.balancer.specs.declared.moves.Move.{Move}
-use Rattle.balancer.specs.Shares.{osds_of, is_candidate, candidate_osds, weight_in_map, total_weight, places, deviation}
+use Rattle.balancer.specs.Shares.{osds_of, is_candidate, candidate_osds, weight_in_map, total_weight, places, above_share, carried_by, deviation, group_weight, Aim}
 use Rattle.balancer.specs.Moves.{pair_of_move, moved}
 use Rattle.balancer.specs.Boards.{IsGood}
 use Rattle.balancer.proofs.Counting.{count_is}
@@ -82,7 +82,7 @@ replaced_from pair (x ∷ xs) apart once = elim (cases_Bool (is_of pair.from x))
 
 -- ---- counts
 
-module _ (m : ClusterMap) (p : PoolFacts) (v : Move) (good : IsGood m p v) (holds : HoldsTogether m) (there : pool_at m.pools p.id ≡ Some p) where
+module _ (m : ClusterMap) (p : PoolFacts) (cs : Aim) (v : Move) (good : IsGood m p cs v) (holds : HoldsTogether m) (there : pool_at m.pools p.id ≡ Some p) where
   abbrev old : List (Option ℕ)
   old = mapped_set m p v.group
 
@@ -97,7 +97,7 @@ module _ (m : ClusterMap) (p : PoolFacts) (v : Move) (good : IsGood m p v) (hold
         | inl here ↦
             let same : k ≡ v.group = eqb-true k v.group here in
             let inside : v.group < length (sets_of m p) = omega (arith, good.there, length-map-range_with_len (mapped_set m p) 0 p.pg_num) in
-            rw same (get_or-set_same (sets_of m p) v.group new [] inside ∙ sym (mapped_gone m p v good))
+            rw same (get_or-set_same (sets_of m p) v.group new [] inside ∙ sym (mapped_gone m p cs v good))
         | inr apart ↦
             let other : k ≢ v.group = λ e. absurd (false≢true (sym apart ∙ eq-eqb k v.group e)) in
             get_or-set_other (sets_of m p) v.group k new [] other ∙ get_or-map-range_with_len (mapped_set m p) 0 p.pg_num k k [] below (omega arith) ∙ sym (mapped_others m p v k other)
@@ -121,27 +121,27 @@ module _ (m : ClusterMap) (p : PoolFacts) (v : Move) (good : IsGood m p v) (hold
   count_moved : (osd : ℕ) → osd_is_up m osd ≡ true → count_in (moved m p v) p.id osd + cond (stands osd old) 1 0 ≡ count_in m p.id osd + cond (stands osd new) 1 0
   count_moved osd up =
       let before : count_in m p.id osd ≡ count_by (stands osd) (sets_of m p) = count_is m p osd holds there ∙ rw up refl in
-      let after : count_in (moved m p v) p.id osd ≡ count_by (stands osd) (sets_of (moved m p v) p) = count_is (moved m p v) p osd (holds_moved m p v good holds there) there_moved ∙ rw (up_moved osd, up) refl in
+      let after : count_in (moved m p v) p.id osd ≡ count_by (stands osd) (sets_of (moved m p v) p) = count_is (moved m p v) p osd (holds_moved m p cs v good holds there) there_moved ∙ rw (up_moved osd, up) refl in
       rw (before, after) (counted_moved osd)
 
   count_down : (osd : ℕ) → osd_is_up m osd ≡ false → count_in (moved m p v) p.id osd ≡ count_in m p.id osd
   count_down osd down =
       let before : count_in m p.id osd ≡ 0 = count_is m p osd holds there ∙ rw down refl in
-      let after : count_in (moved m p v) p.id osd ≡ 0 = count_is (moved m p v) p osd (holds_moved m p v good holds there) there_moved ∙ rw (up_moved osd, down) refl in
+      let after : count_in (moved m p v) p.id osd ≡ 0 = count_is (moved m p v) p osd (holds_moved m p cs v good holds there) there_moved ∙ rw (up_moved osd, down) refl in
       after ∙ sym before
 
   pub count_from : count_in (moved m p v) p.id v.from + 1 ≡ count_in m p.id v.from
   count_from =
-      let counted = count_moved v.from (candidate_up m p v.from (good_candidates m p v good.good).0) in
-      let was : stands v.from old ≡ true = once_stands (is_of v.from) old (eq-eqb (count_by (is_of v.from) old) 1 (stands_once m p v good)) in
-      let is : stands v.from new ≡ false = replaced_from (pair_of_move v) old (good_apart m p v good.good) (stands_once m p v good) in
+      let counted = count_moved v.from (candidate_up m p v.from (good_candidates m p cs v good.good).0) in
+      let was : stands v.from old ≡ true = once_stands (is_of v.from) old (eq-eqb (count_by (is_of v.from) old) 1 (stands_once m p cs v good)) in
+      let is : stands v.from new ≡ false = replaced_from (pair_of_move v) old (good_apart m p cs v good.good) (stands_once m p cs v good) in
       omega (arith, rw (was, is) at counted)
 
   pub count_to : count_in (moved m p v) p.id v.to ≡ count_in m p.id v.to + 1
   count_to =
-      let counted = count_moved v.to (candidate_up m p v.to (good_candidates m p v good.good).1) in
-      let was : stands v.to old ≡ false = not_there m p v good in
-      let on : stands v.from old ≡ true = once_stands (is_of v.from) old (eq-eqb (count_by (is_of v.from) old) 1 (stands_once m p v good)) in
+      let counted = count_moved v.to (candidate_up m p v.to (good_candidates m p cs v good.good).1) in
+      let was : stands v.to old ≡ false = not_there m p cs v good in
+      let on : stands v.from old ≡ true = once_stands (is_of v.from) old (eq-eqb (count_by (is_of v.from) old) 1 (stands_once m p cs v good)) in
       let is : stands v.to new ≡ true = replaced_to (pair_of_move v) old on in
       omega (arith, rw (was, is) at counted)
 
@@ -220,7 +220,7 @@ candidates_rise m p = rising-filter (λ (i : ℕ). i) (is_candidate m p) (osds_o
 
 -- ---- the same pool after a good move
 
-module _ (m : ClusterMap) (p : PoolFacts) (v : Move) (good : IsGood m p v) (holds : HoldsTogether m) (there : pool_at m.pools p.id ≡ Some p) where
+module _ (m : ClusterMap) (p : PoolFacts) (cs : Aim) (v : Move) (good : IsGood m p cs v) (holds : HoldsTogether m) (there : pool_at m.pools p.id ≡ Some p) where
   abbrev next_map : ClusterMap
   next_map = moved m p v
 
@@ -237,35 +237,53 @@ module _ (m : ClusterMap) (p : PoolFacts) (v : Move) (good : IsGood m p v) (hold
   weight_moved osd = refl
 
   pub from_in : Contains (candidate_osds m p) v.from
-  from_in = candidate_in m p v.from (good_candidates m p v good.good).0
+  from_in = candidate_in m p v.from (good_candidates m p cs v good.good).0
 
   pub to_in : Contains (candidate_osds m p) v.to
-  to_in = candidate_in m p v.to (good_candidates m p v good.good).1
+  to_in = candidate_in m p v.to (good_candidates m p cs v good.good).1
 
   pub places_moved : places next_map p ≡ places m p
   unfolding places
   places_moved =
-      let sum = two_sum (count_in m p.id) (count_in next_map p.id) v.from v.to (candidate_osds m p) (candidates_rise m p) from_in to_in (good_apart m p v good.good) (count_other m p v good holds there) in
-      ap (sum_by (count_in next_map p.id)) candidates_moved ∙ omega (arith, sum, count_from m p v good holds there, count_to m p v good holds there)
+      let sum = two_sum (count_in m p.id) (count_in next_map p.id) v.from v.to (candidate_osds m p) (candidates_rise m p) from_in to_in (good_apart m p cs v good.good) (count_other m p cs v good holds there) in
+      ap (sum_by (count_in next_map p.id)) candidates_moved ∙ omega (arith, sum, count_from m p cs v good holds there, count_to m p cs v good holds there)
 
-  pub deviation_from : deviation next_map p v.from ≡ deviation m p v.from -ℤ pos (total_weight m p)
-  unfolding deviation
-  deviation_from =
-      rw (total_moved, places_moved, weight_moved v.from, sym (count_from m p v good holds there))
+  above_from : above_share next_map p v.from ≡ above_share m p v.from -ℤ pos (total_weight m p)
+  unfolding above_share
+  above_from =
+      rw (total_moved, places_moved, weight_moved v.from, sym (count_from m p cs v good holds there))
       (less (count_in next_map p.id v.from) (total_weight m p) (places m p * weight_in_map m v.from))
     where
       less : (c t w : ℕ) → (pos (c * t) -ℤ pos w) ≡ ((pos ((c + 1) * t) -ℤ pos w) -ℤ pos t)
       less c t w = omega (arith, ints)
 
-  pub deviation_to : deviation next_map p v.to ≡ deviation m p v.to +ℤ pos (total_weight m p)
-  unfolding deviation
-  deviation_to =
-      rw (total_moved, places_moved, weight_moved v.to, count_to m p v good holds there)
+  above_to : above_share next_map p v.to ≡ above_share m p v.to +ℤ pos (total_weight m p)
+  unfolding above_share
+  above_to =
+      rw (total_moved, places_moved, weight_moved v.to, count_to m p cs v good holds there)
       (more (count_in m p.id v.to) (total_weight m p) (places m p * weight_in_map m v.to))
     where
       more : (c t w : ℕ) → (pos ((c + 1) * t) -ℤ pos w) ≡ ((pos (c * t) -ℤ pos w) +ℤ pos t)
       more c t w = omega (arith, ints)
 
-  pub deviation_other : (osd : ℕ) → osd ≢ v.from → osd ≢ v.to → deviation next_map p osd ≡ deviation m p osd
+  above_other : (osd : ℕ) → osd ≢ v.from → osd ≢ v.to → above_share next_map p osd ≡ above_share m p osd
+  unfolding above_share
+  above_other osd from to = rw (total_moved, places_moved, weight_moved osd, count_other m p cs v good holds there osd from to) refl
+
+  pub deviation_from : deviation next_map p cs v.from ≡ deviation m p cs v.from -ℤ pos (group_weight m p)
+  unfolding deviation group_weight
+  deviation_from = rw (above_from, total_moved) (less (above_share m p v.from) (carried_by cs.carried v.from *ℤ pos (total_weight m p)) (total_weight m p))
+    where
+      less : (x y : ℤ) (t : ℕ) → (pos 256 *ℤ (x -ℤ pos t) +ℤ y) ≡ ((pos 256 *ℤ x +ℤ y) -ℤ pos (256 * t))
+      less x y t = omega (arith, ints)
+
+  pub deviation_to : deviation next_map p cs v.to ≡ deviation m p cs v.to +ℤ pos (group_weight m p)
+  unfolding deviation group_weight
+  deviation_to = rw (above_to, total_moved) (more (above_share m p v.to) (carried_by cs.carried v.to *ℤ pos (total_weight m p)) (total_weight m p))
+    where
+      more : (x y : ℤ) (t : ℕ) → (pos 256 *ℤ (x +ℤ pos t) +ℤ y) ≡ ((pos 256 *ℤ x +ℤ y) +ℤ pos (256 * t))
+      more x y t = omega (arith, ints)
+
+  pub deviation_other : (osd : ℕ) → osd ≢ v.from → osd ≢ v.to → deviation next_map p cs osd ≡ deviation m p cs osd
   unfolding deviation
-  deviation_other osd from to = rw (total_moved, places_moved, weight_moved osd, count_other m p v good holds there osd from to) refl
+  deviation_other osd from to = rw (above_other osd from to, total_moved) refl

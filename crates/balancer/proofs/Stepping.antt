@@ -1,5 +1,5 @@
 -- What a good move makes of a map.
-use Rattle.std.proofs.Common.{◌≡◌, ◌≢◌, ◌∙◌, refl, sym, ap, ℕ, ◌<◌, Bool, true, false, not, ◌&&◌, eqb, List, [], ◌∷◌, ◌++◌, length, get_or, set, Option, Some, None, unwrap_or, inl, inr, arith, eq-eqb}
+use Rattle.std.proofs.Common.{◌≡◌, ◌≢◌, ◌∙◌, refl, sym, ap, ℕ, ◌<◌, Bool, true, false, not, ◌&&◌, eqb, List, [], ◌∷◌, ◌++◌, length, get_or, set, Option, Some, None, unwrap_or, inl, inr, arith, eq-eqb, ℤ}
 use mathlib.Core.Bool.{false≢true}
 use Rattle.std.specs.Prelude.{nat_lt, nat_le}
 use Rattle.std.specs.List.{list_all, count_by}
@@ -22,6 +22,7 @@ use Rattle.osdmap.specs.Mapped.{with_pair}
 use Rattle.maptypes.specs.Sets.{replaced, is_of, stands}
 use Rattle.osdmap.specs.Placement.{group_of, steps_of, mapped_set}
 use Rattle.osdmap.proofs.PlacementLemmas.{found_passes}
+use Rattle.balancer.specs.Shares.{Aim}
 use Rattle.balancer.specs.declared.moves.Move.{Move}
 use Rattle.balancer.specs.Moves.{pair_of_move, pairs_in, lengthened, moved, last_level, levels_of, has_way}
 use Rattle.balancer.specs.Boards.{IsGood, is_fixed, group_at, board_groups, gone, may_go}
@@ -36,7 +37,7 @@ fixed_stays m p v g = refl
 
 -- ---- what a good move has passed
 
-module _ (m : ClusterMap) (p : PoolFacts) (v : Move) (good : IsGood m p v) where
+module _ (m : ClusterMap) (p : PoolFacts) (cs : Aim) (v : Move) (good : IsGood m p cs v) where
   abbrev group : Pg
   group = group_of p v.group
 
@@ -48,7 +49,7 @@ module _ (m : ClusterMap) (p : PoolFacts) (v : Move) (good : IsGood m p v) where
 
   goes : (not (is_fixed m group) && eqb (count_by (is_of v.from) places) 1 && not (stands v.to places) && nat_lt (length (pairs_in m group)) p.size && way) ≡ true
   unfolding may_go group_at
-  goes = (good_goes m p v good.good).1
+  goes = (good_goes m p cs v good.good).1
 
   abbrev fits : Bool
   fits = nat_lt (length (pairs_in m group)) p.size
@@ -80,7 +81,7 @@ module _ (m : ClusterMap) (p : PoolFacts) (v : Move) (good : IsGood m p v) where
 
   pub mapped_gone : mapped_set (moved m p v) p v.group ≡ replaced (pair_of_move v) places
   unfolding with_pair
-  mapped_gone = mapped_moved m p v ∙ rw (not_fixed, not_there, candidate_weighs m p v.to (good_candidates m p v good.good).1) refl
+  mapped_gone = mapped_moved m p v ∙ rw (not_fixed, not_there, candidate_weighs m p v.to (good_candidates m p cs v good.good).1) refl
 
   group_moved : group_at (moved m p v) p v.group ≡ gone (group_at m p v.group) v
   unfolding group_at
@@ -130,7 +131,7 @@ module _ (m : ClusterMap) (p : PoolFacts) (v : Move) (good : IsGood m p v) where
 
   pub lengthened_sound : HoldsTogether m → pool_at m.pools p.id ≡ Some p → is_exception sides are_pairs m.pools (osd_exists m) (lengthened m p v) ≡ true
   lengthened_sound holds there =
-      let both = good_candidates m p v good.good in
+      let both = good_candidates m p cs v good.good in
       let old = old_pairs holds (entry_at key_of m.items (place_of group)) refl in
       let long = length_push (pairs_in m group) (pair_of_move v) in
       let few : nat_le (length (pairs_in m group ++ pair_of_move v ∷ [])) p.size ≡ true = let h = room_left in grind (arith, nat_tests) in
@@ -138,7 +139,7 @@ module _ (m : ClusterMap) (p : PoolFacts) (v : Move) (good : IsGood m p v) where
       let named : list_all (λ q. list_all (osd_exists m) (sides q)) (pairs_in m group ++ pair_of_move v ∷ []) ≡ true =
       list_all-append (λ q. list_all (osd_exists m) (sides q)) (pairs_in m group) (pair_of_move v ∷ []) ∙ rw (old.0, candidate_exists m p v.from both.0, candidate_exists m p v.to both.1) refl in
       let pairs : are_pairs (pairs_in m group ++ pair_of_move v ∷ []) ≡ true =
-      list_all-append (λ q. not (eqb q.from q.to)) (pairs_in m group) (pair_of_move v ∷ []) ∙ rw (old.1, ne_eqb v.from v.to (good_apart m p v good.good)) refl in
+      list_all-append (λ q. not (eqb q.from q.to)) (pairs_in m group) (pair_of_move v ∷ []) ∙ rw (old.1, ne_eqb v.from v.to (good_apart m p cs v good.good)) refl in
       rw (there, lt-ltb v.group p.pg_num good.there, named, some, few, pairs) refl
 
   pub holds_moved : HoldsTogether m → pool_at m.pools p.id ≡ Some p → HoldsTogether (moved m p v)

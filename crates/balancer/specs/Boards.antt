@@ -14,7 +14,7 @@ use Rattle.maptypes.specs.Sets.{replaced, is_of, stands}
 use Rattle.osdmap.specs.Placement.{group_of, steps_of, mapped_set}
 use Rattle.balancer.specs.declared.moves.Move.{Move}
 use Rattle.balancer.specs.declared.group.Group.{Group}
-use Rattle.balancer.specs.Shares.{osds_of, is_candidate, total_weight, deviation, unevenness}
+use Rattle.balancer.specs.Shares.{osds_of, is_candidate, deviation, unevenness, Aim, least_gain, least_gap}
 use Rattle.balancer.specs.Moves.{move_of, pair_of_move, pairs_in, last_level, levels_of, has_way}
 use Rattle.balancer.specs.Greedy.{gap, is_good, beats, best_move, after_moves}
 use Rattle.balancer.specs.Plans.{is_moved, items_at}
@@ -36,13 +36,13 @@ abbrev pub board_groups : ClusterMap → PoolFacts → List Group
 board_groups m p = map (group_at m p) (range_with_len 0 p.pg_num)
 
 -- the deviations of all OSDs, by number
-abbrev pub deviations_of : ClusterMap → PoolFacts → List ℤ
-deviations_of m p = map (deviation m p) (osds_of m)
+abbrev pub deviations_of : ClusterMap → PoolFacts → Aim → List ℤ
+deviations_of m p aim = map (deviation m p aim) (osds_of m)
 
 -- what is kept of each group of a pool, and the deviation of each OSD
-pub record IsBoardOf (m : ClusterMap) (p : PoolFacts) (gs : List Group) (ds : List ℤ) : Type 0 where
+pub record IsBoardOf (m : ClusterMap) (p : PoolFacts) (aim : Aim) (gs : List Group) (ds : List ℤ) : Type 0 where
   pub groups : gs ≡ board_groups m p
-  pub deviations : ds ≡ deviations_of m p
+  pub deviations : ds ≡ deviations_of m p aim
 
 -- what is kept of a group after a move of it
 abbrev pub gone : Group → Move → Group
@@ -62,58 +62,61 @@ may_go m p from to g =
     && has_way m (last_level (levels_of (steps_of m p))) from to g.places
 
 -- whether some move between two OSDs could be taken rather than the best one so far
-abbrev pub is_wanted : ClusterMap → PoolFacts → ℕ → ℕ → Option Move → Bool
-is_wanted m p from to None = int_lt (pos (total_weight m p)) (gap m p from to)
-is_wanted m p from to (Some best) =
-    int_lt (pos (total_weight m p)) (gap m p from to) && beats m p (move_of from to 0) best
+abbrev pub is_wanted : ClusterMap → PoolFacts → Aim → ℕ → ℕ → Option Move → Bool
+is_wanted m p aim from to None = int_lt (pos (least_gap m p aim)) (gap m p aim from to)
+is_wanted m p aim from to (Some best) =
+    int_lt (pos (least_gap m p aim)) (gap m p aim from to) && beats m p aim (move_of from to 0) best
 
 -- a good move of a group that is there
-pub record IsGood (m : ClusterMap) (p : PoolFacts) (v : Move) : Type 0 where
-  pub good : is_good m p v ≡ true
+pub record IsGood (m : ClusterMap) (p : PoolFacts) (aim : Aim) (v : Move) : Type 0 where
+  pub good : is_good m p aim v ≡ true
   pub there : v.group < p.pg_num
 
 -- the best move
-pub record IsBest (m : ClusterMap) (p : PoolFacts) (v : Move) : Type 0 where
-  pub good : IsGood m p v
-  pub best : best_move m p ≡ Some v
+pub record IsBest (m : ClusterMap) (p : PoolFacts) (aim : Aim) (v : Move) : Type 0 where
+  pub good : IsGood m p aim v
+  pub best : best_move m p aim ≡ Some v
 
 -- a good move is not better than the best one so far, which is there
-abbrev pub IsCovered : ClusterMap → PoolFacts → Option Move → Move → Type 0
-IsCovered m p None v = is_good m p v ≡ false
-IsCovered m p (Some best) v = is_good m p v ≡ true → beats m p v best ≡ false
+abbrev pub IsCovered : ClusterMap → PoolFacts → Aim → Option Move → Move → Type 0
+IsCovered m p aim None v = is_good m p aim v ≡ false
+IsCovered m p aim (Some best) v = is_good m p aim v ≡ true → beats m p aim v best ≡ false
 
 -- the map after some moves, each of a group that is there, holds together, each group moved has its pairs there as an
 -- exception, and each move made the pool more even
-pub record IsReached (m : ClusterMap) (p : PoolFacts) (moves : List Move) : Type 0 where
+pub record IsReached (m : ClusterMap) (p : PoolFacts) (aim : Aim) (moves : List Move) : Type 0 where
   pub holds : HoldsTogether (after_moves m p moves)
   pub there : All (λ v. v.group < p.pg_num) moves
   pub named : (n : ℕ) → is_moved moves n ≡ true →
       entry_at key_of (after_moves m p moves).items (place_of (group_of p n))
       ≡ Some (items_at (after_moves m p moves) p n)
-  pub evens : unevenness (after_moves m p moves) p + 2 * total_weight m p * length moves ≤ unevenness m p
+  pub evens :
+      unevenness (after_moves m p moves) p aim + least_gain m p aim * length moves ≤ unevenness m p aim
 
 -- ---- the search for the best move
 
 -- the best move so far, or none, is good and covers what the one before it covered
-pub record IsBetter (m : ClusterMap) (p : PoolFacts) (old new : Option Move) : Type 0 where
-  pub good : IfSome new (λ v. IsGood m p v)
-  pub keeps : (v : Move) → IsCovered m p old v → IsCovered m p new v
+pub record IsBetter (m : ClusterMap) (p : PoolFacts) (aim : Aim) (old new : Option Move) : Type 0 where
+  pub good : IfSome new (λ v. IsGood m p aim v)
+  pub keeps : (v : Move) → IsCovered m p aim old v → IsCovered m p aim new v
 
 -- the best move so far covers those between two OSDs
-pub record CoversPair (m : ClusterMap) (p : PoolFacts) (best : Option Move) (from to : ℕ) : Type 0 where
-  pub each : (g : ℕ) → g < p.pg_num → IsCovered m p best (move_of from to g)
+pub record CoversPair (m : ClusterMap) (p : PoolFacts) (aim : Aim) (best : Option Move) (from to : ℕ) :
+    Type 0 where
+  pub each : (g : ℕ) → g < p.pg_num → IsCovered m p aim best (move_of from to g)
 
 -- some OSDs with their deviations, each of them once, the emptiest first: a move would rather go to none that stands
 -- later, whatever OSD it goes from
-pub record IsOrder (m n : ClusterMap) (p : PoolFacts) (osds : List ℕ) (order : List (ℤ × ℕ)) : Type 0 where
+pub record IsOrder (m n : ClusterMap) (p : PoolFacts) (aim : Aim) (osds : List ℕ) (order : List (ℤ × ℕ)) :
+    Type 0 where
   pub same : IsPermutation (map (λ e. e.1) order) osds
-  pub rising : AllPairs (λ a b. (from : ℕ) → beats n p (move_of from b.1 0) (move_of from a.1 0) ≡ false) order
+  pub rising : AllPairs (λ a b. (from : ℕ) → beats n p aim (move_of from b.1 0) (move_of from a.1 0) ≡ false) order
   pub candidates : All (λ e. is_candidate m p e.1 ≡ true) order
 
 -- it covers those from an OSD to some
-abbrev pub CoversFrom : ClusterMap → PoolFacts → Option Move → ℕ → List ℕ → Type 0
-CoversFrom m p best from tos = All (λ to. CoversPair m p best from to) tos
+abbrev pub CoversFrom : ClusterMap → PoolFacts → Aim → Option Move → ℕ → List ℕ → Type 0
+CoversFrom m p aim best from tos = All (λ to. CoversPair m p aim best from to) tos
 
 -- it covers those from some OSDs to some
-abbrev pub CoversAll : ClusterMap → PoolFacts → Option Move → List ℕ → List ℕ → Type 0
-CoversAll m p best froms tos = All (λ from. CoversFrom m p best from tos) froms
+abbrev pub CoversAll : ClusterMap → PoolFacts → Aim → Option Move → List ℕ → List ℕ → Type 0
+CoversAll m p aim best froms tos = All (λ from. CoversFrom m p aim best from tos) froms

@@ -6,19 +6,18 @@ use Rattle.std.specs.Ordering.{int_eq}
 use Rattle.maptypes.specs.Pools.{PoolFacts}
 use Rattle.osdmap.specs.Maps.{ClusterMap}
 use Rattle.balancer.specs.declared.moves.Move.{Move}
-use Rattle.balancer.specs.Shares.{osds_of, total_weight, deviation}
+use Rattle.balancer.specs.Shares.{osds_of, deviation, Aim, least_gap}
 use Rattle.balancer.specs.Moves.{move_of, moved, is_allowed}
 
 -- ---- good moves
 
 -- the difference of the deviations of two OSDs
-abbrev pub gap : ClusterMap → PoolFacts → ℕ → ℕ → ℤ
-gap m p from to = deviation m p from -ℤ deviation m p to
+abbrev pub gap : ClusterMap → PoolFacts → Aim → ℕ → ℕ → ℤ
+gap m p aim from to = deviation m p aim from -ℤ deviation m p aim to
 
--- whether a move is good: it is allowed, and the difference is above the weight of all candidates, by which it closes
--- twice
-unfoldable pub is_good : ClusterMap → PoolFacts → Move → Bool
-is_good m p v = is_allowed m p v && int_lt (pos (total_weight m p)) (gap m p v.from v.to)
+-- whether a move is good: it is allowed, and the difference is above the least one of the aim
+unfoldable pub is_good : ClusterMap → PoolFacts → Aim → Move → Bool
+is_good m p aim v = is_allowed m p v && int_lt (pos (least_gap m p aim)) (gap m p aim v.from v.to)
 
 -- the moves of any group between any two OSDs
 abbrev pub all_moves : ClusterMap → PoolFacts → List Move
@@ -26,8 +25,8 @@ all_moves m p =
     flat_map (λ from. flat_map (λ to. map (move_of from to) (range_with_len 0 p.pg_num)) (osds_of m)) (osds_of m)
 
 -- the good ones
-abbrev pub good_moves : ClusterMap → PoolFacts → List Move
-good_moves m p = filter (is_good m p) (all_moves m p)
+abbrev pub good_moves : ClusterMap → PoolFacts → Aim → List Move
+good_moves m p aim = filter (is_good m p aim) (all_moves m p)
 
 -- ---- the best of them
 
@@ -38,21 +37,22 @@ precedes u v =
     || ((u.from == v.from) && (nat_lt u.to v.to || ((u.to == v.to) && nat_lt u.group v.group)))
 
 -- whether a move is taken rather than another: its difference is greater, or as great and it comes first
-unfoldable pub beats : ClusterMap → PoolFacts → Move → Move → Bool
-beats m p u v =
-    int_lt (gap m p v.from v.to) (gap m p u.from u.to)
-    || (int_eq (gap m p u.from u.to) (gap m p v.from v.to) && precedes u v)
+unfoldable pub beats : ClusterMap → PoolFacts → Aim → Move → Move → Bool
+beats m p aim u v =
+    int_lt (gap m p aim v.from v.to) (gap m p aim u.from u.to)
+    || (int_eq (gap m p aim u.from u.to) (gap m p aim v.from v.to) && precedes u v)
 
 -- the good move that no good move beats, where some move is good
-unfoldable pub best_move : ClusterMap → PoolFacts → Option Move
-best_move m p = find (λ v. list_all (λ u. not (beats m p u v)) (good_moves m p)) (good_moves m p)
+unfoldable pub best_move : ClusterMap → PoolFacts → Aim → Option Move
+best_move m p aim =
+    find (λ v. list_all (λ u. not (beats m p aim u v)) (good_moves m p aim)) (good_moves m p aim)
 
 -- ---- one after another
 
 -- the plan of at most so many moves: the best one, and then the plan of the map after it
-unfoldable pub greedy : ClusterMap → PoolFacts → ℕ → List Move
-greedy m p zero = []
-greedy m p (suc n) = option_map_or (λ v. v ∷ greedy (moved m p v) p n) (best_move m p) []
+unfoldable pub greedy : ClusterMap → PoolFacts → Aim → ℕ → List Move
+greedy m p aim zero = []
+greedy m p aim (suc n) = option_map_or (λ v. v ∷ greedy (moved m p v) p aim n) (best_move m p aim) []
 
 -- the map after some moves
 abbrev pub after_moves : ClusterMap → PoolFacts → List Move → ClusterMap

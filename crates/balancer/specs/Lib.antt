@@ -8,4 +8,5 @@ pub mod Leaving
 pub mod Standing
 pub mod Marks
 pub mod Reached
+pub mod Requests
 pub mod Widths

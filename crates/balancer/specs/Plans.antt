@@ -1,5 +1,5 @@
 -- Plans as changes of a map, and what a plan is worth.
-use Rattle.std.specs.Prelude.{◌≡◌, ℕ, ◌+◌, ◌*◌, ◌≤◌, ◌==◌, Bool, List, [], length, map, Option, Some, None, IfSome}
+use Rattle.std.specs.Prelude.{◌≡◌, ℕ, ◌+◌, ◌*◌, ◌≤◌, ◌==◌, Bool, ℤ, List, [], length, map, Option, Some, None, IfSome}
 use Rattle.std.specs.List.{filter, list_any, range_with_len}
 use Rattle.std.specs.Option.{option_map_or}
 use Rattle.refusal.specs.declared.refused.Refusal.{Refusal}
@@ -14,7 +14,7 @@ use Rattle.osdmap.specs.Maps.{ClusterMap, pool_at}
 use Rattle.osdmap.specs.Placement.{group_of, steps_of}
 use Rattle.pgtable.specs.Patches.{changed_map}
 use Rattle.balancer.specs.declared.moves.Move.{Move}
-use Rattle.balancer.specs.Shares.{has_one_block, total_weight, unevenness}
+use Rattle.balancer.specs.Shares.{has_one_block, unevenness, Aim, least_gain}
 use Rattle.balancer.specs.Moves.{pairs_in}
 use Rattle.balancer.specs.Greedy.{good_moves, greedy, after_moves}
 
@@ -59,27 +59,33 @@ change_of items = record {
   new_items = items;
 }
 
+-- how many groups a pool has, where it is there
+abbrev pub pool_groups : ClusterMap → ℕ → ℕ
+pool_groups m pool = option_map_or (λ p. p.pg_num) (pool_at m.pools pool) 0
+
 -- the moves of the plan for a pool
-unfoldable pub plan_moves : ClusterMap → ℕ → ℕ → List Move
-plan_moves m pool limit = option_map_or (λ p. greedy m p limit) (pool_at m.pools pool) []
+unfoldable pub plan_moves : ClusterMap → ℕ → Aim → ℕ → List Move
+plan_moves m pool aim limit = option_map_or (λ p. greedy m p aim limit) (pool_at m.pools pool) []
 
 -- their change
-unfoldable pub plan_change : ClusterMap → ℕ → ℕ → ChangeParts
-plan_change m pool limit = change_of (option_map_or (λ p. moved_items m p (greedy m p limit)) (pool_at m.pools pool) [])
+unfoldable pub plan_change : ClusterMap → ℕ → Aim → ℕ → ChangeParts
+plan_change m pool aim limit =
+    change_of (option_map_or (λ p. moved_items m p (greedy m p aim limit)) (pool_at m.pools pool) [])
 
 -- a change and a number of moves are those of the greedy plan
-pub record IsPlan (m : ClusterMap) (pool limit : ℕ) (change : ChangeParts) (count : ℕ) : Type 0 where
-  pub is : change ≡ plan_change m pool limit
-  pub counts : count ≡ length (plan_moves m pool limit)
+pub record IsPlan (m : ClusterMap) (pool : ℕ) (aim : Aim) (limit : ℕ) (change : ChangeParts) (count : ℕ) :
+    Type 0 where
+  pub is : change ≡ plan_change m pool aim limit
+  pub counts : count ≡ length (plan_moves m pool aim limit)
 
 -- ---- what a plan is worth
 
--- the change of so many moves lowers the sum of the squares of the deviations by twice the weight of all candidates or
--- more for each of them
-pub record Evens (m : ClusterMap) (pool : ℕ) (change : ChangeParts) (count : ℕ) : Type 0 where
+-- the change of so many moves lowers the sum of the squares of the deviations by the least gain or more for each of
+-- them
+pub record Evens (m : ClusterMap) (pool : ℕ) (aim : Aim) (change : ChangeParts) (count : ℕ) : Type 0 where
   pub evens : IfSome (pool_at m.pools pool)
-      (λ p. unevenness (changed_map m change) p + 2 * total_weight m p * count ≤ unevenness m p)
+      (λ p. unevenness (changed_map m change) p aim + least_gain m p aim * count ≤ unevenness m p aim)
 
 -- after the change no move is good
-pub record LeavesNone (m : ClusterMap) (pool : ℕ) (change : ChangeParts) : Type 0 where
-  pub none : IfSome (pool_at m.pools pool) (λ p. good_moves (changed_map m change) p ≡ [])
+pub record LeavesNone (m : ClusterMap) (pool : ℕ) (aim : Aim) (change : ChangeParts) : Type 0 where
+  pub none : IfSome (pool_at m.pools pool) (λ p. good_moves (changed_map m change) p aim ≡ [])

@@ -3,7 +3,7 @@ use Rattle.std.specs.Prelude.{◌≡◌, ℕ, Bool, true, false, ℤ, int_lt, Li
 use Rattle.std.specs.List.Sorted.{IsPermutation}
 use Rattle.osdmap.specs.Maps.{ClusterMap}
 use Rattle.balancer.specs.declared.board.Board.{Board}
-use Rattle.balancer.specs.Shares.{is_candidate, candidate_osds, deviation}
+use Rattle.balancer.specs.Shares.{is_candidate, candidate_osds, deviation, Aim, aim_of}
 use Rattle.balancer.specs.Greedy.{after_moves, gap}
 use Rattle.balancer.specs.Boards.{IsOrder}
 use Rattle.balancer.specs.Marks.{IsMarked}
@@ -16,6 +16,10 @@ cluster b = b.frame.map.now.map
 -- the map after the moves so far
 abbrev pub reached : Board → ClusterMap
 reached b = after_moves b.frame.map.now.map b.frame.pool b.moves.items
+
+-- what the plan goes by beside it
+abbrev pub aim_in : Board → Aim
+aim_in b = aim_of b.frame.carried.now b.frame.apart
 
 -- an OSD is one of those that the plan moves groups between
 abbrev pub takes_part : Board → ℕ → Bool
@@ -31,11 +35,11 @@ AreAll b order = IsPermutation (map (λ e. e.1) order) (candidate_osds b.frame.m
 
 -- with its deviation
 abbrev pub AreMeasured : Board → List (ℤ × ℕ) → Type 0
-AreMeasured b order = AreAll b order × All (λ e. e.0 ≡ deviation (reached b) b.frame.pool e.1) order
+AreMeasured b order = AreAll b order × All (λ e. e.0 ≡ deviation (reached b) b.frame.pool (aim_in b) e.1) order
 
 -- the candidates in order, the emptiest first
 abbrev pub IsOrderOf : Board → List (ℤ × ℕ) → Type 0
-IsOrderOf b order = IsOrder b.frame.map.now.map (reached b) b.frame.pool b.frame.osds.items order
+IsOrderOf b order = IsOrder b.frame.map.now.map (reached b) b.frame.pool (aim_in b) b.frame.osds.items order
 
 -- what is known of how far moves go, once an OSD has become emptier: nothing more than before, and for candidates what
 -- holds of moves to that OSD too
@@ -44,4 +48,4 @@ AreWidened b emptier before now =
     (from : ℕ) (bound : ℤ) → bound_of now from ≡ Some bound
     → ((old : ℤ) × (bound_of before from ≡ Some old) × (int_lt bound old ≡ false))
     × (is_candidate b.frame.map.now.map b.frame.pool from ≡ true
-    → int_lt bound (gap (reached b) b.frame.pool from emptier) ≡ false)
+    → int_lt bound (gap (reached b) b.frame.pool (aim_in b) from emptier) ≡ false)

@@ -1,11 +1,11 @@
 //! The state of a plan: the groups of a pool and the deviations of OSDs after the moves so far.
 
-ghost use Rattle.std.specs.Prelude.{◌≡◌, ◌*◌, ◌+◌, ◌<◌, ◌≤◌, ◌^◌, pos, ◌-ℤ◌, length, Some, IfOk};
+ghost use Rattle.std.specs.Prelude.{◌≡◌, ◌*◌, ◌+◌, ◌<◌, ◌≤◌, ◌^◌, pos, neg_ℤ, ◌+ℤ◌, ◌-ℤ◌, ◌*ℤ◌, ◌<ℤ◌, length, Some, IfOk};
 ghost use Rattle.buckets.specs.Limits.{max_devices};
 ghost use Rattle.mapparts.specs.Limits.{max_groups};
 ghost use Rattle.osdmap.specs.Maps.{pool_at};
 ghost use Rattle.pgtable.specs.Tables.{IsTableOf};
-ghost use Rattle.balancer.specs.Shares.{deviation, places};
+ghost use Rattle.balancer.specs.Shares.{above_share, carried_by, deviation, places, aim_of};
 ghost use Rattle.balancer.specs.Shares.{places as places_in};
 ghost use Rattle.balancer.specs.Boards.{deviations_of, IsBoardOf, IsReached};
 ghost use Rattle.balancer.specs.Greedy.{after_moves};
@@ -17,6 +17,7 @@ use crate::group::{Group, gone, groups};
 use crate::moves::Move;
 use crate::shares::{count, places, weight_of};
 use crate::standing::Standing;
+use crush::Work;
 use maptypes::{Exception, Items, Pg, Pool};
 use osdmap::OsdMap;
 use pgtable::PgTable;
@@ -24,12 +25,14 @@ use refusal::Memory;
 use std::alloc::Global;
 
 /// How far an OSD with so many groups is above its share of the places, times the weight of all candidates.
-fn deviation(count: u64, total: u64, places: u64, weight: u64) -> i128
+fn above_share(count: u64, total: u64, places: u64, weight: u64) -> i128
     requires count { count ≤ max_groups }
     requires total { total ≤ 2 ^ 58 }
     requires places { places ≤ max_devices * max_groups }
     requires weight { weight < 2 ^ 48 }
-    ensures { result ≡ pos (count * total) -ℤ pos (places * weight) }
+    ensures value { result ≡ pos (count * total) -ℤ pos (places * weight) }
+    ensures high { result <ℤ pos (2 ^ 99) }
+    ensures low { neg_ℤ (pos (2 ^ 99)) <ℤ result }
 {
     i128::from(count) * i128::from(total) - i128::from(places) * i128::from(weight)
 }
@@ -44,22 +47,73 @@ fn places_of(frame: &Frame, table: &PgTable) -> u64
     places(frame.map, table, &frame.pool, &frame.osds)
 }
 
+/// How far an OSD is above its share, where the candidates have so many places.
+#[tactic(auto, unfolding(crate::specs::Shares::above_share))]
+fn above_share_of(frame: &Frame, table: &PgTable, places: u64, osd: u32) -> i128
+    requires table { IsTableOf table.now frame.now.map.now.map }
+    requires value { places ≡ places_in frame.now.map.now.map frame.now.pool }
+    requires few { places ≤ max_devices * max_groups }
+    ensures value { result ≡ above_share frame.now.map.now.map frame.now.pool osd }
+    ensures high { result <ℤ pos (2 ^ 99) }
+    ensures low { neg_ℤ (pos (2 ^ 99)) <ℤ result }
+{
+    let count = count(frame.map, table, &frame.pool, osd);
+    above_share(count, frame.weight, places, weight_of(frame.map, osd))
+}
+
+/// How much more of the pool an OSD counts as having than its groups.
+fn carried_by(carried: &[i32], osd: u32) -> i32
+    ensures { result ≡ carried_by carried.now osd }
+{
+    match carried.get(osd as usize) {
+        Some(groups) => *groups,
+        None => 0,
+    }
+}
+
+/// What is above a share, in 256ths.
+fn in_parts(above: i128) -> i128
+    requires high { above <ℤ pos (2 ^ 99) }
+    requires low { neg_ℤ (pos (2 ^ 99)) <ℤ above }
+    ensures value { result ≡ pos 256 *ℤ above }
+    ensures high { result <ℤ pos (2 ^ 107) }
+    ensures low { neg_ℤ (pos (2 ^ 107)) <ℤ result }
+{
+    256 * above
+}
+
+/// How far an OSD is above its share with what it carries beside, in 256ths, times the weight of all candidates.
+fn with_carried(above: i128, groups: i32, total: u64) -> i128
+    requires high { above <ℤ pos (2 ^ 107) }
+    requires low { neg_ℤ (pos (2 ^ 107)) <ℤ above }
+    requires total { total ≤ 2 ^ 58 }
+    ensures { result ≡ above +ℤ groups *ℤ pos total }
+{
+    above + i128::from(groups) * i128::from(total)
+}
+
 /// The deviation of an OSD, where the candidates have so many places.
 #[tactic(auto, unfolding(crate::specs::Shares::deviation))]
 fn deviation_of(frame: &Frame, table: &PgTable, places: u64, osd: u32) -> i128
     requires table { IsTableOf table.now frame.now.map.now.map }
     requires value { places ≡ places_in frame.now.map.now.map frame.now.pool }
     requires few { places ≤ max_devices * max_groups }
-    ensures { result ≡ deviation frame.now.map.now.map frame.now.pool osd }
+    ensures { result ≡ deviation frame.now.map.now.map frame.now.pool
+        (aim_of frame.now.carried.now frame.now.apart) osd }
 {
-    let count = count(frame.map, table, &frame.pool, osd);
-    deviation(count, frame.weight, places, weight_of(frame.map, osd))
+    let above = above_share_of(frame, table, places, osd);
+    with_carried(
+        in_parts(above),
+        carried_by(frame.carried, osd),
+        frame.weight,
+    )
 }
 
 /// The deviations of all OSDs, by number; or `Memory` (30).
 fn deviations(alloc: Global, frame: &Frame, table: &PgTable) -> Result<Vec<i128>, Memory>
     requires { IsTableOf table.now frame.now.map.now.map }
-    ensures { IfOk result (λ ds. ds.items ≡ deviations_of frame.now.map.now.map frame.now.pool) }
+    ensures { IfOk result (λ ds. ds.items ≡ deviations_of frame.now.map.now.map frame.now.pool
+        (aim_of frame.now.carried.now frame.now.apart)) }
 {
     let places = places_of(frame, table);
     let mut deviations = Vec::with_capacity(alloc, frame.map.max_osd() as usize)?;
@@ -88,9 +142,9 @@ pub(crate) struct Board<'a> {
     pub deviations: Vec<i128>,
     /// The moves so far.
     pub moves: Vec<Move>,
-    ghost reached: { IsReached frame.map.now.map frame.pool moves.items },
+    ghost reached: { IsReached frame.map.now.map frame.pool (aim_of frame.carried.now frame.apart) moves.items },
     ghost board: { IsBoardOf (after_moves frame.map.now.map frame.pool moves.items) frame.pool
-        groups.items deviations.items },
+        (aim_of frame.carried.now frame.apart) groups.items deviations.items },
     ghost stand: { AreRowsOf groups.items standing },
     ghost wide: { length standing ≡ length frame.map.now.map.presences },
 }
@@ -100,17 +154,26 @@ impl<'a> Board<'a> {
     ghost use Rattle.balancer.specs.Plans.{items_at, moved_items};
     ghost use Rattle.balancer.specs.Greedy.{after_moves};
     ghost use Rattle.balancer.specs.Boards.{IsGood, IsGone};
-    ghost use Rattle.pgtable.specs.Tables.{IsTableOf};
+    ghost use Rattle.balancer.specs.Shares.{aim_of};
+    ghost use Rattle.pgtable.specs.Tables.{IsTableOf, RunsMore};
 
-    /// The state at the beginning; or `Memory` (30).
-    pub fn new(alloc: Global, frame: Frame<'a>, table: &PgTable) -> Result<Board<'a>, Memory>
+    /// The state at the beginning, by a run of the pool's rule for each of its groups; or `Memory` (30).
+    pub fn new(
+        alloc: Global,
+        frame: Frame<'a>,
+        table: &PgTable,
+        work: &mut Work,
+    ) -> Result<Board<'a>, Memory>
         requires { IsTableOf table.now frame.map.now.map }
         ensures map { IfOk result (λ board. board.frame.map.now.map ≡ frame.entry.map.now.map) }
         ensures pool { IfOk result (λ board. board.frame.pool ≡ frame.entry.pool) }
+        ensures aim { IfOk result (λ board. aim_of board.frame.carried.now board.frame.apart
+            ≡ aim_of frame.entry.carried.now frame.entry.apart) }
         ensures moves { IfOk result (λ board. board.moves.items ≡ []) }
+        ensures runs { OnOk result (RunsMore frame.entry.pool.pg_num work.old work.new) }
     {
         frame.map.holds_together();
-        let groups = groups(alloc, frame.map, &frame.pool)?;
+        let groups = groups(alloc, frame.map, &frame.pool, work)?;
         frame.pool.is_within_limits();
         let standing = Standing::new(alloc, &groups, frame.map.max_osd())?;
         let deviations = deviations(alloc, &frame, table)?;
@@ -127,13 +190,15 @@ impl<'a> Board<'a> {
     /// Makes a good move; or `Memory` (30).
     pub fn make(&mut self, step: Move) -> Result<(), Memory>
         requires { IsGood (after_moves self.old.frame.map.now.map self.old.frame.pool self.old.moves.items)
-            self.old.frame.pool step }
+            self.old.frame.pool (aim_of self.old.frame.carried.now self.old.frame.apart) step }
         ensures moves { OnOk result (self.new.moves.items ≡ self.old.moves.items ++ step ∷ []) }
         ensures groups { OnOk result (IsGone self.old.groups.items step self.new.groups.items) }
         ensures map { self.new.frame.map.now.map ≡ self.old.frame.map.now.map }
         ensures pool { self.new.frame.pool ≡ self.old.frame.pool }
+        ensures aim { aim_of self.new.frame.carried.now self.new.frame.apart
+            ≡ aim_of self.old.frame.carried.now self.old.frame.apart }
     {
-        let weight = i128::from(self.frame.weight);
+        let weight = self.frame.group_weight();
         let at = step.group as usize;
         let group = gone(self.groups[at], step);
         self.standing.add(step.group, group.places.as_slice())?;

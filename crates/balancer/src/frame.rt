@@ -1,16 +1,17 @@
 //! What a plan goes by and no move changes.
 
-ghost use Rattle.std.specs.Prelude.{◌≡◌, ◌≤◌, ◌^◌, length, Some, IfOk};
+ghost use Rattle.std.specs.Prelude.{◌≡◌, ◌*◌, ◌≤◌, ◌^◌, pos, ◌<ℤ◌, length, Some, IfOk};
 ghost use Rattle.buckets.specs.Limits.{max_devices};
 ghost use Rattle.osdmap.specs.Maps.{pool_at};
 ghost use Rattle.std.specs.List.{list_all};
 ghost use Rattle.osdmap.specs.Placement.{steps_of};
-ghost use Rattle.balancer.specs.Shares.{candidate_osds, total_weight};
+ghost use Rattle.balancer.specs.Shares.{candidate_osds, total_weight, group_weight, least_gap, aim_of, AreSmall};
 ghost use Rattle.balancer.specs.Moves.{level_chosen, levels_of, are_under_same};
 
 use crate::domains::{are_under_same, domain_of, has_way, stands, times};
 use crate::group::Group;
-use crate::shares::{candidates, total};
+use crate::request::Request;
+use crate::shares::{are_small, candidates, total};
 use crush::Step;
 use maptypes::Pool;
 use osdmap::OsdMap;
@@ -58,11 +59,24 @@ fn are_under_same_all(map: &OsdMap, some: u32, other: u32, levels: &[u8]) -> boo
         .all(|level| are_under_same(map, some, other, *level))
 }
 
+/// A weight so many times.
+fn many(count: u32, weight: u64) -> i128
+    requires { weight ≤ 2 ^ 58 }
+    ensures value { result ≡ pos (count * weight) }
+    ensures small { result <ℤ pos (2 ^ 90) }
+{
+    i128::from(count) * i128::from(weight)
+}
+
 /// What a plan for a pool goes by and no move changes.
 #[derive(Drop)]
 pub(crate) struct Frame<'a> {
     pub map: &'a OsdMap,
     pub pool: Pool,
+    /// How much more of the pool each OSD counts as having than its groups, by number, in 256ths of a group.
+    pub carried: &'a [i32],
+    /// By how much two OSDs must differ for a move between them to be good, in 256ths of a group.
+    pub apart: u32,
     /// The types that the pool's rule chooses, in order.
     pub levels: Vec<u8>,
     /// The candidates, by number upwards.
@@ -70,6 +84,8 @@ pub(crate) struct Frame<'a> {
     /// What they weigh together.
     pub weight: u64,
     ghost pool_is: { pool_at map.now.map.pools pool.id ≡ Some pool },
+    ghost carried_small: { AreSmall carried.now },
+    ghost apart_least: { 256 ≤ apart },
     ghost levels_are: { levels.items ≡ levels_of (steps_of map.now.map pool) },
     ghost osds_are: { osds.items ≡ candidate_osds map.now.map pool },
     ghost osds_few: { length osds.items ≤ max_devices },
@@ -78,22 +94,34 @@ pub(crate) struct Frame<'a> {
 }
 
 impl<'a> Frame<'a> {
-    ghost use Rattle.std.specs.Prelude.{◌≡◌, Some, IfOk};
+    ghost use Rattle.std.specs.Prelude.{◌≡◌, ◌≤◌, Some, IfOk};
     ghost use Rattle.osdmap.specs.Maps.{pool_at};
+    ghost use Rattle.balancer.specs.Shares.{aim_of};
+    ghost use Rattle.balancer.specs.Requests.{asked_aim};
 
-    /// What a plan for a pool of a map goes by; or `Memory` (30).
+    /// What the plan that is asked for goes by, of a pool of a map; or `Memory` (30).
     #[tactic(auto, unfolding(crate::specs::Shares::total_weight))]
-    pub fn new(alloc: Global, map: &'a OsdMap, pool: Pool) -> Result<Frame<'a>, Memory>
+    pub fn new(
+        alloc: Global,
+        map: &'a OsdMap,
+        pool: Pool,
+        request: Request<'a>,
+    ) -> Result<Frame<'a>, Memory>
         requires { pool_at map.now.map.pools pool.id ≡ Some pool }
-        ensures map { IfOk result (λ frame. frame.map.now ≡ map.now) }
+        ensures map { IfOk result (λ frame. frame.map.now.map ≡ map.now.map) }
         ensures pool { IfOk result (λ frame. frame.pool ≡ pool) }
+        ensures aim { IfOk result (λ frame. aim_of frame.carried.now frame.apart ≡ asked_aim request.entry) }
     {
+        let Request { carried, apart, .. } = request;
+        are_small(carried);
         let levels = levels(alloc, map, &pool)?;
         let osds = candidates(alloc, map, &pool)?;
         let weight = total(map, &osds);
         Ok(Frame {
             map,
             pool,
+            carried,
+            apart,
             levels,
             osds,
             weight,
@@ -102,13 +130,31 @@ impl<'a> Frame<'a> {
 }
 
 impl Frame<'_> {
-    ghost use Rattle.std.specs.Prelude.{◌≡◌, ◌<◌, length, position, IfSome, true, false};
+    ghost use Rattle.std.specs.Prelude.{◌≡◌, ◌<◌, pos, length, position, IfSome, true, false};
     ghost use Rattle.std.specs.List.{list_all};
     ghost use Rattle.osdmap.specs.Placement.{steps_of};
     ghost use Rattle.balancer.specs.Moves.{are_under_same, are_beside, domain_of, earlier_levels, last_level, levels_of, is_allowed};
     ghost use Rattle.balancer.specs.Boards.{may_go};
     ghost use Rattle.maptypes.specs.Sets.{stands};
     ghost use Rattle.balancer.specs.declared.moves.Move.{Move};
+    ghost use Rattle.balancer.specs.Shares.{group_weight, least_gap, aim_of};
+
+    /// What a group weighs.
+    #[tactic(auto, unfolding(crate::specs::Shares::group_weight))]
+    pub fn group_weight(&self) -> i128
+        ensures { result ≡ pos (group_weight self.now.map.now.map self.now.pool) }
+    {
+        many(256, self.weight)
+    }
+
+    /// By how much two deviations must differ for a move to be good.
+    #[tactic(auto, unfolding(crate::specs::Shares::least_gap))]
+    pub fn least_gap(&self) -> i128
+        ensures { result ≡ pos (least_gap self.now.map.now.map self.now.pool
+            (aim_of self.now.carried.now self.now.apart)) }
+    {
+        many(self.apart, self.weight) + 255
+    }
 
     /// The types that the pool's rule chooses before the last.
     fn earlier_levels(&self) -> &[u8]

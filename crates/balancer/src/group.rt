@@ -1,11 +1,12 @@
 //! Groups as a plan keeps them.
 
-ghost use Rattle.std.specs.Prelude.{◌≡◌, ◌<◌, ◌≤◌, length, position, Some, IfOk};
+ghost use Rattle.std.specs.Prelude.{◌≡◌, ◌<◌, ◌≤◌, length, position, Some, IfOk, OnOk};
 ghost use Rattle.std.specs.List.{list_any};
 ghost use Rattle.osdmap.specs.Maps.{pool_at};
 ghost use Rattle.osdmap.specs.Mapped.{is_weightless};
 ghost use Rattle.maptypes.specs.Sets.{replaced, is_of};
-ghost use Rattle.osdmap.specs.Placement.{mapped_set};
+ghost use Rattle.osdmap.specs.Placement.{mapped_set, RunsOnce};
+ghost use Rattle.pgtable.specs.Tables.{RunsMore};
 ghost use Rattle.balancer.specs.Moves.{pairs_in};
 ghost use Rattle.balancer.specs.Boards.{is_fixed, group_at, board_groups, gone};
 
@@ -77,7 +78,8 @@ fn is_fixed(map: &OsdMap, pg: Pg) -> bool
 
 /// The mapped set of a group of a pool, by one run of the pool's rule; or `Memory` (30).
 fn mapped(placing: &Placing, number: u32, work: &mut Work) -> Result<Short<Option<u32>>, Memory>
-    ensures { IfOk result (λ set. set ≡ mapped_set placing.now.map.now.map placing.now.pool number) }
+    ensures set { IfOk result (λ set. set ≡ mapped_set placing.now.map.now.map placing.now.pool number) }
+    ensures run { RunsOnce work.old work.new result }
 {
     let set = placing.mapped(number, work)?;
     Ok(short_of(set.places()))
@@ -86,7 +88,8 @@ fn mapped(placing: &Placing, number: u32, work: &mut Work) -> Result<Short<Optio
 /// What is kept of a group of a pool, by one run of the pool's rule; or `Memory` (30).
 #[tactic(auto, unfolding(crate::specs::Boards::group_at))]
 fn group_at(placing: &Placing, number: u32, work: &mut Work) -> Result<Group, Memory>
-    ensures { IfOk result (λ group. group ≡ group_at placing.now.map.now.map placing.now.pool number) }
+    ensures group { IfOk result (λ group. group ≡ group_at placing.now.map.now.map placing.now.pool number) }
+    ensures run { RunsOnce work.old work.new result }
 {
     let places = mapped(placing, number, work)?;
     let pg = Pg {
@@ -100,16 +103,22 @@ fn group_at(placing: &Placing, number: u32, work: &mut Work) -> Result<Group, Me
     })
 }
 
-/// What is kept of the groups of a pool, by number; or `Memory` (30).
-pub(crate) fn groups(alloc: Global, map: &OsdMap, pool: &Pool) -> Result<Vec<Group>, Memory>
+/// What is kept of the groups of a pool, by number, by a run of the pool's rule for each; or `Memory` (30).
+pub(crate) fn groups(
+    alloc: Global,
+    map: &OsdMap,
+    pool: &Pool,
+    work: &mut Work,
+) -> Result<Vec<Group>, Memory>
     requires { pool_at map.now.map.pools pool.now.id ≡ Some pool.now }
-    ensures { IfOk result (λ groups. groups.items ≡ board_groups map.now.map pool.now) }
+    ensures groups { IfOk result (λ groups. groups.items ≡ board_groups map.now.map pool.now) }
+    ensures runs { OnOk result (RunsMore pool.now.pg_num work.old work.new) }
 {
+    let _ = work.runs();
     let placing = map.placing(pool);
-    let mut work = Work::new(alloc, map.forest())?;
     let mut groups = Vec::with_capacity(alloc, pool.pg_num() as usize)?;
     for number in 0..pool.pg_num() {
-        groups.push(group_at(&placing, number, &mut work)?)?;
+        groups.push(group_at(&placing, number, work)?)?;
     }
     Ok(groups)
 }

@@ -1,8 +1,9 @@
 //! The balancer: the greedy plan of moves by which the groups of a pool come to stand where the weights of the OSDs
 //! want them, as a change of the map.
 //!
-//! - `limits`: how many moves a plan may have
+//! - `limits`: how many moves a plan may have, and how far apart two OSDs may have to be at least
 //! - `moves`: moves of groups
+//! - `request`: what a plan is asked for
 //! - `plans`: plans, and the change that makes one
 //! - `frame`, `board`: what a plan goes by and no move changes, and the state of a plan after the moves so far
 //! - `group`, `domains`: groups as a plan keeps them, and what stands above OSDs
@@ -21,6 +22,7 @@ pub mod limits;
 mod marks;
 pub mod moves;
 mod plans;
+pub mod request;
 mod search;
 mod shares;
 mod standing;
@@ -28,3 +30,4 @@ mod widths;
 
 pub use moves::Move;
 pub use plans::plan;
+pub use request::Request;

@@ -25,7 +25,7 @@ impl Model for Row {
 }
 
 impl Row {
-    /// Of so many OSDs nothing is known; or `Memory` (30).
+    /// A row for `count` OSDs, of which nothing is known yet; or `Memory` (30).
     fn new(alloc: Global, count: usize) -> Result<Self, Memory>
         ensures { IfOk result (λ row. row ≡ replicate count false) }
     {
@@ -80,7 +80,7 @@ impl Model for Marks {
 }
 
 impl Marks {
-    /// Of so many OSDs nothing is known; or `Memory` (30).
+    /// Marks for `count` OSDs, of which nothing is known yet; or `Memory` (30).
     pub fn new(alloc: Global, count: u32) -> Result<Self, Memory>
         ensures { IfOk result (λ marks. marks ≡ replicate count (replicate count false)) }
     {

@@ -1,6 +1,6 @@
 //! Plans.
 
-ghost use Rattle.std.specs.Prelude.{◌≡◌, ◌≤◌, ◌<◌, ◌==◌, [], length, None, Some, IfOk};
+ghost use Rattle.std.specs.Prelude.{◌≡◌, ◌≤◌, ◌<◌, ◌==◌, [], length, None, Some, IfOk, OnOk};
 ghost use Rattle.std.specs.List.{count_by};
 ghost use Rattle.crush.specs.Grammar.{is_emit};
 ghost use Rattle.refusal.specs.Outcomes.{Judges, Gives};
@@ -9,15 +9,16 @@ ghost use Rattle.maptypes.specs.Exceptions.{key_of};
 ghost use Rattle.osdmap.specs.Maps.{pool_at};
 ghost use Rattle.osdmap.specs.Changes.{change_fault};
 ghost use Rattle.osdmap.specs.Placement.{steps_of};
-ghost use Rattle.pgtable.specs.Tables.{IsTableOf};
-ghost use Rattle.balancer.specs.Limits.{max_moves};
-ghost use Rattle.balancer.specs.Shares.{has_one_block};
+ghost use Rattle.pgtable.specs.Tables.{IsTableOf, RunsMore};
+ghost use Rattle.balancer.specs.Shares.{has_one_block, aim_of};
+ghost use Rattle.balancer.specs.Requests.{asked_aim};
 ghost use Rattle.balancer.specs.Greedy.{good_moves, greedy, after_moves};
-ghost use Rattle.balancer.specs.Plans.{change_of, plan_fault, IsPlan, Evens, LeavesNone};
+ghost use Rattle.balancer.specs.Plans.{change_of, plan_fault, pool_groups, IsPlan, Evens, LeavesNone};
 
 use crate::board::Board;
 use crate::frame::Frame;
-use crush::Step;
+use crate::request::Request;
+use crush::{Step, Work};
 use keylist::Entries;
 use mapparts::Profile;
 use maptypes::{Change, ChangeParts, Items, Pool};
@@ -92,30 +93,34 @@ fn change_of(alloc: Global, items: Vec<Items>) -> Result<Change, Memory>
     Ok(change)
 }
 
-/// The state of a plan for a pool once its moves are made: at most `limit`; or `Memory` (30).
+/// The state of a plan once its moves are made, at most so many, by a run of the pool's rule for each of its groups; or
+/// `Memory` (30).
 fn planned<'a>(
     alloc: Global,
-    map: &'a OsdMap,
+    frame: Frame<'a>,
     table: &PgTable,
-    pool: Pool,
     limit: u32,
+    work: &mut Work,
 ) -> Result<Board<'a>, Memory>
-    requires table { IsTableOf table.now map.now.map }
-    requires there { pool_at map.now.map.pools pool.id ≡ Some pool }
-    ensures map { IfOk result (λ board. board.frame.map.now.map ≡ map.entry.now.map) }
-    ensures pool { IfOk result (λ board. board.frame.pool ≡ pool) }
-    ensures moves { IfOk result (λ board. board.moves.items ≡ greedy map.entry.now.map pool limit) }
+    requires { IsTableOf table.now frame.map.now.map }
+    ensures map { IfOk result (λ board. board.frame.map.now.map ≡ frame.entry.map.now.map) }
+    ensures pool { IfOk result (λ board. board.frame.pool ≡ frame.entry.pool) }
+    ensures aim { IfOk result (λ board. aim_of board.frame.carried.now board.frame.apart
+        ≡ aim_of frame.entry.carried.now frame.entry.apart) }
+    ensures moves { IfOk result (λ board. board.moves.items ≡ greedy frame.entry.map.now.map frame.entry.pool
+        (aim_of frame.entry.carried.now frame.entry.apart) limit) }
     ensures done { IfOk result (λ board. length board.moves.items < limit →
-        good_moves (after_moves map.entry.now.map pool board.moves.items) pool ≡ []) }
+        good_moves (after_moves frame.entry.map.now.map frame.entry.pool board.moves.items) frame.entry.pool
+        (aim_of frame.entry.carried.now frame.entry.apart) ≡ []) }
+    ensures runs { OnOk result (RunsMore frame.entry.pool.pg_num work.old work.new) }
 {
-    let frame = Frame::new(alloc, map, pool)?;
-    let mut board = Board::new(alloc, frame, table)?;
+    let mut board = Board::new(alloc, frame, table, work)?;
     board.run(alloc, limit)?;
     Ok(board)
 }
 
-/// The change that makes the greedy plan for a pool, of at most `limit` moves, 1 to 1,024, and how many moves it is,
-/// for a map and its table. Nothing refuses the change at this map.
+/// The change that makes the greedy plan that is asked for, and how many moves it is, for a map and its table. Nothing
+/// refuses the change at this map. `work` counts a run of the pool's rule for each of its groups.
 ///
 /// # Errors
 ///
@@ -125,20 +130,22 @@ pub fn plan(
     alloc: Global,
     map: &OsdMap,
     table: &PgTable,
-    pool: u32,
-    limit: u32,
+    request: Request<'_>,
+    work: &mut Work,
 ) -> Result<(Change, usize), Refusal>
     requires table { IsTableOf table.now map.now.map }
-    requires some { 1 ≤ limit }
-    requires few { limit ≤ max_moves }
-    ensures plan { Gives result (plan_fault map.now.map pool) (λ plan. IsPlan map.now.map pool limit plan.0 plan.1) }
+    ensures plan { Gives result (plan_fault map.now.map request.entry.pool)
+        (λ plan. IsPlan map.now.map request.entry.pool (asked_aim request.entry) request.entry.limit plan.0 plan.1) }
     ensures lawful { IfOk result (λ plan. change_fault map.now.map plan.0 ≡ None) }
-    ensures evens { IfOk result (λ plan. Evens map.now.map pool plan.0 plan.1) }
-    ensures leaves_none { IfOk result (λ plan. plan.1 < limit → LeavesNone map.now.map pool plan.0) }
+    ensures evens { IfOk result (λ plan. Evens map.now.map request.entry.pool (asked_aim request.entry) plan.0 plan.1) }
+    ensures leaves_none { IfOk result (λ plan. plan.1 < request.entry.limit →
+        LeavesNone map.now.map request.entry.pool (asked_aim request.entry) plan.0) }
+    ensures runs { OnOk result (RunsMore (pool_groups map.now.map request.entry.pool) work.old work.new) }
 {
     map.holds_together();
-    let pool = balanced(map, pool)?;
-    let board = planned(alloc, map, table, pool, limit)?;
+    let pool = balanced(map, request.pool)?;
+    let frame = Frame::new(alloc, map, pool, request)?;
+    let board = planned(alloc, frame, table, request.limit, work)?;
     let items = board.items(alloc)?;
     let change = change_of(alloc, items)?;
     Ok((change, board.moves.len()))

@@ -32,10 +32,10 @@ fn is_lower(number: u32, lowest: Option<u32>) -> bool
 
 impl Board<'_> {
     ghost use Rattle.std.specs.Prelude.{◌≡◌, ◌<◌, ℕ, pos, neg_ℤ, int_lt, ◌<ℤ◌, ◌^◌, ◌==◌, [], ◌∷◌, ◌++◌, length, slice_index_or, position, true, false, Some, IfSome, IfOk, MatchOption, OnOk};
-    ghost use Rattle.balancer.specs.Shares.{total_weight, deviation};
+    ghost use Rattle.balancer.specs.Shares.{least_gap, deviation};
     ghost use Rattle.balancer.specs.Moves.{are_beside, last_level, levels_of};
     ghost use Rattle.balancer.specs.Greedy.{gap, beats, good_moves, greedy, after_moves};
-    ghost use Rattle.balancer.specs.Reached.{cluster, reached, takes_part, IsMarkedOn, AreAll, AreMeasured, IsOrderOf, AreWidened};
+    ghost use Rattle.balancer.specs.Reached.{cluster, reached, takes_part, IsMarkedOn, AreAll, AreMeasured, IsOrderOf, AreWidened, aim_in};
     ghost use Rattle.std.specs.List.{list_any};
     ghost use Rattle.balancer.specs.Leaving.{may_leave};
     ghost use Rattle.balancer.specs.Standing.{sooner};
@@ -48,9 +48,9 @@ impl Board<'_> {
     /// The deviation of an OSD.
     fn deviation(&self, osd: u32) -> i128
         requires { takes_part self.now osd ≡ true }
-        ensures value { result ≡ deviation (reached self.now) self.now.frame.pool osd }
-        ensures high { result <ℤ pos (2 ^ 100) }
-        ensures low { neg_ℤ (pos (2 ^ 100)) <ℤ result }
+        ensures value { result ≡ deviation (reached self.now) self.now.frame.pool (aim_in self.now) osd }
+        ensures high { result <ℤ pos (2 ^ 108) }
+        ensures low { neg_ℤ (pos (2 ^ 108)) <ℤ result }
     {
         self.deviations[osd as usize]
     }
@@ -59,7 +59,7 @@ impl Board<'_> {
     fn gap(&self, from: u32, to: u32) -> i128
         requires from { takes_part self.now from ≡ true }
         requires to { takes_part self.now to ≡ true }
-        ensures { result ≡ gap (reached self.now) self.now.frame.pool from to }
+        ensures { result ≡ gap (reached self.now) self.now.frame.pool (aim_in self.now) from to }
     {
         self.deviation(from) - self.deviation(to)
     }
@@ -71,7 +71,7 @@ impl Board<'_> {
         requires u_to { takes_part self.now u.to ≡ true }
         requires v_from { takes_part self.now v.from ≡ true }
         requires v_to { takes_part self.now v.to ≡ true }
-        ensures { result ≡ beats (reached self.now) self.now.frame.pool u v }
+        ensures { result ≡ beats (reached self.now) self.now.frame.pool (aim_in self.now) u v }
     {
         let gap = self.gap(u.from, u.to);
         let other = self.gap(v.from, v.to);
@@ -82,18 +82,18 @@ impl Board<'_> {
     fn is_wide(&self, from: u32, to: u32) -> bool
         requires from { takes_part self.now from ≡ true }
         requires to { takes_part self.now to ≡ true }
-        ensures { result ≡ int_lt (pos (total_weight (reached self.now) self.now.frame.pool))
-            (gap (reached self.now) self.now.frame.pool from to) }
+        ensures { result ≡ int_lt (pos (least_gap (reached self.now) self.now.frame.pool (aim_in self.now)))
+            (gap (reached self.now) self.now.frame.pool (aim_in self.now) from to) }
     {
-        self.gap(from, to) > i128::from(self.frame.weight)
+        self.gap(from, to) > self.frame.least_gap()
     }
 
     /// Whether some move between two candidates could be taken rather than the best one so far.
     fn is_wanted(&self, from: u32, to: u32, best: Option<Move>) -> bool
         requires from { takes_part self.now from ≡ true }
         requires to { takes_part self.now to ≡ true }
-        requires best { IfSome best (λ v. IsGood (reached self.now) self.now.frame.pool v) }
-        ensures { result ≡ is_wanted (reached self.now) self.now.frame.pool from to best }
+        requires best { IfSome best (λ v. IsGood (reached self.now) self.now.frame.pool (aim_in self.now) v) }
+        ensures { result ≡ is_wanted (reached self.now) self.now.frame.pool (aim_in self.now) from to best }
     {
         match best {
             Some(best) => self.is_wide(from, to) && self.beats(Move { group: 0, from, to }, best),
@@ -189,11 +189,12 @@ impl Board<'_> {
     fn better(&self, from: u32, to: u32, best: Option<Move>, marks: &mut Marks) -> Option<Move>
         requires from { takes_part self.now from ≡ true }
         requires to { takes_part self.now to ≡ true }
-        requires best { IfSome best (λ v. IsGood (reached self.now) self.now.frame.pool v) }
-        requires wanted { is_wanted (reached self.now) self.now.frame.pool from to best ≡ true }
+        requires best { IfSome best (λ v. IsGood (reached self.now) self.now.frame.pool (aim_in self.now) v) }
+        requires wanted { is_wanted (reached self.now) self.now.frame.pool (aim_in self.now) from to best
+            ≡ true }
         requires marks { IsMarkedOn self.now marks.old }
-        ensures better { IsBetter (reached self.now) self.now.frame.pool best result }
-        ensures covers { CoversPair (reached self.now) self.now.frame.pool result from to }
+        ensures better { IsBetter (reached self.now) self.now.frame.pool (aim_in self.now) best result }
+        ensures covers { CoversPair (reached self.now) self.now.frame.pool (aim_in self.now) result from to }
         ensures marks { IsMarkedOn self.now marks.new }
     {
         if !self.frame.are_beside(from, to) {
@@ -252,10 +253,11 @@ impl Board<'_> {
     ) -> Option<Move>
         requires from { takes_part self.now from ≡ true }
         requires order { IsOrderOf self.now order.now }
-        requires best { IfSome best (λ v. IsGood (reached self.now) self.now.frame.pool v) }
+        requires best { IfSome best (λ v. IsGood (reached self.now) self.now.frame.pool (aim_in self.now) v) }
         requires marks { IsMarkedOn self.now marks.old }
-        ensures better { IsBetter (reached self.now) self.now.frame.pool best result }
-        ensures covers { CoversFrom (reached self.now) self.now.frame.pool result from self.now.frame.osds.items }
+        ensures better { IsBetter (reached self.now) self.now.frame.pool (aim_in self.now) best result }
+        ensures covers { CoversFrom (reached self.now) self.now.frame.pool (aim_in self.now) result from
+            self.now.frame.osds.items }
         ensures marks { IsMarkedOn self.now marks.new }
     {
         let mut best = best;
@@ -273,29 +275,31 @@ impl Board<'_> {
 
     /// How far the best move so far goes: by how much the deviations of its OSDs differ.
     fn best_gap(&self, best: Option<Move>) -> i128
-        requires { IfSome best (λ v. IsGood (reached self.now) self.now.frame.pool v) }
-        ensures { result ≡ best_gap (reached self.now) self.now.frame.pool best }
+        requires { IfSome best (λ v. IsGood (reached self.now) self.now.frame.pool (aim_in self.now) v) }
+        ensures { result ≡ best_gap (reached self.now) self.now.frame.pool (aim_in self.now) best }
     {
         match best {
             Some(best) => self.gap(best.from, best.to),
-            None => i128::from(self.frame.weight),
+            None => self.frame.least_gap(),
         }
     }
 
     /// Whether it is known that no move from a candidate is taken rather than the best one so far: it goes no further,
     /// and from no OSD before that one's.
     fn is_passed(&self, from: u32, best: Option<Move>, bound: Option<i128>) -> bool
-        requires best { IfSome best (λ v. IsGood (reached self.now) self.now.frame.pool v) }
-        requires bound { IfSome bound (λ b. IsBound (reached self.now) self.now.frame.pool from b) }
+        requires best { IfSome best (λ v. IsGood (reached self.now) self.now.frame.pool (aim_in self.now) v) }
+        requires bound { IfSome bound
+            (λ b. IsBound (reached self.now) self.now.frame.pool (aim_in self.now) from b) }
         ensures { result ≡ true
-            → CoversFrom (reached self.now) self.now.frame.pool best from self.now.frame.osds.items }
+            → CoversFrom (reached self.now) self.now.frame.pool (aim_in self.now) best from
+            self.now.frame.osds.items }
     {
         let Some(bound) = bound else {
             return false;
         };
         match best {
             Some(best) => best.from < from && bound <= self.gap(best.from, best.to),
-            None => bound <= i128::from(self.frame.weight),
+            None => bound <= self.frame.least_gap(),
         }
     }
 
@@ -307,13 +311,15 @@ impl Board<'_> {
         order: &mut Vec<(i128, u32)>,
     ) -> Result<Option<Move>, Memory>
         requires marks { IsMarkedOn self.now marks.old }
-        requires widths { AreBounds (reached self.now) self.now.frame.pool widths.old }
+        requires widths { AreBounds (reached self.now) self.now.frame.pool (aim_in self.now) widths.old }
         requires order { AreAll self.now order.old.items }
         ensures order { OnOk result (AreAll self.now order.new.items) }
-        ensures best { IfOk result (λ best. MatchOption best (good_moves (reached self.now) self.now.frame.pool ≡ [])
-            (λ v. IsBest (reached self.now) self.now.frame.pool v)) }
+        ensures best { IfOk result (λ best. MatchOption best
+            (good_moves (reached self.now) self.now.frame.pool (aim_in self.now) ≡ [])
+            (λ v. IsBest (reached self.now) self.now.frame.pool (aim_in self.now) v)) }
         ensures marks { OnOk result (IsMarkedOn self.now marks.new) }
-        ensures widths { OnOk result (AreBounds (reached self.now) self.now.frame.pool widths.new) }
+        ensures widths { OnOk result
+            (AreBounds (reached self.now) self.now.frame.pool (aim_in self.now) widths.new) }
     {
         self.order(order)?;
         let mut best = None;
@@ -380,15 +386,17 @@ impl Board<'_> {
     /// (30).
     fn go(&mut self, step: Move, marks: &mut Marks, widths: &mut Widths) -> Result<(), Memory>
         requires good { IsGood (reached self.old)
-            self.old.frame.pool step }
+            self.old.frame.pool (aim_in self.old) step }
         requires marks { IsMarkedOn self.old marks.old }
-        requires widths { AreBounds (reached self.old) self.old.frame.pool widths.old }
+        requires widths { AreBounds (reached self.old) self.old.frame.pool (aim_in self.old) widths.old }
         ensures moves { OnOk result (self.new.moves.items ≡ self.old.moves.items ++ step ∷ []) }
         ensures map { cluster self.new ≡ cluster self.old }
         ensures pool { self.new.frame.pool ≡ self.old.frame.pool }
+        ensures aim { aim_in self.new ≡ aim_in self.old }
         ensures marks { OnOk result
             (IsMarkedOn self.new marks.new) }
-        ensures widths { OnOk result (AreBounds (reached self.new) self.new.frame.pool widths.new) }
+        ensures widths { OnOk result
+            (AreBounds (reached self.new) self.new.frame.pool (aim_in self.new) widths.new) }
     {
         self.make(step)?;
         self.widen(step.from, widths);
@@ -403,12 +411,13 @@ impl Board<'_> {
     pub fn run(&mut self, alloc: Global, limit: u32) -> Result<(), Memory>
         requires { self.old.moves.items ≡ [] }
         ensures moves { OnOk result (self.new.moves.items
-            ≡ greedy (cluster self.old) self.old.frame.pool limit) }
+            ≡ greedy (cluster self.old) self.old.frame.pool (aim_in self.old) limit) }
         ensures done { OnOk result (length self.new.moves.items < limit →
             good_moves (after_moves (cluster self.old) self.old.frame.pool self.new.moves.items)
-            self.old.frame.pool ≡ []) }
+            self.old.frame.pool (aim_in self.old) ≡ []) }
         ensures map { cluster self.new ≡ cluster self.old }
         ensures pool { self.new.frame.pool ≡ self.old.frame.pool }
+        ensures aim { aim_in self.new ≡ aim_in self.old }
     {
         let mut marks = Marks::new(alloc, self.frame.map.max_osd())?;
         let mut widths = Widths::new(alloc, self.frame.map.max_osd())?;

@@ -13,7 +13,7 @@ ghost use Rattle.osdmap.specs.Mapped.{is_weightless};
 ghost use Rattle.osdmap.specs.Placement.{steps_of};
 ghost use Rattle.pgtable.specs.Index.{count_in};
 ghost use Rattle.pgtable.specs.Tables.{IsTableOf};
-ghost use Rattle.balancer.specs.Shares.{is_candidate, osds_of, candidate_osds, item_weight, weight_in_map};
+ghost use Rattle.balancer.specs.Shares.{is_candidate, osds_of, candidate_osds, item_weight, weight_in_map, AreSmall};
 
 use buckets::{Bucket, Item};
 use maptypes::Pool;
@@ -118,6 +118,15 @@ pub(crate) fn total(map: &OsdMap, osds: &[u32]) -> u64
         total += weight_of(map, *osd);
     }
     total
+}
+
+/// What OSDs carry has 32 bits, as each number shows once it is read.
+pub(crate) fn are_small(carried: &[i32])
+    ensures { AreSmall carried.now }
+{
+    for groups in carried {
+        let _groups = *groups;
+    }
 }
 
 /// How many groups of a pool stand on an OSD: at most 65,536.

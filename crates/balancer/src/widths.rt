@@ -24,7 +24,7 @@ impl Model for Widths {
 }
 
 impl Widths {
-    /// Of so many OSDs nothing is known; or `Memory` (30).
+    /// Bounds for `count` OSDs, of which nothing is known yet; or `Memory` (30).
     pub fn new(alloc: Global, count: u32) -> Result<Self, Memory>
         ensures { IfOk result (λ widths. widths ≡ replicate count None) }
     {

@@ -134,12 +134,11 @@ impl Chooser<'_> {
 }
 
 impl Placement<'_> {
-    ghost use Rattle.std.specs.Prelude.{◌≡◌, ◌≤◌, OnOk};
-    ghost use Rattle.std.specs.List.{fold};
+    ghost use Rattle.std.specs.Prelude.{◌≡◌, ◌+◌, ◌-◌, ◌^◌, ◌≤◌, min, OnOk, OnErr};
     ghost use Rattle.crush.specs.Limits.{max_size};
     ghost use Rattle.crush.specs.Placed.{world, progress};
     ghost use Rattle.crush.specs.Remembered.{Remembers};
-    ghost use Rattle.crush.specs.Run.{choosing_of, chosen_from, no_progress, after_step};
+    ghost use Rattle.crush.specs.Run.{choosing_of, chosen_from, after_step, run_of};
 
     /// Chooses below the buckets of the working list.
     fn choose(&self, choose: Choose, size: u8, lists: &mut Lists) -> Result<(), AllocError>
@@ -195,19 +194,23 @@ impl Placement<'_> {
         Ok(())
     }
 
-    /// Takes the steps of a rule in order.
-    fn steps(&self, steps: &[Step], size: u8, lists: &mut Lists) -> Result<(), AllocError>
+    /// Takes the steps of a rule in order, which is a run: it is counted here, and nowhere else.
+    #[tactic(auto, unfolding(crate::specs::Run::run_of))]
+    fn steps(&self, steps: &[Step], size: u8, work: &mut Work) -> Result<(), AllocError>
         requires some { 1 ≤ size }
         requires few { size ≤ max_size }
-        ensures { OnOk result (progress lists.new ≡ fold (after_step (world self.now) size) no_progress steps.now) }
+        ensures placed { OnOk result (work.new.result ≡ run_of (world self.now) steps.now size) }
+        ensures counted { OnOk result (work.new.runs ≡ min (work.old.runs + 1) (2 ^ 64 - 1)) }
+        ensures uncounted { OnErr result (work.new.runs ≡ work.old.runs) }
     {
-        lists.picks.forget();
-        lists.tries = FIRST_TRIES;
-        lists.working.clear();
-        lists.emitted.clear();
+        work.lists.picks.forget();
+        work.lists.tries = FIRST_TRIES;
+        work.lists.working.clear();
+        work.lists.emitted.clear();
         for step in steps {
-            self.step(*step, size, lists)?;
+            self.step(*step, size, &mut work.lists)?;
         }
+        work.runs = work.runs.saturating_add(1);
         Ok(())
     }
 }
@@ -223,7 +226,6 @@ impl Rule {
     /// # Errors
     ///
     /// `Memory` (30): after it the result is open, and the run is not counted.
-    #[tactic(auto, unfolding(crate::specs::Run::run_of))]
     pub fn run(&self, placement: &Placement<'_>, size: u8, work: &mut Work) -> Result<(), Memory>
         requires some { 1 ≤ size }
         requires few { size ≤ max_size }
@@ -231,8 +233,6 @@ impl Rule {
         ensures counted { OnOk result (work.new.runs ≡ min (work.old.runs + 1) (2 ^ 64 - 1)) }
         ensures uncounted { OnErr result (work.new.runs ≡ work.old.runs) }
     {
-        placement.steps(self.steps(), size, &mut work.lists)?;
-        work.runs = work.runs.saturating_add(1);
-        Ok(())
+        Ok(placement.steps(self.steps(), size, work)?)
     }
 }

@@ -99,6 +99,6 @@ stated_by stated bytes =
 
 -- ---- outcomes
 
--- a call answers exactly this, or that a growth was refused
+-- a call answers exactly this, or `Memory`
 abbrev pub Answers : {X : Type 0} → Result X Refusal → Result X Refusal → Type 0
 Answers r s = MatchResult r (λ x. s ≡ Ok x) (λ e. (e ≡ OutOfMemory) ⊎ (s ≡ Err e))

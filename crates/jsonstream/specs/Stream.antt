@@ -20,7 +20,7 @@ rest_of_list depth ts = converted of_items (items (value depth) (length ts) ts)
 abbrev pub rest_of_object : ℕ → List Token → Option (Members × List Token)
 rest_of_object depth ts = converted (λ ms. of_members ms no_members) (members (value depth) (length ts) ts)
 
--- a call takes this off the tokens and leaves those behind it; or no such thing comes, or a growth was refused
+-- a call takes this off the tokens and leaves those behind it; or no such thing comes, or memory runs out
 abbrev pub TakesValue : {X : Type 0} → Option (X × List Token) → Result X Refusal → List Token → Type 0
 TakesValue there r left =
     MatchResult r (λ x. there ≡ Some (x, left)) (λ e. (e ≡ OutOfMemory) ⊎ ((e ≡ BadJson) × (there ≡ None)))

@@ -9,7 +9,7 @@ ghost use Rattle.monitor.specs.Histories.{GoesOn};
 ghost use Rattle.monitor.specs.Members.{IsMemberOf};
 
 use mapjson::{read_change, read_map};
-use monitor::{Follower, Member, Monitor};
+use monitor::{Follower, Member, Monitor, Request};
 use osdmap::{Pg, Profile};
 use refusal::{Memory, Refusal};
 use std::alloc::Global;
@@ -45,8 +45,14 @@ fn manage<R: Wait + Print>(
     let _ = println!(rt; "epoch {epoch}: group 1.0 is at {set}");
     let (base, change) = read_change(alloc, CHANGE.as_bytes(), Profile::Plain)?;
     let (epoch, evals) = monitor.commit(rt, member, base, change)?;
-    let _ = println!(rt; "epoch {epoch}: {evals} groups were placed anew");
-    let (epoch, moves) = monitor.balance(rt, member, 1, 10)?;
+    let _ = println!(rt; "epoch {epoch}: {evals} groups were evaluated");
+    let request = Request {
+        pool: 1,
+        limit: 10,
+        carried: &[],
+        apart: 256,
+    };
+    let (epoch, moves) = monitor.balance(rt, member, request)?;
     let _ = println!(rt; "epoch {epoch}: {moves} groups were moved");
     Ok(epoch)
 }

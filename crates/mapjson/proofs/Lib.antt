@@ -8,3 +8,4 @@ pub mod Readable
 pub mod ReadableMaps
 pub mod ChangeFits
 pub mod Versions
+pub mod Carrying

@@ -1,3 +1,4 @@
 pub mod MapTexts
 pub mod ChangeTexts
+pub mod LoadTexts
 pub mod Written

@@ -1,7 +1,8 @@
-//! Maps and changes as JSON text (RFC 8259).
+//! Maps, changes, and what OSDs carry, as JSON text (RFC 8259).
 //!
 //! - `change`: the change that the stated parts of one stand for, and why there is none
 //! - `change/limits`, `change/within`: the limits of stated parts, and the change of parts within them
+//! - `loads`: what OSDs carry, of the parts that a text states
 //! - `written`: what is written of a map, as JSON values
 #![tactic(auto)]
 
@@ -14,12 +15,15 @@ ghost use Rattle.partjson.specs.StatedMaps.{stated_map};
 ghost use Rattle.mapjson.specs.MapTexts.{map_fault_in, map_text_fault, StatesMap};
 ghost use Rattle.osdmap.specs.Stated.{IsStated};
 ghost use Rattle.mapjson.specs.ChangeTexts.{change_text_fault, StatesChange};
+ghost use Rattle.mapjson.specs.LoadTexts.{load_text_fault, StatesLoads};
 ghost use Rattle.mapjson.specs.Written.{written};
 
 mod change;
+mod loads;
 mod written;
 
 use crate::change::change_within;
+use crate::loads::{carried, stated};
 use crate::written::ToJson;
 use mapparts::{MapParts, Profile};
 use maptypes::Change;
@@ -78,6 +82,20 @@ pub fn read_change(alloc: Global, bytes: &[u8], profile: Profile) -> Result<(u64
     let (base, parts) = change_within(alloc, &stated, profile)?;
     let change = Change::new(parts)?;
     Ok((base, change))
+}
+
+/// What so many OSDs carry, by number, in 256ths of a group, as a text states it: a list of lists of an OSD and its
+/// number, `[[0,-120],[3,256]]`, in any order. An OSD that is not named carries 0.
+///
+/// # Errors
+///
+/// `BadField` (11) where the text is no such list, an OSD is not below so many or stands there twice, or a number is
+/// outside -2,147,483,648 to 2,147,483,647; or `Memory` (30) where there is no memory for it.
+pub fn read_loads(alloc: Global, bytes: &[u8], most: u32) -> Result<Vec<i32>, Refusal>
+    ensures { Makes result (load_text_fault most bytes.now) (λ list. StatesLoads most bytes.now list.items) }
+{
+    let loads = stated(alloc, bytes)?;
+    carried(alloc, most, &loads)
 }
 
 /// The text of a map: compact JSON, each object with all its keys in byte order, buckets by id from -1 downwards,

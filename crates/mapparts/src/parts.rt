@@ -16,9 +16,9 @@ pub struct MapParts {
     pub max_osd: i128,
     /// The buckets of the forest: 1 to 4,096.
     pub buckets: Entries<BucketPart>,
-    /// The rules: 1 to 32.
+    /// The rules: 1 to 256.
     pub rules: Entries<RulePart>,
-    /// The pools: 0 to 32.
+    /// The pools: 0 to 256.
     pub pools: Entries<PoolPart>,
     /// The OSDs listed.
     pub osds: Entries<OsdPart>,
@@ -37,7 +37,7 @@ pub struct BucketPart {
     pub level: i128,
     /// How the bucket picks.
     pub kind: BucketKind,
-    /// The items in order: 1 to 64.
+    /// The items in order: 1 to 64, in a straw2 bucket 1 to 1,024.
     pub items: Entries<ItemPart>,
 }
 
@@ -122,7 +122,7 @@ pub struct GrowPart {
 pub struct CrushParts {
     /// The buckets of the forest: 1 to 4,096.
     pub buckets: Entries<BucketPart>,
-    /// The rules: 1 to 32.
+    /// The rules: 1 to 256.
     pub rules: Entries<RulePart>,
 }
 

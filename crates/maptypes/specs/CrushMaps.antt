@@ -34,7 +34,7 @@ unfoldable pub is_rule_over : List Bucket → NumberedRule → Bool
 is_rule_over buckets r =
     nat_le r.id max_rule_id && rule_limits_ok r.rule.steps && rule_ok r.rule.kind r.rule.steps buckets
 
--- what holds in every CRUSH map: a forest, and 1 to 32 rules over it by id upwards
+-- what holds in every CRUSH map: a forest, and 1 to 256 rules over it by id upwards
 pub record IsCrushMap (c : CrushFacts) : Type 0 where
   pub forest : IsForest c.buckets
   pub some_rules : 1 ≤ length c.rules
@@ -44,7 +44,7 @@ pub record IsCrushMap (c : CrushFacts) : Type 0 where
 
 -- ---- the one of a forest and rules
 
--- 1 to 32 rules, each of an id of at most 255
+-- 1 to 256 rules, each of an id of at most 255
 unfoldable pub rule_ids_fit : List NumberedRule → Bool
 rule_ids_fit rules = has_between 1 max_rules rules && list_all (λ r. nat_le r.id max_rule_id) rules
 

@@ -26,7 +26,7 @@ use refusal::{Memory, Refusal};
 use std::alloc::Global;
 use std::marker::Model;
 
-/// A CRUSH map: a forest, and 1 to 32 rules over it by id upwards (Ceph, CrushWrapper.h). The forest, whose table of
+/// A CRUSH map: a forest, and 1 to 256 rules over it by id upwards (Ceph, CrushWrapper.h). The forest, whose table of
 /// parents has 3 KB, stands apart, so that a change without one is moved and kept at little cost.
 #[derive(Debug, Drop)]
 pub struct CrushMap {
@@ -104,7 +104,7 @@ fn rules_of(
     in_order(rules, Refusal::BadRule)
 }
 
-/// Whether there are 1 to 32 rules, each of an id of at most 255.
+/// Whether there are 1 to 256 rules, each of an id of at most 255.
 #[tactic(auto, unfolding(crate::specs::CrushMaps::rule_ids_fit))]
 fn rule_ids_fit(rules: &[NumberedRule]) -> bool
     ensures { result ≡ rule_ids_fit rules.now }
@@ -208,8 +208,8 @@ impl CrushMap {
     ///
     /// # Errors
     ///
-    /// `BadLimit` (12) where there are no rules or more than 32, or an id is above 255; else `BadRule` (14) where an id
-    /// stands twice, or a rule takes a bucket that the forest has not; or `Memory` (30) where there is no memory for
+    /// `BadLimit` (12) where there are no rules or more than 256, or an id is above 255; else `BadRule` (14) where an
+    /// id stands twice, or a rule takes a bucket that the forest has not; or `Memory` (30) where there is no memory for
     /// it.
     pub fn new(alloc: Global, forest: Forest, rules: Vec<NumberedRule>) -> Result<CrushMap, Refusal>
         ensures { Makes result (rules_fault forest rules.items) (IsCrushWith forest rules.items) }

@@ -1,5 +1,6 @@
 -- What a monitor is opened with.
 use Rattle.std.specs.Prelude.{◌≡◌, ◌==◌, ℕ, ◌&&◌, ◌^◌, Bool, nat_le, List, length, All}
+use Rattle.mapparts.specs.declared.profile.Profile.{Profile}
 use Rattle.osdmap.specs.Maps.{ClusterMap}
 use Rattle.epochlog.specs.Epochs.{is_within_limits}
 use Rattle.state.specs.States.{opened}
@@ -21,14 +22,15 @@ can_open epoch journal seats draws =
     && (nat_le 1 seats && nat_le seats max_seats && (nat_le 1 draws && nat_le draws max_draws))
 
 -- a monitor with this first map and a journal of such a capacity, whose lock was made with the state at its beginning:
--- the first map is the present one, and the journal is empty; and so many members, each with so many draws, who have
--- seen nothing; and the monitor knows whether there is one
-pub record IsOpening (map : ClusterMap) (journal seats draws : ℕ) (monitor : Monitored) (members : List Member)
-    : Type 0 where
+-- the first map is the present one, and the journal is empty; the texts of its changes are read by this profile;
+-- and so many members, each with so many draws, who have seen nothing; and the monitor knows whether there is one
+pub record IsOpening (map : ClusterMap) (journal seats draws : ℕ) (read_by : Profile) (monitor : Monitored)
+    (members : List Member) : Type 0 where
   pub first : monitor.first ≡ map
   pub begins : monitor.row.first ≡ map.epoch
   pub capacity : length monitor.row.cells ≡ journal
   pub made : monitor.made ≡ opened map monitor.row
+  pub profile : monitor.profile ≡ read_by
   pub limit : draws_of monitor ≡ draws
   pub count : length members ≡ seats
   pub each : All (IsNewMemberOf monitor) members

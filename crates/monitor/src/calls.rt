@@ -3,6 +3,7 @@
 use crate::locked::{balance, commit};
 use crate::member::Member;
 use crate::monitor::Monitor;
+use balancer::Request;
 use mapjson::write_map;
 use maptypes::{Change, Pg, UpSet};
 use refusal::Refusal;
@@ -11,10 +12,10 @@ use std::alloc::Global;
 use std::sync::Wait;
 
 impl Monitor {
-    ghost use Rattle.std.specs.Prelude.{◌≡◌, ◌≤◌, true, length, Err, IfOk, IfErr};
+    ghost use Rattle.std.specs.Prelude.{◌≡◌, true, length, Err, IfOk, IfErr};
     ghost use Rattle.std.specs.Str.{IsUtf8};
     ghost use Rattle.refusal.specs.declared.refused.Refusal.TheVariants.{SeatSpent};
-    ghost use Rattle.balancer.specs.Limits.{max_moves};
+    ghost use Rattle.balancer.specs.Requests.{asked_aim};
     ghost use Rattle.state.specs.Answers.{FindsUp, FindsCount, FindsGroups};
     ghost use Rattle.monitor.specs.Histories.{Looks, FindsEpoch, FindsText, AnswersCommit, AddsChange};
     ghost use Rattle.monitor.specs.Balances.{AnswersBalance, AddsPlan};
@@ -179,9 +180,9 @@ impl Monitor {
         answer
     }
 
-    /// Plans the moves that balance the groups of a pool, at most `limit`, 1 to 1,024, and commits their change, both
-    /// in one hold of the lock: the epoch then, and how many moves. Where no move is good, nothing is committed, also
-    /// where the journal is full.
+    /// Plans the moves that are asked for, which balance the groups of a pool, and commits their change, both in one
+    /// hold of the lock: the epoch then, and how many moves. Where no move is good, nothing is committed, also where
+    /// the journal is full.
     ///
     /// # Errors
     ///
@@ -193,24 +194,23 @@ impl Monitor {
         &self,
         rt: &R,
         member: &mut Member,
-        pool: u32,
-        limit: u32,
+        request: Request<'_>,
     ) -> Result<(u64, usize), Refusal>
-        requires member { IsMemberOf self.now member.old }
-        requires some { 1 ≤ limit }
-        requires few { limit ≤ max_moves }
+        requires { IsMemberOf self.now member.old }
         ensures member { IsMemberOf self.now member.new }
         ensures balances { AnswersBalance self.now.first
-            (length self.now.row.cells) member.old.pass.history member.new.pass.history pool limit result }
+            (length self.now.row.cells) member.old.pass.history member.new.pass.history
+            request.entry.pool (asked_aim request.entry) request.entry.limit result }
         ensures spent { IfErr result (λ e. e ≡ SeatSpent → IsSpent self.now member.new) }
         ensures refused { IsSpent self.now member.old → result ≡ Err SeatSpent }
         ensures once { DrawsOnce self.now member.old member.new }
         ensures alone { self.now.alone ≡ true →
-            AddsPlan self.now.first member.old.pass.history member.new.pass.history pool limit result }
+            AddsPlan self.now.first member.old.pass.history member.new.pass.history
+            request.entry.pool (asked_aim request.entry) request.entry.limit result }
     {
         let mut held = self.hold(rt, member)?;
         let state: &mut State = &mut held.value_mut().state;
-        let answer = balance(state, &self.row, &mut member.pass, pool, limit);
+        let answer = balance(state, &self.row, &mut member.pass, request);
         self.put_back(held, member);
         answer
     }

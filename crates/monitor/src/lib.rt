@@ -19,6 +19,7 @@ mod open;
 mod shared;
 mod turns;
 
+pub use balancer::Request;
 pub use follower::Follower;
 pub use look::Look;
 pub use member::Member;

@@ -4,10 +4,11 @@ ghost use Rattle.std.specs.Prelude.{◌≡◌, ◌≢◌, ◌≤◌, IfErr, leng
 ghost use Rattle.refusal.specs.declared.refused.Refusal.TheVariants.{SeatSpent};
 ghost use Rattle.osdmap.specs.Changes.{IsLawful, after};
 ghost use Rattle.epochlog.specs.Epochs.{Begins};
-ghost use Rattle.balancer.specs.Limits.{max_moves};
+ghost use Rattle.balancer.specs.Requests.{asked_aim};
 ghost use Rattle.monitor.specs.Histories.{AnswersCommit, AddsChange};
 ghost use Rattle.monitor.specs.Balances.{AnswersBalance, AddsPlan};
 
+use balancer::Request;
 use epochlog::{Pass, Row};
 use maptypes::Change;
 use refusal::Refusal;
@@ -88,28 +89,27 @@ pub(crate) fn commit(
     answer
 }
 
-/// Plans and commits the moves that balance a pool of a state, by one who has seen all that it has.
+/// Plans and commits the moves that are asked for, which balance a pool of a state, by one who has seen all that it
+/// has.
 pub(crate) fn balance(
     state: &mut State,
     row: &Row,
     pass: &mut Pass,
-    pool: u32,
-    limit: u32,
+    request: Request<'_>,
 ) -> Result<(u64, usize), Refusal>
     requires row { state.old.pass.row ≡ row.now }
     requires pass { pass.old ≡ state.old.pass }
-    requires some { 1 ≤ limit }
-    requires few { limit ≤ max_moves }
-    ensures balances { AnswersBalance state.old.first
-        (length row.now.cells) pass.old.history pass.new.history pool limit result }
-    ensures own { AddsPlan state.old.first pass.old.history pass.new.history pool limit result }
+    ensures balances { AnswersBalance state.old.first (length row.now.cells) pass.old.history pass.new.history
+        request.entry.pool (asked_aim request.entry) request.entry.limit result }
+    ensures own { AddsPlan state.old.first pass.old.history pass.new.history
+        request.entry.pool (asked_aim request.entry) request.entry.limit result }
     ensures unspent { IfErr result (λ e. e ≢ SeatSpent) }
     ensures pass { pass.new ≡ state.new.pass }
     ensures first { state.new.first ≡ state.old.first }
     ensures row { state.new.pass.row ≡ row.now }
 {
     let _ = state.map();
-    let answer = state.balance(row, pass, pool, limit);
+    let answer = state.balance(row, pass, request);
     let _ = state.map();
     answer
 }

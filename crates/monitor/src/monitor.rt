@@ -51,6 +51,13 @@ impl Monitor {
         self.profile
     }
 
+    /// How many OSDs its maps have room for: the first map's `max_osd`, which no change alters.
+    pub fn max_osd(&self) -> u32
+        ensures { result ≡ length self.now.first.presences }
+    {
+        self.first.max_osd()
+    }
+
     /// A pass that has seen nothing, to join what members have seen.
     ///
     /// # Errors

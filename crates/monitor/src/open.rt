@@ -9,6 +9,7 @@ ghost use Rattle.monitor.specs.Opening.{can_open};
 use crate::locked::Locked;
 use crate::member::Member;
 use crate::monitor::Monitor;
+use crush::Work;
 use epochlog::{MAX_CAPACITY, MAX_FIRST_EPOCH, Row};
 use mapparts::Profile;
 use osdmap::OsdMap;
@@ -102,12 +103,13 @@ impl Monitor {
         draws: u64,
     ) -> Result<(Monitor, Vec<Member>), Memory>
         requires { can_open map.map.epoch journal seats draws ≡ true }
-        ensures { IfOk result (λ r. IsOpening map.map journal seats draws r.0 r.1.items) }
+        ensures { IfOk result (λ r. IsOpening map.map journal seats draws Profile.Plain r.0 r.1.items) }
     {
         let alone = seats == 1;
         let row = row_after(alloc, map.epoch(), journal)?;
         let first = map.copy(alloc)?;
-        let state = State::new(alloc, map, &row)?;
+        let work = Work::new(alloc, map.forest())?;
+        let state = State::new(alloc, map, &row, work)?;
         let (lock, seats) = locked(alloc, state, seats, draws)?;
         let monitor = Monitor {
             lock,
@@ -136,7 +138,7 @@ impl Monitor {
         draws: u64,
     ) -> Result<(Monitor, Vec<Member>), Refusal>
         ensures { Gives result (refused_unless (can_open map.map.epoch journal seats draws) BadLimit)
-            (λ r. IsOpening map.map journal seats draws r.0 r.1.items) }
+            (λ r. IsOpening map.map journal seats draws Profile.Plain r.0 r.1.items) }
     {
         if !can_open(map.epoch(), journal, seats, draws) {
             return Err(Refusal::BadLimit);
@@ -156,7 +158,7 @@ impl Monitor {
         seats: u32,
     ) -> Result<(Monitor, Vec<Member>), Refusal>
         ensures { Gives result (refused_unless (can_open map.map.epoch journal seats max_draws) BadLimit)
-            (λ r. IsOpening map.map journal seats max_draws r.0 r.1.items) }
+            (λ r. IsOpening map.map journal seats max_draws Profile.Plain r.0 r.1.items) }
     {
         Monitor::open_limited(alloc, map, journal, seats, MAX_DRAWS)
     }

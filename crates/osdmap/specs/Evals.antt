@@ -15,7 +15,7 @@ use Rattle.osdmap.specs.Placement.{group_of, steps_of}
 unfoldable pub reaches_reweighted : ClusterMap → ChangeParts → PoolFacts → Bool
 reaches_reweighted m c p = list_any (λ w. paths.reaches m.buckets (steps_of m p) (pos w.osd)) c.weight
 
--- whether all groups of a pool are placed anew: the forest and the rules are replaced, the pool comes or grows with the
+-- whether all groups of a pool are evaluated: the forest and the rules are replaced, the pool comes or grows with the
 -- change, or its rule reaches such an OSD
 unfoldable pub is_touched : ClusterMap → ChangeParts → PoolFacts → Bool
 is_touched m c p =

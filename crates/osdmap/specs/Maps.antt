@@ -70,8 +70,8 @@ abbrev pub is_presence : Presence → Bool
 is_presence p = not p.up || p.exists
 
 -- what holds in every map: there are 1 to 1,024 OSDs, of which only those that exist are up, each with a reweight of at
--- most 65,536; a forest over them; 1 to 32 rules over it by id upwards; at most 32 pools by id upwards, each within its
--- limits and with a rule of its kind; and exceptions by group upwards, each of them soundly
+-- most 65,536; a forest over them; 1 to 256 rules over it by id upwards; at most 256 pools by id upwards, each within
+-- its limits and with a rule of its kind; and exceptions by group upwards, each of them soundly
 pub record HoldsTogether (m : ClusterMap) : Type 0 where
   pub some : 1 ≤ length m.presences
   pub few : length m.presences ≤ max_devices

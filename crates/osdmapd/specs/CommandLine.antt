@@ -188,7 +188,7 @@ pub record AreUsual (map_word : Text) (scripts : List Text) : Type 0 where
   pub some : 1 ≤ length scripts
   pub few : length scripts ≤ max_scripts
 
--- these options are read; only want of memory keeps them from it
+-- these options are read, unless memory runs out
 abbrev pub GivesOptions : Result Options LineError → ℕ → Profile → Text → List Text → Type 0
 GivesOptions r journal profile map_word scripts =
     MatchResult r

@@ -54,12 +54,12 @@ run_status (Err ending) = status_of ending
 
 -- ---- the ending of each fault
 
--- the words cannot be had: for want of memory, else since one is not UTF-8
+-- the words cannot be read: out of memory, else one is not UTF-8
 abbrev pub words_ending : ErrorKind → Ending
 words_ending OutOfMemory = Memory
 words_ending kind = NoText
 
--- a file cannot be read: for want of memory, else whatever the system says
+-- a file cannot be read: out of memory, else whatever the system says
 abbrev pub file_ending : ErrorKind → Bor (List ℕ) → Ending
 file_ending OutOfMemory path = Memory
 file_ending kind path = File path

@@ -33,7 +33,7 @@ lets_all number passes = passes ≡ true
 
 -- what a session has seen before its first line
 abbrev pub unseen : Sight
-unseen = record { member = []; follower = [] }
+unseen = record { member = []; follower = record { history = []; seen = [] } }
 
 -- the text of the session of a number: its heading, and the answers of its script, from this first map, with a
 -- journal for so many changes, whose texts are read by this profile, of a member that is alone or not; the last of them

@@ -31,7 +31,7 @@ pub enum Ending<'a> {
     Output,
     /// What live sessions have told.
     Told,
-    /// A growth was refused.
+    /// Out of memory.
     Memory,
 }
 
@@ -40,7 +40,7 @@ impl<'a> Ending<'a> {
     ghost use Rattle.std.specs.IoError.{error_kind};
     ghost use Rattle.osdmapd.specs.Endings.{status_of, words_ending, file_ending, fault_ending, EndsLine};
 
-    /// Of a run whose words cannot be had: for want of memory, else since one is not UTF-8.
+    /// Of a run whose words cannot be read: out of memory, else one is not UTF-8.
     pub fn of_words(error: &io::Error) -> Ending<'a>
         ensures { result ≡ words_ending (error_kind error.now) }
     {
@@ -50,7 +50,7 @@ impl<'a> Ending<'a> {
         }
     }
 
-    /// Of a run that cannot read the file of a path: for want of memory, else whatever the system says.
+    /// Of a run that cannot read the file of a path: out of memory, else whatever the system says.
     pub fn of_file(error: &io::Error, path: &'a str) -> Ending<'a>
         ensures ending { result ≡ file_ending (error_kind error.now) path.entry }
         ensures status { 3 ≤ status_of result }

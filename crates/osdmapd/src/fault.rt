@@ -19,7 +19,7 @@ pub enum Fault {
     /// The files of a live session have failed, which its thread has told.
     #[error("told")]
     Told,
-    /// A growth was refused.
+    /// Out of memory.
     #[error("memory")]
     Memory,
 }

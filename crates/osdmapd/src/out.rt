@@ -81,7 +81,7 @@ impl<W: io::Write> Out<W> {
         }
     }
 
-    /// Whether it has failed for want of memory.
+    /// Whether it has failed because memory ran out.
     pub fn is_short(&self) -> bool
         ensures { result ≡ self.now.short }
     {

@@ -127,7 +127,7 @@ fn play_into<R: Wait, B: Read, W: io::Write + Drop>(
     }
 }
 
-/// How a session ends one of whose files is not opened: for want of memory, else as is said.
+/// How a session ends one of whose files is not opened: out of memory, else as is said.
 fn unopened(error: &io::Error, otherwise: SessionError) -> SessionError
     requires { otherwise ≢ SessionError.Held }
     ensures { result ≢ SessionError.Held }

@@ -60,8 +60,7 @@ fn opened(
     seats: usize,
 ) -> Result<(Monitor, Vec<Member>), Memory>
     requires { can_open map.map.epoch terms.journal seats max_draws ≡ true }
-    ensures opening { IfOk result (λ r. IsOpening map.map terms.journal seats max_draws r.0 r.1.items) }
-    ensures profile { IfOk result (λ r. r.0.profile ≡ terms.profile) }
+    ensures { IfOk result (λ r. IsOpening map.map terms.journal seats max_draws terms.profile r.0 r.1.items) }
 {
     match Monitor::open(alloc, map, terms.journal, seats as u32) {
         Ok((monitor, members)) => Ok((monitor.with_profile(terms.profile), members)),
@@ -74,8 +73,8 @@ fn opened(
 /// have ended it puts to a sink for each script in order the heading of its session and its answers, and nothing for a
 /// live session, whose answers are out. All threads are started before one is joined. There are 1 to 64 parts.
 ///
-/// Where the map is refused (10 to 17), nothing is put, nor at `Memory`: a growth was refused (30) before the sessions
-/// or for one of their texts, or a thread could not be made. `Told` comes after all is put, where a file of a live
+/// Where the map is refused (10 to 17), nothing is put, nor at `Memory`: memory ran out (30) before the sessions or for
+/// one of their texts, or a thread could not be made. `Told` comes after all is put, where a file of a live
 /// session has failed, which its thread tells on standard error.
 /// `Output` comes only where the map is not refused and the sink has failed, which then has a beginning of the texts;
 /// at every other end it has not failed.

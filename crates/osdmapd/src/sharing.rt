@@ -8,7 +8,7 @@ use crossbeam_utils::Backoff;
 use mapjson::{read_change, read_map};
 use mapparts::Profile;
 use maptypes::{Change, Pg};
-use monitor::{Member, Monitor};
+use monitor::{Member, Monitor, Request};
 use refusal::Refusal;
 use session::{Buffer, Desk, Gate};
 use std::alloc::Global;
@@ -161,7 +161,13 @@ fn change_once<R: Wait>(rt: &R, monitor: &Monitor, member: &mut Member, change: 
     let mut left = monitor.draws_left(member);
     let _ = monitor.commit(rt, member, 2, change);
     let committed = drew_once(monitor, member, &mut left);
-    let _ = monitor.balance(rt, member, 1, 1);
+    let request = Request {
+        pool: 1,
+        limit: 1,
+        carried: &[],
+        apart: 256,
+    };
+    let _ = monitor.balance(rt, member, request);
     let planned = drew_once(monitor, member, &mut left);
     committed && planned
 }

@@ -1,5 +1,6 @@
 pub mod StatedMaps
 pub mod StatedChanges
+pub mod StatedLoads
 pub mod Profiles
 pub mod Steps
 pub mod Members

@@ -4,6 +4,7 @@ use Rattle.mapparts.specs.declared.parts.ItemPart.{ItemPart}
 use Rattle.mapparts.specs.declared.parts.PairPart.{PairPart}
 use Rattle.mapparts.specs.declared.parts.GrowPart.{GrowPart}
 use Rattle.partjson.specs.declared.change.RawReweight.{RawReweight}
+use Rattle.partjson.specs.declared.loads.RawLoad.{RawLoad}
 
 -- an item: [id, weight]
 abbrev pub item_placed : ℤ × ℤ → ItemPart
@@ -16,6 +17,10 @@ pair_at p = record { from = p.0; to = p.1 }
 -- a reweight: [osd, weight]
 abbrev pub reweight_at : ℤ × ℤ → RawReweight
 reweight_at p = record { osd = p.0; weight = p.1 }
+
+-- a load: [osd, carried]
+abbrev pub load_at : ℤ × ℤ → RawLoad
+load_at p = record { osd = p.0; carried = p.1 }
 
 -- a growth: [pool, pg_num, pgp_num]
 abbrev pub growth_at : ℤ × ℤ × ℤ → GrowPart

@@ -1,7 +1,7 @@
-//! The parts of maps and changes as JSON texts (RFC 8259) state them, read from the tokens of a text with no
-//! tree of its values; their numbers are untested.
+//! The parts of maps and changes, and what OSDs carry, as JSON texts (RFC 8259) state them, read from the tokens of
+//! a text with no tree of its values; their numbers are untested.
 //!
-//! - `map`, `change`: maps and changes
+//! - `map`, `change`, `loads`: maps, changes, and what OSDs carry
 //! - `forest`, `rules`, `pools`, `exceptions`: buckets, rules and their steps, pools and OSDs, groups and their
 //!   exceptions
 //! - `objects`, `slots`: what a value can state, objects, and the slots of their members
@@ -13,11 +13,13 @@
 
 ghost use Rattle.jsonstream.specs.Json.{Answers, stated_by};
 ghost use Rattle.partjson.specs.Profiles.{map_in, change_in};
+ghost use Rattle.partjson.specs.StatedLoads.{stated_loads};
 
 mod change;
 mod exceptions;
 mod forest;
 mod lists;
+mod loads;
 mod map;
 mod objects;
 mod pools;
@@ -29,8 +31,10 @@ mod whole;
 mod words;
 
 pub use crate::change::{RawChange, RawReweight};
+pub use crate::loads::RawLoad;
 use crate::profile::{change_allowed, map_allowed};
 use crate::whole::stated_by;
+use keylist::Entries;
 use mapparts::{MapParts, Profile};
 use refusal::Refusal;
 use std::alloc::Global;
@@ -66,4 +70,16 @@ pub fn read_change_parts(
 {
     let parts = stated_by(alloc, bytes)?;
     change_allowed(profile, parts).ok_or(Refusal::BadField)
+}
+
+/// What OSDs carry as a text states it: a list of lists of an OSD and a number.
+///
+/// # Errors
+///
+/// `BadJson` (10) where the text is not UTF-8, is no JSON or nests deeper than 127; else `BadField` (11) where it is no
+/// such list; or `Memory` (30) where there is no memory for it.
+pub fn read_raw_loads(alloc: Global, bytes: &[u8]) -> Result<Entries<RawLoad>, Refusal>
+    ensures { Answers result (stated_by stated_loads bytes.now) }
+{
+    stated_by(alloc, bytes)
 }

@@ -12,12 +12,11 @@ refused_unless ok refusal = if not ok then Some refusal else None
 abbrev pub Judges : {X : Type 0} → Result X Refusal → Option Refusal → (X → Type 0) → Type 0
 Judges r fault P = MatchResult r (λ x. (fault ≡ None) × P x) (λ e. fault ≡ Some e)
 
--- of a call that looks for faults first: the same, but that a growth may be refused where there is no fault
+-- of a call that looks for faults first: the same, but that memory may run out where there is no fault
 abbrev pub Gives : {X : Type 0} → Result X Refusal → Option Refusal → (X → Type 0) → Type 0
 Gives r fault P =
     MatchResult r (λ x. (fault ≡ None) × P x) (λ e. ((fault ≡ None) × (e ≡ OutOfMemory)) ⊎ (fault ≡ Some e))
 
--- of a call that makes a value as it looks for faults: the same, but that a growth may be refused in place of any
--- answer
+-- of a call that makes a value as it looks for faults: the same, but that memory may run out in place of any answer
 abbrev pub Makes : {X : Type 0} → Result X Refusal → Option Refusal → (X → Type 0) → Type 0
 Makes r fault P = MatchResult r (λ x. (fault ≡ None) × P x) (λ e. (e ≡ OutOfMemory) ⊎ (fault ≡ Some e))

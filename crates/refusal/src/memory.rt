@@ -1,4 +1,4 @@
-//! The refusal of calls that nothing but want of memory refuses.
+//! The refusal of calls that fail only if memory runs out.
 
 ghost use Rattle.std.specs.Prelude.{◌≡◌, codes};
 
@@ -6,7 +6,7 @@ use std::alloc::{AllocError, AllocFailed};
 use std::fmt;
 use thiserror::Error;
 
-/// 30: a growth was refused. It is the error of calls that nothing else refuses.
+/// 30: out of memory. It is the error of calls that nothing else refuses.
 #[derive(Clone, Copy, Debug, PartialEq, Eq, Error)]
 pub struct Memory;
 

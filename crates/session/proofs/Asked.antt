@@ -11,6 +11,7 @@ use Rattle.osdmap.specs.Maps.{ClusterMap}
 use Rattle.osdmap.specs.Changes.{IsLawful, after}
 use Rattle.mapjson.specs.Written.{written}
 use Rattle.epochlog.specs.Epochs.{Seen}
+use Rattle.balancer.specs.Shares.{Aim}
 use Rattle.balancer.specs.Plans.{plan_change}
 use Rattle.monitor.specs.Histories.{GoesOn, AddsChange}
 use Rattle.monitor.specs.Balances.{AddsPlan}
@@ -111,11 +112,11 @@ own_change alone before now change (Ok ok) adds is = inr (ok.0, change, ok.1, ad
 own_change alone before now change (Err e) adds is = inl (adds is)
 
 -- and so does that of moves
-pub own_plan : (first : ClusterMap) (alone : Bool) (before now : List Step) (pool limit : ℕ) (r : Result (ℕ × ℕ) Refusal)
-    → (alone ≡ true → AddsPlan first before now pool limit r)
+pub own_plan : (first : ClusterMap) (alone : Bool) (before now : List Step) (pool : ℕ) (cs : Aim) (limit : ℕ) (r : Result (ℕ × ℕ) Refusal)
+    → (alone ≡ true → AddsPlan first before now pool cs limit r)
     → AddsOwn alone before (line_of (λ ok. moved_text ok.1 ok.0) r) now
-own_plan first alone before now pool limit (Ok ok) adds is = elim (adds is) [
+own_plan first alone before now pool cs limit (Ok ok) adds is = elim (adds is) [
   | inl none ↦ inl none.1
-  | inr more ↦ inr (ok.0, plan_change (after first before) pool limit, ok.1, more.1, inr refl)
+  | inr more ↦ inr (ok.0, plan_change (after first before) pool cs limit, ok.1, more.1, inr refl)
 ]
-own_plan first alone before now pool limit (Err e) adds is = inl (adds is)
+own_plan first alone before now pool cs limit (Err e) adds is = inl (adds is)

@@ -8,6 +8,7 @@ use Rattle.mapparts.specs.Digits.{below, number_in}
 use Rattle.maptypes.specs.GroupText.{group_in}
 use Rattle.session.specs.declared.command.Command.{Command as Read}
 use Rattle.session.specs.declared.command.Command.TheVariants.{Ask, Change, Await, Balance, Follower}
+use Rattle.session.specs.declared.plan.Beside.{Beside as ReadBeside}
 use Rattle.session.specs.declared.command.Question.{Question}
 use Rattle.session.specs.declared.command.Question.TheVariants.{Up, Count, Groups, Epoch, Dump}
 use Rattle.session.specs.declared.command.Task.{Task}
@@ -49,23 +50,37 @@ abbrev pub limit_in : List ℕ → Option ℕ
 limit_in text =
     option_and_then (λ n. if nat_le 1 n && nat_le n max_moves then Some n else None) (number_below (2 ^ 32) text)
 
+-- how far two OSDs must be apart: 256 or more, of 32 bits
+abbrev pub apart_in : List ℕ → Option ℕ
+apart_in text = option_and_then (λ n. if nat_le 256 n then Some n else None) (number_below (2 ^ 32) text)
+
 -- ---- commands
 
+-- what a plan is to count beside its pool: how far two OSDs must be apart, and a JSON text of what OSDs carry
+pub record Beside : Type 0 where
+  pub apart : ℕ
+  pub loads : List ℕ
+
 -- what a line asks for: a question to the monitor; a change that a JSON text states; to wait until the epoch is at
--- least a number; to balance a pool, by so many moves at most; or a task of the session's follower
+-- least a number; to balance a pool, by so many moves at most, with what is to be counted beside it; or a task of the
+-- session's follower
 pub data Command : Type 0 where
   ask : Question → Command
   change : List ℕ → Command
   wait : ℕ → Command
-  balance : ℕ → ℕ → Command
+  balance : ℕ → ℕ → Option Beside → Command
   follower : Task → Command
+
+-- what is to be counted beside a pool, as it was read
+abbrev pub shown_beside : ReadBeside → Beside
+shown_beside b = record { apart = b.apart; loads = b.loads.now }
 
 -- the command that was read of a line
 abbrev pub shown : Read → Command
 shown (Ask question) = ask question
 shown (Change text) = change text.now
 shown (Await epoch) = wait epoch
-shown (Balance plan) = balance plan.pool plan.limit
+shown (Balance plan) = balance plan.pool plan.limit (option_map shown_beside plan.beside)
 shown (Follower t) = follower t
 
 -- what stands behind a word and its space
@@ -92,12 +107,25 @@ task_in line =
     else if bytes_eq line (codes "fdump") then Some task.Dump
     else option_and_then (λ group. option_map task.Up (group_in group)) (behind (codes "fup ") line)
 
--- the plan of a text: a pool, a space and a number of moves
+-- what a text says is to be counted beside a pool: a number, a space and a text
+unfoldable pub beside_in : List ℕ → Option Beside
+beside_in text =
+    option_and_then
+    (λ words. option_map (λ apart. record { apart = apart; loads = words.1 }) (apart_in words.0)) (two_words text)
+
+-- the plan for a pool that a text says: a number of moves, and what stands behind a space is to be counted beside it
+unfoldable pub plan_for : ℕ → List ℕ → Option Command
+plan_for pool text = elim (two_words text) [
+  | None ↦ option_map (λ limit. balance pool limit None) (limit_in text)
+  | Some words ↦
+      option_and_then (λ limit. option_map (λ beside. balance pool limit (Some beside)) (beside_in words.1))
+      (limit_in words.0)
+]
+
+-- the plan of a text: a pool, a space and the plan for it
 unfoldable pub plan_in : List ℕ → Option Command
 plan_in text =
-    option_and_then
-    (λ words. option_and_then (λ pool. option_map (balance pool) (limit_in words.1)) (pool_number words.0))
-    (two_words text)
+    option_and_then (λ words. option_and_then (λ pool. plan_for pool words.1) (pool_number words.0)) (two_words text)
 
 -- the command of a line: `change ` and a text, `await ` and an epoch, `balance ` and a plan, a question, or a task;
 -- none where it is none of them

@@ -10,17 +10,21 @@ use Rattle.session.specs.declared.lines.Asking.{Asking}
 use Rattle.session.specs.declared.lines.Room.{Room}
 use Rattle.session.specs.declared.reading.Reading.{Reading}
 use Rattle.session.specs.Transcripts.{Manner}
-use Rattle.session.specs.Answers.{Sight, session_with}
+use Rattle.session.specs.Answers.{Track, Sight, session_with}
 use Rattle.session.specs.Readings.{begun_by, Passes, StopsTaking}
 
--- the follower's history, and an empty one where there is none yet
-abbrev pub followed_history : Option Followed → List Step
-followed_history (Some follower) = follower.history
-followed_history None = []
+-- what a follower has
+abbrev pub track : Followed → Track
+track follower = record { history = follower.history; seen = follower.seen }
+
+-- and nothing where there is none yet
+abbrev pub track_of : Option Followed → Track
+track_of (Some follower) = track follower
+track_of None = record { history = []; seen = [] }
 
 -- what is seen by a member and a follower
 abbrev pub seen_by : Member → Option Followed → Sight
-seen_by member follower = record { member = member.pass.history; follower = followed_history follower }
+seen_by member follower = record { member = member.pass.history; follower = track_of follower }
 
 -- the follower, where there is one, is of this monitor
 abbrev pub IsFollowerOf : Monitored → Option Followed → Type 0

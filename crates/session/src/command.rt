@@ -3,10 +3,11 @@ ghost use Rattle.std.specs.Prelude.{◌≡◌, ◌<◌, ◌≤◌, ◌==◌, ◌
 ghost use Rattle.std.specs.Option.{option_map, option_and_then};
 ghost use Rattle.balancer.specs.Limits.{max_moves};
 ghost use Rattle.session.specs.Readings.{IsPart, BeginsWith};
-ghost use Rattle.session.specs.Commands.{is_newline, osd_in, epoch_in, two_words, limit_in, plan_in, balance, question_in, task_in, shown, command_in};
+ghost use Rattle.session.specs.Commands.{is_newline, osd_in, epoch_in, two_words, limit_in, apart_in, beside_in, plan_for, plan_in, question_in, task_in, shown, shown_beside, command_in};
+ghost use Rattle.session.specs.declared.command.Command.TheVariants.{Balance};
 
-use crate::plan::Plan;
-use balancer::limits::MAX_MOVES;
+use crate::plan::{Beside, Plan};
+use balancer::limits::{LEAST_APART, MAX_MOVES};
 use mapparts::number;
 use maptypes::Pg;
 use memchr::memchr;
@@ -72,7 +73,7 @@ pub(crate) enum Command<'a> {
     /// Waits until the epoch is at least this.
     Await(u64),
     /// Balances the groups of a pool.
-    Balance(Plan),
+    Balance(Plan<'a>),
     /// Has the session's follower do something.
     Follower(Task),
 }
@@ -149,15 +150,55 @@ fn read_limit(text: &[u8]) -> Option<u32>
     }
 }
 
+/// How far two OSDs must be apart, as a text says it: 256 or more.
+fn read_apart(text: &[u8]) -> Option<u32>
+    ensures value { result ≡ apart_in text.now }
+    ensures least { IfSome result (λ apart. 256 ≤ apart) }
+{
+    let apart = read_osd(text)?;
+    if LEAST_APART <= apart {
+        Some(apart)
+    } else {
+        None
+    }
+}
+
+/// What a text says is to be counted beside a pool.
+#[tactic(auto, unfolding(crate::specs::Commands::beside_in))]
+fn read_beside(text: &[u8]) -> Option<Beside<'_>>
+    ensures { option_map shown_beside result ≡ beside_in text.now }
+{
+    let (apart, loads) = two_words(text)?;
+    let apart = read_apart(apart)?;
+    Some(Beside { apart, loads })
+}
+
+/// The plan for a pool that a text says.
+#[tactic(auto, unfolding(crate::specs::Commands::plan_for))]
+fn read_plan_for(pool: u32, text: &[u8]) -> Option<Plan<'_>>
+    ensures { option_map (λ plan. shown (Balance plan)) result ≡ plan_for pool text.now }
+{
+    match two_words(text) {
+        None => Some(Plan {
+            pool,
+            limit: read_limit(text)?,
+            beside: None,
+        }),
+        Some((limit, beside)) => Some(Plan {
+            pool,
+            limit: read_limit(limit)?,
+            beside: Some(read_beside(beside)?),
+        }),
+    }
+}
+
 /// The plan that a text asks for; `None` where it asks for none.
 #[tactic(auto, unfolding(crate::specs::Commands::plan_in))]
-fn read_plan(text: &[u8]) -> Option<Plan>
-    ensures { option_map (λ plan. balance plan.pool plan.limit) result ≡ plan_in text.now }
+fn read_plan(text: &[u8]) -> Option<Plan<'_>>
+    ensures { option_map (λ plan. shown (Balance plan)) result ≡ plan_in text.now }
 {
-    let (pool, limit) = two_words(text)?;
-    let pool = read_osd(pool)?;
-    let limit = read_limit(limit)?;
-    Some(Plan { pool, limit })
+    let (pool, plan) = two_words(text)?;
+    read_plan_for(read_osd(pool)?, plan)
 }
 
 /// The question of a line; `None` where it is none.

@@ -2,10 +2,12 @@
 ghost use Rattle.std.specs.Prelude.{◌≡◌, string_bytes, IsUtf8};
 
 use crate::command::{Command, Question, Task};
-use crate::plan::Plan;
+use crate::plan::{Beside, Plan};
 use crate::reply::{Reply, Speaker};
 use crate::watch::watch;
-use mapjson::{read_change, write_map};
+use balancer::Request;
+use balancer::limits::LEAST_APART;
+use mapjson::{read_change, read_loads, write_map};
 use maptypes::{Pg, UpSet};
 use monitor::{Follower, Member, Monitor, Shared};
 use refusal::{Memory, Refusal};
@@ -45,17 +47,17 @@ impl<'a, R, G> Desk<'a, R, G> {
     ghost use Rattle.mapjson.specs.Written.{written};
     ghost use Rattle.epochlog.specs.Epochs.{OneBegins};
     ghost use Rattle.monitor.specs.Histories.{GoesOn};
-    ghost use Rattle.monitor.specs.Followers.{Follows, IsCaughtUp};
+    ghost use Rattle.monitor.specs.Followers.{Follows};
     ghost use Rattle.session.specs.Texts.{line_of};
     ghost use Rattle.session.specs.Replies.{reply_text};
-    ghost use Rattle.session.specs.Answers.{Tells};
-    ghost use Rattle.session.specs.Sessions.{followed_history, IsFollowerOf};
+    ghost use Rattle.session.specs.Answers.{HasCaughtUp, Tells};
+    ghost use Rattle.session.specs.Sessions.{track, track_of, IsFollowerOf};
 
     /// Makes the follower, where there is none yet.
     fn need_follower(&self, follower: &mut Option<Follower>) -> Result<(), Memory>
         requires { IsFollowerOf self.now.monitor.now follower.old }
         ensures there { OnOk result (IsSomeAnd follower.new (Follows self.now.monitor.now)
-            × (followed_history follower.new ≡ followed_history follower.old)) }
+            × ((track_of follower.new).history ≡ (track_of follower.old).history)) }
         ensures none { OnErr result ((follower.old ≡ None) × (follower.new ≡ None)) }
     {
         if follower.is_none() {
@@ -71,7 +73,7 @@ impl<'a, R, G> Desk<'a, R, G> {
         ensures goes_on { GoesOn self.now.monitor.now.first follower.old.history follower.new.history }
         ensures epoch { Makes result None (λ epoch. epoch
             ≡ (after self.now.monitor.now.first follower.new.history).epoch) }
-        ensures ends { OnOk result (IsCaughtUp follower.new) }
+        ensures ends { OnOk result (HasCaughtUp self.now.monitor.now.first (track follower.new)) }
     {
         let reached = follower.catch_up(self.alloc, self.monitor);
         let _ = follower.epoch();
@@ -105,7 +107,7 @@ impl<'a, R, G> Desk<'a, R, G> {
     fn tell(&self, follower: &mut Follower, task: Task) -> Result<Reply, Refusal>
         requires { Follows self.now.monitor.now follower.old }
         ensures follower { Follows self.now.monitor.now follower.new }
-        ensures tells { Tells self.now.monitor.now.first follower.old.history follower.new.history task
+        ensures tells { Tells self.now.monitor.now.first follower.old.history (track follower.new) task
             (line_of reply_text result) }
     {
         let by = Speaker::Follower;
@@ -140,10 +142,9 @@ impl<'a, R, G> Desk<'a, R, G> {
         requires follower { IsFollowerOf self.now.monitor.now follower.old }
         ensures member { member.new ≡ member.old }
         ensures follower { IsFollowerOf self.now.monitor.now follower.new }
-        ensures tells { Tells self.now.monitor.now.first (followed_history follower.old)
-            (followed_history follower.new) task
+        ensures tells { Tells self.now.monitor.now.first (track_of follower.old).history (track_of follower.new) task
             (line_of reply_text result) }
-        ensures meets { OneBegins (followed_history follower.new) member.new.pass.history }
+        ensures meets { OneBegins (track_of follower.new).history member.new.pass.history }
     {
         self.need_follower(follower)?;
         match follower {
@@ -158,15 +159,18 @@ impl<'a, R, G> Desk<'a, R, G> {
 }
 
 impl<'a, R: Wait, G> Desk<'a, R, G> {
-    ghost use Rattle.std.specs.Prelude.{length};
+    ghost use Rattle.std.specs.Prelude.{◌≤◌, length};
     ghost use Rattle.std.specs.Option.{option_map};
+    ghost use Rattle.refusal.specs.Outcomes.{Makes};
+    ghost use Rattle.mapjson.specs.LoadTexts.{StatesLoads};
+    ghost use Rattle.balancer.specs.Shares.{aim_of};
     ghost use Rattle.monitor.specs.Members.{IsMemberOf, StaysAlone};
     ghost use Rattle.monitor.specs.Sharing.{IsSharing};
     ghost use Rattle.monitor.specs.Balances.{AnswersBalance};
     ghost use Rattle.session.specs.Texts.{line_of, ok_text, moved_text};
-    ghost use Rattle.session.specs.Commands.{shown};
+    ghost use Rattle.session.specs.Commands.{shown, shown_beside};
     ghost use Rattle.session.specs.Replies.{reply_text};
-    ghost use Rattle.session.specs.Answers.{Asks, Changes, Awaits, Does, AddsOwn};
+    ghost use Rattle.session.specs.Answers.{Asks, Changes, beside_fault, Plans, PlansBeside, Awaits, Does, AddsOwn};
     ghost use Rattle.session.specs.Sessions.{seen_by, IsFollowerOf};
 
     /// What a question answers by the state that a member shares.
@@ -252,16 +256,79 @@ impl<'a, R: Wait, G> Desk<'a, R, G> {
         }
     }
 
-    /// Balances the groups of a pool: the epoch then, and how many moves.
-    fn balance(&self, member: &mut Member, plan: Plan) -> Result<(u64, usize), Refusal>
-        requires { IsMemberOf self.now.monitor.now member.old }
+    /// What OSDs carry, by number, as a text states it: `BadCommand` (33) in a script of plain maps.
+    fn loads(&self, text: &[u8]) -> Result<Vec<i32>, Refusal>
+        ensures { Makes result
+            (beside_fault self.now.monitor.now.profile (length self.now.monitor.now.first.presences) text.now)
+            (λ list. StatesLoads (length self.now.monitor.now.first.presences) text.now list.items) }
+    {
+        if !self.monitor.profile().is_stock() {
+            return Err(Refusal::BadCommand);
+        }
+        read_loads(self.alloc, text, self.monitor.max_osd())
+    }
+
+    /// Balances the groups of a pool, where OSDs carry so much and must be so far apart: the epoch then, and how many
+    /// moves.
+    fn balance_by(
+        &self,
+        member: &mut Member,
+        plan: Plan<'_>,
+        carried: &[i32],
+        apart: u32,
+    ) -> Result<(u64, usize), Refusal>
+        requires member { IsMemberOf self.now.monitor.now member.old }
+        requires least { 256 ≤ apart }
         ensures member { IsMemberOf self.now.monitor.now member.new }
         ensures balances { AnswersBalance self.now.monitor.now.first (length self.now.monitor.now.row.cells)
-            member.old.pass.history member.new.pass.history plan.pool plan.limit result }
+            member.old.pass.history member.new.pass.history
+            plan.entry.pool (aim_of carried.now apart) plan.entry.limit result }
         ensures own { AddsOwn self.now.monitor.now.alone member.old.pass.history
             (line_of (λ ok. moved_text ok.1 ok.0) result) member.new.pass.history }
     {
-        self.monitor.balance(self.rt, member, plan.pool, plan.limit)
+        let request = Request {
+            pool: plan.pool,
+            limit: plan.limit,
+            carried,
+            apart,
+        };
+        self.monitor.balance(self.rt, member, request)
+    }
+
+    /// Balances the groups of a pool, where a text states what OSDs carry beside it: the epoch then, and how many
+    /// moves.
+    fn balance_beside(
+        &self,
+        member: &mut Member,
+        plan: Plan<'_>,
+        beside: Beside<'_>,
+    ) -> Result<(u64, usize), Refusal>
+        requires { IsMemberOf self.now.monitor.now member.old }
+        ensures member { IsMemberOf self.now.monitor.now member.new }
+        ensures plans { PlansBeside self.now.monitor.now.first (length self.now.monitor.now.row.cells)
+            self.now.monitor.now.profile member.old.pass.history member.new.pass.history
+            plan.entry.pool plan.entry.limit (shown_beside beside.entry) result }
+        ensures own { AddsOwn self.now.monitor.now.alone member.old.pass.history
+            (line_of (λ ok. moved_text ok.1 ok.0) result) member.new.pass.history }
+    {
+        let carried = self.loads(beside.loads)?;
+        self.balance_by(member, plan, &carried, beside.apart)
+    }
+
+    /// Balances the groups of a pool: the epoch then, and how many moves.
+    fn balance(&self, member: &mut Member, plan: Plan<'_>) -> Result<(u64, usize), Refusal>
+        requires { IsMemberOf self.now.monitor.now member.old }
+        ensures member { IsMemberOf self.now.monitor.now member.new }
+        ensures plans { Plans self.now.monitor.now.first (length self.now.monitor.now.row.cells)
+            self.now.monitor.now.profile member.old.pass.history member.new.pass.history
+            plan.entry.pool plan.entry.limit (option_map shown_beside plan.entry.beside) result }
+        ensures own { AddsOwn self.now.monitor.now.alone member.old.pass.history
+            (line_of (λ ok. moved_text ok.1 ok.0) result) member.new.pass.history }
+    {
+        match plan.beside {
+            None => self.balance_by(member, plan, &[], LEAST_APART),
+            Some(beside) => self.balance_beside(member, plan, beside),
+        }
     }
 
     /// Does a command; `None` is a line that is no command.

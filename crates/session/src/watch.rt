@@ -1,5 +1,5 @@
 //! The looks of an `await`, for an epoch that another is to make. They need no lock.
-ghost use Rattle.std.specs.Prelude.{◌≡◌, ◌+◌, ◌<◌};
+ghost use Rattle.std.specs.Prelude.{◌≡◌, ◌+◌, ◌<◌, ◌≤◌, true, false, length};
 ghost use Rattle.session.specs.Watches.{max_looks, HasWatched};
 
 use crossbeam_utils::Backoff;
@@ -11,8 +11,8 @@ use std::time::Duration;
 /// How often `await` looks for the epoch.
 const MAX_LOOKS: u32 = 1_000_000;
 
-/// How many looks come first that let others run, where the epoch is near: while a few sessions hand changes on to one
-/// another, it is mostly there by then.
+/// The looks before the one of this number let others run, where the epoch is near: while a few sessions hand changes
+/// on to one another, it is mostly there by then.
 const FIRST_LOOKS: u32 = 256;
 
 /// How many epochs before it an epoch is near.
@@ -34,7 +34,9 @@ pub(crate) struct Looks {
 /// Looks once more whether a monitor has reached an epoch by now.
 fn look(monitor: &Monitor, wanted: u64, looks: Looks) -> Looks
     requires { looks.count < max_looks }
-    ensures { result.count ≡ looks.count + 1 }
+    ensures count { result.count ≡ looks.count + 1 }
+    ensures first { wanted ≤ monitor.now.first.epoch → result.seen ≡ true }
+    ensures last { monitor.now.first.epoch + length monitor.now.row.cells < wanted → result.seen ≡ false }
 {
     Looks {
         count: looks.count + 1,
@@ -45,7 +47,7 @@ fn look(monitor: &Monitor, wanted: u64, looks: Looks) -> Looks
 /// Looks until a monitor has reached an epoch, at most 1,000,000 times. Where the epoch is near it lets others run
 /// after each of the first looks; then it sleeps after some.
 pub(crate) fn watch<R: Wait>(rt: &R, monitor: &Monitor, wanted: u64) -> Looks
-    ensures { HasWatched result }
+    ensures { HasWatched monitor.now wanted result }
 {
     let backoff = Backoff::new();
     let alarm = AtomicU64::new(0);

@@ -83,12 +83,12 @@ abbrev pub committed : StateFacts → ChangeParts → StateFacts
 committed k change =
     record k { pass = longer_by k.pass (next_step k.map change); map = apply k.map (next_step k.map change) }
 
--- why a commit is refused: the fault; or, where there is none, that a growth was refused or another sealed the epoch
+-- why a commit is refused: the fault; or, where there is none, that memory ran out or another sealed the epoch
 abbrev pub IsRefusedBy : Option Refusal → Refusal → Type 0
 IsRefusedBy fault e = ((fault ≡ None) × ((e ≡ OutOfMemory) ⊎ (e ≡ NotSealed))) ⊎ (fault ≡ Some e)
 
--- of a commit: what is done exactly where there is no fault, but that a growth may be refused there, or the epoch be
--- sealed by another
+-- of a commit: what is done exactly where there is no fault, but that memory may run out there, or the epoch be sealed
+-- by another
 abbrev pub IsDoneUnless : {X : Type 0} → Result X Refusal → Option Refusal → (X → Type 0) → Type 0
 IsDoneUnless r fault P =
     MatchResult r (λ x. (fault ≡ None) × P x) (IsRefusedBy fault)

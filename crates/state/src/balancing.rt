@@ -1,18 +1,18 @@
 //! Balancing the groups of a pool.
 
 use crate::state::State;
-use balancer::plan;
+use balancer::{Request, plan};
 use epochlog::{Pass, Row};
 use refusal::Refusal;
 
 impl State {
-    ghost use Rattle.std.specs.Prelude.{◌≡◌, ◌≤◌};
-    ghost use Rattle.balancer.specs.Limits.{max_moves};
+    ghost use Rattle.std.specs.Prelude.{◌≡◌};
+    ghost use Rattle.balancer.specs.Requests.{asked_aim};
     ghost use Rattle.state.specs.Balances.{Balances};
 
-    /// Plans the moves that balance the groups of a pool, at most `limit`, 1 to 1,024, and commits their change at the
-    /// present epoch: the epoch then, and how many moves. Where no move is good, nothing is committed and the epoch
-    /// stays, also where the journal is full. `pass` is as in `commit`.
+    /// Plans the moves that are asked for, which balance the groups of a pool, and commits their change at the present
+    /// epoch: the epoch then, and how many moves. Where no move is good, nothing is committed and the epoch stays, also
+    /// where the journal is full. `pass` is as in `commit`.
     ///
     /// # Errors
     ///
@@ -23,17 +23,15 @@ impl State {
         &mut self,
         row: &Row,
         pass: &mut Pass,
-        pool: u32,
-        limit: u32,
+        request: Request<'_>,
     ) -> Result<(u64, usize), Refusal>
         requires row { self.old.pass.row ≡ row.now }
         requires pass { pass.old ≡ self.old.pass }
-        requires some { 1 ≤ limit }
-        requires few { limit ≤ max_moves }
-        ensures balances { Balances self.old self.new pool limit result }
+        ensures balances { Balances self.old self.new
+            request.entry.pool (asked_aim request.entry) request.entry.limit result }
         ensures pass { pass.new ≡ self.new.pass }
     {
-        let (change, moves) = plan(self.alloc, &self.map, &self.table, pool, limit)?;
+        let (change, moves) = plan(self.alloc, &self.map, &self.table, request, &mut self.work)?;
         let current = self.map.epoch();
         if moves == 0 {
             return Ok((current, 0));

@@ -5,8 +5,7 @@ ghost use Rattle.osdmap.specs.Changes.{change_fault, apply};
 ghost use Rattle.pgtable.specs.Tables.{IsTableOf, RunsMore};
 ghost use Rattle.pgtable.specs.Patches.{LeadsTo};
 ghost use Rattle.osdmap.specs.Stored.{HasRoomFor};
-ghost use Rattle.maptypes.specs.Pools.{total_groups};
-ghost use Rattle.state.specs.States.{counted, IsReady};
+ghost use Rattle.state.specs.States.{IsReady};
 
 use crush::Work;
 use epochlog::{Pass, Row};
@@ -17,7 +16,7 @@ use refusal::{Memory, Refusal};
 use std::alloc::Global;
 use std::marker::Model;
 
-/// The state of a monitor, where it takes memory, and the work that it lends to each change of its table.
+/// The state of a monitor, where it takes memory, and the work that it lends to all that runs rules.
 #[derive(Drop)]
 pub struct State {
     pub(crate) alloc: Global,
@@ -37,16 +36,6 @@ impl Model for State {
 
     ghost invariant = { λ s.
         IsKept (record { first = s.first.map; pass = s.pass; map = s.map.map; runs = s.work.runs }) s.table };
-}
-
-/// The table of a map, and the work that ran a rule for each group of it.
-fn table_of(alloc: Global, map: &OsdMap) -> Result<(PgTable, Work), Memory>
-    ensures table { IfOk result (λ made. IsTableOf made.0 map.now.map) }
-    ensures runs { IfOk result (λ made. made.1.runs ≡ counted (total_groups map.now.map.pools)) }
-{
-    let mut work = Work::new(alloc, map.forest())?;
-    let table = PgTable::build(alloc, map, &mut work)?;
-    Ok((table, work))
 }
 
 /// All that a commit needs memory for: room in the map, the patch of its table, for which `work` counts a rule run for
@@ -91,18 +80,22 @@ impl State {
     ghost use Rattle.pgtable.specs.Tables.{IsTableOf};
     ghost use Rattle.state.specs.States.{opened, max_epoch, Commits, fault_in};
 
-    /// The state at its beginning: no change yet. It is for a row whose first epoch is the map's.
+    /// The state at its beginning: no change yet. It is for a row whose first epoch is the map's. From here on, `work`
+    /// counts all runs of rules of the state: one for each group now, then one for each evaluation of a change, and one
+    /// for each group of a pool that is balanced.
     ///
     /// # Errors
     ///
     /// `Memory` (30) where there is no memory for it.
-    pub fn new(alloc: Global, map: OsdMap, row: &Row) -> Result<State, Memory>
-        requires { row.now.first ≡ map.map.epoch }
+    pub fn new(alloc: Global, map: OsdMap, row: &Row, work: Work) -> Result<State, Memory>
+        requires row { row.now.first ≡ map.map.epoch }
+        requires fresh { work.runs ≡ 0 }
         ensures { IfOk result (λ s. s ≡ opened map.map row.now) }
     {
         let first = map.copy(alloc)?;
         let pass = row.pass(alloc)?;
-        let (table, work) = table_of(alloc, &map)?;
+        let mut work = work;
+        let table = PgTable::build(alloc, &map, &mut work)?;
         Ok(State {
             alloc,
             first,

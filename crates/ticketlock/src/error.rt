@@ -10,7 +10,7 @@ use thiserror::Error;
 pub enum LockError {
     /// 12: the number of seats is outside 1 to 1,024, or the limit of draws outside 1 to 2^40.
     BadLimit,
-    /// 30: a growth was refused.
+    /// 30: out of memory.
     Memory,
 }
 

@@ -14,7 +14,7 @@ pub returns-clause-served : goal.returns-clause-served
 returns-clause-served g c =
     let opened = c.in-Ok-opened.ensures in
     let texts = texts_of c.in-Ok-opened.monitor c.in-Ok.map.map c.args.terms.journal c.args.terms.profile c.args.map.now c.args.parts.now c.in_ok-lefts.lefts.items
-    c.in-Ok.ensures.1 opened.opening.first opened.opening.capacity opened.profile opened.opening.alone c.in_ok-lefts.ensures in
+    c.in-Ok.ensures.1 opened.first opened.capacity opened.profile opened.alone c.in_ok-lefts.ensures in
     let same : c.deref.result.now ≡ c.in_ok-lefts.lefts.items = search rules in
     let put = subst (λ list. AreTextsOf c.args.terms.journal c.args.terms.profile c.args.map.now c.args.parts.now (map text_left list)) (sym same) texts in
     (c.in-Ok.ensures.0, (map text_left c.deref.result.now, put, c.in_ok-put.ensures.whole))
@@ -23,7 +23,7 @@ pub returns-then-have_told-clause-served : goal.returns-then-have_told-clause-se
 returns-then-have_told-clause-served g c =
     let opened = c.in-Ok-opened.ensures in
     let texts = texts_of c.in-Ok-opened.monitor c.in-Ok.map.map c.args.terms.journal c.args.terms.profile c.args.map.now c.args.parts.now c.in_ok-lefts.lefts.items
-    c.in-Ok.ensures.1 opened.opening.first opened.opening.capacity opened.profile opened.opening.alone c.in_ok-lefts.ensures in
+    c.in-Ok.ensures.1 opened.first opened.capacity opened.profile opened.alone c.in_ok-lefts.ensures in
     let same : c.deref.result.now ≡ c.in_ok-lefts.lefts.items = search rules in
     let put = subst (λ list. AreTextsOf c.args.terms.journal c.args.terms.profile c.args.map.now c.args.parts.now (map text_left list)) (sym same) texts in
     (c.in-Ok.ensures.0, (map text_left c.deref.result.now, put, c.in_ok-put.ensures.whole))
@@ -32,7 +32,7 @@ pub returns-in_err-put-clause-served : goal.returns-in_err-put-clause-served
 returns-in_err-put-clause-served g c =
     let opened = c.in-Ok-opened.ensures in
     let texts = texts_of c.in-Ok-opened.monitor c.in-Ok.map.map c.args.terms.journal c.args.terms.profile c.args.map.now c.args.parts.now c.in_ok-lefts.lefts.items
-    c.in-Ok.ensures.1 opened.opening.first opened.opening.capacity opened.profile opened.opening.alone c.in_ok-lefts.ensures in
+    c.in-Ok.ensures.1 opened.first opened.capacity opened.profile opened.alone c.in_ok-lefts.ensures in
     let same : c.deref.result.now ≡ c.in_ok-lefts.lefts.items = search rules in
     let put = subst (λ list. AreTextsOf c.args.terms.journal c.args.terms.profile c.args.map.now c.args.parts.now (map text_left list)) (sym same) texts in
     let (rest, out) = c.in_err-put.ensures.part in

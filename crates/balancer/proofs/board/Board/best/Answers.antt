@@ -2,6 +2,7 @@ use Rattle.std.proofs.Common.{◌<◌, ◌≤◌, length, rules}
 use mir.Syntax.{w128}
 use mir.Val.{SFits}
 use Rattle.std.proofs.lemmas.Int.{to_z-of_z}
+use Rattle.balancer.specs.Shares.{aim_of}
 use Rattle.balancer.specs.Greedy.{after_moves}
 use Rattle.balancer.proofs.Searching.{candidate_at, all_more_from, all_end, same_best}
 use Rattle.balancer.proofs.Choosing.{chosen, osd_in}
@@ -12,7 +13,7 @@ pub is_passed-requires-clause-bound : goal.is_passed-requires-clause-bound
 is_passed-requires-clause-bound c =
     let b = c.args.self.now in
     let n = after_moves b.frame.map.now.map b.frame.pool b.moves.items in
-    known_bound n b.frame.pool c.loop-from.widths _ c.at.result c.loop-from.invariant.widths c.at.ensures
+    known_bound n b.frame.pool (aim_of b.frame.carried.now b.frame.apart) c.loop-from.widths _ c.at.result c.loop-from.invariant.widths c.at.ensures
 
 pub better_from-best-requires-clause-from : goal.better_from-best-requires-clause-from
 better_from-best-requires-clause-from c =
@@ -27,7 +28,7 @@ loop-from-preserved-then-is_passed c =
     let inside : c.loop-from.from-index < length b.frame.osds.items = rw c.deref-from-items.ensures.value at c.loop-from-test.true in
     record {
       good = c.loop-from.invariant.good;
-      covers = all_more_from n b.frame.pool c.loop-from.best c.loop-from.best b.frame.osds.items b.frame.osds.items c.loop-from.from-index inside (same_best n b.frame.pool c.loop-from.best c.loop-from.invariant.good) c.loop-from.invariant.covers (rw c.deref-from-items.ensures.value at c.is_passed.ensures c.if-is_passed.true);
+      covers = all_more_from n b.frame.pool (aim_of b.frame.carried.now b.frame.apart) c.loop-from.best c.loop-from.best b.frame.osds.items b.frame.osds.items c.loop-from.from-index inside (same_best n b.frame.pool (aim_of b.frame.carried.now b.frame.apart) c.loop-from.best c.loop-from.invariant.good) c.loop-from.invariant.covers (rw c.deref-from-items.ensures.value at c.is_passed.ensures c.if-is_passed.true);
       marks = c.loop-from.invariant.marks;
       widths = c.loop-from.invariant.widths;
     }
@@ -41,9 +42,9 @@ loop-from-preserved c =
     let fits : SFits w128 c.best_gap.result = search rules in
     record {
       good = c.better_from-best.ensures.better.good;
-      covers = all_more_from n b.frame.pool c.loop-from.best c.better_from-best.result b.frame.osds.items b.frame.osds.items c.loop-from.from-index inside c.better_from-best.ensures.better c.loop-from.invariant.covers (rw c.deref-from-items.ensures.value at covers);
+      covers = all_more_from n b.frame.pool (aim_of b.frame.carried.now b.frame.apart) c.loop-from.best c.better_from-best.result b.frame.osds.items b.frame.osds.items c.loop-from.from-index inside c.better_from-best.ensures.better c.loop-from.invariant.covers (rw c.deref-from-items.ensures.value at covers);
       marks = c.better_from-best.ensures.marks;
-      widths = rw (c.set.ensures, to_z-of_z w128 c.best_gap.result fits, c.best_gap.ensures) (bounds_more n b.frame.pool c.loop-from.widths _ _ (covered_bound n b.frame.pool b.frame.osds.items _ c.better_from-best.result (osd_in b.frame.map.now.map b.frame.pool b.moves.items b.frame.osds.items b.frame.osds_are) covers) c.loop-from.invariant.widths);
+      widths = rw (c.set.ensures, to_z-of_z w128 c.best_gap.result fits, c.best_gap.ensures) (bounds_more n b.frame.pool (aim_of b.frame.carried.now b.frame.apart) c.loop-from.widths _ _ (covered_bound n b.frame.pool (aim_of b.frame.carried.now b.frame.apart) b.frame.osds.items _ c.better_from-best.result (osd_in b.frame.map.now.map b.frame.pool (aim_of b.frame.carried.now b.frame.apart) b.moves.items b.frame.osds.items b.frame.osds_are) covers) c.loop-from.invariant.widths);
     }
 
 pub returns-clause-best : goal.returns-clause-best
@@ -51,5 +52,5 @@ returns-clause-best c =
     let b = c.args.self.now in
     let n = after_moves b.frame.map.now.map b.frame.pool b.moves.items in
     let past : length b.frame.osds.items ≤ c.loop-from.from-index = rw c.deref-from-items.ensures.value at c.loop-from-test.false in
-    chosen b.frame.map.now.map b.frame.pool b.moves.items b.frame.osds.items b.frame.osds_are c.loop-from.best c.loop-from.invariant.good
-    (all_end n b.frame.pool c.loop-from.best b.frame.osds.items b.frame.osds.items c.loop-from.from-index past c.loop-from.invariant.covers)
+    chosen b.frame.map.now.map b.frame.pool (aim_of b.frame.carried.now b.frame.apart) b.moves.items b.frame.osds.items b.frame.osds_are c.loop-from.best c.loop-from.invariant.good
+    (all_end n b.frame.pool (aim_of b.frame.carried.now b.frame.apart) c.loop-from.best b.frame.osds.items b.frame.osds.items c.loop-from.from-index past c.loop-from.invariant.covers)

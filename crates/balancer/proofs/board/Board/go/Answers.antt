@@ -1,5 +1,6 @@
 use Rattle.std.proofs.Common.{◌≡◌, ◌∙◌, [], ◌∷◌, ◌++◌, ap, get_or}
 use Rattle.std.proofs.lemmas.List.{get_or-set_same}
+use Rattle.balancer.specs.Shares.{aim_of}
 use Rattle.balancer.specs.declared.group.Group.{Group}
 use Rattle.balancer.specs.Greedy.{after_moves}
 use Rattle.balancer.specs.Boards.{gone, group_at}
@@ -23,24 +24,25 @@ returns-in-Some-clause-marks c =
 pub widen-requires : goal.widen-requires
 widen-requires c =
     let b = c.args.self.now in
-    rw (c.make.ensures.map, c.make.ensures.pool) (good_ends b.frame.map.now.map b.frame.pool b.moves.items c.args.step c.requires.good).0
+    rw (c.make.ensures.map, c.make.ensures.pool) (good_ends b.frame.map.now.map b.frame.pool (aim_of b.frame.carried.now b.frame.apart) b.moves.items c.args.step c.requires.good).0
 
 pub returns-in-Some-clause-widths : goal.returns-in-Some-clause-widths
 returns-in-Some-clause-widths c =
     let b = c.args.self.now in
     let m = b.frame.map.now.map in
     let p = b.frame.pool in
+    let cs = (aim_of b.frame.carried.now b.frame.apart) in
     let v = c.args.step in
     let next = after_moves m p (b.moves.items ++ v ∷ []) in
     let new = c.make.new.self in
     let kept : c.in-Some.group.now ≡ group_at next p v.group =
     c.in-Some.ensures.lookup.1 ∙ ap (λ gs. get_or gs v.group c.in-Some.group.now) c.deref.ensures.value
-    ∙ (rw (c.make.ensures.map, c.make.ensures.pool, c.in_ok-make.ensures.moves) at (group_kept new.frame.map.now.map new.frame.pool new.moves.items new.groups.items new.deviations.items new.board v.group c.in-Some.group.now (rw c.make.ensures.pool c.requires.good.there)))
+    ∙ (rw (c.make.ensures.map, c.make.ensures.pool, c.in_ok-make.ensures.moves) at (group_kept new.frame.map.now.map new.frame.pool (aim_of new.frame.carried.now new.frame.apart) new.moves.items new.groups.items new.deviations.items new.board v.group c.in-Some.group.now (rw c.make.ensures.pool c.requires.good.there)))
     in
     let places : c.as_slice.result.now ≡ (group_at next p v.group).places = c.as_slice.ensures.value ∙ ap (λ (g : Group). g.places) kept in
-    rw (c.make.ensures.map, c.make.ensures.pool, c.in_ok-make.ensures.moves)
-    (bounds_moved m p b.moves.items v c.requires.good b.reached b.frame.pool_is c.args.widths.now c.forget.new.self c.requires.widths
+    rw (c.make.ensures.map, c.make.ensures.pool, c.make.ensures.aim, c.in_ok-make.ensures.moves)
+    (bounds_moved m p cs b.moves.items v c.requires.good b.reached b.frame.pool_is c.args.widths.now c.forget.new.self c.requires.widths
     (λ f bound known.
     let left = c.forget.ensures f bound known in
     let wide = c.widen.ensures f bound left.0 in
-    (wide.0, rw (c.make.ensures.map, c.make.ensures.pool, c.in_ok-make.ensures.moves) at wide.1, rw places at left.1)))
+    (wide.0, rw (c.make.ensures.map, c.make.ensures.pool, c.make.ensures.aim, c.in_ok-make.ensures.moves) at wide.1, rw places at left.1)))

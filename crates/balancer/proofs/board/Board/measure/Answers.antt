@@ -6,7 +6,7 @@ use Rattle.std.proofs.lemmas.List.{get_or_default, length-set}
 use Rattle.std.specs.Prelude.{ℤ}
 use Rattle.std.specs.List.Sorted.{IsPermutation}
 use Rattle.balancer.specs.Greedy.{after_moves}
-use Rattle.balancer.specs.Shares.{is_candidate, candidate_osds, deviation}
+use Rattle.balancer.specs.Shares.{is_candidate, candidate_osds, deviation, aim_of}
 use Rattle.balancer.proofs.Searching.{each_candidate, same_osds, measured_more}
 use Rattle.balancer.proofs.board.Board.measure.Goals as goal
 
@@ -30,9 +30,9 @@ loop-k-preserved c =
     let read : c.index.result.now ≡ get_or items k e = c.index.ensures ∙ get_or_default items k c.index.result.now e inside in
     let written : c.index_mut.result.now ≡ get_or items k e = c.index_mut.ensures.value ∙ get_or_default items k c.index_mut.result.now e inside in
     let same = same_osds items k e (ap (λ (f : ℤ × ℕ). f.1) written) in
-    let dev = c.deviation.ensures.value ∙ ap (λ (f : ℤ × ℕ). deviation n b.frame.pool f.1) (read ∙ sym written) in
+    let dev = c.deviation.ensures.value ∙ ap (λ (f : ℤ × ℕ). deviation n b.frame.pool (aim_of b.frame.carried.now b.frame.apart) f.1) (read ∙ sym written) in
     rw (to_z-of_z w128 c.deviation.result fits) (
       length-set items k e ∙ c.loop-k.invariant.0,
       subst (λ xs. IsPermutation xs (candidate_osds b.frame.map.now.map b.frame.pool)) (sym same) c.loop-k.invariant.1,
-      measured_more n b.frame.pool items (set items k e) k e inside refl dev c.loop-k.invariant.2,
+      measured_more n b.frame.pool (aim_of b.frame.carried.now b.frame.apart) items (set items k e) k e inside refl dev c.loop-k.invariant.2,
     )

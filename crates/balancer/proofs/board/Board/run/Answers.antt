@@ -1,4 +1,5 @@
 use Rattle.std.proofs.Common.{◌≡◌, ◌∙◌, [], Some}
+use Rattle.balancer.specs.Shares.{aim_of}
 use Rattle.balancer.specs.Greedy.{good_moves, best_move, after_moves}
 use Rattle.balancer.proofs.Running.{way_goes_on, way_ends, way_stops}
 use Rattle.balancer.proofs.board.Board.run.Goals as goal
@@ -6,19 +7,20 @@ use Rattle.balancer.proofs.board.Board.run.Goals as goal
 pub returns-in-None-clause-moves : goal.returns-in-None-clause-moves
 returns-in-None-clause-moves c =
     let i = c.loop-count.invariant in
-    let none : good_moves (after_moves c.args.self.now.frame.map.now.map c.args.self.now.frame.pool c.loop-count.self.moves.items) c.args.self.now.frame.pool ≡ [] = rw (i.map, i.pool) at (rw c.in-None.is at c.in_ok-step.ensures.best) in
-    way_stops c.args.self.now.frame.map.now.map c.args.self.now.frame.pool c.args.limit c.loop-count.self.moves.items c.loop-count._count i.way none
+    let none : good_moves (after_moves c.args.self.now.frame.map.now.map c.args.self.now.frame.pool c.loop-count.self.moves.items) c.args.self.now.frame.pool (aim_of c.args.self.now.frame.carried.now c.args.self.now.frame.apart) ≡ [] = rw (i.map, i.pool, i.aim) at (rw c.in-None.is at c.in_ok-step.ensures.best) in
+    way_stops c.args.self.now.frame.map.now.map c.args.self.now.frame.pool (aim_of c.args.self.now.frame.carried.now c.args.self.now.frame.apart) c.args.limit c.loop-count.self.moves.items c.loop-count._count i.way none
 
 pub loop-count-preserved : goal.loop-count-preserved
 loop-count-preserved c =
     let i = c.loop-count.invariant in
-    let best : best_move (after_moves c.args.self.now.frame.map.now.map c.args.self.now.frame.pool c.loop-count.self.moves.items) c.args.self.now.frame.pool ≡ Some c.in-Some.step = rw (i.map, i.pool) at (rw c.in-Some.is at c.in_ok-step.ensures.best).best in
-    let way = way_goes_on c.args.self.now.frame.map.now.map c.args.self.now.frame.pool c.args.limit c.loop-count.self.moves.items c.loop-count._count c.in-Some.step c.loop-count-test.true i.way best in
+    let best : best_move (after_moves c.args.self.now.frame.map.now.map c.args.self.now.frame.pool c.loop-count.self.moves.items) c.args.self.now.frame.pool (aim_of c.args.self.now.frame.carried.now c.args.self.now.frame.apart) ≡ Some c.in-Some.step = rw (i.map, i.pool, i.aim) at (rw c.in-Some.is at c.in_ok-step.ensures.best).best in
+    let way = way_goes_on c.args.self.now.frame.map.now.map c.args.self.now.frame.pool (aim_of c.args.self.now.frame.carried.now c.args.self.now.frame.apart) c.args.limit c.loop-count.self.moves.items c.loop-count._count c.in-Some.step c.loop-count-test.true i.way best in
     record {
       order = rw (i.map, i.pool) at c.in_ok-step.ensures.order;
       way = rw c.in_ok-go-in-Some.ensures.moves way;
       map = c.go.ensures.map ∙ i.map;
       pool = c.go.ensures.pool ∙ i.pool;
+      aim = c.go.ensures.aim ∙ i.aim;
       marks = c.in_ok-go-in-Some.ensures.marks;
       widths = c.in_ok-go-in-Some.ensures.widths;
     }
@@ -26,4 +28,4 @@ loop-count-preserved c =
 pub returns-clause-moves : goal.returns-clause-moves
 returns-clause-moves c =
     let i = c.loop-count.invariant in
-    way_ends c.args.self.now.frame.map.now.map c.args.self.now.frame.pool c.args.limit c.loop-count.self.moves.items c.loop-count._count c.loop-count-test.false i.way
+    way_ends c.args.self.now.frame.map.now.map c.args.self.now.frame.pool (aim_of c.args.self.now.frame.carried.now c.args.self.now.frame.apart) c.args.limit c.loop-count.self.moves.items c.loop-count._count c.loop-count-test.false i.way

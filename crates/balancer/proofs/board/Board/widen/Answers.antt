@@ -6,6 +6,7 @@ use Rattle.std.specs.Prelude.{int_lt}
 use Rattle.std.specs.List.{Contains}
 use Rattle.std.proofs.lemmas.Bool.{cases_lt}
 use Rattle.std.proofs.lemmas.List.{get_or_default}
+use Rattle.balancer.specs.Shares.{aim_of}
 use Rattle.balancer.specs.Widths.{bound_of}
 use Rattle.balancer.specs.Greedy.{after_moves, gap}
 use Rattle.balancer.proofs.Searching.{candidate_at}
@@ -26,7 +27,7 @@ loop-from-preserved c =
     let osds = b.frame.osds.items in
     let i = c.loop-from.from-index in
     let fits : SFits w128 c.gap.result = search rules in
-    let far : ℕ → ℤ = λ j. gap n b.frame.pool (get_or osds j 0) c.args.emptier in (
+    let far : ℕ → ℤ = λ j. gap n b.frame.pool (aim_of b.frame.carried.now b.frame.apart) (get_or osds j 0) c.args.emptier in (
       λ f bound known.
           let one = c.widen.ensures f bound known in
           let before = c.loop-from.invariant.0 f one.0.0 one.0.1 in
@@ -52,6 +53,6 @@ returns c = λ f bound known. (
       let past : length osds ≤ c.loop-from.from-index = rw c.deref-from-items.ensures.value at c.loop-from-test.false in
       let at = subst (λ (xs : List ℕ). Contains xs f) (sym b.frame.osds_are) (candidate_in b.frame.map.now.map b.frame.pool f is) in
       let f_is : get_or osds at.0 0 ≡ f = get_or_default osds at.0 0 f at.1 ∙ at.2 in
-      subst (λ x. int_lt bound (gap n b.frame.pool x c.args.emptier) ≡ false) f_is
+      subst (λ x. int_lt bound (gap n b.frame.pool (aim_of b.frame.carried.now b.frame.apart) x c.args.emptier) ≡ false) f_is
       (c.loop-from.invariant.1 at.0 bound (omega (arith, past, at.1)) (subst (λ x. bound_of c.loop-from.widths x ≡ Some bound) (sym f_is) known)),
 )

@@ -8,6 +8,7 @@ use Rattle.crush.proofs.placement.Placement.steps.Given as goal
 abbrev pub invariant-loop-step : goal.invariant-loop-step
 invariant-loop-step l =
     record {
-      done : progress l.lists ≡ fold (after_step (world l.self) l.size) no_progress (take l.step-index l.steps);
-      picks : Remembers (world l.self) l.lists.picks;
+      done : progress l.work-inside.lists ≡ fold (after_step (world l.self) l.size) no_progress (take l.step-index l.steps);
+      runs : l.work-inside.runs ≡ l.initial.work-inside.runs;
+      picks : Remembers (world l.self) l.work-inside.lists.picks;
     }

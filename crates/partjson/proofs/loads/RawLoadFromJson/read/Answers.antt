@@ -1,0 +1,17 @@
+use Rattle.std.proofs.Common.{Some, option_map, sym, ap, ◌∙◌, arith}
+use Rattle.jsonstream.specs.Json.{whole_number, both_of}
+use Rattle.jsonstream.proofs.Taken.{read_on, refused_on}
+use Rattle.partjson.specs.StatedLoads.{load_of}
+use Rattle.partjson.specs.Places.{load_at}
+use Rattle.partjson.proofs.loads.RawLoadFromJson.read.Goals as goal
+
+pub returns-in_err-places : goal.returns-in_err-places
+returns-in_err-places c =
+    let still = refused_on (both_of whole_number whole_number) load_of _ _ c.in_err-places.ensures in
+    grind (arith, still)
+
+pub returns : goal.returns
+unfolding load_of
+returns c =
+    let r = c.read.new.reader in
+    read_on (both_of whole_number whole_number) (option_map load_at) _ c.in_ok-places.places r c.in_ok-places.ensures ∙ ap (λ x. Some (x, r)) (sym c.load_of_places.ensures)

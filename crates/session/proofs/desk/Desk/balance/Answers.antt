@@ -1,7 +1,0 @@
-use Rattle.session.proofs.Asked.{own_plan}
-use Rattle.session.proofs.desk.Desk.balance.Goals as goal
-
-pub returns-clause-own : goal.returns-clause-own
-returns-clause-own g c =
-    own_plan c.args.self.now.monitor.now.first c.args.self.now.monitor.now.alone c.args.member.now.pass.history
-    c.balance.new.member.pass.history c.args.plan.pool c.args.plan.limit c.balance.result c.balance.ensures.alone
