@@ -7,9 +7,10 @@ MAP = $(EXAMPLE)/map.json
 SCRIPT = $(EXAMPLE)/script.txt
 # The processor that the program is built for, as x86-64-v3; empty, it runs on every x86-64.
 CPU =
-# Another build of the program, which `bench` puts beside this one.
+# Another build of the program, which `bench` puts beside this one, and the folder in which it keeps its tables (empty: in none).
 OTHER =
-BENCHES = placements tables steps sessions live balancer reading cliffs tools wide
+RESULTS = $(CURDIR)/bench/results
+BENCHES = placements tables steps sessions live balancer reading cliffs tools wide whole_cluster
 
 .PHONY: help try prove run test gate runs bench
 
@@ -22,8 +23,8 @@ help:
 	@echo '            the tests, then runs of the built program'
 	@echo 'make gate   the gate without the runs'
 	@echo 'make runs   the runs of the built program alone (four to seven minutes)'
-	@echo 'make bench  what the built program costs, as tables: placements beside plain C (cc, and valgrind for instructions), table, sessions, balancer, reading, tools for operators'
-	@echo '            OTHER=/another/osdmapd measures another build of it beside'
+	@echo 'make bench  what the built program costs, as tables: placements beside plain C (cc, and valgrind for instructions), table, sessions, balancer, reading, tools for operators, plans for whole clusters (of REKHUSO_CLUSTERS)'
+	@echo '            OTHER=/another/osdmapd measures another build of it beside; each whole table is kept in bench/results (RESULTS= in none)'
 
 # Runs with checks in place of proofs. The map and the script are read here, so that they may be anywhere and be read once.
 try:
@@ -51,7 +52,7 @@ runs:
 bench:
 	@test -x $(PROGRAM) || $(MAKE) prove
 	@python3 bench/machine.py
-	@failed=; for name in $(BENCHES); do \
+	@export RESULTS='$(RESULTS)'; failed=; for name in $(BENCHES); do \
 		python3 bench/$$name.py $(PROGRAM) || { printf '\nbench/%s.py has not come to its end.\n' $$name; failed=1; }; \
 	done; \
 	$(if $(OTHER),python3 bench/beside.py $(PROGRAM) '$(OTHER)' || failed=1;) \

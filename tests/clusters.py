@@ -147,7 +147,7 @@ def test_plan(tools):
     """The commands of a plan, put into the map, give the sets of the program's own plan, and nothing is left to move."""
     for name in ("001-built", "002-built", "003-built"):
         value = tools.map(name)
-        status, output, error = tools.run("plan", *tools.dumps(name))
+        status, output, error = tools.run("plan", *tools.dumps(name), "--alone")
         assert status == 0 and output, error
         after = with_commands(value, commands(output))
         dump = json.loads(tools.answers(value, ["balance 1 1024", "dump"])[1].removeprefix("dump "))
@@ -200,7 +200,7 @@ def test_df(tools):
     counts = [int(answer.split(" ")[3]) for answer in tools.answers(value, [f"count {osd}" for osd in range(48)])]
     assert [told[osd] for osd in range(48)] == counts
     status, output, _ = tools.run("df", tools.put("m", value))
-    assert status == 0 and len(output.splitlines()) == 1 + 11 + 48 + 1 + 2
+    assert status == 0 and len(output.splitlines()) == 1 + 11 + 48 + 1 + 3
 
 
 def test_diff(tools):
@@ -299,9 +299,9 @@ def test_crush_weight(tools):
     assert status == 0, error
     found = json.loads(output)
     assert found["groups"] == sum(before[group] != after[group] for group in before) > 0
-    for words, want in ((["osd.1=0"], 2), (["osd.1"], 2), (["=1"], 2), (["osd.1=nan"], 2), (["osd.1=65536"], 2), (["osd.1=1", "osd.1=2"], 2), (["osd.999=1"], 1)):
+    for words, want in ((["osd.1=-1"], 2), (["osd.1=0"], 1), (["osd.1"], 2), (["=1"], 2), (["osd.1=nan"], 2), (["osd.1=65536"], 2), (["osd.1=1", "osd.1=2"], 2), (["osd.999=1"], 1)):
         assert tools.run("whatif", place, *(part for word in words for part in ("--weight", word)))[0] == want, words
-    assert tools.run("whatif", place, "--weight", "osd.1=1", "--out", "1")[0] == 2 and tools.run("whatif", place, "--weight", "osd.1=1", "--each", "1")[0] == 2
+    assert tools.run("whatif", place, "--weight", "osd.1=1", "--out", "1")[0] == 0 and tools.run("whatif", place, "--weight", "osd.1=1", "--each", "1")[0] == 2
 
 
 def test_pictures(tools):

@@ -50,7 +50,7 @@ def test_output_that_cannot_be_written(tools):
             line = f'"$@" {sink}' if not sink.startswith("|") else '{ sleep 0.2; "$@"; echo $? >&2; } | :'
             done = subprocess.run(["bash", "-c", line, "sh", *command(tools, *words)], capture_output=True, text=True, timeout=SECONDS,
                                   check=False, cwd=tools.folder)
-            lines = [entry for entry in done.stderr.splitlines() if not entry.startswith(("left out: ", "pool "))]
+            lines = [entry for entry in done.stderr.splitlines() if not entry.startswith(("left out: ", "cluster ", "p1: "))]
             status = int(lines.pop()) if sink.startswith("|") else done.returncode
             assert (status, lines) == (1, [f"output: {told}"]), (words, sink, status, done.stderr[-300:])
 
@@ -98,7 +98,7 @@ def test_options_that_do_not_go_together(tools):
     """What would be passed over in silence is an error of use."""
     host = ["--add-host", "new", "1"]
     for words in (["--each", "1", "--out", "3"], ["--each", "1", "{}"], ["--each", "1", *host], ["--each", "1", "--picture", "f"],
-                  ["--under", "-1"], [*host, "--out", "3"], [*host, "{}"], [*host, "--down", "3"], ["--out", "3", "--in", "3"],
+                  ["--under", "-1"], ["--class", "ssd"], [*host, *host], ["--out", "3", "--in", "3"], ["--weight", "3=1", "--weight", "3=2"],
                   ["--out", "3", "--reweight", "3", "0.5"]):
         is_told(tools.run("whatif", EXAMPLE, *words), 2, "error: ", words)
 

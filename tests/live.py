@@ -10,6 +10,7 @@ by then is ended, so that nobody waits for its pipes either.
 import doctest
 import errno
 import functools
+import gzip
 import json
 import os
 import pathlib
@@ -310,6 +311,38 @@ def test_named_pipes(program):
         equal(process.wait(SECONDS), 0)
 
 
+def test_a_client_that_does_not_read(program):
+    """While one client's answers wait in a full pipe, of each kind of question, the other commits and asks."""
+    with tempfile.TemporaryDirectory() as name:
+        folder, value = pathlib.Path(name), json.loads(EXAMPLE.read_text())
+        (folder / "map").write_text(json.dumps({**value, "osds": [{**osd, "weight": 65536} for osd in value["osds"]]}))
+        for pipe in "abcd":
+            os.mkfifo(folder / pipe)
+        for question in ("dump", "groups 0", "up 1.0", "count 0", "epoch", "fdump"):
+            process = limited(subprocess.Popen([program, "map", "a", "b", "--to", "c", "--to", "d"], cwd=folder))
+            deaf, other = Client(folder / "a", folder / "c"), Client(folder / "b", folder / "d")
+            equal(other.lines.next(), "session 2")
+            fill(deaf.pipe, question.encode() + b"\n")
+            equal(other.ask('change {"base":1,"down":[2]}'), "ok 2 evals 0")
+            equal(other.ask("up 1.0"), "up 2 1.0 [3,0] 3")
+            process.kill()
+            process.wait(SECONDS)
+            for client in (deaf, other):
+                os.close(client.pipe)
+                os.close(client.lines.pipe)
+
+
+def fill(pipe, line, seconds=1):
+    """Puts a line into a pipe again and again, until nobody has taken one for some time."""
+    end = time.monotonic() + SECONDS
+    while select.select([], [pipe], [], seconds)[1]:
+        assert time.monotonic() < end, "the program takes lines without an end"
+        try:
+            os.write(pipe, line * (select.PIPE_BUF // len(line)))
+        except BlockingIOError:
+            time.sleep(0.001)
+
+
 def test_sessions(program):
     """Four clients in four threads over one monitor ask and change at random: all answers are those of one history."""
     with tempfile.TemporaryDirectory() as folder:
@@ -370,7 +403,7 @@ def test_names_of_a_monitor(program):
     """What a monitor shows beside what is its own are its questions, its program and its sessions."""
     with Monitor(json.loads(EXAMPLE.read_text()), program, timeout=SECONDS) as monitor:
         shown = {name for name in dir(monitor) if not name.startswith("_")}
-    equal(shown, {"ask", "balance", "change", "close", "count", "dump", "epoch", "groups", "is_stock", "one", "program", "raw", "sessions",
+    equal(shown, {"ask", "balance", "change", "close", "count", "counts", "dump", "epoch", "groups", "is_stock", "one", "program", "raw", "sessions",
                   "text", "up", "ups"})
 
 
@@ -436,6 +469,33 @@ def test_dialogues_of_the_pages(program):
     equal(len(found), 3)
     for commands, typed, answers in found:
         equal(in_a_shell(program, commands, typed), "".join(answers))
+
+
+def like(answer, line):
+    """Whether a line that was put out is the one of a page, where two points at its end stand for the rest."""
+    return answer.startswith(line[:-3]) if line.endswith("..\n") else answer == line
+
+
+def test_guide(program):
+    """Every block of docs/CEPH.md that shows a dialogue, in their order in one folder, over clusters that a monitor of Ceph dumped. What
+    is told on standard error is put out too."""
+    with tempfile.TemporaryDirectory() as name:
+        folder = pathlib.Path(name)
+        with gzip.open(HERE / "stock.json.gz") as file:
+            clusters = json.load(file)
+        for cluster, before in (("001-three-hosts", ""), ("008-rgw-ec83", "other-")):
+            for part in ("osd", "crush"):
+                (folder / f"{before}{part}.json").write_text(json.dumps(clusters[cluster][f"{part}_dump"]))
+        command = folder / "rekhuso"
+        command.write_text(f'#!/bin/sh\nexec {sys.executable} {HERE.parent / "tools" / "rekhuso"} --program {program} "$@"\n')
+        command.chmod(0o755)
+        found = [*dialogues("docs/CEPH.md")]
+        assert len(found) > 7, len(found)
+        for commands, _, answers in found:
+            done = subprocess.run(["bash", "-c", "".join(commands)], cwd=folder, stdout=subprocess.PIPE, stderr=subprocess.STDOUT, text=True,
+                                  check=False, timeout=SECONDS, env=os.environ | {"PATH": f"{folder}:{os.environ['PATH']}"})
+            told = done.stdout.splitlines(keepends=True)
+            assert len(told) == len(answers) and all(map(like, told, answers)), (commands, told, answers)
 
 
 def test_first_screen(program):

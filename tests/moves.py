@@ -34,6 +34,11 @@ def uneven(name="002-built"):
     return own["osd_dump"], own["crush_dump"]
 
 
+def pool_lines(error):
+    """What a plan tells of pools, behind what it tells of an outage and of the cluster."""
+    return [line for line in error.splitlines() if not line.startswith(("cluster ", "an outage: "))]
+
+
 def of_groups(lines):
     """The commands of each group, in their order."""
     found = {}
@@ -56,7 +61,7 @@ def test_explicit_sets(tools):
     status, output, error = tools.run("import", osd, crush)
     assert status == 0, error
     value = json.loads(output)
-    status, output, error = tools.run("plan", osd, crush)
+    status, output, error = tools.run("plan", osd, crush, "--alone")
     assert status == 0, error
     lines, of = commands(output), of_groups(commands(output))
     pinned = {group for group, _ in value["pg_upmap"]} & of.keys()
@@ -68,7 +73,7 @@ def test_explicit_sets(tools):
     raw = {group: places(answer) for group, answer in tools.sets(dict(value, pg_upmap=[], pg_upmap_items=[])).items()}
     assert tools.sets(after) == tools.sets(dump) and cleaned(after, raw) == after
     status, page, error = tools.run("report", tools.put("m", value))
-    assert status == 0 and "<pre>" + "\n".join(lines) + "</pre>" in page, error
+    assert status == 0 and "<pre>" + "\n".join(commands(tools.run("plan", "m")[1])) + "</pre>" in page, error
 
 
 def test_idle_sets(tools):
@@ -88,10 +93,10 @@ def test_idle_sets(tools):
 
 
 def test_uses(tools):
-    """A number of moves that is none, a deviation that is none and a third file are errors of use."""
+    """A number of commands or moves that is none, a deviation that is none or has no plan, and a third file are errors of use."""
     path = tools.put("m", tools.map("009-classes"))
-    wrong = [("--max", word) for word in ("0", "1025", "-1", "many")] + [("--deviation", word) for word in ("-1", "x", "1/0")]
-    for words in wrong:
+    wrong = [("--max", word) for word in ("0", "-1", "many")] + [("--deviation", word) for word in ("-1", "x", "1/0", "0.49", "65537")]
+    for words in [*wrong, ("--max", "1025", "--alone"), ("--deviation", "65537", "--alone")]:
         status, output, error = tools.run("plan", path, *words)
         assert (status, output) == (2, "") and words[0] in error and "Traceback" not in error, (words, status, error)
     status, output, error = tools.run("plan", path, path, path)
@@ -105,11 +110,11 @@ def test_names(tools):
     assert status == 0, error
     path = tools.put("m", output)
     by_id = tools.run("plan", path, "--pool", "1")
-    assert by_id[0] == 0 and by_id[1] and by_id[2].startswith("pool 1: "), by_id
+    assert by_id[0] == 0 and by_id[1] and pool_lines(by_id[2])[0].startswith("pool 1: "), by_id
     named = tools.run("plan", path, "--names", "names", "--pool", name)
     assert commands(named[1]) == commands(by_id[1]) and named[2] == by_id[2].replace("pool 1: ", f"{name}: "), named
     of_dumps = tools.run("plan", *dumps, "--pool", name)
-    assert (commands(of_dumps[1]), of_dumps[2]) == (commands(by_id[1]), by_id[2]) and of_dumps[1].replace(f"  {name}\n", "  pool 1\n") == by_id[1]
+    assert (commands(of_dumps[1]), of_dumps[2]) == (commands(by_id[1]), named[2]) and of_dumps[1].replace(f"  {name}\n", "  pool 1\n") == by_id[1]
     bare = {key: value for key, value in json.loads(output).items() if not key.startswith("pg_upmap")}
     for words in ((), ("--deviation", "1")):
         assert tools.run("plan", tools.put("bare", bare), *words) == tools.run("plan", path, *words)
@@ -124,7 +129,7 @@ def test_one_session(tools):
     counting.chmod(counting.stat().st_mode | stat.S_IXUSR)
     path = tools.put("m", dict(tools.map("009-classes"), pg_upmap_items=[["1.0", [[0, 1], [1, 0]]]]))
     counted = clusters.Tools(counting, tools.folder)
-    for words in (("plan", path), ("plan", path, "--deviation", "1"), ("plan", *tools.dumps("009-classes")), ("net", path),
+    for words in (("plan", path), ("plan", path, "--deviation", "1", "--alone"), ("plan", *tools.dumps("009-classes")), ("net", path),
                   ("net", path, "--ceph"), ("df", path)):
         tools.put("starts", "")
         status, _, error = counted.run(*words)
@@ -141,7 +146,7 @@ def farthest(value, host_of, weight_of, mapped):
 
 
 def test_deviation(tools):
-    """A plan with a deviation is the shortest beginning of the greedy plan, reckoned by brute force, that comes so near, beside --max."""
+    """A pool's plan by itself with a deviation is the shortest beginning of the greedy plan, reckoned by brute force, that comes so near, beside --max."""
     rng, lengths = random.Random(5), set()
     for case in range(10):
         value, host_of, rack_of, weight_of = plans.random_map(rng)
@@ -151,8 +156,10 @@ def test_deviation(tools):
         near = [moves for moves, mapped in steps if farthest(value, host_of, weight_of, mapped) <= Fraction(most)]
         wanted = min(near[0] if near else whole, limit)
         lengths.add((wanted, whole))
-        status, output, error = tools.run("plan", tools.put("m", value), "--deviation", most, "--max", limit)
-        assert status == 0 and error.startswith(f"pool 1: {wanted} moves of "), (case, wanted, error)
+        status, output, error = tools.run(
+            "plan", tools.put("m", value), "--alone", "--deviation", most, "--max", limit, "--anyway"
+        )
+        assert status == 0 and pool_lines(error)[0].startswith(f"pool 1: {wanted} moves of "), (case, wanted, error)
         assert f"{whole} in the whole plan" in error, error
         assert (f"; {near[0]} moves come within {most} of" if near else f"does not come within {most} of") in error, error
         after = with_commands(value, commands(output))
@@ -162,8 +169,8 @@ def test_deviation(tools):
 
 
 def test_deviation_of_a_cluster(tools):
-    """Over 48 OSDs a plan with a deviation of 5 comes within 5 groups of each share, and without its last move it would not."""
-    status, output, error = tools.run("plan", *tools.dumps("001-built"), "--deviation", "5")
+    """Over 48 OSDs a pool's plan by itself with a deviation of 5 comes within 5 groups of each share, and without its last move it would not."""
+    status, output, error = tools.run("plan", *tools.dumps("001-built"), "--alone", "--deviation", "5")
     assert status == 0 and "moves come within 5 of each share, 214 in the whole plan" in error, error
     moves, value = int(error.split(" moves of ")[0].split(" ")[-1]), tools.map("001-built")
     counts = {}
@@ -311,13 +318,13 @@ def test_what_is_told_round_a_plan(tools):
                           text=True, timeout=clusters.SECONDS, check=False)
     assert (done.returncode, done.stdout, done.stderr) == (0, "", "") and (tools.folder / "ran").read_text().splitlines() == commands(text), done
     assert len(commands(text)) > 20 and not [path.name for path in tools.folder.iterdir() if path.name in ("one", "two", "three", "four", "five")]
-    even = tools.run("plan", tools.put("m", with_commands(value, commands(text))))
-    assert even[:2] == (0, ""), even
+    alone = with_commands(value, commands(tools.run("plan", *files, "--alone")[1]))
+    assert tools.run("plan", tools.put("m", alone), "--alone")[:2] == (0, "")
 
 
 def test_batches(tools):
-    """A plan in batches is the plan: files of so many commands, in their order; the program accepts each after the other, and each tells
-    what it moves. A group's two commands stay in one file, and so does what takes a file back."""
+    """A plan in batches is the plan: files of at most so many commands; the program accepts each after the other, and each tells what it
+    moves. A group's two commands stay in one file, and so does what takes a file back."""
     files, value = dumped(tools, "old pairs")
     whole, sets = commands(tools.run("plan", *files)[1]), [tools.sets(value)]
     pairs = {group for group, words in of_groups(whole).items() if len(words) == 2}
@@ -327,10 +334,9 @@ def test_batches(tools):
         texts = [pathlib.Path(tools.folder, path).read_text() for path in output.splitlines()]
         assert status == 0 and output.splitlines() == [f"by-{size}/plan-{at:03}.sh" for at in range(1, len(texts) + 1)], (output, error)
         lines = [commands(text) for text in texts]
-        assert sum(lines, []) == whole, size
-        for own, behind in zip(lines, [*lines[1:], None]):
-            few = len(own) <= size or size == 1 and len(of_groups(own)) == 1
-            assert few and (behind is None or len(own) + len(of_groups(behind)[behind[0].split(" ")[3]]) > size), (size, own, behind)
+        assert of_groups(sum(lines, [])) == of_groups(whole) and sorted(sum(lines, [])) == sorted(whole), size
+        for own in lines:
+            assert own and (len(own) <= size or size == 1 and len(of_groups(own)) == 1), (size, own)
         backs = tools.run("plan", *files, "--batch", size, "--to", f"by-{size}", "--undo")[1].splitlines()
         assert backs == [path.replace("plan-", "undo-") for path in output.splitlines()], backs
         for path, own in zip(backs, lines):
@@ -359,10 +365,10 @@ def test_batches_that_cannot_be_written(tools):
         status, output, error = tools.run("plan", *files, "--batch", 9, "--to", folder)
         assert (status, output, error.splitlines()[-1]) == (1, "", told), (folder, output, error)
     assert [path.name for path in (tools.folder / "full").iterdir()] == ["plan-007.sh"]
-    done = tools.run("plan", *files, "--undo", "--batch", 1000, "--to", "full")
+    done = tools.run("plan", *files, "--alone", "--undo", "--batch", 1000, "--to", "full")
     assert done[:2] == (0, "full/undo-001.sh\n"), done
-    even = tools.put("even", with_commands(dumped(tools, "old pairs")[1], commands(tools.run("plan", *files)[1])))
-    assert tools.run("plan", even, "--batch", 9, "--to", "none")[:2] == (0, "") and not (tools.folder / "none").exists()
+    even = tools.put("even", with_commands(dumped(tools, "old pairs")[1], commands(tools.run("plan", *files, "--alone")[1])))
+    assert tools.run("plan", even, "--alone", "--batch", 9, "--to", "none")[:2] == (0, "") and not (tools.folder / "none").exists()
 
 
 def test_shares_of_the_data(tools):
@@ -371,8 +377,8 @@ def test_shares_of_the_data(tools):
     osd_dump, crush_dump = named_pools(2)
     files = tools.put("o", osd_dump), tools.put("c", crush_dump)
     value = json.loads(tools.run("import", *files)[1])
-    # 96 groups of size 3 and 64 of size 2, on all OSDs: a GiB a place of the one, a quarter of it of the other; and a pool beside them.
-    held = {1: 288 * 2 ** 30, 7: 32 * 2 ** 30, 99: 80 * 2 ** 30}
+    # 96 groups of size 3 and 64 of size 2, on all OSDs: a GiB a place of the one, a quarter of it of the other.
+    held = {1: 288 * 2 ** 30, 7: 32 * 2 ** 30}
     stats = {"stats": {"total_bytes": 1}, "pools": [{"name": f"p{pool}", "id": pool, "stats": {"stored": 1, "bytes_used": size, "percent_used": 0.5}}
                                                     for pool, size in held.items()]}
     df = tools.put("df", stats)
@@ -388,31 +394,32 @@ def test_shares_of_the_data(tools):
             osds.setdefault(osd, [0, 0])[1] += own
     assert {own["id"]: (own["bytes_come"], own["bytes_go"]) for own in told["osds"]} == {osd: tuple(own) for osd, own in osds.items()}
     assert {own["id"]: own["bytes"] for own in told["pools"]} == size and told["moving"]["bytes"] == sum(size.values()) > 0, (told["pools"], size)
-    assert abs(told["moving"]["share"] - sum(size.values()) / (400 * 2 ** 30)) < 1e-12, told["moving"]
+    assert abs(told["moving"]["share"] - sum(size.values()) / (320 * 2 ** 30)) < 1e-12, told["moving"]
     lines, pools, rows = told_of(text)
-    assert f"some {sum(size.values()) / 2 ** 30:.1f} GiB, {100 * sum(size.values()) / (400 * 2 ** 30):.2f} % of the data, by " in lines[0], lines[0]
+    assert f"some {sum(size.values()) / 2 ** 30:.1f} GiB, {100 * sum(size.values()) / (320 * 2 ** 30):.2f} % of the data, by " in lines[0], lines[0]
     for pool, own in size.items():
-        assert pools[f"p{pool}"][3:] == [f"{own / 2 ** 30:.1f}", "GiB", f"{own / (4 * 2 ** 30):.2f}", "%"], (pool, pools)
+        assert pools[f"p{pool}"][3:] == [f"{own / 2 ** 30:.1f}", "GiB", f"{own / (3.2 * 2 ** 30):.2f}", "%"], (pool, pools)
     for osd, (come, gone) in osds.items():
-        assert rows[f"osd.{osd}"][-2:] == [f"{(come - gone) / (4 * 2 ** 30):.2f}", "%"], (osd, rows)
+        assert rows[f"osd.{osd}"][-2:] == [f"{(come - gone) / (3.2 * 2 ** 30):.2f}", "%"], (osd, rows)
     plain = json.loads(tools.run("plan", *files, "--json")[1])
+    text = tools.run("plan", *files)[1]
     assert plain["moving"]["bytes"] is None and plain["pools"][0]["share"] is None and plain["osds"][0]["bytes_go"] is None, plain["moving"]
     assert (plain["commands"], plain["undo"]) == (commands(text), commands(tools.run("plan", *files, "--undo")[1])), plain
-    for wrong, what in (("[]", "no JSON object"), ({}, "no pools in it"), ({"pools": [{"id": 1}]}, "pools[0].stats: missing"), ({"pools": []}, "no pool 1"),
+    for wrong, what in (("[]", "no JSON object"), ({}, "no pools in it"), ({"pools": [{"id": 1}]}, "pools[0].stats: missing"), ({"pools": stats["pools"][1:]}, "no pool 1"),
                         ({"pools": [{"id": 1, "stats": {"bytes_used": "1"}}]}, "pools[0].stats.bytes_used: no whole number")):
         status, output, error = tools.run("plan", *files, "--df", tools.put("w", wrong))
         assert (status, output, error) == (1, "", f"{tools.folder / 'w'}: {what}\n"), (wrong, output, error)
 
 
 def test_several_pools(tools):
-    """Plans of two and three pools leave each of them even, and of one pool alone leave the others as they are."""
+    """Plans of two and three pools by themselves leave each of them even, and of one pool leave the others as they are."""
     for count in (2, 3):
         osd_dump, crush_dump = pooled(count)
         osd, crush = tools.put("o", osd_dump), tools.put("c", crush_dump)
         value = json.loads(tools.run("import", osd, crush)[1])
         ids = [pool["id"] for pool in value["pools"]]
-        status, output, error = tools.run("plan", osd, crush)
-        assert status == 0 and [line.split(":")[0] for line in error.splitlines()] == [f"pool {number}" for number in ids], error
+        status, output, error = tools.run("plan", osd, crush, "--alone")
+        assert status == 0 and [line.split(":")[0] for line in pool_lines(error)] == [f"pool{number}" for number in ids], error
         after = with_commands(value, commands(output))
         balances = [f"balance {number} 1024" for number in ids]
         dump = json.loads(tools.answers(value, balances + ["dump"])[-1].removeprefix("dump "))
@@ -462,6 +469,17 @@ def test_ring(tools):
     wanted = ["rm-pg-upmap-items 1.4", f"pg-upmap 1.4 {second} {first} {third}", "rm-pg-upmap-items 1.5"]
     assert (status, output.splitlines()) == (0, [f"ceph osd {command}" for command in wanted]), error
     assert tools.sets(with_commands(value, output.splitlines())) == sets
+
+
+def test_pairs_in_another_order(tools):
+    """Pairs that are there already in another order are left as they are: `net` puts out nothing for them."""
+    value = tools.map("002-built")
+    raw = {group: places(answer) for group, answer in tools.sets(value).items()}
+    pairs = {group: [[osd, other] for osd, other in zip(raw[group], [osd for osd in range(12) if osd not in raw[group]])][:2]
+             for group in ("1.4", "1.5", "1.6")}
+    value["pg_upmap_items"] = [["1.4", pairs["1.4"]], ["1.5", pairs["1.5"][::-1]], ["1.6", pairs["1.6"][::-1]]]
+    for words, wanted in (((), f'change {{"base":{value["epoch"]}}}\n'), (("--ceph",), "")):
+        assert tools.run("net", tools.put("m", value), *words) == (0, wanted, ""), words
 
 
 def tests():

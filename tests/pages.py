@@ -1,6 +1,6 @@
 #!/usr/bin/env python3
-"""The pages say what stands in the repository: the program of docs/LIBRARY.md, the function of README.md, names,
-targets, options, files, links, crates and their files, and the figures of README.md.
+"""The pages say what stands in the repository: the program of docs/LIBRARY.md, the function of README.md, names, calls,
+targets, options, files, links, crates and their files, the chain of proofs, the edits that must not prove, and figures.
 
     tests/pages.py
 """
@@ -14,11 +14,32 @@ TOP = pathlib.Path(__file__).resolve().parent.parent
 OF_OTHERS = {"dedup_by", "BufRead", "upmap_max_deviation"}
 # Options of the kit, of Python's tools, of valgrind and of Ceph's tools that pages speak of.
 OPTIONS_OF_OTHERS = {"--allow-holes", "--anew", "--format", "--jobs", "--only", "--no-build-isolation", "--strict",
-                     "--system-site-packages", "--tool", "--test-map-pgs", "--upmap", "--upmap-cleanup"}
+                     "--system-site-packages", "--table", "--tool", "--test-map-pgs", "--upmap", "--upmap-cleanup"}
+# Paths of other libraries, and of a place that a page makes up.
+PATHS_OF_OTHERS = {"Backoff", "Reader", "count"}
+# Names of other libraries' functions and of types that the kit has, and words of scripts and answers.
+OTHER_NAMES = {"append", "format", "get", "insert", "lookup", "pop", "spare", "swap_remove", "to_float", "to_i64", "to_u64", "i128",
+               "always_out_of_memory", "hold_always_gives_back", "await", "fup", "fdump", "ok", "osdmaptool"}
+# Times that pages state and nobody measured: limits, pauses, and what follows from a figure.
+STATED_TIMES = {("60", "seconds"), ("20", "minutes"), ("250", "microseconds"), ("twenty", "hours")}
+# What pages once said and was false.
+FALSE = [
+    "`lefts`", "Only other laws stand on these", "stands in a crate beside the chain", "One tuple is left", "thirteen numbers",
+    "takes 1,586", "takes 602", "a group instead of 37", "It takes one to three minutes and proves nothing", "take 0.02 seconds",
+    "0.03 seconds in a replicated pool", "0.26 in an erasure pool", "take a tenth of a second", "1,951 instructions", "Measured on:",
+    "a map of 131,072 groups (32 pools of 4,096)", "and the primary and not the up set", "`import` and `check` tell every reason",
+    "groups were placed anew", "taken all its turns", "One thing has one word. ", "No crate has more than 110 functions",
+    "Two numbers also stand bare", "a writer tells its answer", "with two answers left free", "also of a live session (`IsLeftIn`)",
+    "an answer of a monitor that nobody has changed is that of the map", "| A refused change changes nothing |",
+]
+# What comments said in other words than the pages, or falsely.
+FALSE_IN_COMMENTS = ["Of so many OSDs nothing is known", "growth was refused", "growth may be refused", "want of memory", "1 to 32", "no rules or more than 32,", "placed anew"]
 # What a command line has of itself.
 OF_PARSERS = {"--help", "--version"}
 DIGITS = "one two three four five six seven eight nine ten".split()
+RESULTS = TOP / "bench" / "results"
 NUMBERS = {word: str(number) for number, word in enumerate(DIGITS, 1)}
+NUMBER = r"\d(?:[\d,]*\d)?(?:\.\d+)?"
 UNITS = {"min": "minutes", "minute": "minutes", "s": "seconds", "second": "seconds", "hour": "hours"}
 
 
@@ -29,8 +50,20 @@ def text(*names):
 
 def pages():
     """Each page by its path."""
-    below = [TOP / folder / "README.md" for folder in ("examples", "tools")]
-    return [*sorted(TOP.glob("*.md")), *below, *sorted((TOP / "docs").glob("*.md"))]
+    below = [TOP / folder / "README.md" for folder in ("examples", "tools", "crates", "tests", "bench")]
+    return [*sorted(TOP.glob("*.md")), *below, *sorted((TOP / "docs").glob("*.md")), *sorted(RESULTS.glob("*.md"))]
+
+
+def flat(page):
+    """The text of a page in one line."""
+    return " ".join(page.read_text(encoding="utf-8").split())
+
+
+def stands_on():
+    """The crates that each crate stands on, by crates.txt."""
+    lines = re.findall(r"^(\w+)\b[^:\n]*:(.*)$", text("crates.txt"), re.MULTILINE)
+    crates = {name for name, _ in lines}
+    return {name: crates.intersection(below.split()) for name, below in lines}
 
 
 def code_of(page):
@@ -48,7 +81,8 @@ def anchors(page):
 def figures(page):
     """The figures of a page: each number before a unit of time or a gigabyte, of a range both."""
     number = rf"\d[\d,.]*|{'|'.join(NUMBERS)}"
-    found = re.findall(rf"\b(?:({number}) to )?({number}) (min|minutes?|s|seconds?|hours?|ms|µs|ns|GB)\b", page)
+    units = "min|minutes?|s|seconds?|hours?|ms|µs|ns|GB|microseconds|milliseconds|instructions"
+    found = re.findall(rf"\b(?:({number}) to )?({number}) ({units})\b", page)
     return {(NUMBERS.get(one, one), UNITS.get(unit, unit)) for low, high, unit in found for one in (low, high) if one}
 
 
@@ -103,7 +137,7 @@ def test_files():
     """Each file of the repository that a page names is there"""
     paths = [path.relative_to(TOP) for path in TOP.rglob("*") if path.is_file()]
     there = [f"/{path}" for path in paths if not {".git", "out"} & {*path.parts}]
-    form = r"(?<![\w./~-])(?:\w[\w-]*/)+[\w-]+\.(?:py|json|md|rt|antt|svg|txt|c)\b|\b\w+\.(?:py|rt|antt)\b"
+    form = r"(?<![\w./~-])(?:\w[\w-]*/)+[\w-]+\.(?:py|json|md|rt|antt|svg|txt|c)\b|\b\w+\.(?:py|rt|antt)\b(?!\.)"
     said = {(page.name, name) for page in pages() if page.name != "CHANGELOG.md" for name in re.findall(form, code_of(page))}
     missing = {named for named in said if not any(path.endswith(f"/{named[1]}") for path in there)}
     assert len(said) > 50 and not missing, missing
@@ -140,10 +174,87 @@ def test_crates():
 
 
 def test_figures():
-    """Each figure of README.md stands in docs/SPEEDS.md"""
-    said = figures(text("README.md"))
-    missing = said - figures(text("docs", "SPEEDS.md"))
-    assert len(said) > 5 and not missing, missing
+    """Each figure of a page stands in bench/results, and so does each number of the results in docs/SPEEDS.md"""
+    kept = set(re.findall(NUMBER, " ".join(path.read_text(encoding="utf-8") for path in RESULTS.glob("*.md"))))
+    said = {(page.name, *figure) for page in pages() if page.name != "CHANGELOG.md" for figure in figures(flat(page))}
+    missing = {figure for figure in said if figure[1] not in kept and figure[1:] not in STATED_TIMES}
+    assert len(said) > 30 and not missing, missing
+    rows = [row.split("|") for row in re.findall(r"^\|.*results/.*$", text("docs", "SPEEDS.md"), re.MULTILINE)]
+    numbers = {number for row in rows for number in re.findall(NUMBER, row[2])}
+    assert len(rows) == 12 and len(numbers) > 20 and numbers <= kept, numbers - kept
+
+
+def test_false_sentences():
+    """No page and no comment says again what was found to be false"""
+    said = {(page.name, sentence) for page in pages() for sentence in FALSE if sentence in f"{flat(page)} "}
+    paths = [path for part in ("src", "specs") for end in ("rt", "antt") for path in (TOP / "crates").glob(f"*/{part}/**/*.{end}")]
+    paths += (TOP / "tools" / "rekhuso").glob("*.py")
+    said.update((str(path), words) for path in paths for words in FALSE_IN_COMMENTS if words in " ".join(path.read_text("utf-8").replace("///", "").split()))
+    assert len(paths) > 100 and not said, said
+
+
+def declared():
+    """The functions of the sources; and with them all else that they declare: types, modules, definitions."""
+    sources = {path: path.read_text("utf-8") for end in ("rt", "antt") for path in (TOP / "crates").rglob(f"*.{end}") if "out" not in path.parts}
+    code = "\n".join(text for path, text in sources.items() if path.suffix == ".rt")
+    calls = set(re.findall(r"\bfn (\w+)", code))
+    items = calls.union(re.findall(r"\b(?:struct|enum|trait|const|type|mod) (\w+)", code), (path.stem for path in sources))
+    items |= set(re.findall(r"^(?:abbrev |unfoldable )?(?:pub )?(?:record |data )?(\w+)", "\n".join(sources.values()), re.MULTILINE))
+    return calls, items
+
+
+def test_items():
+    """A bare name between backticks in the pages on the code is declared in the sources, a crate, a wrong body or a test, or of others"""
+    known = declared()[1] | OTHER_NAMES | set(re.findall(r"\w+", text("crates.txt")))
+    known.update(re.findall(r"^def (\w+)", "\n".join(path.read_text("utf-8") for path in (TOP / "tests").glob("*.py")), re.MULTILINE))
+    known.update(*(re.findall(r"\w+", row) for row in re.findall(r"^\| (`.*?) \|", text("docs", "PROVED.md"), re.MULTILINE)))
+    said = {(name, word) for name in ("DESIGN", "PROVED", "DECISIONS", "LIBRARY") for word in re.findall(r"`([a-z]\w+)`", text("docs", f"{name}.md"))}
+    unknown = {named for named in said if named[1] not in known}
+    assert len(said) > 200 and not unknown, unknown
+
+
+def test_calls():
+    """What a page names by a path, and each call of the way that docs/DESIGN.md follows, stands in the sources"""
+    calls, items = declared()
+    ends = {(page.name, end) for page in pages() if page.name != "CHANGELOG.md" for end in re.findall(r"`[^`\n]*?\w::(\w+)`", page.read_text("utf-8"))}
+    unknown = {end for end in ends if end[1] not in items | PATHS_OF_OTHERS}
+    way = re.search(r"reaches its answer by these calls:.*?\n\n", text("docs", "DESIGN.md"), re.DOTALL)[0]
+    named = {name.rpartition("::")[2] for name in re.findall(r"`([\w:]+)`", way)}
+    assert len(ends) > 20 and not unknown and len(named) > 15 and named <= calls, (unknown, named - calls)
+
+
+def test_chain():
+    """The longest chain of proofs that docs/DESIGN.md names is one by crates.txt: each crate stands on the one before"""
+    below = stands_on()
+    length = {}
+    for name in below:  # A crate stands in crates.txt behind those that it stands on.
+        length[name] = 1 + max((length[one] for one in below[name]), default=0)
+    chain = re.search(r"longest chain of proofs is ([\w, ]+)\.", flat(TOP / "docs" / "DESIGN.md"))[1].split(", ")
+    steps = [(one, two) for one, two in zip(chain, chain[1:]) if one not in below.get(two, ())]
+    assert not steps and chain[-1] == "osdmapd" and len(chain) >= length["osdmapd"] - 1, (steps, length["osdmapd"], len(chain))
+
+
+def test_width():
+    """A line of a page has at most 132 columns, but for tables"""
+    wide = [(page.name, line) for page in pages() for line in page.read_text("utf-8").splitlines() if len(line) > 132 and not line.startswith("|")]
+    assert not wide, wide[:5]
+
+
+def test_edits():
+    """The table of wrong bodies in docs/PROVED.md names each edit that must not prove, at its crate"""
+    rows = re.findall(r"^\| (.*) \| edits? of `(\w+)` \|$", text("docs", "PROVED.md"), re.MULTILINE)
+    said = {(crate, name) for names, crate in rows for name in re.findall(r"`(\w+)`", names)}
+    there = {(path.parent.parent.name, path.stem) for path in (TOP / "crates").glob("*/must-fail/*.edit")}
+    assert len(there) > 40 and said == there, said ^ there
+
+
+def test_files_of_folders():
+    """README.md of tests/ and of bench/ name each file of their folder, and examples/README.md the independent program"""
+    for folder in ("tests", "bench"):
+        named = set(re.findall(r"`([\w.]+)`", text(folder, "README.md")))
+        missing = {path.name for path in (TOP / folder).iterdir() if path.is_file()} - named - {"README.md"}
+        assert not missing, (folder, missing)
+    assert "`tests/model.py`" in text("examples", "README.md")
 
 
 def tests():

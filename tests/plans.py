@@ -3,8 +3,9 @@
     tests/run.py --table plans PROGRAM
 
 Each group has an explicit set, so that its mapped set is known without hashes. The plan is the one of the definition: as long as some allowed move
-closes a difference of deviations above the weight of all candidates, the move with the greatest difference, ties to the lowest OSD that is left, then to
-the lowest that comes, then to the lowest group.
+closes a difference of deviations above the wanted one, the move with the greatest difference, ties to the lowest OSD that is left, then to the lowest that
+comes, then to the lowest group. A plan of a pool by itself wants a difference above the weight of all candidates; one that counts what OSDs carry goes by
+256ths of a group, and is asked for under `--stock`.
 """
 
 import json
@@ -54,8 +55,8 @@ def random_map(rng):
     return value, host_of, rack_of if racked else None, weight_of
 
 
-def plan(value, host_of, rack_of, weight_of, limit):
-    """The moves of the greedy plan, and the mapped sets after it."""
+def plan(value, host_of, rack_of, weight_of, limit, carried=None, apart=256):
+    """The moves of the greedy plan, and the mapped sets after it, where OSDs carry so much and are to be so far apart, in 256ths of a group."""
     osds = {osd["id"]: osd for osd in value["osds"]}
     size = value["pools"][0]["size"]
     mapped = [list(places) for _, places in value["pg_upmap"]]
@@ -77,10 +78,10 @@ def plan(value, host_of, rack_of, weight_of, limit):
     while moves < limit:
         count = {osd: sum(osd in places for places in mapped) for osd in candidates}
         places = sum(count.values())
-        away = {osd: count[osd] * total - places * weight[osd] for osd in candidates}
+        away = {osd: 256 * (count[osd] * total - places * weight[osd]) + (carried or {}).get(osd, 0) * total for osd in candidates}
         good = [
             (-(away[leaves] - away[comes]), leaves, comes, group)
-            for leaves in candidates for comes in candidates if away[leaves] - away[comes] > total
+            for leaves in candidates for comes in candidates if away[leaves] - away[comes] > apart * total + 255
             for group in range(len(mapped)) if is_allowed(group, leaves, comes)
         ]
         if not good:
@@ -92,16 +93,26 @@ def plan(value, host_of, rack_of, weight_of, limit):
     return moves, mapped
 
 
-def cases(how_many):
-    """Names, maps, scripts and answers."""
-    rng = random.Random(SEED)
+def random_loads(rng, osds):
+    """What some OSDs carry, in any order, some of it small, some of it whole groups, some of it more than can be evened."""
+    named = rng.sample(range(osds), rng.randint(0, osds))
+    return {osd: rng.choice([0, rng.randint(-300, 300), 256 * rng.randint(-3, 3), -(2 ** 31), 2 ** 31 - 1, rng.randint(-256, 256)]) for osd in named}
+
+
+def cases(how_many, is_carrying=False):
+    """Names, maps, scripts and answers; where OSDs carry something, of lines that say so."""
+    rng = random.Random(SEED + is_carrying)
     for case in range(how_many):
         value, host_of, rack_of, weight_of = random_map(rng)
         limit = rng.choice([1, 2, 1024])
-        moves, mapped = plan(value, host_of, rack_of, weight_of, limit)
+        carried, apart, words = {}, 256, ""
+        if is_carrying:
+            carried, apart = random_loads(rng, len(value["osds"])), rng.choice([256, 256, 257, 300, 512, 1024, 2 ** 32 - 1])
+            words = f" {apart} {json.dumps([[osd, load] for osd, load in carried.items()])}"
+        moves, mapped = plan(value, host_of, rack_of, weight_of, limit, carried, apart)
         epoch = 2 if moves else 1
         up = {osd["id"] for osd in value["osds"] if osd["up"]}
-        lines, answers = [f"balance 1 {limit}"], [f"moved {moves} epoch {epoch}"]
+        lines, answers = [f"balance 1 {limit}{words}"], [f"moved {moves} epoch {epoch}"]
         for group, places in enumerate(mapped):
             shown = [osd for osd in places if osd in up]
             lines.append(f"up 1.{group:x}")
@@ -109,7 +120,7 @@ def cases(how_many):
         for osd in sorted(up):
             lines.append(f"count {osd}")
             answers.append(f"count {epoch} {osd} {sum(osd in places for places in mapped)}")
-        yield f"plan {case}", json.dumps(value, sort_keys=True, separators=(",", ":")), lines, answers
+        yield f"plan {case}{' with loads' * is_carrying}", json.dumps(value, sort_keys=True, separators=(",", ":")), lines, answers
 
 
 if __name__ == "__main__":

@@ -17,9 +17,9 @@ many sessions whose answers must be those of one history (soak.py), `patched` ta
 built anew (anew.py), `stocked` rows of other tables that answer the same under `--stock`, `straws` picks that each entry of a
 logarithm's tables decides (straws.py), `wide` the limits of stock clusters (wide.py), and `apart` holds what reckons apart against Ceph's placements and the kept answers, and
 the kept picture.
-`clusters` are the tools over clusters of Ceph's (clusters.py) and stock ones (stock.py, whole.py, stock_edges.py), what `import`
-has against others (brought.py), plans (moves.py), what the tools tell (told.py), their edges (edges.py) and their package
-(packaged.py), `live` sessions that are
+`clusters` are the tools over clusters of Ceph's (clusters.py) and stock ones (stock.py, whole.py, stock_edges.py), those that
+operators have at their worst (operators.py), what `import` has against others (brought.py), plans (moves.py), those of a whole
+cluster (evened.py), what the tools tell (told.py), their edges (edges.py) and their package (packaged.py), `live` sessions that are
 answered as they are typed (live.py), and `pages` what the pages say of the repository (pages.py). At the end each growth of
 the examples' runs is refused in turn (memory.py). What is being run is told on standard error meanwhile. Each run, and
 whatever waits in a check, has a limit of time; past it the row has failed, and the others go on.
@@ -44,11 +44,13 @@ import brought
 import clusters
 import crowds
 import edges
+import evened
 import faulty
 import live
 import memory
 import model
 import moves
+import operators
 import packaged
 import pages
 import soak
@@ -478,8 +480,11 @@ def examples():
 
 def plans():
     """Greedy plans by brute force, over random maps."""
-    for name, text, lines, answers in plan_cases(300):
-        yield Run(name, {"map": text, "script": "\n".join(lines) + "\n"}, "\n".join(["session 1"] + answers) + "\n")
+    for is_carrying in (False, True):
+        for name, text, lines, answers in plan_cases(300, is_carrying):
+            files = {"map": text, "script": "\n".join(lines) + "\n"}
+            options = {"arguments": ["--stock", "map", "script"]} if is_carrying else {}
+            yield Run(name, files, "\n".join(["session 1"] + answers) + "\n", **options)
 
 
 def in_files(command, value, lines):
@@ -607,8 +612,8 @@ def of_clusters():
     """The tools over clusters as Ceph's tools dump them."""
     yield Check("the places at fault that tools tell, beside the refusals of all tables", lambda _: faulty.faults(
         run for name in ("worked", "changes", "growth", "limits", "texts") for run in table_of(name)))
-    for name, test in [*clusters.tests(), *brought.tests(), *moves.tests(), *told.tests(), *edges.tests(), *stock.tests(),
-                       *whole.tests(), *stock_edges.tests()]:
+    for name, test in [*clusters.tests(), *brought.tests(), *moves.tests(), *evened.tests(), *told.tests(), *edges.tests(), *stock.tests(),
+                       *operators.tests(), *whole.tests(), *stock_edges.tests()]:
         yield Check(name, lambda command, test=test: clusters.faults(command, test))
     for name, test in packaged.tests():
         yield Check(name, lambda command, test=test: test(command) or [])

@@ -94,7 +94,7 @@ def test_counts_and_words_of_rules(tools):
     own["osd_dump"]["osds"][3]["weight"] = 1.5
     value = json.loads(ran(tools, "import", *dumps(tools, "words", own))[0])
     assert value["rules"][0]["steps"][1] == ["choose_firstn", 0, 0] and value["osds"][3]["weight"] == 65536, value["rules"]
-    for step, told in (({"op": "choose_msr"}, "rule replicated_rule has a step choose_msr, which is not in the grammar: "),
+    for step, told in (({"op": "choose_msr"}, "rule replicated_rule has a step choose_msr, which is not in the grammar"),
                        ({"op": "chooseleaf_firstn"}, "rules[0].steps[1].num: missing")):
         own = copied("001-three-hosts")
         own["crush_dump"]["rules"][0]["steps"][1] = step
@@ -297,7 +297,7 @@ def test_limits_of_stock_changes(tools):
 
 def test_limits_of_import(tools):
     """A stock cluster past a wide limit stays out with the number and what to do; without straw2 buckets, past a plain one."""
-    for groups, told in ((65536, ""), (65537, "pool 2 has 65537 groups, more than 65536: no map holds it; --pools takes the other pools")):
+    for groups, told in ((65536, ""), (65537, "pool 2 has 65537 groups, more than 65536: no map holds it; --pools 1 takes the pools that come in")):
         own = copied("001-three-hosts")
         own["osd_dump"]["pools"][1].update(pg_num=groups, pg_placement_num=groups)
         assert (refused(tools, own) if told else []) == [told][:bool(told)], groups
@@ -310,7 +310,7 @@ def test_limits_of_import(tools):
     for alg, most in (("list", "more than 64: only a straw2 bucket holds more in a map"), ("straw2", "")):
         own = copied("021-flat-root")
         bucket_of(own, "default")["alg"] = alg
-        assert (refused(tools, own) if most else []) == [f"bucket default has 97 items, {most}; --pools takes pools whose rules do not reach it"][:bool(most)]
+        assert (refused(tools, own) if most else []) == [f"bucket default has 97 items, {most}"][:bool(most)]
     for count, straw2, told in ((256, True, ""), (257, True, f"257 pools, more than 256: {many}"), (32, False, ""),
                                 (33, False, "33 pools, more than 32: only a map with straw2 buckets holds more; --pools takes some pools at a time")):
         own = copied("001-three-hosts")
@@ -331,11 +331,11 @@ def test_limits_of_import(tools):
 def test_limits_of_maps_without_straw2(tools):
     """Of a cluster that takes two maps, one of them without straw2 buckets, that one has the plain limits: past them it is told which map it
     is, and what to do; the pools of the other come in."""
-    name, more = "005-openstack-mixed", "only a map with straw2 buckets holds more; --pools takes"
+    name, more = "005-openstack-mixed", "only a map with straw2 buckets holds more; --pools"
     for changes, told in (([dict(pg_num=4096, pg_placement_num=4096)], ""),
-                          ([dict(pg_num=8192, pg_placement_num=8192)], f"pool 1 has 8192 groups, more than 4096: {more} the other pools"),
+                          ([dict(pg_num=8192, pg_placement_num=8192)], f"pool 1 has 8192 groups, more than 4096: {more} 2,3,4 takes the pools that come in"),
                           ([{}, *(dict(pool=at) for at in range(5, 36))], ""),
-                          ([{}, *(dict(pool=at) for at in range(5, 37))], f"33 pools, more than 32: {more} some pools at a time")):
+                          ([{}, *(dict(pool=at) for at in range(5, 37))], f"33 pools, more than 32: {more} takes some pools at a time")):
         own = copied(name)
         pools = own["osd_dump"]["pools"]
         pools[:1] = [dict(pools[0], pool_name=f"p{change.get('pool', 1)}", **change) if change else pools[0] for change in changes]

@@ -51,7 +51,7 @@ def test_tree(tools):
         assert told["summary"]["pgs"] == sum(groups.values()) and abs(told["summary"]["share"] - told["summary"]["pgs"]) < 1, name
         assert [pool["id"] for pool in told["pools"]] == [pool["pool"] for pool in STOCK[name]["osd_dump"]["pools"]]
         lines = ran(tools, "df", *dumps(tools, name))[0].splitlines()
-        assert len(lines) == 1 + len(rows) + 1 + len(told["pools"]) + 1, (name, lines)
+        assert len(lines) == 1 + len(rows) + 1 + len(told["pools"]) + 2, (name, lines)
 
 
 def test_shares_under_a_weight_set(tools):
@@ -121,28 +121,30 @@ def test_whatif(tools):
     change = {"new_items": [[group, [[pairs[group], spare[group]]]] for group in pairs]}
     assert ran(tools, "whatif", *files, json.dumps(change))[0].startswith("2 groups and 2 places move"), change
     for words, status, told in ((['{"new_pools":[]}'], 1, "new_pools: the cluster takes 2 maps"), (['{"new_items":[["9.0",[[1,2]]]]}'], 1, "23 UnknownPool"),
-                                (["--add-host", "new", "1,1"], 1, "new: the cluster takes 2 maps"), (["{", "5"], 2, "error: "), (["5"], 2, "error: ")):
+                                (["--add-host", "new", "1,1"], 1, "new: of which device class? --class one of hdd, ssd"), (["{", "5"], 2, "error: "), (["5"], 2, "error: ")):
         _, error = ran(tools, "whatif", *files, *words, status=status)
         assert told in error and len(error.splitlines()) == 1, (words, error)
 
 
 def test_plans(tools):
-    """The plans of a cluster of several maps are those of its pools, and leave nothing to move in any map."""
+    """The plans of a cluster of several maps, each pool by itself, are those of its pools, and leave nothing to move in any map."""
     files = dumps(tools, SEVERAL)
-    output, error = ran(tools, "plan", *files)
+    output, error = ran(tools, "plan", *files, "--alone")
     groups = [tuple(int(part, 16 if at else 10) for at, part in enumerate(line.split(" ")[3].split("."))) for line in clusters.commands(output)]
     assert groups == sorted(groups) and {pool for pool, _ in groups} == {2, 3, 4}, groups
-    assert [line.split(":")[0] for line in error.splitlines()] == [f"pool {pool}" for pool in (1, 2, 3, 4)], error
+    names = {pool["pool"]: pool["pool_name"] for pool in STOCK[SEVERAL]["osd_dump"]["pools"]}
+    lines = [line.split(":")[0] for line in error.splitlines() if not line.startswith("cluster ")]
+    assert lines == [names[pool] for pool in (1, 2, 3, 4)], error
     for value in maps_of(tools, SEVERAL).values():
         own = {str(pool["id"]) for pool in value["pools"]}
         after = clusters.with_commands(value, [line for line in clusters.commands(output) if line.split(" ")[3].split(".")[0] in own])
         for pool in sorted(own):
             assert stock.answers(tools, after, [f"balance {pool} 1024"], "--stock")[0].startswith("moved 0 "), pool
-    part, _ = ran(tools, "plan", *files, "--pool", "4")
+    part, _ = ran(tools, "plan", *files, "--pool", "4", "--alone")
     moves = [line for line in clusters.commands(output) if " 4." in line]
     assert moves and clusters.commands(part) == moves, part
-    short, error = ran(tools, "plan", *files, "--pools", "4", "--deviation", "1")
-    assert 0 < len(clusters.commands(short)) <= len(moves) and error.startswith("pool 4: "), (short, error)
+    short, error = ran(tools, "plan", *files, "--pools", "4", "--deviation", "1", "--alone")
+    assert 0 < len(clusters.commands(short)) <= len(moves) and f"\n{names[4]}: " in error, (short, error)
     for words in (["--pool", "7"], ["--pools", "nobody"]):
         _, error = ran(tools, "plan", *files, *words, status=1)
         assert error.startswith("no pool "), error
@@ -159,8 +161,9 @@ def test_groups_with_an_empty_place(tools):
     assert len(empty) > 20 and moved and not moved & empty, moved & empty
     left = set(told[3]["left_out"])
     assert left and left <= empty and not told[2]["left_out"], left
-    line = next(line for line in error.splitlines() if line.startswith("pool 3: "))
-    assert f"; {len(left)} groups with an empty place are left out" in line, line
+    name = next(pool["pool_name"] for pool in STOCK[DRAINED]["osd_dump"]["pools"] if pool["pool"] == 3)
+    line = next(line for line in error.splitlines() if line.startswith(f"{name}: "))
+    assert f"; {len(left)} groups are left out, whose pairs Ceph's monitor would take away again, by step take default" in line, line
     value = next(value for value in maps_of(tools, DRAINED).values() if any(pool["id"] == 3 for pool in value["pools"]))
     after = stock.sets(tools, clusters.with_commands(value, clusters.commands(output)))
     counts = dict.fromkeys((osd["id"] for osd in value["osds"]), 0)

@@ -32,8 +32,13 @@ def paths_in(crate):
 
 def main():
     root = pathlib.Path(sys.argv[1] if len(sys.argv) > 1 else pathlib.Path(__file__).parent.parent)
-    vain = [(crate, library) for crate, libraries in named(root) for used in [paths_in(root / "crates" / crate)]
-            for library in libraries if library not in used]
+    vain = [
+        (crate, library)
+        for crate, libraries in named(root)
+        for used in [paths_in(root / "crates" / crate)]
+        for library in libraries
+        if library not in used
+    ]
     for crate, library in vain:
         print(f"crates.txt names {library} for {crate}, which does not use it", file=sys.stderr)
     return 1 if vain else 0

@@ -1,21 +1,33 @@
 #!/usr/bin/env python3
-"""Tells of each place that makes a room for runs of rules (a `Work` of crush) where none may be made: status 1 where there is
-one.
+"""Tells of each place that makes a room for runs of rules (a `Work` of crush), or something that brings one, where it may not be
+made: status 1 where there is one.
 
     works.py [ROOT]
 
-The runs that a commit costs are counted in the work that the state lends to it, by a clause of the commit. Runs with a second work
-would be counted nowhere, and no contract could tell, so each of these files makes one, in one place, and no other file does.
+A run of a rule needs a `Work`, which counts it by a clause. A monitor makes one `Work`, which its state lends to all that runs rules,
+and clauses of the state say how many runs there were. Runs with a second work would be counted elsewhere, and no contract could tell.
+So each of these is made in the files that stand here, in one place of each, and in no other.
 """
 
 import pathlib
 import re
 import sys
 
-MAKERS = {
-    "state/src/state.rt": "the one that all tables of the state are counted in",
-    "balancer/src/group.rt": "a plan looks at the sets of one pool, before there is a change, and makes no patch",
+WORKS = {
+    "monitor/src/open.rt": "the one that all runs of a monitor's state are counted in",
     "monitor/src/follower.rt": "a follower answers from a map of its own, which has no table and no patch",
+}
+STATES = {"monitor/src/open.rt": "the state of the monitor"}
+FOLLOWERS = {
+    "session/src/desk.rt": "the follower of a session",
+    "library_example/src/main.rt": "a follower as the library has them",
+}
+# What makes something, by its name, and where that may be: another name of a work (`type Room = Work`) nowhere.
+MAKERS = {
+    "Work": (r"\bWork>?\s*::\s*new\b|\bWork\s+as\b", WORKS),
+    "another name of Work": (r"\btype\s+\w+\s*=[^;]*\bWork\b", {}),
+    "State": (r"\bState>?\s*::\s*new\b|\bState\s+as\b|\btype\s+\w+\s*=[^;]*\bState\b", STATES),
+    "Follower": (r"\bFollower>?\s*::\s*new\b|\bFollower\s+as\b|\btype\s+\w+\s*=[^;]*\bFollower\b", FOLLOWERS),
 }
 
 
@@ -26,21 +38,28 @@ def code_of(file):
 
 
 def makers(root):
-    """Each file of a crate above crush that makes a work, and in how many places."""
+    """What is made in each file of a crate above crush, where it may be, and how often."""
     for file in sorted((root / "crates").glob("*/src/**/*.rt")):
         place = file.relative_to(root / "crates").as_posix()
-        times = len(re.findall(r"\bWork>?\s*::\s*new\b|\bWork\s+as\b", code_of(file)))
-        if times and not place.startswith("crush/"):
-            yield place, times
+        if not place.startswith("crush/"):
+            for what, (pattern, allowed) in MAKERS.items():
+                times = len(re.findall(pattern, code_of(file)))
+                if times:
+                    yield place, what, place in allowed and times == 1
 
 
 def main():
     root = pathlib.Path(sys.argv[1] if len(sys.argv) > 1 else pathlib.Path(__file__).parent.parent)
     found = list(makers(root))
-    wrong = [place for place, times in found if place not in MAKERS or times > 1]
-    for place in wrong:
-        print(f"crates/{place} makes a Work, or a second one, which tools/works.py does not allow there", file=sys.stderr)
-    print(f"works: made in {len(found)} files, {len(wrong)} of them where none may be made, or one too many")
+    wrong = [(place, what) for place, what, may_be in found if not may_be]
+    for place, what in wrong:
+        print(
+            f"crates/{place} makes a {what}, or a second one, which tools/works.py does not allow there",
+            file=sys.stderr,
+        )
+    print(
+        f"works: {len(found)} places that make one or bring one, {len(wrong)} of them where none may be, or one too many"
+    )
     return 1 if wrong else 0
 
 

@@ -20,7 +20,9 @@ class Advice(NamedTuple):
     many: str = ""
 
 
-POOLS, SOME = "--pools takes the other pools", "--pools takes some pools at a time"
+# What stands for the words that take the pools that come in, where some do.
+POOLS = "{pools}"
+SOME = "--pools takes some pools at a time"
 AGAIN = "no monitor dumps it so: take both dumps again"
 # What keeps a cluster out whose maps have no straw2 bucket.
 BARE = "only a map with straw2 buckets holds more"
@@ -28,10 +30,16 @@ KINDS = (
     *(
         Advice(
             rf"^bucket (.+) has \d+ items, more than {most}$",
-            f"{why}; --pools takes pools whose rules do not reach it",
+            f"{why}; {POOLS}",
             f"{{count}} buckets have more than {most} items: {{names}}",
         )
         for most, why in ((ITEMS, "only a straw2 bucket holds more in a map"), (STOCK.items, "no map holds so many"))
+    ),
+    Advice(
+        r"^bucket (.+): the weight of (?!osd\.).+ is 0$",
+        "no map holds it; `ceph osd crush reweight` gives the OSDs below it a weight, and `ceph osd crush rm` takes an "
+        "empty bucket away",
+        "{count} buckets below buckets that are not straw2 have the weight 0: in {names}",
     ),
     Advice(
         r"^bucket (.+): the weight of .+ is 0$",
@@ -56,12 +64,18 @@ KINDS = (
     Advice(r"^no tunable ", "take the dump by Ceph 10.2 or later"),
     Advice(
         r"^pool (\d+) is without hashpspool",
-        f"`ceph osd pool set POOL hashpspool true` sets it, and moves its data once; {POOLS}",
+        f"`ceph osd pool set POOL hashpspool true --yes-i-really-mean-it` sets it, and moves its data once; {POOLS}",
     ),
     Advice(
-        r"^choose_args.*: of pools", "`ceph osd crush weight-set rm POOL` takes each away, once the balancer is off"
+        r"^choose_args.*: of pools",
+        f"`ceph osd crush weight-set rm POOL` takes each away, once the balancer is off; {POOLS}",
     ),
     Advice(r"^choose_args", "`ceph osd crush weight-set rm-compat` takes it away, once the balancer is off"),
+    Advice(
+        r"can pick the empty bucket (.+~.+)$",
+        "no OSD of the class is left; `ceph osd pool set POOL crush_rule RULE` gives a pool of that rule another, "
+        f"which moves its data; {POOLS}",
+    ),
     Advice(
         r"can pick the empty bucket (.+)$",
         "`ceph osd crush rm` takes it away, or `ceph osd crush reweight-all` gives it the weight 0",
@@ -70,18 +84,22 @@ KINDS = (
     Advice(
         r"the OSD dump does not list",
         "take both dumps at one time; where the OSD was removed, --tree tells its reweight (`ceph osd tree -f "
-        "json`), and --unmatched takes it as out, which is right where it was",
+        "json`), --unmatched takes it as out, which is right where it was, and `ceph osd crush rm` takes it away",
     ),
     Advice(
         r"the CRUSH dump does not list",
         "take both dumps at one time; --unmatched takes it as out of reach of every rule",
     ),
     Advice(r"^pg_upmap_primaries", "`ceph osd rm-pg-upmap-primary PG` takes each away"),
-    Advice(r"not in the grammar|from two buckets|is of the unknown type", "--pools takes the pools of other rules"),
+    Advice(r"not in the grammar|from two buckets|is of the unknown type| takes osd\.\d+, which is no bucket$", POOLS),
+    Advice(
+        r"which is not below it$",
+        f"`ceph osd crush unlink` takes the lower one out of the other, which moves data; {POOLS}",
+    ),
     Advice(r"^pool (\d+) is of type", POOLS),
     Advice(
         r"^(.+) stands (?:below .+ buckets of|in .+ twice)",
-        "`ceph osd crush unlink` takes it out of one of them",
+        f"`ceph osd crush unlink` takes it out of one of them, which moves data; {POOLS}",
         "{count} items stand below a root more than once: {names}",
     ),
     Advice(
@@ -89,7 +107,6 @@ KINDS = (
     ),
     Advice(
         r"is listed twice|is listed in the OSD dump, but|no whole number$|: no [a-z]+$|: missing$|which is no bucket$|"
-        r"which is not below it$|"
         r"of the unknown kind|chooses the unknown type|no number of 32 bits$|is not below max_osd",
         AGAIN,
     ),
@@ -101,8 +118,16 @@ def kind_of(reason: str) -> Advice | None:
     return next((kind for kind in KINDS if re.search(kind.pattern, reason)), None)
 
 
-def advised(reasons: list[str]) -> list[str]:
-    """Each reason with what is done about it, and of those kinds that are told as one, more than a few in one line."""
+def with_pools(done: str, pools: str) -> str:
+    """What is done about a reason, with the words that take the pools that come in; without them where none does."""
+    words = f"--pools {pools} takes the pools that come in" if pools else ""
+    return done.replace(POOLS, words).removesuffix("; ")
+
+
+def advised(reasons: list[str], pools: str) -> list[str]:
+    """Each reason with what is done about it, where some pools come in, and of those kinds that are told as one, more
+    than a few in one line.
+    """
     kinds = [kind_of(reason) for reason in reasons]
     found: list[str] = []
     told: set[Advice] = set()
@@ -115,5 +140,6 @@ def advised(reasons: list[str]) -> list[str]:
             told.add(kind)
             names = [match[1] for match in (re.search(kind.pattern, other) for other in same) if match]
             reason = kind.many.format(count=len(same), names=some(list(dict.fromkeys(names))))
-        found.append(f"{reason}{'' if reason.endswith('?') else ':'} {kind.done}")
+        done = with_pools(kind.done, pools)
+        found.append(f"{reason}{'' if reason.endswith('?') else ':' if done else ''} {done}".rstrip())
     return found

@@ -11,38 +11,21 @@ from __future__ import annotations
 import json
 import pathlib
 import sys
-from typing import NamedTuple, cast
+from typing import NamedTuple
 
 from .advice import advised
 from .cluster import KINDS, Cluster, listed
+from .dumps import Misfit, chosen_of, first_of
 from .faults import Fault, Misuse, Refused
 from .forms import PLAIN, TRIES
-from .kinds import (
-    Bucket,
-    Commands,
-    CrushDump,
-    DumpOsd,
-    DumpPool,
-    Map,
-    Options,
-    Osd,
-    OsdDump,
-    Parser,
-    Pool,
-    Program,
-    Rule,
-    Told,
-    Shape,
-    Tree,
-)
+from .kinds import Bucket, Commands, DumpOsd, DumpPool, Map, Options, Osd, Parser, Pool, Program, Rule, Told
 from .monitor import Monitor, has_straw2
 from .outside import count_reasons, reasons, root_reasons, size_reasons, unmatched
 from .places import map_places
-from .shapes import CRUSH_DUMP, OSD_DUMP, TREE, fitting, misfits
-from .texts import json_of, put, written
+from .texts import put, written
 
-# How many places at fault of one file are told one by one.
-MOST = 20
+# The longest list of pools in the name of a file.
+LONGEST = 200
 UNMATCHED = "take OSDs that only one of the dumps has as out, and tell which"
 
 
@@ -109,77 +92,16 @@ def map_of(cluster: Cluster) -> Map:
     }
 
 
-def monitor_of(value: Map, program: Program) -> Monitor:
+def monitor_of(value: Map, program: Program, stock: bool | None = None) -> Monitor:
     """A session over a map that nothing was found against. A fault where the program refuses it: its own name for
     it, and the places.
     """
     try:
-        return Monitor(value, program)
+        return Monitor(value, program, stock=stock)
     except Refused as refused:
         raise Fault(
             f"the program refuses the map: {refused.name}", *map(str, map_places(value, has_straw2(value)))
         ) from None
-
-
-# Dumps
-
-
-def dumped(path: str, shape: Shape) -> tuple[Told, frozenset[str], list[str]]:
-    """What of the dump in a file is of its form, the keys of which something is not, and each place that is not."""
-    value = json_of(path)
-    found = misfits(value, shape, "")
-    if not found:
-        names = [key.removeprefix("?") for key in shape]
-        return {name: value[name] for name in names if name in value}, frozenset(), []
-    faults = [f"{path}: {place}" for place in found[:MOST]] + (
-        [f"{path}: and {len(found) - MOST} more"] if len(found) > MOST else []
-    )
-    return *fitting(value, shape), faults
-
-
-def gone_in(tree: Tree, osd_dump: OsdDump) -> dict[int, int]:
-    """The reweights, in units of 1/65,536, of the OSDs that a tree tells not to exist any more and that the OSD dump
-    does not list.
-    """
-    there = {osd["osd"] for osd in osd_dump["osds"]}
-    return {
-        node["id"]: round(node["reweight"] * 65536)
-        for node in tree["nodes"]
-        if node["id"] >= 0 and node.get("exists") == 0 and node.get("reweight", -1) >= 0 and node["id"] not in there
-    }
-
-
-def both_dumps(osd_dump: str, crush_dump: str, tree: str | None = None) -> tuple[Cluster, list[str]]:
-    """The cluster of two dumps, or of three, as far as these are of their forms, and each place that is not; a fault
-    that tells of each file that is no JSON object.
-    """
-    found, unread = [], []
-    files: list[tuple[str, Shape]] = [(osd_dump, OSD_DUMP), (crush_dump, CRUSH_DUMP)]
-    for path, shape in files if tree is None else [*files, (tree, TREE)]:
-        try:
-            found.append(dumped(path, shape))
-        except Fault as fault:
-            unread += fault.lines
-    if unread:
-        raise Fault(*unread)
-    osds, crush = cast(OsdDump, found[0][0]), cast(CrushDump, found[1][0])
-    gone = {} if tree is None else gone_in(cast(Tree, found[2][0]), osds)
-    return Cluster(osds, crush, found[0][1] | found[1][1], gone), [fault for _, _, faults in found for fault in faults]
-
-
-def with_pools(cluster: Cluster, words: str | None) -> Cluster:
-    """A cluster with some of its pools alone, by their ids or names with a comma between them. A fault for a word
-    that is neither.
-    """
-    if words is None:
-        return cluster
-    known = {pool["pool_name"]: pool["pool"] for pool in cluster.pools} | {
-        str(pool["pool"]): pool["pool"] for pool in cluster.pools
-    }
-    unknown = [word for word in words.split(",") if word not in known]
-    if unknown:
-        raise Fault(*(f"no pool {word}" for word in unknown))
-    return cluster.of_pools({known[word] for word in words.split(",")})
 
 
 # Clusters
@@ -188,6 +110,16 @@ def with_pools(cluster: Cluster, words: str | None) -> Cluster:
 def numbers(part: Cluster) -> str:
     """The pools of a map, by their ids."""
     return ",".join(str(pool["pool"]) for pool in part.pools)
+
+
+def file_of(part: Cluster) -> str:
+    """The name of the file of a map: all its pools by their ids, or where these are too many the first and how many
+    more.
+    """
+    found = numbers(part)
+    if len(found) > LONGEST:
+        found = f"{part.pools[0]['pool']}-and-{len(part.pools) - 1}-more"
+    return f"pools-{found}.json"
 
 
 def several(parts: list[Cluster]) -> str:
@@ -211,22 +143,43 @@ def plain_reasons(cluster: Cluster) -> list[str]:
     """
     kinds = {cluster.buckets[number]["alg"] for number in cluster.kept}
     parts = parts_of(cluster) if "straw2" in kinds and len(kinds) > 1 else []
+    told = {numbers(part): count_reasons(part) if part.limits == PLAIN else [] for part in parts}
+    free = ",".join(pools for pools, lines in told.items() if not lines)
     return [
-        f"the map of the pools {numbers(part)} has no straw2 bucket: {line}"
-        for part in parts
-        if part.limits == PLAIN
-        for line in advised(count_reasons(part))
+        f"the map of the pools {pools} has no straw2 bucket: {line}"
+        for pools, lines in told.items()
+        for line in advised(lines, free)
     ]
 
 
-def against(cluster: Cluster, faults: list[str], is_unmatched: bool, is_one: bool) -> list[str]:
+def free_pools(cluster: Cluster, faults: list[Misfit], is_unmatched: bool) -> str:
+    """The pools of a cluster that stays out that come in without the others, by their ids; none where these are all
+    that it has, or too many for one another.
+    """
+
+    def is_free(pools: set[int]) -> bool:
+        """Whether some pools come in without the others."""
+        part = cluster.of_pools(pools)
+        return not any(fault.concerns(part, True) for fault in faults) and not reasons(part, is_unmatched, False)
+
+    found = {pool["pool"] for pool in cluster.pools if is_free({pool["pool"]})}
+    is_part = 0 < len(found) < len(cluster.pools)
+    return ",".join(map(str, sorted(found))) if is_part and is_free(found) else ""
+
+
+def with_advice(cluster: Cluster, faults: list[Misfit], found: list[str], is_unmatched: bool) -> list[str]:
+    """Each reason with what is done about it."""
+    return advised(found, free_pools(cluster, faults, is_unmatched) if found else "") + plain_reasons(cluster)
+
+
+def against(cluster: Cluster, faults: list[Misfit], is_unmatched: bool, is_one: bool) -> list[str]:
     """All that is told against a cluster; where one map is asked for, what it takes several for too."""
-    found = faults + reasons(cluster, is_unmatched, False)
+    found = first_of(faults) + reasons(cluster, is_unmatched, False)
     apart = (
         [line for line in root_reasons(cluster, True) + size_reasons(cluster) if line not in found] if is_one else []
     )
     if cluster.is_stock:
-        found = advised(found) + plain_reasons(cluster)
+        found = with_advice(cluster, faults, found, is_unmatched)
     if apart:
         apart[-1] += f"; {several(parts_of(cluster))}"
     return found + apart
@@ -236,8 +189,7 @@ def brought(osd_dump: str, crush_dump: str, options: Options, is_one: bool = Fal
     """The cluster of two dumps and its maps, or its one map; a fault that says all that keeps it out. What only one
     of the dumps has is no fault where the options take it so, and is told on standard error.
     """
-    cluster, faults = both_dumps(osd_dump, crush_dump, options.tree)
-    cluster = with_pools(cluster, options.pools)
+    cluster, faults = chosen_of(osd_dump, crush_dump, options)
     found = against(cluster, faults, options.unmatched, is_one)
     if found:
         raise Fault(*found)
@@ -256,9 +208,9 @@ def judged(options: Options) -> None:
     """
     if options.out is not None or options.names is not None:
         raise Misuse("--check writes no files: --out and --names do not go with it")
-    cluster, faults = both_dumps(options.osd_dump, options.crush_dump, options.tree)
-    cluster = with_pools(cluster, options.pools)
-    found = advised(faults + reasons(cluster, options.unmatched, False)) + plain_reasons(cluster)
+    cluster, faults = chosen_of(options.osd_dump, options.crush_dump, options)
+    told_first = first_of(faults) + reasons(cluster, options.unmatched, False)
+    found = with_advice(cluster, faults, told_first, options.unmatched)
     if found:
         raise Fault(*found, f"the cluster stays out, for {len(found)} reason{'s' * (len(found) > 1)}")
     parts = parts_of(cluster)
@@ -296,7 +248,7 @@ def put_all(folder: str, maps: Brought) -> None:
     except OSError as fault:
         raise Fault(f"{folder}: {fault.strerror}") from None
     for part, value in zip(maps.parts, maps.maps):
-        path = str(pathlib.Path(folder, f"pools-{numbers(part)}.json"))
+        path = str(pathlib.Path(folder, file_of(part)))
         put(path, written(value) + "\n")
         print(path)
 

@@ -5,7 +5,7 @@ out.
 from __future__ import annotations
 
 from functools import cached_property
-from typing import Callable
+from typing import Any, Callable
 
 from .forms import GROUP, ITEMS, TRIES, Limits, limits_of
 from .kinds import (
@@ -13,6 +13,7 @@ from .kinds import (
     CrushDump,
     DumpBucket,
     DumpItem,
+    DumpPool,
     DumpRule,
     DumpStep,
     Entry,
@@ -36,12 +37,17 @@ def listed(words: list[str]) -> str:
     return words[0] if len(words) == 1 else ", ".join(words[:-1]) + " and " + words[-1]
 
 
-def compat_weight_set(crush_dump: CrushDump) -> dict[int, list[int]]:
+def weight_sets_of(crush_dump: CrushDump, pools: list[DumpPool]) -> dict[str, list[Any]]:
+    """The weight sets that some pools have: their own, and the compat one."""
+    own = {"-1", *(str(pool["pool"]) for pool in pools)}
+    return {key: entries for key, entries in crush_dump.get("choose_args", {}).items() if key in own or not pools}
+
+
+def compat_weight_set(entries: dict[str, list[Any]]) -> dict[int, list[int]]:
     """The weights, in units of 1/65,536, that a compat weight set gives the items of each bucket: the one that is in
     force for all pools and all places of a set. None where weight sets are of another form.
     """
     found: dict[int, list[int]] = {}
-    entries = crush_dump.get("choose_args", {})
     for entry in entries["-1"] if list(entries) == ["-1"] and isinstance(entries["-1"], list) else []:
         if not misfits(entry, WEIGHT_SET, "") and len(entry.get("weight_set", [])) == 1 and not entry.get("ids"):
             found[entry["bucket_id"]] = [round(weight * 65536) for weight in entry["weight_set"][0]]
@@ -78,7 +84,8 @@ class Cluster:
         self.rules = [
             rule for rule in crush_dump["rules"] if rule["rule_id"] in used or not self.pools and "pools" not in torn
         ]
-        self.weight_sets = compat_weight_set(crush_dump)
+        self.choose_args = weight_sets_of(crush_dump, self.pools)
+        self.weight_sets = compat_weight_set(self.choose_args)
         self.held = {number: self.held_by(bucket) for number, bucket in self.buckets.items()}
         self.stands = {
             number for rule in self.rules for root in self.takes(rule) for number in self.reached(root, self.listed_in)
@@ -315,7 +322,10 @@ class Cluster:
                 found.append(f"{count} {what}")
         other = [f"osd.{osd}" for osd, own in self.osds.items() if own.get("primary_affinity", 1) != 1]
         if other:
-            found.append(f"primary affinity of {some(other)}: the primary may differ")
+            found.append(
+                f"primary affinity of {some(other)}: `up` lines over the map tell primaries, and the order of "
+                "replicated sets, without it; explain, df --json and whatif over the dumps apply it"
+            )
         explicit, items = self.exceptions
         idle = (
             len(entries_of(self.osd_dump, "pg_upmap"))

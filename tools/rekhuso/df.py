@@ -7,7 +7,10 @@ and with what weighs 0; groups and shares are those of all pools.
 
 from __future__ import annotations
 
+from collections import Counter
 
+from .affinity import told_affinities
+from .evenness import Spread, osd_words
 from .kinds import Commands, Names, Options, Row, Told
 from .shares import Shares, named, spread
 from .texts import add_json, aligned, put_json
@@ -57,8 +60,10 @@ def nodes(shares: Shares, names: Names) -> list[Told]:
 
 
 def summary(shares: Shares) -> Told:
-    """The totals, how even the OSDs are that may have groups, and the least and the greatest ratio to a share."""
-    total, even = shares.total(), spread(shares)
+    """The totals, how even the OSDs are that may have groups, the least and the greatest ratio to a share, and the OSDs
+    that have them over all pools.
+    """
+    total, even, fill = shares.total(), spread(shares), Spread(shares.counts, shares.wanted).fill()
     ratios = [shares.counts.get(osd, 0) / share for osd, share in shares.wanted.items() if share]
     return {
         "crush_weight": total["weight"],
@@ -69,6 +74,8 @@ def summary(shares: Shares) -> Told:
         "min_var": round(min(ratios, default=0.0), 4),
         "max_var": round(max(ratios, default=0.0), 4),
         "deviation": even["deviation"],
+        "fullest": fill["fullest"],
+        "emptiest": fill["emptiest"],
     }
 
 
@@ -130,7 +137,12 @@ def work(options: Options) -> None:
     tree, stray, total = nodes(shares, names), [node(shares, row, names) for row in shares.stray()], summary(shares)
     pools = [dict(pool, name=named(names, "pools", pool["id"])) for pool in shares.pools()]
     if options.json:
-        put_json("df", whole.tree["epoch"], nodes=tree, stray=stray, summary=total, pools=pools)
+        primaries, affinities = Counter(up.primary for up in sets.values()), told_affinities(whole.affinities)
+        for own in (own for own in [*tree, *stray] if own["id"] >= 0):
+            own["primaries"] = primaries[own["id"]]
+        put_json(
+            "df", whole.tree["epoch"], nodes=tree, stray=stray, summary=total, pools=pools, primary_affinity=affinities
+        )
         return
     print("\n".join(tree_lines(tree, stray, total)))
     for pool in pools:
@@ -141,6 +153,9 @@ def work(options: Options) -> None:
         f"{total['min_var']:.2f}/{total['max_var']:.2f}; "
         f"standard deviation from the shares {total['deviation']}"
     )
+    ends = [f"{word} {osd_words(total[word], names)}" for word in ("fullest", "emptiest") if total[word]]
+    if ends:
+        print(f"over all pools: {', '.join(ends)}")
 
 
 def add_to(commands: Commands) -> None:

@@ -3,8 +3,9 @@
 from __future__ import annotations
 
 import argparse
-from collections.abc import Iterable, Sequence
+from collections.abc import Iterable, Mapping, Sequence
 
+from .affinity import applied_words, told_affinities, with_affinity
 from .forms import GROUP
 from .kinds import Commands, Map, Names, Options, Program, Step, Told, PairParts, altered, entries_of
 from .monitor import up_sets
@@ -44,8 +45,10 @@ class Group:
     without OSDs that are down.
     """
 
-    def __init__(self, value: Map, group: str, program: Program) -> None:
-        """Asks the program for the sets; `Refused` where there is no such group."""
+    def __init__(self, value: Map, group: str, program: Program, affinities: Mapping[int, int]) -> None:
+        """Asks the program for the sets, of which affinities choose the primary; `Refused` where there is no such
+        group.
+        """
         self.value, self.group, self.program = value, group, program
         self.osds = {osd["id"]: osd for osd in value["osds"]}
         self.explicit: list[int] | None = dict(entries_of(value, "pg_upmap")).get(group)
@@ -59,6 +62,8 @@ class Group:
         }
         self.sets = {stage: up_sets(program, own, [group])[group] for stage, own in stages.items()}
         self.pool = next(own for own in value["pools"] if own["id"] == int(group.split(".")[0]))
+        self.affinities = {osd: own for osd, own in affinities.items() if osd in self.sets["up"].places}
+        self.sets["up"] = with_affinity(self.pool, int(group.split(".")[1], 16), self.sets["up"], self.affinities)
 
     def weight(self, osd: int) -> int:
         """The reweight of an OSD in units of 1/65,536, 0 where it is not there."""
@@ -142,6 +147,7 @@ class Group:
         passed = self.passed_over()
         lines = ["passed over as out: " + ", ".join(map(self.passed_words, passed))] if passed else []
         lines += self.exception_lines() + [f"osd.{osd} is down and leaves" for osd in self.down()]
+        lines += [applied_words(self.affinities)] if self.affinities else []
         return lines or [
             "nobody has changed the set: no OSD was passed over as out, there is no exception, and no OSD of it is down"
         ]
@@ -179,6 +185,7 @@ class Group:
             "pg_upmap": explicit,
             "pg_upmap_items": pairs,
             "down": self.down(),
+            "primary_affinity": told_affinities(self.affinities),
             "up": up.places,
             "up_primary": up.primary,
         }
@@ -188,7 +195,7 @@ def work(options: Options) -> None:
     """Tells a group's story."""
     whole = whole_of(options.files, options)
     value = whole.map_of(int(options.group.split(".")[0]))
-    group = Group(value, options.group, options.program)
+    group = Group(value, options.group, options.program, whole.affinities)
     if options.json:
         put_json("explain", value["epoch"], **group.parts(whole.names))
     else:

@@ -161,6 +161,8 @@ class Flagged(TypedDict, total=False):
 
     flags: int
     object_hash: int
+    min_size: int
+    pg_num_pending: int
 
 
 class DumpPool(Flagged):
@@ -267,6 +269,35 @@ class PoolSpread(Spread):
     farthest: float
 
 
+class OsdFill(TypedDict):
+    """What an OSD has, groups or bytes, its share, and the ratio of the two."""
+
+    id: int
+    has: float
+    share: float
+    ratio: float
+
+
+class Fill(TypedDict):
+    """How even a cluster is: its fullest OSD and its emptiest, to their shares, None where no OSD has a share, and the
+    standard deviation: of groups in groups, of bytes as a part of the share.
+    """
+
+    fullest: OsdFill | None
+    emptiest: OsdFill | None
+    deviation: float
+
+
+class ClusterParts(TypedDict):
+    """What is told of a cluster over all pools: by groups and, where it is known what the pools hold, by bytes, and
+    the bytes that the pool with most data may still take.
+    """
+
+    groups: Fill
+    bytes: Fill | None
+    room: int | None
+
+
 class Moving(TypedDict):
     """What a plan, or a part of it, moves; bytes and their share of the data of all pools are None where nobody tells
     how much the pools hold.
@@ -306,6 +337,7 @@ class PlanParts(TypedDict):
     moves_within: int | None
     moves_whole: int | None
     left_out: list[str]
+    left_out_by: str
     before: PoolSpread
     after: PoolSpread
 
@@ -330,16 +362,46 @@ class Moved(TypedDict):
     osds: list[int]
 
 
+class Fullest(TypedDict):
+    """The fullest OSD, None where no OSD has a group; its groups; and its share of them where it is the fullest by
+    share.
+    """
+
+    osd: int | None
+    groups: int
+    share: float | None
+
+
+class WithExceptions(TypedDict):
+    """How many groups have exceptions before a change, which then have none, and of which some pairs go."""
+
+    before: int
+    gone: list[str]
+    fewer: list[str]
+
+
+class Amid(TypedDict):
+    """An outage: the OSDs that are down, and how many groups are short."""
+
+    down: list[int]
+    short: int
+
+
 class Flows(TypedDict):
-    """What moves, from where to where, and what is left short."""
+    """What moves, from where to where; what is left short, and what anew; the fullest OSDs; what exceptions go."""
 
     groups: int
     places: int
     short: list[str]
-    fullest: int | None
-    fullest_groups: int
-    flows: list[list[int]]
+    short_anew: list[str]
+    below_min_size: list[str]
+    fullest_by_count: Fullest
+    fullest_by_share: Fullest
+    exceptions: WithExceptions
+    outage: Amid | None
+    notes: list[str]
     unbalanced: list[Entry]
+    flows: list[list[int]]
 
 
 Altered = TypeVar("Altered", bound=Mapping[str, object])

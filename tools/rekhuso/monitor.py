@@ -33,7 +33,7 @@ import subprocess
 import tempfile
 import threading
 import time
-from collections.abc import Callable
+from collections.abc import Callable, Iterable, Mapping
 from itertools import islice
 from types import FrameType
 from typing import IO, NamedTuple, NoReturn
@@ -87,7 +87,7 @@ class Up(NamedTuple):
 
 
 class Made(NamedTuple):
-    """A change that was accepted: its epoch, and how many groups were placed anew for it."""
+    """A change that was accepted: its epoch, and how many groups were evaluated for it."""
 
     epoch: int
     evals: int
@@ -114,6 +114,14 @@ def ups_of(answers: list[str]) -> list[Up]:
     sets = json.loads(f"[{','.join(words[3::5])}]".replace("none", "null"))
     primaries = (None if word == "-1" else int(word) for word in words[4::5])
     return list(map(Up, map(int, words[1::5]), sets, primaries))
+
+
+def balance_line(pool: int, most: int, apart: int = 256, carried: Mapping[int, int] | None = None) -> str:
+    """The line by which a pool is balanced: in the short form where two OSDs must differ by no more than a group and
+    nothing is carried.
+    """
+    pairs = [[osd, parts] for osd, parts in sorted((carried or {}).items()) if parts]
+    return f"balance {pool} {most}" + (f" {apart} {written(pairs)}" if pairs or apart != 256 else "")
 
 
 def checked(answer: str) -> str:
@@ -277,6 +285,13 @@ class Session:
         """In how many groups' up sets an OSD stands."""
         return int(self.one(f"count {osd}").split(" ")[3])
 
+    def counts(self, osds: Iterable[int]) -> dict[int, int]:
+        """In how many groups' up sets each of some OSDs stands."""
+        asked = list(osds)
+        return {
+            osd: int(answer.split(" ")[3]) for osd, answer in zip(asked, self.ask([f"count {osd}" for osd in asked]))
+        }
+
     def groups(self, osd: int) -> list[str]:
         """In which groups' up sets an OSD stands."""
         groups = self.one(f"groups {osd}").split(" ")[3][1:-1]
@@ -299,9 +314,12 @@ class Session:
         _, epoch, _, evals = self.one(f"change {written(value)}").split(" ")
         return Made(int(epoch), int(evals))
 
-    def balance(self, pool: int, most: int = 1024) -> Moved:
-        """Plans moves of groups of a pool, at most so many, and commits them."""
-        _, moves, _, epoch = self.one(f"balance {pool} {most}").split(" ")
+    def balance(self, pool: int, most: int = 1024, apart: int = 256, carried: Mapping[int, int] | None = None) -> Moved:
+        """Plans moves of groups of a pool, at most so many, and commits them. In 256ths of a group: by how much two
+        OSDs must differ for a move between them, and how much an OSD counts as having beside its groups of the pool.
+        A map under `stock` alone takes either.
+        """
+        _, moves, _, epoch = self.one(balance_line(pool, most, apart, carried)).split(" ")
         return Moved(int(moves), int(epoch))
 
 

@@ -3,8 +3,8 @@
 A balancer only appends pairs, so after many rounds a group's pairs may be chained over one another, or do nothing;
 Ceph's monitor cleans such pairs away, which gives other sets. Here each group with pairs gets, place by place, one pair
 from what its rule gives to what it has, and no explicit set beside them; where an OSD only changes its place (a ring,
-or a chain), an explicit set alone. Groups with a place that is empty are left as they are. The program checks that
-every set stays.
+or a chain), an explicit set alone. Groups with a place that is empty are left as they are, and so are pairs that are
+there already, in whatever order. The program checks that every set stays.
 """
 
 from __future__ import annotations
@@ -40,7 +40,7 @@ def netted(value: Map, wanted: dict[str, Up], base: dict[str, Up]) -> Map:
         found = own_pairs(base[group].places, places)
         if found is not None:
             explicit.pop(group, None)
-            items.update({group: found} if found else {})
+            items.update({group: pairs if sorted(found) == sorted(pairs) else found} if found else {})
         elif None not in places and len(set(places)) == len(places):
             explicit[group] = places
         else:

@@ -239,7 +239,7 @@ def weight_set_reasons(cluster: Cluster) -> list[str]:
     """Weight sets that no map can take the place of: those for single pools, and a compat one that is by position,
     has ids of its own, or does not fit a bucket that pools use.
     """
-    own = cluster.crush.get("choose_args")
+    own = cluster.choose_args if cluster.is_stock else cluster.crush.get("choose_args")
     if not own:
         return []
     if not cluster.is_stock:

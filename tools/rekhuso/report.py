@@ -5,13 +5,16 @@ from __future__ import annotations
 import html
 import json
 from collections.abc import Sequence
+from contextlib import ExitStack
 
 from .kinds import Commands, Map, Names, Options, Program, altered, entries_of
-from .monitor import Monitor, Up, up_sets
-from .net import raised, settled
+from .monitor import Up, up_sets
+from .net import raised
 from .picture import picture
-from .shares import Shares, named, spread, table_row, with_names
-from .unlike import commands, place_of
+from .planning import WHOLE, opened, outage_in, planned
+from .shares import Shares, named, spread, table_row
+from .telling import page_words
+from .unlike import place_of
 from .whole import NO_PLAN, Whole, add_files, whole_with_sets
 
 COLUMNS = ["weight", "reweight", "state", "groups", "share", "deviation"]
@@ -71,26 +74,17 @@ def exception_rows(value: Map, program: Program) -> list[list[str]]:
     ]
 
 
-def plan_lines(value: Map, program: Program) -> tuple[list[str], list[str]]:
-    """The commands of the plan for every pool that has one, and what is said of pools that the balancer refuses."""
-    with Monitor(value, program) as monitor:
-        answers = monitor.raw([f"balance {pool['id']} 1024" for pool in value["pools"]])
-        new = settled(monitor, monitor.dump())
-    refused = [
-        f"pool {pool['id']} is passed over: {answer.removeprefix('err ')}"
-        for pool, answer in zip(value["pools"], answers)
-        if answer.startswith("err ")
-    ]
-    return commands(value, new), refused
-
-
-def plan_part(value: Map, names: Names, program: Program) -> str:
-    """The plan as the page has it."""
-    plan, refused = plan_lines(value, program)
-    parts = [f"<p>{html.escape(with_names(line, names))}</p>" for line in refused]
-    return "".join(parts) + (
-        f"<pre>{html.escape(chr(10).join(plan))}</pre>" if plan else "<p>Nothing is left to move.</p>"
-    )
+def plan_part(whole: Whole, program: Program) -> str:
+    """The plan of the cluster as the page has it: what is said of it, as `plan` says it, and its commands."""
+    if whole.has_weight_set:
+        return f"<p>{html.escape(NO_PLAN)}</p>"
+    with ExitStack() as stack:
+        lives = opened(stack, whole, program)
+        outage, outcome = outage_in(lives), planned(lives, WHOLE)
+    plan = [line for step in outcome.steps for line in step.commands]
+    said = ([] if outage is None else [str(outage)]) + page_words(outcome, whole.names)
+    told = "".join(f"<p>{html.escape(line)}</p>" for line in said)
+    return told + (f"<pre>{html.escape(chr(10).join(plan))}</pre>" if plan else "<p>Nothing is left to move.</p>")
 
 
 def heading(value: Map, shares: Shares, title: str) -> str:
@@ -102,13 +96,6 @@ def heading(value: Map, shares: Shares, title: str) -> str:
         f"An OSD has {even['least']} to {even['greatest']} groups; the standard deviation from the shares is "
         f"{even['deviation']}.</p>"
     )
-
-
-def plan_parts(whole: Whole, program: Program) -> str:
-    """The plans of all maps, or that there is none where a weight set is in force."""
-    if whole.has_weight_set:
-        return f"<p>{html.escape(NO_PLAN)}</p>"
-    return "".join(plan_part(value, whole.names, program) for value in whole.maps)
 
 
 def page(whole: Whole, sets: dict[str, Up], program: Program, title: str) -> str:
@@ -140,7 +127,7 @@ def page(whole: Whole, sets: dict[str, Up], program: Program, title: str) -> str
         "<h2>Exceptions</h2>",
         table(["group", "without", "with", ""], excepted) if excepted else "<p>None.</p>",
         "<h2>The plan</h2>",
-        plan_parts(whole, program),
+        plan_part(whole, program),
     ]
     return (
         '<!doctype html><html lang="en"><meta charset="utf-8"><meta name="viewport" '

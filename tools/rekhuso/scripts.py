@@ -8,11 +8,12 @@ import pathlib
 from collections import Counter
 from typing import NamedTuple, cast
 
+from .data import Data
+from .evenness import size_words
 from .faults import Fault
 from .kinds import Moving, Names, OsdMoving, Pool, PoolMoving, altered
-from .shapes import DF, misfits
 from .shares import named
-from .texts import aligned, json_of, put
+from .texts import aligned, put
 
 # What is told above the commands of a plan.
 BEFORE = [
@@ -21,7 +22,6 @@ BEFORE = [
     "watch:  data moves as soon as a command is given: ceph status, until no group backfills or is misplaced, and",
     "        ceph osd df tree, as an OSD to which groups come must not get nearfull",
 ]
-UNITS = ("B", "KiB", "MiB", "GiB", "TiB", "PiB", "EiB")
 
 
 class Step(NamedTuple):
@@ -59,32 +59,6 @@ def steps_by_pool(steps: list[Step]) -> dict[int, list[Step]]:
     for step in steps:
         found.setdefault(step.pool, []).append(step)
     return found
-
-
-class Data(NamedTuple):
-    """The bytes that each pool takes on all OSDs, as `ceph df` tells them, and where that was read."""
-
-    path: str
-    of_pool: dict[int, int]
-
-    def place(self, pool: Pool) -> float:
-        """The bytes of one place of a pool's groups, where all hold as much. A fault where the pool is not told."""
-        if pool["id"] not in self.of_pool:
-            raise Fault(f"{self.path}: no pool {pool['id']}")
-        return self.of_pool[pool["id"]] / (pool["pg_num"] * pool["size"])
-
-
-def data_in(path: str | None) -> Data | None:
-    """What a file with the output of `ceph df --format json` tells; None where there is no path. A fault for each
-    place that has another form.
-    """
-    if path is None:
-        return None
-    value = json_of(path, "pools")
-    faults = misfits(value, DF, "")
-    if faults:
-        raise Fault(*(f"{path}: {fault}" for fault in faults))
-    return Data(path, {own["id"]: max(own["stats"]["bytes_used"], 0) for own in value["pools"]})
 
 
 # What moves
@@ -149,14 +123,6 @@ def weights_of(pools: list[Pool], data: Data | None) -> Weights:
 
 
 # In words
-
-
-def size_words(size: float) -> str:
-    """A number of bytes, as `1.2 GiB`."""
-    at = 0
-    while size >= 1023.95 and at < len(UNITS) - 1:
-        size, at = size / 1024, at + 1
-    return f"{size:.1f} {UNITS[at]}" if at else f"{size:.0f} B"
 
 
 def share_words(share: float) -> str:

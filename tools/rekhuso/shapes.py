@@ -24,11 +24,14 @@ OSD_DUMP = {
             "pg_placement_num": int,
             "?flags": int,
             "?object_hash": int,
+            "?min_size": int,
+            "?pg_num_pending": int,
         }
     ],
     "osds": [{"osd": int, "up": int, "weight": float, "?state": [str], "?primary_affinity": float}],
     "?pg_upmap": [dict(GROUP, osds=[int])],
     "?pg_upmap_items": [dict(GROUP, mappings=[{"from": int, "to": int}])],
+    "?osd_xinfo": [object],
     "?pg_temp": [object],
     "?primary_temp": [object],
     "?pg_upmap_primaries": [object],
@@ -61,8 +64,12 @@ CRUSH_DUMP = {
 WEIGHT_SET = {"bucket_id": int, "?weight_set": [[float]], "?ids": [int]}
 # What `ceph osd tree -f json` tells of OSDs, those that do not exist among them.
 TREE = {"nodes": [{"id": int, "?exists": int, "?reweight": float}]}
-# What `ceph df --format json` tells of the data of pools: bytes on all OSDs.
-DF = {"pools": [{"id": int, "stats": {"bytes_used": int}}]}
+# What `ceph df --format json` tells of all OSDs, and of the data of pools: bytes on all OSDs, and those that are
+# stored.
+DF = {
+    "?stats": {"?total_bytes": int},
+    "pools": [{"id": int, "?name": str, "stats": {"bytes_used": int, "?stored": int}}],
+}
 # What a step must have beside its word.
 STEPS = {
     "take": ("item",),
@@ -72,6 +79,13 @@ STEPS = {
     "chooseleaf_indep": ("num", "type"),
     "set_choose_tries": ("num",),
     "set_chooseleaf_tries": ("num",),
+}
+# The steps of a rule that a monitor dumps by their numbers alone (Ceph, crush.h `crush_opcodes`).
+OPCODES = {
+    10: "set_choose_local_tries",
+    11: "set_choose_local_fallback_tries",
+    12: "set_chooseleaf_vary_r",
+    13: "set_chooseleaf_stable",
 }
 KINDS = {int: "whole number", float: "number", str: "text"}
 
@@ -149,3 +163,26 @@ def parts_of(value: object, shape: object) -> object:
     if isinstance(shape, dict):
         return fitting(value, shape)[0]
     return 1
+
+
+def with_words(step: object) -> object:
+    """A step of a rule by its word, where a monitor dumps it by its number."""
+    if not isinstance(step, dict) or "op" in step or not is_kind(step.get("opcode"), int):
+        return step
+    return dict(step, op=OPCODES.get(step["opcode"], f"of number {step['opcode']}"))
+
+
+def with_steps_by_word(crush_dump: Told) -> Told:
+    """A CRUSH dump whose rules have all steps by their words."""
+    rules = crush_dump.get("rules")
+    if not isinstance(rules, list):
+        return crush_dump
+    return dict(
+        crush_dump,
+        rules=[
+            dict(rule, steps=list(map(with_words, rule["steps"])))
+            if isinstance(rule, dict) and isinstance(rule.get("steps"), list)
+            else rule
+            for rule in rules
+        ],
+    )

@@ -36,12 +36,16 @@ class Shares:
         self.osds = {osd["id"]: osd for osd in value["osds"]}
         self.sets = {pool["id"]: [ups[group] for group in groups_in(pool)] for pool in value["pools"]}
         self.counts_in = {pool["id"]: self.counted(pool) for pool in value["pools"]}
-        self.counts: Counter[int] = sum(self.counts_in.values(), Counter())
+        self.counts: Counter[int] = Counter()
+        for counts in self.counts_in.values():
+            self.counts.update(counts)
         self.buckets = {bucket["id"]: bucket for bucket in value["buckets"]}
         self.items = {item: weight for bucket in value["buckets"] for item, weight in bucket["items"]}
+        self.trees: dict[int, list[dict[int, int]]] = {}
+        self.shares_by = {pool["id"]: self.shares_in(pool) for pool in value["pools"]}
         self.wanted: dict[int, float] = {}
-        for pool in value["pools"]:
-            for osd, wanted in self.shares_in(pool).items():
+        for own in self.shares_by.values():
+            for osd, wanted in own.items():
                 self.wanted[osd] = self.wanted.get(osd, 0.0) + wanted
 
     def ups_in(self, pool: Pool) -> list[Up]:
@@ -56,20 +60,33 @@ class Shares:
 
     def weights_for(self, pool: Pool) -> dict[int, int]:
         """The weights of the OSDs that may have groups of a pool: they are below what its rule takes, up and in."""
-        steps = next(rule["steps"] for rule in self.value["rules"] if rule["id"] == pool["rule"])
-        osds = {osd for step in steps if step[0] == "take" for osd in self.below(step[1])}
-        own = {osd: self.osds[osd] for osd in osds if osd in self.osds}
-        return {
-            osd: self.items[osd] * state["weight"]
-            for osd, state in own.items()
-            if state["exists"] and state["up"] and state["weight"]
-        }
+        return {osd: weight for tree in self.trees_for(pool) for osd, weight in tree.items()}
+
+    def trees_for(self, pool: Pool) -> list[dict[int, int]]:
+        """The same tree by tree, where the rule takes several; those with OSDs in common are one."""
+        if pool["rule"] not in self.trees:
+            steps = next(rule["steps"] for rule in self.value["rules"] if rule["id"] == pool["rule"])
+            trees: list[set[int]] = []
+            for osds in [set(self.below(step[1])) for step in steps if step[0] == "take"]:
+                joined = [tree for tree in trees if tree & osds]
+                trees = [tree for tree in trees if tree not in joined] + [osds.union(*joined)]
+            found = [{osd: self.weight(osd) for osd in tree} for tree in trees]
+            kept = [{osd: weight for osd, weight in tree.items() if weight} for tree in found]
+            self.trees[pool["rule"]] = [tree for tree in kept if tree]
+        return self.trees[pool["rule"]]
+
+    def weight(self, osd: int) -> int:
+        """What an OSD weighs: its weight times its reweight, nothing where it is not there, or down."""
+        state = self.osds.get(osd)
+        return self.items[osd] * state["weight"] if state and state["exists"] and state["up"] else 0
 
     def shares_in(self, pool: Pool) -> dict[int, float]:
-        """How many places of a pool the weights of the OSDs call for."""
-        weights = self.weights_for(pool)
-        places, total = sum(self.counts_in[pool["id"]][osd] for osd in weights), sum(weights.values())
-        return {osd: places * weight / total for osd, weight in weights.items()}
+        """How many places of a pool the weights of the OSDs call for, tree by tree."""
+        found: dict[int, float] = {}
+        for weights in self.trees_for(pool):
+            places, total = sum(self.counts_in[pool["id"]][osd] for osd in weights), sum(weights.values())
+            found.update({osd: places * weight / total for osd, weight in weights.items()})
+        return found
 
     def roots(self) -> list[int]:
         """The buckets that stand in no other."""

@@ -24,7 +24,9 @@ HELP = {
     "dump": "dump: the map as one line of JSON",
     "change": 'change JSON: commits a change, as change {"base":1,"down":[2]}',
     "await": "await N: waits until the epoch is at least N; nobody else changes the map here",
-    "balance": "balance POOL LIMIT: plans at most LIMIT moves of groups of a pool, and commits them",
+    "balance": "balance POOL LIMIT: plans at most LIMIT moves of groups of a pool, and commits them; under --stock "
+    "also balance POOL LIMIT APART [[OSD,CARRIED],..], both in 256ths of a group: by how much two OSDs must differ, "
+    "and what an OSD counts as having beside its groups",
     "follow": "follow: the session's follower goes on to the last epoch",
     "fup": "fup PG: the up set of a group by the follower's map",
     "fdump": "fdump: the follower's map as one line of JSON",

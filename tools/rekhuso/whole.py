@@ -8,6 +8,7 @@ import argparse
 import json
 from collections.abc import Sequence
 
+from .affinity import affinities_of, all_with_affinity
 from .bring import Brought, add_options, bucket_of, brought, monitor_of
 from .cluster import Cluster
 from .faults import Fault, Misuse
@@ -87,6 +88,7 @@ class Whole:
         )
         self.tree, self.is_cluster = self.tree_of(found.cluster) if found else maps[0], found is not None
         self.weighed = [own_weights(part, value) for part, value in zip(found.parts, maps)] if found else maps
+        self.affinities = affinities_of(found.cluster) if found else {}
 
     def tree_of(self, cluster: Cluster) -> Map:
         """The cluster as one value: the buckets that are no shadows of device classes, each item once and with its
@@ -130,12 +132,16 @@ class ClusterShares(Shares):
 
     def __init__(self, tree: Map, maps: list[Map], ups: dict[str, Up]) -> None:
         """Takes the tree, the maps as shares are reckoned, and the up set of each group."""
-        self.of_pool = {pool["id"]: Shares(altered(value, pools=[]), {}) for value in maps for pool in value["pools"]}
+        self.of_pool: dict[int, Shares] = {}
+        for value in maps:
+            self.of_pool.update(
+                dict.fromkeys((pool["id"] for pool in value["pools"]), Shares(altered(value, pools=[]), {}))
+            )
         super().__init__(tree, ups)
 
-    def weights_for(self, pool: Pool) -> dict[int, int]:
+    def trees_for(self, pool: Pool) -> list[dict[int, int]]:
         """The weights of the OSDs that may have groups of the pool, by the map that has it."""
-        return {osd: weight for osd, weight in self.of_pool[pool["id"]].weights_for(pool).items() if weight}
+        return self.of_pool[pool["id"]].trees_for(pool)
 
 
 def own_weights(part: Cluster, value: Map) -> Map:
@@ -221,7 +227,7 @@ def whole_of(files: list[str], options: Options) -> Whole:
 
 
 def whole_with_sets(files: list[str], options: Options) -> tuple[Whole, dict[str, Up]]:
-    """The same with the up set of each group, by one session for each map."""
+    """The same with the up set of each group, by one session for each map, and the primaries that affinities choose."""
     if len(files) == 1:
         check_options(options)
         value, sets = map_with_sets(files[0], options.program)
@@ -230,7 +236,7 @@ def whole_with_sets(files: list[str], options: Options) -> tuple[Whole, dict[str
     for value in whole.maps:
         with monitor_of(value, options.program) as monitor:
             sets.update(monitor.ups(groups_of(value)))
-    return whole, sets
+    return whole, all_with_affinity(whole.pools, sets, whole.affinities)
 
 
 def check_options(options: Options) -> None:
