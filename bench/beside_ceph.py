@@ -5,7 +5,7 @@
 
 The clusters are those of tests/stock.json.gz that come in and have no weight set. Of each pool with more than one group a map of Ceph's is
 made (its CRUSH map by `crushtool`, the rest in the bytes of a map of `osdmaptool`), whose up sets must be those that a real monitor gave.
-Both plan at deviation 1: `osdmaptool --upmap` with as many changes as it likes, and `rekhuso plan --deviation 1`. *Moves* are the places
+Both plan at deviation 1: `osdmaptool --upmap` with as many changes as it likes, and `rekhuso plan --alone --deviation 1`. *Moves* are the places
 that another OSD has after the plan; *farthest* is how many groups an OSD is from its share at most, *spread* the standard deviation from
 the shares, both by Ceph's sets. *Taken back* are the commands by which `osdmaptool --upmap-cleanup` would clean a plan away, *unlike* the
 groups that Ceph places otherwise after ours than the program does. It is no part of the gate.
@@ -243,7 +243,9 @@ def compared(runs, name, own, pool):
     if "up" in own and any(before.get(group) != [None if osd == NONE else osd for osd in places]
                            for group, (places, _) in own["up"].items() if group.startswith(f"{number}.")):
         return "the map that is made gives other sets than the monitor's"
-    told, seconds = ran(*words(runs, "plan", *files, "--pools", number, "--deviation", "1", "--unmatched"))
+    told, seconds = ran(
+        *words(runs, "plan", *files, "--pools", number, "--alone", "--deviation", "1", "--unmatched", "--anyway")
+    )
     if told is None:
         return "no plan"
     after = dict(zip(("pg_upmap", "pg_upmap_items"), with_commands(value, commands(told))))

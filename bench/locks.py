@@ -15,6 +15,8 @@ import subprocess
 import sys
 import tempfile
 
+from running import heading, table
+
 HERE = os.path.dirname(os.path.abspath(__file__))
 CRATE = os.path.join(os.path.dirname(HERE), "crates", "ticketlock")
 ROWS = [("readers alone", 0), ("writers alone", 1), ("99 reads to 1 write", 100)]
@@ -58,17 +60,20 @@ def nanoseconds(program, threads, every):
     return min(times) / (threads * HOLDS)
 
 
+def rows(programs):
+    """A row for each kind of holds and number of threads: the nanoseconds of each program, and the C library's to ours."""
+    for name, every in ROWS:
+        for threads in THREADS:
+            ours, theirs, steps = (nanoseconds(program, threads, every) for program in programs)
+            yield [name, threads, f"{ours:.1f}", f"{theirs:.1f}", f"{steps:.1f}", f"{theirs / ours:.2f}"]
+
+
 def main():
     folder = sys.argv[1] if len(sys.argv) > 1 else tempfile.mkdtemp()
     os.makedirs(folder, exist_ok=True)
     programs = made(folder)
-    print(f"{'holds':22}{'threads':>8}{'ours, million/s':>18}{'C library':>12}{'our steps in C':>16}{'ours/C':>8}"
-          f"{'ours/steps':>12}{'ours, ns a hold':>18}")
-    for name, every in ROWS:
-        for threads in THREADS:
-            ours, theirs, steps = (nanoseconds(program, threads, every) for program in programs)
-            print(f"{name:22}{threads:8}{1000 / ours:18.2f}{1000 / theirs:12.2f}{1000 / steps:16.2f}{theirs / ours:8.2f}"
-                  f"{steps / ours:12.2f}{ours:18.1f}", flush=True)
+    heading("The lock, in nanoseconds a hold")
+    table(["holds", "threads", "ours", "C library", "steps in C", "C library to ours"], rows(programs))
 
 
 if __name__ == "__main__":

@@ -1,46 +1,31 @@
-#!/usr/bin/env python3
-"""Puts what `make bench` printed into a page, each table under its heading.
+"""Keeps a table that a bench has printed in bench/results, on the page of that bench, under the table's heading.
 
-    make bench | tee /dev/stderr | python3 bench/paste.py docs/SPEEDS.md
-
-A heading, the line that says when it was measured, and its table are put in place of what the page has under the same
-heading, up to the next line that begins no table; and the first line, which tells the machine and the day, in place of
-the one below `Measured on:`. The output of one bench alone has no such line, and that of the page stays. Where the page
-has no such heading, that is said and nothing is lost of it; so is each table of the page that was not printed.
+`make bench` does so; a bench that is run by itself only prints, unless RESULTS names a folder. The line that says when and where a table
+was measured comes with it, and both are put in place of what the page has under the same heading, up to the next line that begins no
+table. What else the page says stays. A page or a heading that is not there yet is made.
 """
 
+import os
+import pathlib
 import re
 import sys
-
-TABLE = re.compile(r"^### (.+)\n\n((?:Measured .*\n\n)?(?:\|.*\n)+)", re.M)
 
 
 def pasted(page, heading, table):
     """The page with a table under a heading."""
     place = re.compile(rf"(^### {re.escape(heading)}\n\n)(?:Measured .*\n\n)?(?:\|.*\n|Not measured yet\.\n)+", re.M)
-    if not place.search(page):
-        print(f"no place for: {heading}", file=sys.stderr)
-    return place.sub(lambda found: found.group(1) + table, page)
+    if place.search(page):
+        return place.sub(lambda found: found.group(1) + table, page, count=1)
+    return f"{page.rstrip()}\n\n### {heading}\n\n{table}"
 
 
-def main():
-    if len(sys.argv) != 2:
-        sys.exit(__doc__.strip())
-    printed = sys.stdin.read()
-    with open(sys.argv[1], encoding="utf-8") as text:
-        page = text.read()
-    tables = dict(TABLE.findall(printed))
-    for heading, table in tables.items():
-        page = pasted(page, heading, table)
-    for heading in re.findall(r"^### (.+)$", page, re.M):
-        if heading not in tables:
-            print(f"not measured anew: {heading}", file=sys.stderr)
-    machine = printed.split("\n", 1)[0]
-    if machine:
-        page = re.sub(r"(^Measured on:\n\n).*$", lambda found: found.group(1) + machine, page, count=1, flags=re.M)
-    with open(sys.argv[1], "w", encoding="utf-8") as out:
-        out.write(page)
-
-
-if __name__ == "__main__":
-    main()
+def keep(heading, table):
+    """Puts a table, with the line that says when it was measured, on the page of the bench that is run."""
+    folder = os.environ.get("RESULTS")
+    if not folder:
+        return
+    name = pathlib.Path(sys.argv[0]).stem
+    path = pathlib.Path(folder) / f"{name}.md"
+    path.parent.mkdir(parents=True, exist_ok=True)
+    page = path.read_text(encoding="utf-8") if path.exists() else f"# {name}\n\nBy `bench/{name}.py`.\n"
+    path.write_text(pasted(page, heading, table), encoding="utf-8")

@@ -1,4 +1,4 @@
-"""How the benches run the program and measure: times, instructions, peak memory; and how they print what they found.
+"""How the benches run the program and measure: times, instructions, peak memory; and how they print what they found, and keep it.
 
 Every run has a limit of time. What cannot be measured is a row too, which says why: `past 60 s`, `no valgrind`, `no cc`. A goal stands
 beside what it is for, with `met` or `missed`.
@@ -16,6 +16,9 @@ import sys
 import tempfile
 import threading
 import time
+
+import paste
+from machine import processor
 
 HAS_VALGRIND = shutil.which("valgrind") is not None
 
@@ -212,9 +215,15 @@ def held(words):
 
 # Tables
 
+BEGUN = {}
+
+
 def heading(text):
-    """The heading of a table, with the time and the load at which it was begun."""
-    print(f"\n### {text}\n\nMeasured {datetime.datetime.now():%Y-%m-%d %H:%M}, load {os.getloadavg()[0]:.1f}.\n", flush=True)
+    """The heading of a table, with the machine, and the time and the load at which it was begun."""
+    where = f"{os.cpu_count()} cores, {processor()}"
+    measured = f"Measured {datetime.datetime.now():%Y-%m-%d %H:%M}, {where}, load {os.getloadavg()[0]:.1f}."
+    BEGUN.update(heading=text, measured=measured)
+    print(f"\n### {text}\n\n{measured}\n", flush=True)
 
 
 def told(cell):
@@ -225,11 +234,18 @@ def told(cell):
 
 
 def table(columns, rows):
-    """Prints a table, each row as soon as it is known; what a row has no cells for stays empty."""
-    print("| " + " | ".join(columns) + " |", flush=True)
-    print("|---" + "|--:" * (len(columns) - 1) + "|", flush=True)
+    """Prints a table, each row as soon as it is known; what a row has no cells for stays empty. A whole table is kept."""
+    lines = []
+
+    def put(line):
+        print(line, flush=True)
+        lines.append(f"{line}\n")
+
+    put("| " + " | ".join(columns) + " |")
+    put("|---" + "|--:" * (len(columns) - 1) + "|")
     for row in rows:
-        print("| " + " | ".join(map(told, row + [""] * (len(columns) - len(row)))) + " |", flush=True)
+        put("| " + " | ".join(map(told, row + [""] * (len(columns) - len(row)))) + " |")
+    paste.keep(BEGUN["heading"], f"{BEGUN['measured']}\n\n{''.join(lines)}")
 
 
 def row(name, measure, *given):
