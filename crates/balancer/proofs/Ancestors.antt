@@ -61,7 +61,7 @@ module _ (buckets : List Bucket) (item : ℤ) (level : ℕ) where
       by_found None found (Some a) e = absurd (none_is a found ((is a).0 e))
 
 -- a device past the greatest has no ancestor
-pub ancestor_far : (buckets : List Bucket) (n level : ℕ) → IsForest buckets → 1024 ≤ n → ancestor_of buckets (pos n) level ≡ None
+pub ancestor_far : (buckets : List Bucket) (n level : ℕ) → IsForest buckets → 4096 ≤ n → ancestor_of buckets (pos n) level ≡ None
 unfolding ancestor_of
 ancestor_far buckets n level forest far =
     ap (option_map (λ b. b.id)) (find-none (is_ancestor buckets (pos n) level) buckets (λ k d inside. rw (above-far buckets forest (get_or buckets k d).id n far) (no _)))

@@ -107,7 +107,7 @@ module _ (m : ClusterMap) (items : List (Exception Pair)) where
       let groups : nat_le (total_groups (pools_after m change)) max_total_groups ≡ true = ap (λ (ps : List PoolFacts). nat_le (total_groups ps) max_total_groups) after_same ∙ few_groups (total_groups m.pools) holds.few_groups in
       rw (ruled, few, groups) refl
     where
-      few_groups : (n : ℕ) → n ≤ 262144 → nat_le n 262144 ≡ true
+      few_groups : (n : ℕ) → n ≤ 1048576 → nat_le n 1048576 ≡ true
       few_groups n h = grind (arith, nat_tests)
 
       few_pools : (n : ℕ) → n ≤ 256 → nat_le n 256 ≡ true

@@ -84,26 +84,26 @@ weight_within m p osd is =
     let passes : is_candidate m p (get_or (osds_of m) osd 0) ≡ true = rw at is in
     rw at at (term_within (weight_in_map m) (is_candidate m p) (osds_of m) osd 0 inside passes)
 
--- the candidates have at most 1,024 times 65,536 places
-pub places_few : (m : ClusterMap) (p : PoolFacts) → HoldsTogether m → pool_at m.pools p.id ≡ Some p → places m p ≤ 1024 * 65536
+-- the candidates have at most 4,096 times 65,536 places
+pub places_few : (m : ClusterMap) (p : PoolFacts) → HoldsTogether m → pool_at m.pools p.id ≡ Some p → places m p ≤ 4096 * 65536
 unfolding places
 places_few m p holds there =
     let within = pool_within m p p.id holds there in
     let each : All (λ osd. count_in m p.id osd ≤ 65536) (candidate_osds m p) = λ k d inside. omega (arith, count_small m p (get_or (candidate_osds m p) k d) holds there, within.groups_most) in
-    let few = few_filtered (is_candidate m p) (length m.presences) 1024 holds.few in
-    omega (arith, sum_by-le (count_in m p.id) 65536 (candidate_osds m p) each, mul-le (length (candidate_osds m p)) 65536 1024 65536 few (omega arith))
+    let few = few_filtered (is_candidate m p) (length m.presences) 4096 holds.few in
+    omega (arith, sum_by-le (count_in m p.id) 65536 (candidate_osds m p) each, mul-le (length (candidate_osds m p)) 65536 4096 65536 few (omega arith))
 
 -- ---- deviations
 
 -- the difference of two products within the limits has at most 99 bits
-between : (a b c d t n : ℕ) → a ≤ 65536 → t ≤ 2 ^ 58 → n ≤ 1024 * 65536 → b ≤ t → c ≡ a * t → d ≡ n * b → ((pos c -ℤ pos d) <ℤ pos (2 ^ 99)) × (neg_ℤ (pos (2 ^ 99)) <ℤ (pos c -ℤ pos d))
+between : (a b c d t n : ℕ) → a ≤ 65536 → t ≤ 2 ^ 60 → n ≤ 4096 * 65536 → b ≤ t → c ≡ a * t → d ≡ n * b → ((pos c -ℤ pos d) <ℤ pos (2 ^ 99)) × (neg_ℤ (pos (2 ^ 99)) <ℤ (pos c -ℤ pos d))
 between a b c d t n few small most within is that =
-    let high : a * t ≤ 65536 * 2 ^ 58 = mul-le a t 65536 (2 ^ 58) few small in
-    let low : n * b ≤ 67108864 * 2 ^ 58 = mul-le n b 67108864 (2 ^ 58) most (omega arith) in
+    let high : a * t ≤ 65536 * 2 ^ 60 = mul-le a t 65536 (2 ^ 60) few small in
+    let low : n * b ≤ 268435456 * 2 ^ 60 = mul-le n b 268435456 (2 ^ 60) most (omega arith) in
     (omega (arith, ints), omega (arith, ints))
 
 -- so has what a candidate is above its share
-above_small : (m : ClusterMap) (p : PoolFacts) (osd : ℕ) → HoldsTogether m → pool_at m.pools p.id ≡ Some p → total_weight m p ≤ 2 ^ 58 → is_candidate m p osd ≡ true
+above_small : (m : ClusterMap) (p : PoolFacts) (osd : ℕ) → HoldsTogether m → pool_at m.pools p.id ≡ Some p → total_weight m p ≤ 2 ^ 60 → is_candidate m p osd ≡ true
     → (above_share m p osd <ℤ pos (2 ^ 99)) × (neg_ℤ (pos (2 ^ 99)) <ℤ above_share m p osd)
 unfolding above_share
 above_small m p osd holds there small is =
@@ -124,12 +124,12 @@ carried_small cs osd small = elim (cases_lt osd (length cs)) [
 ]
 
 -- a small number of times the weight of all candidates has at most 99 bits
-pub times_small : (z : ℤ) (t : ℕ) → z <ℤ pos (2 ^ 31) → neg_ℤ (pos (2 ^ 31)) ≤ℤ z → t ≤ 2 ^ 58 → ((z *ℤ pos t) <ℤ pos (2 ^ 99)) × (neg_ℤ (pos (2 ^ 99)) <ℤ (z *ℤ pos t))
+pub times_small : (z : ℤ) (t : ℕ) → z <ℤ pos (2 ^ 31) → neg_ℤ (pos (2 ^ 31)) ≤ℤ z → t ≤ 2 ^ 60 → ((z *ℤ pos t) <ℤ pos (2 ^ 99)) × (neg_ℤ (pos (2 ^ 99)) <ℤ (z *ℤ pos t))
 times_small (pos n) t high low small =
-    let most : n * t ≤ 2 ^ 31 * 2 ^ 58 = mul-le n t (2 ^ 31) (2 ^ 58) (omega (arith, ints)) small in
+    let most : n * t ≤ 2 ^ 31 * 2 ^ 60 = mul-le n t (2 ^ 31) (2 ^ 60) (omega (arith, ints)) small in
     rw (pos-*ℤ-pos n t) (omega (arith, ints), omega (arith, ints))
 times_small (negsuc n) t high low small =
-    let most : suc n * t ≤ 2 ^ 31 * 2 ^ 58 = mul-le (suc n) t (2 ^ 31) (2 ^ 58) (omega (arith, ints)) small in
+    let most : suc n * t ≤ 2 ^ 31 * 2 ^ 60 = mul-le (suc n) t (2 ^ 31) (2 ^ 60) (omega (arith, ints)) small in
     rw (negsuc-*ℤ-pos n t) (omega (arith, ints), omega (arith, ints))
 
 -- 256 times a number of 99 bits has at most 107
@@ -141,7 +141,7 @@ pub sum_small : (x y : ℤ) → x <ℤ pos (2 ^ 107) → neg_ℤ (pos (2 ^ 107))
 sum_small x y x_high x_low y_high y_low = (omega (arith, ints), omega (arith, ints))
 
 -- so has the deviation of a candidate
-pub deviation_small : (m : ClusterMap) (p : PoolFacts) (cs : Aim) (osd : ℕ) → HoldsTogether m → pool_at m.pools p.id ≡ Some p → total_weight m p ≤ 2 ^ 58 → AreSmall cs.carried → is_candidate m p osd ≡ true
+pub deviation_small : (m : ClusterMap) (p : PoolFacts) (cs : Aim) (osd : ℕ) → HoldsTogether m → pool_at m.pools p.id ≡ Some p → total_weight m p ≤ 2 ^ 60 → AreSmall cs.carried → is_candidate m p osd ≡ true
     → (deviation m p cs osd <ℤ pos (2 ^ 108)) × (neg_ℤ (pos (2 ^ 108)) <ℤ deviation m p cs osd)
 unfolding deviation
 deviation_small m p cs osd holds there small few is =
@@ -196,7 +196,7 @@ module _ (m : ClusterMap) (p : PoolFacts) (cs : Aim) (moves : List Move) where
   unfolding least_gain group_weight
   gain_now = ap (λ t. 2 * (256 * t) * (256 + (cs.apart - 256) * t)) (total_now m p moves)
 
-  pub small_now : (osd : ℕ) → IsReached m p cs moves → pool_at m.pools p.id ≡ Some p → total_weight m p ≤ 2 ^ 58 → AreSmall cs.carried → is_candidate m p osd ≡ true
+  pub small_now : (osd : ℕ) → IsReached m p cs moves → pool_at m.pools p.id ≡ Some p → total_weight m p ≤ 2 ^ 60 → AreSmall cs.carried → is_candidate m p osd ≡ true
       → (deviation then p cs osd <ℤ pos (2 ^ 108)) × (neg_ℤ (pos (2 ^ 108)) <ℤ deviation then p cs osd)
   small_now osd reached there small few is = deviation_small then p cs osd reached.holds (pool_now m p moves there) (rw (total_now m p moves) small) few (candidate_now m p moves osd ∙ is)
 

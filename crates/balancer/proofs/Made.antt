@@ -40,14 +40,14 @@ pub read_with : (x z w : ℤ) → SFits w128 x → SFits w128 z → SFits w128 w
 read_with x z w fx fz fw product sum = rw (to_z-of_z w128 x fx, to_z-of_z w128 z fz, to_z-of_z w128 w fw, to_z-of_z w128 (z *ℤ w) product, to_z-of_z w128 (x +ℤ z *ℤ w) sum) refl
 
 -- what an OSD carries times the weight of all fits
-pub times_fits : (z : ℤ) (t : ℕ) → SFits w32 z → t ≤ 2 ^ 58 → SFits w128 (z *ℤ pos t)
+pub times_fits : (z : ℤ) (t : ℕ) → SFits w32 z → t ≤ 2 ^ 60 → SFits w128 (z *ℤ pos t)
 times_fits z t fits small =
     let few = word_small z fits in
     let product = times_small z t few.0 few.1 small in
     fits_small (z *ℤ pos t) (omega (arith, ints, product.0)) (omega (arith, ints, product.1))
 
 -- and more than what an OSD is above its share
-pub with_fits : (x z : ℤ) (t : ℕ) → x <ℤ pos (2 ^ 107) → neg_ℤ (pos (2 ^ 107)) <ℤ x → SFits w32 z → t ≤ 2 ^ 58 → SFits w128 (x +ℤ z *ℤ pos t)
+pub with_fits : (x z : ℤ) (t : ℕ) → x <ℤ pos (2 ^ 107) → neg_ℤ (pos (2 ^ 107)) <ℤ x → SFits w32 z → t ≤ 2 ^ 60 → SFits w128 (x +ℤ z *ℤ pos t)
 with_fits x z t high low fits small =
     let few = word_small z fits in
     let product = times_small z t few.0 few.1 small in
@@ -55,17 +55,17 @@ with_fits x z t high low fits small =
     fits_small (x +ℤ z *ℤ pos t) (omega (arith, ints, sum.0)) (omega (arith, ints, sum.1))
 
 -- a deviation less the weight of all fits
-less_fits : (x : ℤ) (t : ℕ) → x <ℤ pos (2 ^ 108) → neg_ℤ (pos (2 ^ 108)) <ℤ x → t ≤ 2 ^ 66 → SFits w128 (x -ℤ pos t)
+less_fits : (x : ℤ) (t : ℕ) → x <ℤ pos (2 ^ 108) → neg_ℤ (pos (2 ^ 108)) <ℤ x → t ≤ 2 ^ 68 → SFits w128 (x -ℤ pos t)
 less_fits x t high low small = fits_small (x -ℤ pos t) (omega (arith, ints)) (omega (arith, ints))
 
 -- and with it more
-more_fits : (x : ℤ) (t : ℕ) → x <ℤ pos (2 ^ 108) → neg_ℤ (pos (2 ^ 108)) <ℤ x → t ≤ 2 ^ 66 → SFits w128 (x +ℤ pos t)
+more_fits : (x : ℤ) (t : ℕ) → x <ℤ pos (2 ^ 108) → neg_ℤ (pos (2 ^ 108)) <ℤ x → t ≤ 2 ^ 68 → SFits w128 (x +ℤ pos t)
 more_fits x t high low small = fits_small (x +ℤ pos t) (omega (arith, ints)) (omega (arith, ints))
 
 -- ---- a good move of the state of a plan
 
 module _ (m : ClusterMap) (p : PoolFacts) (cs : Aim) (moves : List Move) (v : Move) (gs : List Group) (ds : List ℤ) (good : IsGood (after_moves m p moves) p cs v) (reached : IsReached m p cs moves)
-    (board : IsBoardOf (after_moves m p moves) p cs gs ds) (there : pool_at m.pools p.id ≡ Some p) (t : ℕ) (is_total : t ≡ total_weight m p) (small : t ≤ 2 ^ 58) (few : AreSmall cs.carried) where
+    (board : IsBoardOf (after_moves m p moves) p cs gs ds) (there : pool_at m.pools p.id ≡ Some p) (t : ℕ) (is_total : t ≡ total_weight m p) (small : t ≤ 2 ^ 60) (few : AreSmall cs.carried) where
   abbrev now : ClusterMap
   now = after_moves m p moves
 
@@ -78,7 +78,7 @@ module _ (m : ClusterMap) (p : PoolFacts) (cs : Aim) (moves : List Move) (v : Mo
   pub group_is : (g : Group) → g ≡ get_or gs v.group g → g ≡ group_at now p v.group
   group_is g at = at ∙ ap (λ xs. get_or xs v.group g) board.groups ∙ get_or-map-range_with_len (group_at now p) 0 p.pg_num v.group v.group g good.there (omega arith)
 
-  pub group_room : (g : Group) → g ≡ get_or gs v.group g → length g.pairs < 10
+  pub group_room : (g : Group) → g ≡ get_or gs v.group g → length g.pairs < 20
   unfolding group_at
   group_room g at =
       let long = ap (λ (x : Group). length x.pairs) (group_is g at) in

@@ -27,7 +27,7 @@ use std::alloc::Global;
 /// How far an OSD with so many groups is above its share of the places, times the weight of all candidates.
 fn above_share(count: u64, total: u64, places: u64, weight: u64) -> i128
     requires count { count ≤ max_groups }
-    requires total { total ≤ 2 ^ 58 }
+    requires total { total ≤ 2 ^ 60 }
     requires places { places ≤ max_devices * max_groups }
     requires weight { weight < 2 ^ 48 }
     ensures value { result ≡ pos (count * total) -ℤ pos (places * weight) }
@@ -86,7 +86,7 @@ fn in_parts(above: i128) -> i128
 fn with_carried(above: i128, groups: i32, total: u64) -> i128
     requires high { above <ℤ pos (2 ^ 107) }
     requires low { neg_ℤ (pos (2 ^ 107)) <ℤ above }
-    requires total { total ≤ 2 ^ 58 }
+    requires total { total ≤ 2 ^ 60 }
     ensures { result ≡ above +ℤ groups *ℤ pos total }
 {
     above + i128::from(groups) * i128::from(total)

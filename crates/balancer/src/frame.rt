@@ -61,9 +61,9 @@ fn are_under_same_all(map: &OsdMap, some: u32, other: u32, levels: &[u8]) -> boo
 
 /// A weight so many times.
 fn many(count: u32, weight: u64) -> i128
-    requires { weight ≤ 2 ^ 58 }
+    requires { weight ≤ 2 ^ 60 }
     ensures value { result ≡ pos (count * weight) }
-    ensures small { result <ℤ pos (2 ^ 90) }
+    ensures small { result <ℤ pos (2 ^ 92) }
 {
     i128::from(count) * i128::from(weight)
 }
@@ -90,7 +90,7 @@ pub(crate) struct Frame<'a> {
     ghost osds_are: { osds.items ≡ candidate_osds map.now.map pool },
     ghost osds_few: { length osds.items ≤ max_devices },
     ghost weight_is: { weight ≡ total_weight map.now.map pool },
-    ghost weight_small: { weight ≤ 2 ^ 58 },
+    ghost weight_small: { weight ≤ 2 ^ 60 },
 }
 
 impl<'a> Frame<'a> {

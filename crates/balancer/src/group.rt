@@ -31,7 +31,7 @@ pub struct Group {
 
 /// A few entries, in place.
 fn short_of<T: Blank>(entries: &[T]) -> Short<T>
-    requires { length entries.now ≤ 10 }
+    requires { length entries.now ≤ 20 }
     ensures { result ≡ entries.now }
 {
     let mut short = Short::new();
@@ -141,7 +141,7 @@ fn replace(places: &mut Short<Option<u32>>, pair: Pair)
 
 /// The group after a move of it.
 pub(crate) fn gone(group: Group, step: Move) -> Group
-    requires { length group.pairs < 10 }
+    requires { length group.pairs < 20 }
     ensures { result ≡ gone group step }
 {
     let pair = Pair {

@@ -5,8 +5,8 @@
 pub struct Move {
     /// The number of the group: 0 to 4,095.
     pub group: u32,
-    /// The OSD that the group leaves: 0 to 1,023.
+    /// The OSD that the group leaves: 0 to 4,095.
     pub from: u32,
-    /// The OSD that comes in its place: 0 to 1,023.
+    /// The OSD that comes in its place: 0 to 4,095.
     pub to: u32,
 }

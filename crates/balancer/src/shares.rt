@@ -111,7 +111,7 @@ pub(crate) fn weight_of(map: &OsdMap, osd: u32) -> u64
 pub(crate) fn total(map: &OsdMap, osds: &[u32]) -> u64
     requires { length osds.now ≤ max_devices }
     ensures value { result ≡ sum_by (weight_in_map map.now.map) osds.now }
-    ensures small { result ≤ 2 ^ 58 }
+    ensures small { result ≤ 2 ^ 60 }
 {
     let mut total = 0;
     for osd in osds {

@@ -8,7 +8,7 @@ use Rattle.buckets.specs.declared.bucket.BucketKind.{BucketKind}
 use Rattle.buckets.specs.declared.bucket.BucketKind.TheVariants.{Uniform, List as InList, Tree, Straw2}
 use Rattle.buckets.specs.Items.{weight_of}
 use Rattle.buckets.specs.Kinds.{most_items}
-use Rattle.buckets.specs.Limits.{is_within, lowest_bucket, max_level, max_items, max_devices}
+use Rattle.buckets.specs.Limits.{is_within, lowest_bucket, max_level, max_items, max_devices, plain_devices}
 
 -- an id that a bucket may have: from -1 down to the lowest
 abbrev pub is_bucket_id : ℤ → Bool
@@ -25,9 +25,10 @@ bucket_limits_ok b =
     is_bucket_id b.id && is_within 1 max_level b.level && is_within 1 (most_items b.kind) (length b.items)
     && list_all item_limits_ok b.items
 
--- a bucket as plain clusters have them: of no more items than one of another kind than straw2
+-- a bucket as plain clusters have them: of no more items than one of another kind than straw2, each with an id below
+-- the most devices of a plain cluster
 abbrev pub is_plain_bucket : Bucket → Bool
-is_plain_bucket b = nat_le (length b.items) max_items
+is_plain_bucket b = nat_le (length b.items) max_items && list_all (λ i. int_lt i.id (pos plain_devices)) b.items
 
 -- no two items weigh differently
 abbrev pub is_even : List Item → Bool

@@ -14,11 +14,14 @@ abbrev pub max_items : ℕ
 max_items = 64
 
 abbrev pub max_straws : ℕ
-max_straws = 1024
+max_straws = 4096
 
--- the most devices
+-- the most devices, and the most of a plain cluster
 abbrev pub max_devices : ℕ
-max_devices = 1024
+max_devices = 4096
+
+abbrev pub plain_devices : ℕ
+plain_devices = 1024
 
 -- a number from low to high
 abbrev pub is_within : ℕ → ℕ → ℕ → Bool

@@ -8,7 +8,7 @@ use std::alloc::Global;
 /// An item of a bucket.
 #[derive(Clone, Copy, Debug, PartialEq, Eq)]
 pub struct Item {
-    /// A device where it is not negative, 0 to 1,023, else the bucket of that id, -1 to -65,536.
+    /// A device where it is not negative, 0 to 4,095, else the bucket of that id, -1 to -65,536.
     pub id: i32,
     /// How much of the bucket it takes, above 0, in units of which 65,536 are 1.000.
     pub weight: u32,
@@ -53,7 +53,7 @@ pub struct Bucket {
     pub level: u8,
     /// How it picks among its items.
     pub kind: BucketKind,
-    /// Its items in order: 1 to 64, in a straw2 bucket 1 to 1,024.
+    /// Its items in order: 1 to 64, in a straw2 bucket 1 to 4,096.
     pub items: Entries<Item>,
 }
 

@@ -11,7 +11,10 @@ pub const MAX_LEVEL: u8 = 15;
 pub const MAX_ITEMS: usize = 64;
 
 /// The most items of a straw2 bucket.
-pub const MAX_STRAWS: usize = 1024;
+pub const MAX_STRAWS: usize = 4096;
 
 /// The most devices, which are numbered from 0 on. A map has room for at least 1.
-pub const MAX_DEVICES: u32 = 1024;
+pub const MAX_DEVICES: u32 = 4096;
+
+/// The most devices of a plain cluster.
+pub const PLAIN_DEVICES: u32 = 1024;

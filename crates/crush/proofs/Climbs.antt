@@ -50,10 +50,10 @@ module _ (buckets : List Bucket) (forest : IsForest buckets) where
   item-below item k b in_range here has =
       let place = item-place item b has in
       let below = (and_parts _ _ (and_parts _ _ (and_parts _ _ forest.lawful).0).0).1 in
-      let inner = rw here at (list_all-at (λ c. list_all (λ i. is_known buckets 1024 i.id && nat_lt (level_of buckets i.id) c.level) c.items) buckets k b in_range below) in
-      let both = list_all-at (λ i. is_known buckets 1024 i.id && nat_lt (level_of buckets i.id) b.level) b.items place.0 place.1 place.2 inner in
+      let inner = rw here at (list_all-at (λ c. list_all (λ i. is_known buckets 4096 i.id && nat_lt (level_of buckets i.id) c.level) c.items) buckets k b in_range below) in
+      let both = list_all-at (λ i. is_known buckets 4096 i.id && nat_lt (level_of buckets i.id) b.level) b.items place.0 place.1 place.2 inner in
       let held = get_or b.items place.0 place.1 in
-      let lower = ltb-true (level_of buckets held.id) b.level (and_parts (is_known buckets 1024 held.id) (nat_lt (level_of buckets held.id) b.level) both).1 in
+      let lower = ltb-true (level_of buckets held.id) b.level (and_parts (is_known buckets 4096 held.id) (nat_lt (level_of buckets held.id) b.level) both).1 in
       rw (place.3, place.4) at lower
 
   -- a bucket of the forest is the one of its id
@@ -76,7 +76,7 @@ module _ (buckets : List Bucket) (forest : IsForest buckets) where
       let at = find-place (has_item item) buckets b found in
       let here = own-bucket at.0 b at.1 at.2 in
       let of_level : level_of buckets b.id ≡ b.level = rw here in
-      let limits = rw at.2 at (list_all-at bucket_limits_ok buckets at.0 b at.1 (limits-each buckets 1024 forest.limits)) in
+      let limits = rw at.2 at (list_all-at bucket_limits_ok buckets at.0 b at.1 (limits-each buckets 4096 forest.limits)) in
       let below = item-below item at.0 b at.1 at.2 at.3 in
       record {
         listed = here;
@@ -151,23 +151,23 @@ module _ (buckets : List Bucket) (forest : IsForest buckets) where
   )
 
   -- an item of a bucket is no device past the last
-  item-near : (n : ℕ) (top : ℤ) → IsItemOf buckets top (pos n) → n < 1024
+  item-near : (n : ℕ) (top : ℤ) → IsItemOf buckets top (pos n) → n < 4096
   item-near n top held =
       let there = some-and (λ c. IsTrue (has_item (pos n) c)) (bucket_at buckets top) held in
       let b = there.0 in
       let at = find-place (λ c. int_eq c.id top) buckets b there.1 in
       let place = item-place (pos n) b there.2 in
-      let limits : bucket_limits_ok b ≡ true = rw at.2 at (list_all-at bucket_limits_ok buckets at.0 b at.1 (limits-each buckets 1024 forest.limits)) in
+      let limits : bucket_limits_ok b ≡ true = rw at.2 at (list_all-at bucket_limits_ok buckets at.0 b at.1 (limits-each buckets 4096 forest.limits)) in
       let within = rw place.3 at (list_all-at item_limits_ok b.items place.0 place.1 place.2 (and_parts _ _ limits).1) in
-      let near : int_lt place.1.id (pos 1024) ≡ true = (and_parts _ _ (and_parts _ _ within).0).1 in
+      let near : int_lt place.1.id (pos 4096) ≡ true = (and_parts _ _ (and_parts _ _ within).0).1 in
       omega (arith, ints, rw place.4 at near)
 
-  path-near : (between : List ℤ) (top : ℤ) (n : ℕ) → IsPath buckets top between (pos n) → n < 1024
+  path-near : (between : List ℤ) (top : ℤ) (n : ℕ) → IsPath buckets top between (pos n) → n < 4096
   path-near [] top n held = item-near n top held
   path-near (next ∷ between) top n (held, path) = path-near between next n path
 
   -- nothing stands above a device past the last
-  pub above-far : (top : ℤ) (n : ℕ) → 1024 ≤ n → is_above buckets top (pos n) ≡ false
+  pub above-far : (top : ℤ) (n : ℕ) → 4096 ≤ n → is_above buckets top (pos n) ≡ false
   above-far top n far =
       let past : is_above buckets top (pos n) ≡ true → ⊥ = λ yes.
       let above = above-found buckets top (pos n) yes in

@@ -22,8 +22,8 @@ pub limits-buckets : (buckets : List Bucket) (max_osd : ℕ) → forest_limits_o
 limits-buckets buckets max_osd ok = (within 1 4096 _ (and_parts _ _ (and_parts _ _ ok).0).0).1
 
 -- how many devices there are
-pub limits-devices : (buckets : List Bucket) (max_osd : ℕ) → forest_limits_ok buckets max_osd ≡ true → max_osd ≤ 1024
-limits-devices buckets max_osd ok = (within 1 1024 _ (and_parts _ _ (and_parts _ _ ok).0).1).1
+pub limits-devices : (buckets : List Bucket) (max_osd : ℕ) → forest_limits_ok buckets max_osd ≡ true → max_osd ≤ 4096
+limits-devices buckets max_osd ok = (within 1 4096 _ (and_parts _ _ (and_parts _ _ ok).0).1).1
 
 -- each bucket is within the limits
 pub limits-each : (buckets : List Bucket) (max_osd : ℕ) → forest_limits_ok buckets max_osd ≡ true → list_all bucket_limits_ok buckets ≡ true
@@ -50,10 +50,10 @@ has_items_below-more buckets few many le below =
     and_from _ _ (is_known-more buckets few many le item.id both.0) both.1))
 
 -- and so are the limits
-pub limits-most : (buckets : List Bucket) (max_osd : ℕ) → forest_limits_ok buckets max_osd ≡ true → forest_limits_ok buckets 1024 ≡ true
+pub limits-most : (buckets : List Bucket) (max_osd : ℕ) → forest_limits_ok buckets max_osd ≡ true → forest_limits_ok buckets 4096 ≡ true
 limits-most buckets max_osd ok =
     let count = is_within 1 4096 (length buckets) in
-    let devices = is_within 1 1024 max_osd in
+    let devices = is_within 1 4096 max_osd in
     let each = list_all bucket_limits_ok buckets in
     let outer = and_parts (count && devices) each ok in
     and_from (count && true) each (and_from count true (and_parts count devices outer.0).0 refl) outer.1

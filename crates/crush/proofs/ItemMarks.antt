@@ -41,16 +41,16 @@ counts id i = cond (int_eq i.id id) 1 0
 
 module _ (buckets : List Bucket) where
   -- the bucket at the place of a known id has that id
-  id_at_place : (n : ℕ) → is_known buckets 1024 (negsuc n) ≡ true → (get_or buckets (position_or_len (λ b. int_eq b.id (negsuc n)) buckets) no_bucket).id ≡ negsuc n
+  id_at_place : (n : ℕ) → is_known buckets 4096 (negsuc n) ≡ true → (get_or buckets (position_or_len (λ b. int_eq b.id (negsuc n)) buckets) no_bucket).id ≡ negsuc n
   id_at_place n known =
       let p = λ (b : Bucket). int_eq b.id (negsuc n) in
       (Decides-int_eq _ (negsuc n)).0 (passes_at_first p buckets no_bucket (found_within p buckets known))
 
   -- known items have slots of their own
-  pub slot-injective : (a b : ℤ) → is_known buckets 1024 a ≡ true → is_known buckets 1024 b ≡ true → slot buckets a ≡ slot buckets b → a ≡ b
+  pub slot-injective : (a b : ℤ) → is_known buckets 4096 a ≡ true → is_known buckets 4096 b ≡ true → slot buckets a ≡ slot buckets b → a ≡ b
   slot-injective (pos m) (pos n) known_a known_b same = ap pos same
-  slot-injective (pos m) (negsuc n) known_a known_b same = absurd (omega (arith, ltb-true m 1024 known_a, same))
-  slot-injective (negsuc m) (pos n) known_a known_b same = absurd (omega (arith, ltb-true n 1024 known_b, same))
+  slot-injective (pos m) (negsuc n) known_a known_b same = absurd (omega (arith, ltb-true m 4096 known_a, same))
+  slot-injective (negsuc m) (pos n) known_a known_b same = absurd (omega (arith, ltb-true n 4096 known_b, same))
   slot-injective (negsuc m) (negsuc n) known_a known_b same =
       let place_a = position_or_len (λ b. int_eq b.id (negsuc m)) buckets in
       let place_b = position_or_len (λ b. int_eq b.id (negsuc n)) buckets in
@@ -67,7 +67,7 @@ module _ (buckets : List Bucket) where
       omega (arith, one, more, counted, so_far)
 
   -- one more item marked
-  pub marked_more : (items : List Item) (k : ℕ) (seen : List Bool) (before : ℤ → ℕ) (d : Item) (item : ℤ) → length seen ≡ 5120 → slot buckets item < 5120 → k < length items → (get_or items k d).id ≡ item → is_known buckets 1024 item ≡ true → get_or seen (slot buckets item) false ≡ false → ((id : ℤ) → is_known buckets 1024 id ≡ true → marks buckets seen id ≡ before id + count_by (λ i. int_eq i.id id) (take k items)) → (id : ℤ) → is_known buckets 1024 id ≡ true → marks buckets (set seen (slot buckets item) true) id ≡ before id + count_by (λ i. int_eq i.id id) (take (k + 1) items)
+  pub marked_more : (items : List Item) (k : ℕ) (seen : List Bool) (before : ℤ → ℕ) (d : Item) (item : ℤ) → length seen ≡ 8192 → slot buckets item < 8192 → k < length items → (get_or items k d).id ≡ item → is_known buckets 4096 item ≡ true → get_or seen (slot buckets item) false ≡ false → ((id : ℤ) → is_known buckets 4096 id ≡ true → marks buckets seen id ≡ before id + count_by (λ i. int_eq i.id id) (take k items)) → (id : ℤ) → is_known buckets 4096 id ≡ true → marks buckets (set seen (slot buckets item) true) id ≡ before id + count_by (λ i. int_eq i.id id) (take (k + 1) items)
   marked_more items k seen before d item room within in_range here known fresh so_far id known_id =
       let one_more = sum_by_more (counts id) items k d in_range in
       let at : slot buckets item < length seen = omega arith in
@@ -86,8 +86,8 @@ module _ (buckets : List Bucket) where
       ]
 
 -- a known item that is no device is found
-pub known-found : (buckets : List Bucket) (item : ℤ) → (FitsUnsignedBits 32 item → ⊥) → SFits w32 item → is_known buckets 1024 item ≡ true → is_some (bucket_at buckets item) ≡ true
-known-found buckets (pos n) big fits known = absurd (big (omega (arith, ltb-true n 1024 known)))
+pub known-found : (buckets : List Bucket) (item : ℤ) → (FitsUnsignedBits 32 item → ⊥) → SFits w32 item → is_known buckets 4096 item ≡ true → is_some (bucket_at buckets item) ≡ true
+known-found buckets (pos n) big fits known = absurd (big (omega (arith, ltb-true n 4096 known)))
 known-found buckets (negsuc n) big fits known = known
 
 -- with nothing marked
@@ -115,13 +115,13 @@ once-twice buckets k bucket i in_range here held twice =
     list_all_at (λ b. list_all (λ j. eqb (times_in buckets j.id) 1) b.items) buckets k bucket in_range (rw (← here) inner)
 
 -- where the marks count what was met, each item was met once
-pub once-marked : (buckets : List Bucket) (seen : List Bool) → has_items_below buckets 1024 ≡ true → ((id : ℤ) → is_known buckets 1024 id ≡ true → marks buckets seen id ≡ times_in buckets id) → has_items_once buckets ≡ true
+pub once-marked : (buckets : List Bucket) (seen : List Bool) → has_items_below buckets 4096 ≡ true → ((id : ℤ) → is_known buckets 4096 id ≡ true → marks buckets seen id ≡ times_in buckets id) → has_items_once buckets ≡ true
 once-marked buckets seen below counted =
     list_all-from _ buckets no_bucket (λ k k_in.
     let bucket = get_or buckets k no_bucket in
     list_all-from _ bucket.items no_item (λ j j_in.
     let i = get_or bucket.items j no_item in
-    let known = list_all-at (λ (h : Item). is_known buckets 1024 h.id) bucket.items j no_item j_in (items_known buckets 1024 k bucket k_in (get_or_default buckets k no_bucket bucket k_in) below) in
+    let known = list_all-at (λ (h : Item). is_known buckets 4096 h.id) bucket.items j no_item j_in (items_known buckets 4096 k bucket k_in (get_or_default buckets k no_bucket bucket k_in) below) in
     let here = count_by-some (λ (h : Item). int_eq h.id i.id) bucket.items j no_item j_in (int_eq-yes i.id i.id refl) in
     let within = get_or-le-sum_by (λ b. count_by (λ h. int_eq h.id i.id) b.items) buckets k no_bucket k_in in
     let few : marks buckets seen i.id ≤ 1 = at_most_one (get_or seen (slot buckets i.id) false) in

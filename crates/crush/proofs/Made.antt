@@ -30,7 +30,7 @@ forest-passed buckets max_osd sorted limits ok =
     let others = and_parts _ _ ok in
     let items = and_parts _ _ others.0 in
     let ids = and_parts _ _ items.0 in
-    let below = has_items_below-more buckets max_osd 1024 (limits-devices buckets max_osd limits) ids.1 in
+    let below = has_items_below-more buckets max_osd 4096 (limits-devices buckets max_osd limits) ids.1 in
     record {
       descending = descending-own buckets sorted ids.0;
       limits = limits-most buckets max_osd limits;

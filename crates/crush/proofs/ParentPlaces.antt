@@ -26,7 +26,7 @@ abbrev pub is : ℤ → Item → Bool
 is id i = int_eq i.id id
 
 -- one more item entered
-pub entered_more : (buckets : List Bucket) (items : List Item) (k place : ℕ) (places : List ℕ) (before : ℤ → ℕ) (d : Item) (item : ℤ) → length places ≡ 5120 → slot buckets item < 5120 → k < length items → (get_or items k d).id ≡ item → is_known buckets 1024 item ≡ true → ((id : ℤ) → is_known buckets 1024 id ≡ true → get_or places (slot buckets id) 0 ≡ cond (list_any (is id) (take k items)) place (before id)) → (id : ℤ) → is_known buckets 1024 id ≡ true → get_or (set places (slot buckets item) place) (slot buckets id) 0 ≡ cond (list_any (is id) (take (k + 1) items)) place (before id)
+pub entered_more : (buckets : List Bucket) (items : List Item) (k place : ℕ) (places : List ℕ) (before : ℤ → ℕ) (d : Item) (item : ℤ) → length places ≡ 8192 → slot buckets item < 8192 → k < length items → (get_or items k d).id ≡ item → is_known buckets 4096 item ≡ true → ((id : ℤ) → is_known buckets 4096 id ≡ true → get_or places (slot buckets id) 0 ≡ cond (list_any (is id) (take k items)) place (before id)) → (id : ℤ) → is_known buckets 4096 id ≡ true → get_or (set places (slot buckets item) place) (slot buckets id) 0 ≡ cond (list_any (is id) (take (k + 1) items)) place (before id)
 entered_more buckets items k place places before d item room within in_range here known so_far id known_id =
     let more = list_any_more (is id) items k d in_range in
     let at : slot buckets item < length places = omega arith in
@@ -63,7 +63,7 @@ placed_more buckets k now before item b in_range here entered so_far =
     ]
 
 -- no bucket of a forest has an item that is not known
-pub unknown-nowhere : (buckets : List Bucket) → IsForest buckets → (item : ℤ) → is_known buckets 1024 item ≡ false → find (has_item item) buckets ≡ None
+pub unknown-nowhere : (buckets : List Bucket) → IsForest buckets → (item : ℤ) → is_known buckets 4096 item ≡ false → find (has_item item) buckets ≡ None
 unknown-nowhere buckets forest item unknown = by_case (find (has_item item) buckets) refl
   where
     by_case : (o : Option Bucket) → find (has_item item) buckets ≡ o → o ≡ None
@@ -72,19 +72,19 @@ unknown-nowhere buckets forest item unknown = by_case (find (has_item item) buck
         let place = find-place (has_item item) buckets b e in
         let below = (and_parts _ _ (and_parts _ _ (and_parts _ _ forest.lawful).0).0).1 in
         let at = Any-from_list_any (is item) b.items place.3 in
-        let known = list_all-at (λ (i : Item). is_known buckets 1024 i.id) b.items at.0 at.1 at.2 (items_known buckets 1024 place.0 b place.1 (sym place.2) below) in
+        let known = list_all-at (λ (i : Item). is_known buckets 4096 i.id) b.items at.0 at.1 at.2 (items_known buckets 4096 place.0 b place.1 (sym place.2) below) in
         let same : at.1.id ≡ item = (Decides-int_eq at.1.id item).0 at.4 in
         absurd (both_ways _ unknown (rw (at.3, same) at known))
 
 -- the number of a known item
-slot-within : (buckets : List Bucket) → length buckets ≤ 4096 → (id : ℤ) → is_known buckets 1024 id ≡ true → slot buckets id < 5120
-slot-within buckets few (pos n) known = omega (arith, ltb-true n 1024 known)
+slot-within : (buckets : List Bucket) → length buckets ≤ 4096 → (id : ℤ) → is_known buckets 4096 id ≡ true → slot buckets id < 8192
+slot-within buckets few (pos n) known = omega (arith, ltb-true n 4096 known)
 slot-within buckets few (negsuc n) known = omega (arith, few, found_within (λ (b : Bucket). int_eq b.id (negsuc n)) buckets known)
 
 -- before any bucket is entered no item has one
-pub placed_none : (buckets : List Bucket) → length buckets ≤ 4096 → (id : ℤ) → is_known buckets 1024 id ≡ true → slice_get buckets (get_or (replicate 5120 4096) (slot buckets id) 0) ≡ find (has_item id) (drop (length buckets) buckets)
+pub placed_none : (buckets : List Bucket) → length buckets ≤ 4096 → (id : ℤ) → is_known buckets 4096 id ≡ true → slice_get buckets (get_or (replicate 8192 4096) (slot buckets id) 0) ≡ find (has_item id) (drop (length buckets) buckets)
 placed_none buckets few id known =
-    ap (slice_get buckets) (get_or-replicate 5120 (slot buckets id) 4096 0 (slot-within buckets few id known))
+    ap (slice_get buckets) (get_or-replicate 8192 (slot buckets id) 4096 0 (slot-within buckets few id known))
     ∙ slice_get_past buckets 4096 few
     ∙ sym (ap (find (has_item id)) (drop-length buckets))
 

@@ -15,11 +15,11 @@ max_steps = 16
 
 -- the greatest count of a choose step
 abbrev pub max_count : ℕ
-max_count = 10
+max_count = 20
 
 -- the most places of a pool
 abbrev pub max_size : ℕ
-max_size = 10
+max_size = 20
 
 -- the reweight of a device that takes its whole share
 abbrev pub full_weight : ℕ

@@ -10,7 +10,7 @@ use Rattle.refusal.specs.declared.refused.Refusal.TheVariants.{BadLimit, BadFore
 use Rattle.refusal.specs.Outcomes.{refused_unless}
 use Rattle.crush.specs.Forest.{bucket_at, level_of}
 use Rattle.buckets.specs.Buckets.{bucket_limits_ok, is_plain_bucket, weights_ok}
-use Rattle.buckets.specs.Limits.{is_within, max_devices}
+use Rattle.buckets.specs.Limits.{is_within, max_devices, plain_devices}
 use Rattle.crush.specs.Limits.{max_buckets, plain_buckets}
 
 -- a forest within the limits: buckets, no more than the most, over devices, no more than the most
@@ -67,9 +67,10 @@ pub record IsForest (buckets : List Bucket) : Type 0 where
   pub limits : IsTrue (forest_limits_ok buckets max_devices)
   pub lawful : IsTrue (forest_ok buckets max_devices)
 
--- a forest as plain clusters have them: no more buckets, and no more items of one
-abbrev pub is_plain_forest : List Bucket → Bool
-is_plain_forest buckets = nat_le (length buckets) plain_buckets && list_all is_plain_bucket buckets
+-- a forest as plain clusters have them: no more buckets, each of them such a bucket, and no more devices
+abbrev pub is_plain_forest : List Bucket → ℕ → Bool
+is_plain_forest buckets max_osd =
+    nat_le (length buckets) plain_buckets && nat_le max_osd plain_devices && list_all is_plain_bucket buckets
 
 -- why a list of buckets is no forest: a limit first
 abbrev pub forest_fault : List Bucket → ℕ → Option Refusal
@@ -78,4 +79,5 @@ forest_fault buckets max_osd =
 
 -- why it is none of a plain cluster: a limit of those first
 abbrev pub plain_forest_fault : List Bucket → ℕ → Option Refusal
-plain_forest_fault buckets max_osd = if is_plain_forest buckets then forest_fault buckets max_osd else Some BadLimit
+plain_forest_fault buckets max_osd =
+    if is_plain_forest buckets max_osd then forest_fault buckets max_osd else Some BadLimit

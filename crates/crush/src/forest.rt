@@ -49,15 +49,15 @@ impl Forest {
     ///
     /// # Errors
     ///
-    /// `BadLimit` (12) where there are more than 512 buckets, or more than 64 items in one; else those of
-    /// [`Forest::stock`].
+    /// `BadLimit` (12) where there are more than 512 buckets or 1,024 devices, more than 64 items in a bucket, or an
+    /// item above 1,023; else those of [`Forest::stock`].
     pub fn new(buckets: Vec<Bucket>, max_osd: u32) -> Result<Self, Refusal>
         ensures value { Judges result (plain_forest_fault buckets.items max_osd) (λ f. f ≡ by_id buckets.items) }
         ensures same { IfOk result (IsPermutation buckets.items) }
         ensures descending { IfOk result IsDescending }
         ensures buckets { IfOk result (λ f. (id : ℤ) → bucket_at f id ≡ bucket_at buckets.items id) }
     {
-        if !is_plain_forest(&buckets) {
+        if !is_plain_forest(&buckets, max_osd) {
             return Err(Refusal::BadLimit);
         }
         Forest::stock(buckets, max_osd)
@@ -67,9 +67,9 @@ impl Forest {
     ///
     /// # Errors
     ///
-    /// `BadLimit` (12) where it has no bucket or more than 4,096, `max_osd` is not in 1 to 1,024, or a bucket has an id
-    /// outside -1 to -65,536, a type outside 1 to 15, no item or more than 64 (in a straw2 bucket 1,024), or an item
-    /// outside -65,536 to 1,023 or of weight 0; else `BadForest` (13) where two buckets have one id, an item is no
+    /// `BadLimit` (12) where it has no bucket or more than 4,096, `max_osd` is not in 1 to 4,096, or a bucket has an id
+    /// outside -1 to -65,536, a type outside 1 to 15, no item or more than 64 (in a straw2 bucket 4,096), or an item
+    /// outside -65,536 to 4,095 or of weight 0; else `BadForest` (13) where two buckets have one id, an item is no
     /// bucket of the forest and no device below `max_osd`, an item's type is not below its bucket's, an item stands in
     /// the forest twice, or the weights of a bucket come to more than 4,294,967,295 or differ in a uniform bucket.
     pub fn stock(buckets: Vec<Bucket>, max_osd: u32) -> Result<Self, Refusal>

@@ -13,10 +13,10 @@ pub const PLAIN_BUCKETS: usize = 512;
 pub const MAX_STEPS: usize = 16;
 
 /// The greatest count of a choose step. The least is 0, which stands for the size of the pool.
-pub const MAX_COUNT: u8 = 10;
+pub const MAX_COUNT: u8 = 20;
 
 /// The most places of a pool, which has at least 1.
-pub const MAX_SIZE: usize = 10;
+pub const MAX_SIZE: usize = 20;
 
 /// The reweight of a device that takes its whole share. 0 takes none.
 pub const FULL_WEIGHT: u32 = 65_536;

@@ -41,7 +41,7 @@ impl Rule {
     /// # Errors
     ///
     /// `BadLimit` (12) where it has no step or more than 16, takes a bucket outside -1 to -65,536, chooses a type above
-    /// 15 or more than 10 items, or sets no tries or more than 200; else `BadRule` (14) where the steps are not in the
+    /// 15 or more than 20 items, or sets no tries or more than 200; else `BadRule` (14) where the steps are not in the
     /// grammar, or take a bucket that the forest has not.
     pub fn new(kind: RuleKind, steps: Vec<Step>, forest: &Forest) -> Result<Self, Refusal>
         ensures { Judges result (rule_fault kind steps.items forest.now)

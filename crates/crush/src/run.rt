@@ -221,7 +221,7 @@ impl Rule {
     ghost use Rattle.crush.specs.Placed.{world};
     ghost use Rattle.crush.specs.Run.{run_of};
 
-    /// Places an input by the rule in a pool of `size` places, 1 to 10, as many as a pool may have.
+    /// Places an input by the rule in a pool of `size` places, 1 to 20, as many as a pool may have.
     ///
     /// # Errors
     ///

@@ -25,7 +25,7 @@ pub struct Choose {
     pub mode: Mode,
     /// Whether a device is taken below each of them.
     pub to_leaf: bool,
-    /// How many are chosen below each bucket, 0 to 10. 0 stands for the size of the pool.
+    /// How many are chosen below each bucket, 0 to 20. 0 stands for the size of the pool.
     pub count: u8,
     /// Their type, 0 to 15. 0 is the type of a device.
     pub level: u8,

@@ -11,7 +11,7 @@ ghost use Rattle.crush.specs.WellFormed.{forest_limits_ok, is_plain_forest, has_
 use crate::limits::{MAX_BUCKETS, PLAIN_BUCKETS};
 use crate::met::are_met_once;
 use crate::search::{is_known, level_of};
-use buckets::limits::MAX_DEVICES;
+use buckets::limits::{MAX_DEVICES, PLAIN_DEVICES};
 use buckets::{Bucket, Item, are_weights_lawful};
 
 /// Whether each bucket is within the limits.
@@ -31,18 +31,18 @@ pub(crate) fn is_within_limits(buckets: &[Bucket], max_osd: u32) -> bool
         && are_buckets_within(buckets)
 }
 
-/// Whether each bucket has no more items than one of a plain cluster.
+/// Whether each bucket is one of a plain cluster.
 fn are_plain_buckets(buckets: &[Bucket]) -> bool
     ensures { result ≡ list_all is_plain_bucket buckets.now }
 {
     buckets.iter().all(Bucket::is_plain)
 }
 
-/// Whether there are no more buckets, and no more items of one, than in a plain cluster.
-pub(crate) fn is_plain_forest(buckets: &[Bucket]) -> bool
-    ensures { result ≡ is_plain_forest buckets.now }
+/// Whether there are no more buckets and devices than in a plain cluster, and each bucket is one of such a cluster.
+pub(crate) fn is_plain_forest(buckets: &[Bucket], max_osd: u32) -> bool
+    ensures { result ≡ is_plain_forest buckets.now max_osd }
 {
-    buckets.len() <= PLAIN_BUCKETS && are_plain_buckets(buckets)
+    buckets.len() <= PLAIN_BUCKETS && max_osd <= PLAIN_DEVICES && are_plain_buckets(buckets)
 }
 
 /// Whether no two buckets, in order, have one id.

@@ -19,13 +19,13 @@ use Rattle.crush_laws.proofs.RunsReached.{typed, item_known}
 use Rattle.crush_laws.proofs.DescentsWithin.{IsDevice, within_by}
 
 -- what a bucket of a forest picks is known, and of a type below
-picked_known : (w : World) (b : Bucket) (r : ℕ) → IsForest w.buckets → bucket_at w.buckets b.id ≡ Some b → (is_known w.buckets 1024 (pick_of b w.x r) ≡ true) × (level_of w.buckets (pick_of b w.x r) < b.level)
+picked_known : (w : World) (b : Bucket) (r : ℕ) → IsForest w.buckets → bucket_at w.buckets b.id ≡ Some b → (is_known w.buckets 4096 (pick_of b w.x r) ≡ true) × (level_of w.buckets (pick_of b w.x r) < b.level)
 unfolding pick_of
 picked_known w b r forest e =
     item_known w.buckets b.id b (place_picked b w.x r) (record { id = pos 0; weight = 0 }) forest e (within_by b.kind b w.x r refl (bucket_at-pickable w.buckets forest b.id b e))
 
 -- a known item that is no bucket is a device
-device_of : (buckets : List Bucket) (id : ℤ) → is_known buckets 1024 id ≡ true → bucket_at buckets id ≡ None → IsDevice id
+device_of : (buckets : List Bucket) (id : ℤ) → is_known buckets 4096 id ≡ true → bucket_at buckets id ≡ None → IsDevice id
 device_of buckets (pos n) known none = record { osd = n; is = refl }
 device_of buckets (negsuc n) known none = absurd (false≢true (ap is_some (sym none) ∙ known))
 
@@ -39,7 +39,7 @@ picked_first w r wanted b below None e h = record { osd = h.osd; other = h.other
 picked_first w r wanted b below (Some p) e h = record { of_type = h.of_type; known = h.known; leads = record { between = below ∷ h.leads.between; picks = (e, h.leads.picks) } }
 
 -- a descent from the item picked
-ends_by : (w : World) (r : Bucket → ℕ) (wanted n : ℕ) (b : Bucket) (hit : Bool) (o : Option Bucket) → eqb (level_of w.buckets (pick_of b w.x (r b))) wanted ≡ hit → bucket_at w.buckets (pick_of b w.x (r b)) ≡ o → is_known w.buckets 1024 (pick_of b w.x (r b)) ≡ true → ((below : Bucket) → bucket_at w.buckets (pick_of b w.x (r b)) ≡ Some below → Ends w r wanted below (descent w r wanted n below)) → Ends w r wanted b (cond hit (Some (record { item = pick_of b w.x (r b); r = r b })) (option_and_then (λ below. descent w r wanted n below) o))
+ends_by : (w : World) (r : Bucket → ℕ) (wanted n : ℕ) (b : Bucket) (hit : Bool) (o : Option Bucket) → eqb (level_of w.buckets (pick_of b w.x (r b))) wanted ≡ hit → bucket_at w.buckets (pick_of b w.x (r b)) ≡ o → is_known w.buckets 4096 (pick_of b w.x (r b)) ≡ true → ((below : Bucket) → bucket_at w.buckets (pick_of b w.x (r b)) ≡ Some below → Ends w r wanted below (descent w r wanted n below)) → Ends w r wanted b (cond hit (Some (record { item = pick_of b w.x (r b); r = r b })) (option_and_then (λ below. descent w r wanted n below) o))
 ends_by w r wanted n b true o t e known later = record { of_type = eqb-true _ _ t; known = known; leads = record { between = []; picks = refl } }
 ends_by w r wanted n b false None t e known later =
     let item = pick_of b w.x (r b) in

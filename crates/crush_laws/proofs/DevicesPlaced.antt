@@ -35,8 +35,8 @@ use Rattle.crush_laws.proofs.RunsWithin.{IsIn, bucket_in}
 use Rattle.keylist.proofs.Counts.{find-place}
 
 -- a known item of type 0 has the number of a device
-number_known : (buckets : List Bucket) (id : ℤ) → IsForest buckets → is_known buckets 1024 id ≡ true → level_of buckets id ≡ 0 → IsDeviceNumber id
-number_known buckets (pos n) forest known none = ltb-true n 1024 known
+number_known : (buckets : List Bucket) (id : ℤ) → IsForest buckets → is_known buckets 4096 id ≡ true → level_of buckets id ≡ 0 → IsDeviceNumber id
+number_known buckets (pos n) forest known none = ltb-true n 4096 known
 number_known buckets (negsuc n) forest known none =
     let device = known_device buckets (negsuc n) forest known none in
     let same : negsuc n ≡ pos device.osd = device.is in

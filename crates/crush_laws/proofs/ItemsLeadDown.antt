@@ -13,8 +13,8 @@ use Rattle.keylist.proofs.Each.{list_all-at}
 
 module _ (buckets : List Bucket) where
   -- an item that is known and of a lower type
-  lower : (id : ℤ) (level : ℕ) (o : Option Bucket) → bucket_at buckets id ≡ o → is_known buckets 1024 id ≡ true → nat_lt (option_map_or (λ b. b.level) o 0) level ≡ true → MatchOption o (IsDeviceNumber id) (λ b. b.level < level)
-  lower (pos n) level None e known low = ltb-true n 1024 known
+  lower : (id : ℤ) (level : ℕ) (o : Option Bucket) → bucket_at buckets id ≡ o → is_known buckets 4096 id ≡ true → nat_lt (option_map_or (λ b. b.level) o 0) level ≡ true → MatchOption o (IsDeviceNumber id) (λ b. b.level < level)
+  lower (pos n) level None e known low = ltb-true n 4096 known
   lower (negsuc n) level None e known low = absurd (false≢true (rw e at known))
   lower id level (Some b) e known low = ltb-true b.level level low
 
@@ -23,9 +23,9 @@ module _ (buckets : List Bucket) where
   leads-down forest id b found j d j_in =
       let at = find-place (λ c. int_eq c.id id) buckets b found in
       let below = (and_parts _ _ (and_parts _ _ (and_parts _ _ forest.lawful).0).0).1 in
-      let inner = rw at.2 at (list_all-at (λ c. list_all (λ i. is_known buckets 1024 i.id && nat_lt (level_of buckets i.id) c.level) c.items) buckets at.0 b at.1 below) in
+      let inner = rw at.2 at (list_all-at (λ c. list_all (λ i. is_known buckets 4096 i.id && nat_lt (level_of buckets i.id) c.level) c.items) buckets at.0 b at.1 below) in
       let item = get_or b.items j d in
-      let both = and_parts (is_known buckets 1024 item.id) (nat_lt (level_of buckets item.id) b.level) (list_all-at (λ i. is_known buckets 1024 i.id && nat_lt (level_of buckets i.id) b.level) b.items j d j_in inner) in
+      let both = and_parts (is_known buckets 4096 item.id) (nat_lt (level_of buckets item.id) b.level) (list_all-at (λ i. is_known buckets 4096 i.id && nat_lt (level_of buckets i.id) b.level) b.items j d j_in inner) in
       lower item.id b.level (bucket_at buckets item.id) refl both.0 both.1
 
 -- the law

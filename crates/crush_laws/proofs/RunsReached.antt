@@ -84,12 +84,12 @@ is_there (Some b) h = (b, refl)
 pub typed : (buckets : List Bucket) (id : ℤ) (b : Bucket) → IsForest buckets → bucket_at buckets id ≡ Some b → 1 ≤ b.level
 typed buckets id b forest e =
     let place = find-place (λ c. int_eq c.id id) buckets b e in
-    let limits : bucket_limits_ok b ≡ true = rw place.2 at (list_all-at bucket_limits_ok buckets place.0 b place.1 (limits-each buckets 1024 forest.limits)) in
+    let limits : bucket_limits_ok b ≡ true = rw place.2 at (list_all-at bucket_limits_ok buckets place.0 b place.1 (limits-each buckets 4096 forest.limits)) in
     let level : is_within 1 15 b.level ≡ true = (and_parts _ _ (and_parts _ _ (and_parts _ _ limits).0).0).1 in
     grind (arith, nat_tests, level)
 
 -- a known item of type 0 is a device
-pub known_device : (buckets : List Bucket) (id : ℤ) → IsForest buckets → is_known buckets 1024 id ≡ true → level_of buckets id ≡ 0 → IsDevice id
+pub known_device : (buckets : List Bucket) (id : ℤ) → IsForest buckets → is_known buckets 4096 id ≡ true → level_of buckets id ≡ 0 → IsDevice id
 known_device buckets (pos n) forest known none = record { osd = n; is = refl }
 known_device buckets (negsuc n) forest known none =
     let there = is_there (bucket_at buckets (negsuc n)) known in
@@ -98,13 +98,13 @@ known_device buckets (negsuc n) forest known none =
     absurd (omega arith)
 
 -- an item of a bucket of a forest is known, and of a type below
-pub item_known : (buckets : List Bucket) (id : ℤ) (b : Bucket) (k : ℕ) (d : Item) → IsForest buckets → bucket_at buckets id ≡ Some b → k < length b.items → (is_known buckets 1024 (get_or b.items k d).id ≡ true) × (level_of buckets (get_or b.items k d).id < b.level)
+pub item_known : (buckets : List Bucket) (id : ℤ) (b : Bucket) (k : ℕ) (d : Item) → IsForest buckets → bucket_at buckets id ≡ Some b → k < length b.items → (is_known buckets 4096 (get_or b.items k d).id ≡ true) × (level_of buckets (get_or b.items k d).id < b.level)
 item_known buckets id b k d forest e within =
     let place = find-place (λ c. int_eq c.id id) buckets b e in
     let below = (and_parts _ _ (and_parts _ _ (and_parts _ _ forest.lawful).0).0).1 in
-    let inner = rw place.2 at (list_all-at (λ c. list_all (λ i. is_known buckets 1024 i.id && nat_lt (level_of buckets i.id) c.level) c.items) buckets place.0 b place.1 below) in
-    let both = list_all-at (λ i. is_known buckets 1024 i.id && nat_lt (level_of buckets i.id) b.level) b.items k d within inner in
-    let parts = and_parts (is_known buckets 1024 (get_or b.items k d).id) (nat_lt (level_of buckets (get_or b.items k d).id) b.level) both in
+    let inner = rw place.2 at (list_all-at (λ c. list_all (λ i. is_known buckets 4096 i.id && nat_lt (level_of buckets i.id) c.level) c.items) buckets place.0 b place.1 below) in
+    let both = list_all-at (λ i. is_known buckets 4096 i.id && nat_lt (level_of buckets i.id) b.level) b.items k d within inner in
+    let parts = and_parts (is_known buckets 4096 (get_or b.items k d).id) (nat_lt (level_of buckets (get_or b.items k d).id) b.level) both in
     (parts.0, ltb-true _ _ parts.1)
 
 -- with a bucket all its items are held

@@ -2,6 +2,7 @@
 use Rattle.std.specs.Prelude.{◌≡◌, ◌≢◌, ℕ, ℤ, [], ◌∷◌, MatchOption, true, List, pos, Some}
 use Rattle.buckets.specs.declared.bucket.Bucket.{Bucket}
 use Rattle.crush.specs.Forest.{bucket_at, level_of}
+use Rattle.buckets.specs.Limits.{max_devices}
 use Rattle.buckets.specs.Pick.{pick_of}
 use Rattle.crush.specs.World.{World}
 use Rattle.crush.specs.Descent.{item_below}
@@ -27,7 +28,7 @@ pub record LeadsAstray (w : World) (r : Bucket → ℕ) (wanted : ℕ) (b : Buck
 -- the picks from a bucket lead to an item of the forest of the wanted type
 pub record LeadsToWanted (w : World) (r : Bucket → ℕ) (wanted : ℕ) (b : Bucket) (item : ℤ) : Type 0 where
   pub of_type : level_of w.buckets item ≡ wanted
-  pub known : is_known w.buckets 1024 item ≡ true
+  pub known : is_known w.buckets max_devices item ≡ true
   pub leads : PicksLeadTo w r b item
 
 -- in a forest a descent comes to an item of the wanted type, unless a device of another type stops it: never to an

@@ -1,8 +1,7 @@
 -- What an index has for an OSD, and what it has once lists are put into it.
-use Rattle.std.specs.Prelude.{◌≡◌, ℕ, ◌<◌, cond, List, Option, Some, None, nat_eq, ◌==◌}
+use Rattle.std.specs.Prelude.{◌≡◌, ℕ, ◌<◌, cond, List, length, Option, Some, None, nat_eq, ◌==◌}
 use Rattle.std.specs.Option.{IsSome}
 use Rattle.std.specs.Map.{lookup}
-use Rattle.buckets.specs.Limits.{max_devices}
 use Rattle.grouptable.specs.Sets.{listed, over}
 use Rattle.grouptable.specs.Lists.{osd_list}
 
@@ -20,7 +19,7 @@ HasTheSame old new = (osd : ℕ) → list_in new osd ≡ list_in old osd
 
 -- the index of lists that stand by their OSD: it has those with a group
 abbrev pub IsIndexOf : List (List ℕ) → List (ℕ × List ℕ) → Type 0
-IsIndexOf lists index = (osd : ℕ) → osd < max_devices → list_in index osd ≡ listed (osd_list lists osd)
+IsIndexOf lists index = (osd : ℕ) → osd < length lists → list_in index osd ≡ listed (osd_list lists osd)
 
 -- fresh lists are put into an index: their OSDs have them, if they have a group, and the others what they had
 abbrev pub IsPutInto : List (ℕ × List ℕ) → List (ℕ × List ℕ) → List (ℕ × List ℕ) → Type 0

@@ -1,14 +1,14 @@
 -- What stands for each OSD, by its number, while an index is built.
-use Rattle.std.specs.Prelude.{◌≡◌, ℕ, ◌<◌, Bool, false, List, [], length, slice_index_or}
+use Rattle.std.specs.Prelude.{◌≡◌, ℕ, ◌<◌, ◌≤◌, Bool, false, List, [], length, slice_index_or}
 use Rattle.buckets.specs.Limits.{max_devices}
 use Rattle.grouptable.specs.Sets.{groups_of, joined}
 use Rattle.maptypes.specs.Sets.{Places}
 
--- there is one for each OSD
-abbrev pub AreForEachOsd : {A : Type 0} → List A → Type 0
-AreForEachOsd each = length each ≡ max_devices
+-- there is no more than one for each OSD
+abbrev pub AreForOsds : {A : Type 0} → List A → Type 0
+AreForOsds each = length each ≤ max_devices
 
--- the list of an OSD
+-- the list of an OSD, which has no group where it is not there
 abbrev pub osd_list : List (List ℕ) → ℕ → List ℕ
 osd_list lists osd = slice_index_or lists osd []
 

@@ -1,11 +1,10 @@
-//! A set of at most 10 places, two bytes each.
+//! A set of at most 20 places, two bytes each.
 
-ghost use Rattle.std.specs.Prelude.{◌≡◌, ◌<◌, ◌≤◌, ◌++◌, [], ◌∷◌, Option, None, Some, length, slice_index_or, IfSome, ◌==◌, map};
-ghost use Rattle.std.specs.List.{list_any};
+ghost use Rattle.std.specs.Prelude.{◌≡◌, ◌<◌, ◌≤◌, ◌++◌, [], ◌∷◌, false, None, length, position, slice_index_or, IfSome, ◌==◌, map};
+ghost use Rattle.std.specs.List.{list_any, position_or_len};
 ghost use Rattle.crush.specs.Limits.{max_size};
 ghost use Rattle.buckets.specs.Limits.{max_devices};
-ghost use Rattle.grouptable.specs.Sets.{place_stored};
-ghost use Rattle.maptypes.specs.Sets.{stands};
+ghost use Rattle.grouptable.specs.Sets.{is_end, place_stored, set_stored, stands_at};
 
 use buckets::limits::MAX_DEVICES;
 use crush::limits::MAX_SIZE;
@@ -20,7 +19,10 @@ const MAX_OSDS: u16 = MAX_DEVICES as u16;
 /// What is stored for a hole.
 const HOLE: u16 = 0xffff;
 
-/// At each of at most 10 places an OSD, or a hole.
+/// What is stored behind the last place.
+pub(crate) const END: u16 = 0xfffe;
+
+/// At each of at most 20 places an OSD, or a hole.
 #[derive(Drop)]
 pub struct OsdSet {
     len: u8,
@@ -28,16 +30,16 @@ pub struct OsdSet {
 }
 
 impl Model for OsdSet {
-    ghost use Rattle.std.specs.Prelude.{◌≤◌, map, take};
-    ghost use Rattle.crush.specs.Limits.{max_size};
+    ghost use Rattle.std.specs.Prelude.{map, take};
     ghost use Rattle.grouptable.specs.Sets.{place_stored};
+    ghost use Rattle.grouptable.specs.Stored.{IsFilled};
     ghost use Rattle.maptypes.specs.Sets.{Places};
 
     ghost Value = { Places };
 
     ghost view = { λ s. map place_stored (take s.len s.places) };
 
-    ghost invariant = { λ s. s.len ≤ max_size };
+    ghost invariant = { λ s. IsFilled s.len s.places };
 }
 
 impl OsdSet {
@@ -47,41 +49,8 @@ impl OsdSet {
     {
         OsdSet {
             len: 0,
-            places: [HOLE; MAX_PLACES],
+            places: [END; MAX_PLACES],
         }
-    }
-
-    /// How many places there are.
-    pub fn len(&self) -> usize
-        ensures size { result ≡ length self.now }
-        ensures few { result ≤ max_size }
-    {
-        usize::from(self.len)
-    }
-
-    /// The OSD at a place, if there is one.
-    pub fn at(&self, place: usize) -> Option<u16>
-        requires { place < length self.now }
-        ensures value { result ≡ slice_index_or self.now place None }
-        ensures small { IfSome result (λ osd. osd < max_devices) }
-    {
-        let osd = self.filled()[place];
-        if osd < MAX_OSDS { Some(osd) } else { None }
-    }
-
-    /// Whether an OSD stands in the set.
-    pub fn has(&self, osd: u16) -> bool
-        requires { osd < max_devices }
-        ensures { result ≡ stands osd self.now }
-    {
-        holds(self.filled(), osd)
-    }
-
-    /// What is stored.
-    fn filled(&self) -> &[u16]
-        ensures { map place_stored result.now ≡ self.now }
-    {
-        &self.places[..usize::from(self.len)]
     }
 
     /// One more place.
@@ -90,14 +59,98 @@ impl OsdSet {
         requires small { IfSome place (λ osd. osd < max_devices) }
         ensures { self.new ≡ self.old ++ place ∷ [] }
     {
-        self.places[usize::from(self.len)] = place.unwrap_or(HOLE);
+        self.places[usize::from(self.len)] = stored_of(place);
         self.len += 1;
+    }
+
+    /// What is stored.
+    pub(crate) fn stored(&self) -> &[u16]
+        ensures value { map place_stored result.now ≡ self.now }
+    {
+        &self.places[..usize::from(self.len)]
+    }
+
+    /// What a list of sets of `width` places stores.
+    pub(crate) fn row(&self, width: usize) -> &[u16]
+        requires few { width ≤ max_size }
+        requires fits { length self.now ≤ width }
+        ensures value { set_stored result.now ≡ self.now }
+        ensures len { length result.now ≡ width }
+    {
+        &self.places[..width]
     }
 }
 
-/// Whether an OSD stands at one of some places.
-fn holds(places: &[u16], osd: u16) -> bool
-    ensures { result ≡ list_any (λ x. x == osd) places.now }
+/// What is stored for a place.
+fn stored_of(place: Option<u16>) -> u16
+    requires { IfSome place (λ osd. osd < max_devices) }
+    ensures value { place_stored result ≡ place }
+    ensures filled { is_end result ≡ false }
 {
-    places.iter().any(|place| *place == osd)
+    match place {
+        Some(osd) => osd,
+        None => HOLE,
+    }
+}
+
+/// The OSD of a stored place, if there is one.
+fn osd_at(stored: u16) -> Option<u16>
+    ensures value { result ≡ place_stored stored }
+    ensures small { IfSome result (λ osd. osd < max_devices) }
+{
+    if stored < MAX_OSDS {
+        Some(stored)
+    } else {
+        None
+    }
+}
+
+/// The OSD of one of some stored places, if there is one.
+pub fn osd_in(places: &[u16], place: usize) -> Option<u16>
+    requires { place < length places.now }
+    ensures value { result ≡ slice_index_or (map place_stored places.now) place None }
+    ensures small { IfSome result (λ osd. osd < max_devices) }
+{
+    osd_at(places[place])
+}
+
+/// Whether a number is stored at one of some places.
+fn has_number(places: &[u16], number: u16) -> bool
+    ensures { result ≡ list_any (λ x. x == number) places.now }
+{
+    places.iter().any(|place| *place == number)
+}
+
+/// Whether an OSD stands at one of some stored places.
+pub(crate) fn holds(places: &[u16], osd: u16) -> bool
+    requires { osd < max_devices }
+    ensures { result ≡ stands_at osd places.now }
+{
+    has_number(places, osd)
+}
+
+/// Where the first end is, if there is one.
+fn end_in(row: &[u16]) -> Option<usize>
+    ensures { result ≡ position is_end row.now }
+{
+    row.iter().position(|place| *place == END)
+}
+
+/// How many places of a row stand before its first end.
+fn filled_len(row: &[u16]) -> usize
+    ensures value { result ≡ position_or_len is_end row.now }
+    ensures within { result ≤ length row.now }
+{
+    match end_in(row) {
+        Some(len) => len,
+        None => row.len(),
+    }
+}
+
+/// The places of a row before its first end.
+pub(crate) fn filled(row: &[u16]) -> &[u16]
+    ensures value { map place_stored result.now ≡ set_stored row.now }
+    ensures few { length result.now ≤ length row.now }
+{
+    &row[..filled_len(row)]
 }

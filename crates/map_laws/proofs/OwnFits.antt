@@ -103,7 +103,7 @@ step_fine (step.SetChooseTries n) h = natural_fits 1 200 n (grind (arith, nat_te
 step_fine (step.SetChooseleafTries n) h = natural_fits 1 200 n (grind (arith, nat_tests, h)) (grind (arith, nat_tests, h))
 step_fine (step.Take id) h = h
 step_fine (step.Choose c) h =
-    let count = natural_fits 0 10 c.count (omega arith) (grind (arith, nat_tests, h)) in
+    let count = natural_fits 0 20 c.count (omega arith) (grind (arith, nat_tests, h)) in
     let level = natural_fits 0 15 c.level (omega arith) (grind (arith, nat_tests, h)) in
     rw (count, level) refl
 step_fine step.Emit h = refl
@@ -131,7 +131,7 @@ pool_fine p within =
     let pg_num = natural_fits 1 65536 p.pg_num (omega (arith, within.groups_some, within.groups_few)) within.groups_most in
     let pgp_num = natural_fits 1 65536 p.pgp_num (omega (arith, within.groups_some)) (omega (arith, within.groups_few, within.groups_most)) in
     let rule = natural_fits 0 255 p.rule (omega arith) within.rule_most in
-    let size = natural_fits 1 10 p.size (omega (arith, within.size_some)) within.size_most in
+    let size = natural_fits 1 20 p.size (omega (arith, within.size_some)) within.size_most in
     rw (id, pg_num, pgp_num, rule, size) refl
 
 -- so do all pools
@@ -141,7 +141,7 @@ pools_fine pools within =
     ∙ list_all-from_AllPass (λ p. pool_fits (pool_part p)) pools (All-weaker IsWithinLimits (λ p. pool_fits (pool_part p) ≡ true) pool_fine pools within)
 
 -- and they have as few groups together
-pub groups_fine : (pools : List PoolFacts) → total_groups pools ≤ 262144 → has_few_groups (map pool_part pools) ≡ true
+pub groups_fine : (pools : List PoolFacts) → total_groups pools ≤ 1048576 → has_few_groups (map pool_part pools) ≡ true
 unfolding has_few_groups
 groups_fine pools few =
     let same : sum_by (λ (q : PoolPart). nat_abs q.pg_num) (map pool_part pools) ≡ total_groups pools = sum_by-map (λ (q : PoolPart). nat_abs q.pg_num) pool_part pools in

@@ -154,7 +154,7 @@ module _ (m : ClusterMap) (holds : HoldsTogether m) where
   one_fits n o is =
       let l = is_listed_of m n o is in
       let inside = slice_get_within m.presences n l.presence l.there in
-      let id = natural_fits 0 1023 n (omega arith) (omega (arith, inside, holds.few)) in
+      let id = natural_fits 0 4095 n (omega arith) (omega (arith, inside, holds.few)) in
       let weight = natural_fits 0 65536 (slice_index m.weights n) (omega arith) (little_at n inside) in
       rw l.is (grind (arith, id, weight))
 

@@ -123,7 +123,7 @@ module _ (m : ClusterMap) (holds : HoldsTogether m) where
     record IsOfPool (e : Exception E) : Type 0 where
       some : 1 ≤ e.pg.pool
       most : e.pg.pool ≤ 65535
-      few : length e.entries ≤ 10
+      few : length e.entries ≤ 20
 
     of_pool : (e : Exception E) → is_exception names sound m.pools (osd_exists m) e ≡ true → IsOfPool e
     of_pool e h = by_pool (entry_at (λ (q : PoolFacts). q.id) m.pools e.pg.pool) refl (and_second (has_group m.pools e.pg && all_named names (osd_exists m) e) (is_sound sound m.pools e) h)
@@ -146,7 +146,7 @@ module _ (m : ClusterMap) (holds : HoldsTogether m) where
     one_fits e h =
         let pool = of_pool e h in
         let named = and_second (has_group m.pools e.pg) (all_named names (osd_exists m) e) (and_first (has_group m.pools e.pg && all_named names (osd_exists m) e) (is_sound sound m.pools e) h) in
-        let count = count_fits entry_part 0 10 e.entries (omega arith) pool.few in
+        let count = count_fits entry_part 0 20 e.entries (omega arith) pool.few in
         let entries = list_all-map fits entry_part e.entries ∙ all_more (λ entry. list_all (osd_exists m) (names entry)) (λ entry. fits (entry_part entry)) e.entries each named in
         rw (count, entries) (grind (arith, nat_tests, pool.some, pool.most))
 
@@ -157,7 +157,7 @@ module _ (m : ClusterMap) (holds : HoldsTogether m) where
         (all_more (is_exception names sound m.pools (osd_exists m)) (λ e. has_group m.pools e.pg) es
         (λ e h. and_first (has_group m.pools e.pg) (all_named names (osd_exists m) e) (and_first (has_group m.pools e.pg && all_named names (osd_exists m) e) (is_sound sound m.pools e) h)) all) in
         let few = few_exceptions m.pools es holds.pools_within rises there in
-        let count = count_fits (exception_part entry_part) 0 262144 es (omega arith) (omega (arith, few, holds.few_groups)) in
+        let count = count_fits (exception_part entry_part) 0 1048576 es (omega arith) (omega (arith, few, holds.few_groups)) in
         let entries = list_all-map (exception_fits fits) (exception_part entry_part) es ∙ all_more (is_exception names sound m.pools (osd_exists m)) (λ e. exception_fits fits (exception_part entry_part e)) es one_fits all in
         rw (count, entries) refl
 
@@ -165,7 +165,7 @@ module _ (m : ClusterMap) (holds : HoldsTogether m) where
   unfolding is_osd_id
   osd_fine osd there =
       let below = below_max m osd (length m.presences) (omega arith) there in
-      natural_fits 0 1023 osd (omega arith) (grind (arith, nat_tests, below, holds.few))
+      natural_fits 0 4095 osd (omega arith) (grind (arith, nat_tests, below, holds.few))
 
   target_fine : (osd : ℕ) → list_all (osd_exists m) (target osd) ≡ true → is_osd_id (pos osd) ≡ true
   target_fine osd there = osd_fine osd (and_first (osd_exists m osd) true there)
@@ -186,7 +186,7 @@ module _ (m : ClusterMap) (holds : HoldsTogether m) where
       rw (
         version_fine m.rules,
         natural_fits 1 2147483648 m.epoch some most,
-        natural_fits 1 1024 (length m.presences) holds.some holds.few,
+        natural_fits 1 4096 (length m.presences) holds.some holds.few,
         count_fits bucket_part 1 4096 m.buckets (grind (arith, nat_tests, holds.forest.limits)) (grind (arith, nat_tests, holds.forest.limits)),
         count_fits rule_part 1 256 m.rules holds.some_rules holds.few_rules,
         count_fits pool_part 0 256 m.pools (omega arith) holds.few_pools,

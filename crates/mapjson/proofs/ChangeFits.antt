@@ -48,7 +48,7 @@ pool_id_is_word z h = word_between 1 65535 z (omega arith) h
 -- the id of an OSD is a word
 osd_is_word : (z : ℤ) → is_osd_id z ≡ true → IsTrue (is_between (pos 0) (pos 4294967295) z)
 unfolding is_osd_id
-osd_is_word z h = word_between 0 1023 z (omega arith) h
+osd_is_word z h = word_between 0 4095 z (omega arith) h
 
 -- ids of pools are words
 pub pool_ids_are_words : (ids : List ℤ) → list_all is_pool_id ids ≡ true → All (λ z. IsTrue (is_between (pos 0) (pos 4294967295) z)) ids

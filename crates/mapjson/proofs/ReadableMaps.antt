@@ -77,8 +77,8 @@ kind_ascii Straw2 = refl
 item_readable : (i : ItemPart) → item_fits i ≡ true → IsReadable (item_data i)
 unfolding item_fits
 item_readable i h =
-    let p = and_parts (is_between (negsuc 65535) (pos 1023) i.id) _ h in
-    (number_between (negsuc 65535) (pos 1023) i.id (omega arith) (omega arith) p.0, (number_between (pos 1) (pos 4294967295) i.weight tt (omega arith) p.1, tt))
+    let p = and_parts (is_between (negsuc 65535) (pos 4095) i.id) _ h in
+    (number_between (negsuc 65535) (pos 4095) i.id (omega arith) (omega arith) p.0, (number_between (pos 1) (pos 4294967295) i.weight tt (omega arith) p.1, tt))
 
 -- the id of a bucket is readable
 id_readable : (z : ℤ) → is_bucket_id z ≡ true → IsReadable (number_data z)
@@ -126,9 +126,9 @@ step_readable (SetChooseTries tries) h = (refl, (number_between (pos 1) (pos 200
 step_readable (SetChooseleafTries tries) h = (refl, (number_between (pos 1) (pos 200) tries tt (omega arith) h, tt))
 step_readable (Take id) h = (refl, (id_readable id h, tt))
 step_readable (Choose c) h =
-    let p = and_parts (is_between (pos 0) (pos 10) c.count) _ h in (
+    let p = and_parts (is_between (pos 0) (pos 20) c.count) _ h in (
       choose_ascii c.mode c.to_leaf,
-      (number_between (pos 0) (pos 10) c.count tt (omega arith) p.0, (number_between (pos 0) (pos 15) c.level tt (omega arith) p.1, tt)),
+      (number_between (pos 0) (pos 20) c.count tt (omega arith) p.0, (number_between (pos 0) (pos 15) c.level tt (omega arith) p.1, tt)),
     )
 step_readable Emit h = (refl, tt)
 
@@ -152,7 +152,7 @@ rule_readable r h =
 pool_readable : (p : PoolPart) → pool_fits p ≡ true → IsReadable (pool_data p)
 unfolding pool_fits pool_data
 pool_readable p h =
-    let size = and_parts _ (is_between (pos 1) (pos 10) p.size) h in
+    let size = and_parts _ (is_between (pos 1) (pos 20) p.size) h in
     let rule = and_parts _ (is_between (pos 0) (pos 255) p.rule) size.0 in
     let pgp_num = and_parts _ (is_between (pos 1) (pos 65536) p.pgp_num) rule.0 in
     let id = and_parts (is_between (pos 1) (pos 65535) p.id) (is_between (pos 1) (pos 65536) p.pg_num) pgp_num.0 in (
@@ -171,7 +171,7 @@ pool_readable p h =
               (
                 refl,
                 number_between (pos 0) (pos 255) p.rule tt (omega arith) rule.1,
-                (refl, number_between (pos 1) (pos 10) p.size tt (omega arith) size.1, tt),
+                (refl, number_between (pos 1) (pos 20) p.size tt (omega arith) size.1, tt),
               ),
             ),
           ),
@@ -184,13 +184,13 @@ pool_readable p h =
 osd_readable : (o : OsdPart) → osd_fits o ≡ true → IsReadable (osd_data o)
 unfolding osd_fits osd_data
 osd_readable o h =
-    let id = and_parts (is_between (pos 0) (pos 1023) o.id) _ h in (
+    let id = and_parts (is_between (pos 0) (pos 4095) o.id) _ h in (
       (
         refl,
         tt,
         (
           refl,
-          number_between (pos 0) (pos 1023) o.id tt (omega arith) id.0,
+          number_between (pos 0) (pos 4095) o.id tt (omega arith) id.0,
           (refl, tt, (refl, number_between (pos 0) (pos 65536) o.weight tt (omega arith) id.1, tt)),
         ),
       ),
@@ -230,7 +230,7 @@ group_ascii g =
 -- the id of an OSD is readable
 osd_id_readable : (z : ℤ) → is_osd_id z ≡ true → IsReadable (number_data z)
 unfolding is_osd_id
-osd_id_readable z h = number_between (pos 0) (pos 1023) z tt (omega arith) h
+osd_id_readable z h = number_between (pos 0) (pos 4095) z tt (omega arith) h
 
 -- a pair within its limits is readable
 pair_readable : (p : PairPart) → pair_fits p ≡ true → IsReadable (pair_data p)
@@ -262,7 +262,7 @@ map_readable p h =
     let rules = and_parts _ (list_all rule_fits p.rules) pools.0 in
     let buckets = and_parts _ (list_all bucket_fits p.buckets) rules.0 in
     let head = and_parts (head_fits p) (lists_fit p) buckets.0 in
-    let max_osd = and_parts _ (is_between (pos 1) (pos 1024) p.max_osd) head.0 in
+    let max_osd = and_parts _ (is_between (pos 1) (pos 4096) p.max_osd) head.0 in
     let version = and_parts (is_between (pos 1) (pos 2) p.version) (is_between (pos 1) (pos 2147483648) p.epoch) max_osd.0 in (
       (
         refl,
@@ -272,7 +272,7 @@ map_readable p h =
           number_between (pos 1) (pos 2147483648) p.epoch tt (omega arith) version.1,
           (
             refl,
-            number_between (pos 1) (pos 1024) p.max_osd tt (omega arith) max_osd.1,
+            number_between (pos 1) (pos 4096) p.max_osd tt (omega arith) max_osd.1,
             (
               refl,
               entries_within osd_fits osd_data osd_readable p.osds osds.1,

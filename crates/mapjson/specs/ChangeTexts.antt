@@ -14,7 +14,7 @@ use Rattle.refusal.specs.declared.refused.Refusal.{Refusal}
 use Rattle.refusal.specs.declared.refused.Refusal.TheVariants.{BadLimit, BadPool}
 use Rattle.mapparts.specs.Limits.{max_pool_id, max_entries}
 use Rattle.maptypes.specs.Ordered.{IsOrdered}
-use Rattle.mapparts.specs.Plain.{pool_is_plain, growth_is_plain, crush_is_plain, plain_entries}
+use Rattle.mapparts.specs.Plain.{osd_is_plain, pair_is_plain, pool_is_plain, growth_is_plain, crush_is_plain, exceptions_are_plain, plain_entries}
 use Rattle.mapparts.specs.Profiles.{is_stock}
 use Rattle.partjson.specs.declared.change.RawChange.{RawChange}
 use Rattle.partjson.specs.declared.change.RawReweight.{RawReweight}
@@ -32,7 +32,7 @@ is_pool_id z = is_between (pos 1) (pos max_pool_id) z
 unfoldable pub reweight_fits : RawReweight → Bool
 reweight_fits w = is_osd_id w.osd && is_between (pos 0) (pos 4294967295) w.weight
 
--- at most 262,144 entries, each within its limits
+-- at most 1,048,576 entries, each within its limits
 abbrev pub entries_fit : {X : Type 0} → (X → Bool) → List X → Bool
 entries_fit fits xs = has_between 0 max_entries xs && list_all fits xs
 
@@ -46,15 +46,19 @@ change_fits c =
     && entries_fit pg_fits c.old_upmap && entries_fit pg_fits c.old_items
     && exceptions_fit is_osd_id c.new_upmap && exceptions_fit pair_fits c.new_items
 
--- no list longer, no pool with more groups, and no forest with more buckets or items than in plain clusters
+-- entries of a plain cluster, and no more of them
+abbrev pub entries_are_plain : {X : Type 0} → (X → Bool) → List X → Bool
+entries_are_plain plain xs = has_between 0 plain_entries xs && list_all plain xs
+
+-- no list longer, no other OSD, no pool with more groups or places, and no greater CRUSH map than in plain clusters
 unfoldable pub change_is_plain : RawChange → Bool
 change_is_plain c =
     has_between 0 plain_entries c.old_pools && crush_is_plain c.new_crush
-    && has_between 0 plain_entries c.new_pools && list_all pool_is_plain c.new_pools
-    && has_between 0 plain_entries c.grow_pool && list_all growth_is_plain c.grow_pool
-    && has_between 0 plain_entries c.down && has_between 0 plain_entries c.up && has_between 0 plain_entries c.weight
+    && entries_are_plain pool_is_plain c.new_pools && entries_are_plain growth_is_plain c.grow_pool
+    && entries_are_plain osd_is_plain c.down && entries_are_plain osd_is_plain c.up
+    && entries_are_plain (λ w. osd_is_plain w.osd) c.weight
     && has_between 0 plain_entries c.old_upmap && has_between 0 plain_entries c.old_items
-    && has_between 0 plain_entries c.new_upmap && has_between 0 plain_entries c.new_items
+    && exceptions_are_plain osd_is_plain c.new_upmap && exceptions_are_plain pair_is_plain c.new_items
 
 -- ---- the change
 
@@ -79,7 +83,7 @@ parts_within profile c crush = record {
   new_items = map (exception_of pair_of) c.new_items;
 }
 
--- what is wrong with the CRUSH map of a change, where it has one: it is judged over 1,024 devices
+-- what is wrong with the CRUSH map of a change, where it has one: it is judged over 4,096 devices
 abbrev pub new_crush_fault : Option CrushParts → Option Refusal
 new_crush_fault crush = option_and_then (λ p. crush_fault p.buckets p.rules max_devices) crush
 

@@ -15,7 +15,7 @@ use std::alloc::Global;
 use within::{base_within, crush_within, parts_within};
 
 /// The base and the parts of a change that a text states: `BadLimit` (12) where a number or a length is outside its
-/// limits; else `BadForest` (13) or `BadRule` (14) where its forest is not well formed over 1,024 devices, or a rule is
+/// limits; else `BadForest` (13) or `BadRule` (14) where its forest is not well formed over 4,096 devices, or a rule is
 /// none over it; else `BadPool` (15) where a pool would have more groups for placement than groups; `Memory` (30).
 pub(crate) fn change_within(
     alloc: Global,

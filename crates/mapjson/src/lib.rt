@@ -65,11 +65,11 @@ fn map_of(alloc: Global, parts: MapParts, profile: Profile) -> Result<OsdMap, Re
 /// - `BadJson` (10): the text is not UTF-8, is no JSON or nests deeper than 127.
 /// - `BadField` (11): it does not state a change that brings no kinds of buckets but those of the profile.
 /// - `BadLimit` (12): a number or a length is outside its limits: a base of 0 to 2^64 - 1, ids of pools of 1 to 65,535,
-///   OSDs of 0 to 1,023, reweights of 0 to 4,294,967,295, groups' numbers of at most 32 bits, at most 10 OSDs or pairs
-///   of a group, lists of at most 262,144 entries, of a new pool what [`osdmap::Pool`] has, of a growth what
+///   OSDs of 0 to 4,095, reweights of 0 to 4,294,967,295, groups' numbers of at most 32 bits, at most 20 OSDs or pairs
+///   of a group, lists of at most 1,048,576 entries, of a new pool what [`osdmap::Pool`] has, of a growth what
 ///   [`osdmap::Grow`] has, of a new CRUSH map what a map's buckets and rules have, and under `Plain` also the limits of
 ///   plain clusters ([`mapparts::plain`], lists of at most 131,072 entries among them).
-/// - `BadForest` (13): the new buckets are no well-formed forest over 1,024 devices.
+/// - `BadForest` (13): the new buckets are no well-formed forest over 4,096 devices.
 /// - `BadRule` (14): a new rule is outside the grammar, takes a bucket that is not among them, or has the id of
 ///   another.
 /// - `BadPool` (15): the `pgp_num` of a new or growing pool is above its `pg_num`.

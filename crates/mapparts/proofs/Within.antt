@@ -33,7 +33,7 @@ pub record PoolFits (p : PoolPart) : Type 0 where
   pub pg_num : is_between (pos 1) (pos 65536) p.pg_num ≡ true
   pub pgp_num : is_between (pos 1) (pos 65536) p.pgp_num ≡ true
   pub rule : is_between (pos 0) (pos 255) p.rule ≡ true
-  pub size : is_between (pos 1) (pos 10) p.size ≡ true
+  pub size : is_between (pos 1) (pos 20) p.size ≡ true
 
 -- each number of a pool that fits is within its limits
 pub pool_fits_each : (p : PoolPart) → pool_fits p ≡ true → PoolFits p
@@ -60,7 +60,7 @@ growth_fits_each g h = record { pool = grind arith; pg_num = grind arith; pgp_nu
 -- an OSD's id is a word
 pub osd_id_word : (z : ℤ) → is_osd_id z ≡ true → IsTrue (is_between (pos 0) (pos 4294967295) z)
 unfolding is_osd_id
-osd_id_word z h = word_between 0 1023 z (omega arith) h
+osd_id_word z h = word_between 0 4095 z (omega arith) h
 
 -- both sides of a pair are OSDs' ids
 pub pair_from : (p : PairPart) → pair_fits p ≡ true → is_osd_id p.from ≡ true
@@ -73,7 +73,7 @@ unfolding pair_fits
 pair_to p h = grind arith
 
 -- what is within the limits in an exception that is
-pub few_entries : {P : Type 0} (fits : P → Bool) (e : ExceptionPart P) → exception_fits fits e ≡ true → length e.entries ≤ 10
+pub few_entries : {P : Type 0} (fits : P → Bool) (e : ExceptionPart P) → exception_fits fits e ≡ true → length e.entries ≤ 20
 unfolding exception_fits has_between
 few_entries fits e h = grind (arith, nat_tests)
 

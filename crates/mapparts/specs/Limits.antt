@@ -11,7 +11,7 @@ max_first_epoch = 2147483648
 
 -- the greatest id of an OSD
 abbrev pub max_osd_id : ℕ
-max_osd_id = 1023
+max_osd_id = 4095
 
 -- the greatest weight of an item
 abbrev pub max_item_weight : ℕ
@@ -36,8 +36,8 @@ max_groups = 65536
 
 -- how many groups all pools of a map have together at most
 abbrev pub max_total_groups : ℕ
-max_total_groups = 262144
+max_total_groups = 1048576
 
 -- how many exceptions of one kind a map has at most, and how many entries a list of a change
 abbrev pub max_entries : ℕ
-max_entries = 262144
+max_entries = 1048576

@@ -73,11 +73,11 @@ is_osd_id z = is_between (pos 0) (pos max_osd_id) z
 unfoldable pub pair_fits : PairPart → Bool
 pair_fits p = is_osd_id p.from && is_osd_id p.to
 
--- an exception: a group, and at most 10 entries, each within its limits
+-- an exception: a group, and at most 20 entries, each within its limits
 unfoldable pub exception_fits : {P : Type 0} → (P → Bool) → ExceptionPart P → Bool
 exception_fits fits e = pg_fits e.pg && has_between 0 max_size e.entries && list_all fits e.entries
 
--- at most 262,144 exceptions, each within its limits
+-- at most 1,048,576 exceptions, each within its limits
 unfoldable pub exceptions_fit : {P : Type 0} → (P → Bool) → List (ExceptionPart P) → Bool
 exceptions_fit fits es = has_between 0 max_entries es && list_all (exception_fits fits) es
 
@@ -97,7 +97,7 @@ growth_fits g =
     is_between (pos 1) (pos max_pool_id) g.pool && is_between (pos 1) (pos max_groups) g.pg_num
     && is_between (pos 1) (pos max_groups) g.pgp_num
 
--- all pools together have at most 262,144 groups
+-- all pools together have at most 1,048,576 groups
 unfoldable pub has_few_groups : List PoolPart → Bool
 has_few_groups pools = nat_le (sum_by (λ p. nat_abs p.pg_num) pools) max_total_groups
 

@@ -9,6 +9,7 @@ use crate::limits::{MAX_ENTRIES, MAX_PLACES, MAX_POOL_ID};
 use crate::numbers::{has_between, is_osd_id};
 use crate::parts::{ExceptionPart, PairPart};
 use crate::pg_parts::PgParts;
+use crate::plain::osd_is_plain;
 
 /// An entry of an exception as a text states it.
 pub trait EntryPart: Copy + Drop {
@@ -16,29 +17,49 @@ pub trait EntryPart: Copy + Drop {
 
     ghost within: { Self → Bool };
 
+    ghost plain: { Self → Bool };
+
     /// Whether its numbers are within their limits.
     fn is_within(&self) -> bool
         ensures { result ≡ within self.now };
+
+    /// Whether its OSDs are those that a plain cluster may have.
+    fn is_plain(&self) -> bool
+        ensures { result ≡ plain self.now };
 }
 
 impl EntryPart for i128 {
     ghost use Rattle.mapparts.specs.Parts.{is_osd_id};
+    ghost use Rattle.mapparts.specs.Plain.{osd_is_plain};
 
     ghost within = { is_osd_id };
 
+    ghost plain = { osd_is_plain };
+
     fn is_within(&self) -> bool {
         is_osd_id(*self)
+    }
+
+    fn is_plain(&self) -> bool {
+        osd_is_plain(*self)
     }
 }
 
 impl EntryPart for PairPart {
     ghost use Rattle.mapparts.specs.Parts.{pair_fits};
+    ghost use Rattle.mapparts.specs.Plain.{pair_is_plain};
 
     ghost within = { pair_fits };
+
+    ghost plain = { pair_is_plain };
 
     #[tactic(auto, unfolding(crate::specs::Parts::pair_fits))]
     fn is_within(&self) -> bool {
         is_osd_id(self.from) && is_osd_id(self.to)
+    }
+
+    fn is_plain(&self) -> bool {
+        osd_is_plain(self.from) && osd_is_plain(self.to)
     }
 }
 
@@ -75,8 +96,8 @@ fn all_exceptions_fit<P: EntryPart>(exceptions: &[ExceptionPart<P>]) -> bool
     exceptions.iter().all(|exception| exception_fits(exception))
 }
 
-/// Whether there are at most 262,144 exceptions, each within its limits: a group of a pool's id of 1 to 65,535 and a
-/// number of at most 32 bits, and at most 10 entries that name OSDs of ids 0 to 1,023.
+/// Whether there are at most 1,048,576 exceptions, each within its limits: a group of a pool's id of 1 to 65,535 and a
+/// number of at most 32 bits, and at most 20 entries that name OSDs of ids 0 to 4,095.
 #[tactic(auto, unfolding(crate::specs::Parts::exceptions_fit))]
 pub fn exceptions_fit<P: EntryPart>(exceptions: &[ExceptionPart<P>]) -> bool
     ensures value { result ≡ exceptions_fit P.within exceptions.now }

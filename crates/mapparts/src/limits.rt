@@ -35,8 +35,8 @@ pub const MAX_POOL_ID: i128 = 65_535;
 /// How many groups a pool has at most.
 pub const MAX_GROUPS: i128 = 65_536;
 /// How many groups all pools of a map have together at most.
-pub const MAX_TOTAL_GROUPS: u128 = 262_144;
+pub const MAX_TOTAL_GROUPS: u128 = 1_048_576;
 /// How many exceptions of one kind a map has at most, and how many entries a list of a change.
-pub const MAX_ENTRIES: usize = 262_144;
+pub const MAX_ENTRIES: usize = 1_048_576;
 /// The reweight of an OSD that takes its whole share.
 pub const FULL_WEIGHT: u32 = limits::FULL_WEIGHT;

@@ -20,7 +20,7 @@ pub fn is_between(low: i128, high: i128, number: i128) -> bool
 #[tactic(auto, unfolding(crate::specs::Parts::is_between))]
 pub fn is_bucket_id(number: i128) -> bool
     ensures value { result ≡ is_bucket_id number }
-    ensures item { result ≡ true → IsTrue (is_between (negsuc 65535) (pos 1023) number) }
+    ensures item { result ≡ true → IsTrue (is_between (negsuc 65535) (pos 4095) number) }
 {
     LOWEST_BUCKET <= number && number < 0
 }
@@ -64,7 +64,7 @@ pub fn byte(number: i128) -> u8
 /// The id of a bucket or a device, as 32 bits.
 #[tactic(auto, unfolding(crate::specs::Parts::is_between))]
 pub fn item_id(number: i128) -> i32
-    requires { IsTrue (is_between (negsuc 65535) (pos 1023) number) }
+    requires { IsTrue (is_between (negsuc 65535) (pos 4095) number) }
     ensures { result ≡ number }
 {
     number as i32

@@ -12,7 +12,7 @@ pub struct MapParts {
     pub version: i128,
     /// The first epoch: 1 to 2,147,483,648.
     pub epoch: i128,
-    /// OSDs have ids below this: 1 to 1,024.
+    /// OSDs have ids below this: 1 to 4,096.
     pub max_osd: i128,
     /// The buckets of the forest: 1 to 4,096.
     pub buckets: Entries<BucketPart>,
@@ -22,9 +22,9 @@ pub struct MapParts {
     pub pools: Entries<PoolPart>,
     /// The OSDs listed.
     pub osds: Entries<OsdPart>,
-    /// The explicit sets: 0 to 262,144.
+    /// The explicit sets: 0 to 1,048,576.
     pub pg_upmap: Entries<ExceptionPart<i128>>,
-    /// The pairs of groups: 0 to 262,144.
+    /// The pairs of groups: 0 to 1,048,576.
     pub pg_upmap_items: Entries<ExceptionPart<PairPart>>,
 }
 
@@ -37,14 +37,14 @@ pub struct BucketPart {
     pub level: i128,
     /// How the bucket picks.
     pub kind: BucketKind,
-    /// The items in order: 1 to 64, in a straw2 bucket 1 to 1,024.
+    /// The items in order: 1 to 64, in a straw2 bucket 1 to 4,096.
     pub items: Entries<ItemPart>,
 }
 
 /// An item as a text states it.
 #[derive(Clone, Copy, Debug, PartialEq, Eq)]
 pub struct ItemPart {
-    /// A device or a bucket: -65,536 to 1,023.
+    /// A device or a bucket: -65,536 to 4,095.
     pub id: i128,
     /// 1 to 4,294,967,295.
     pub weight: i128,
@@ -83,7 +83,7 @@ pub struct ChoosePart {
     pub mode: Mode,
     /// Whether a device below each bucket chosen is taken in its place.
     pub to_leaf: bool,
-    /// 0 to 10, where 0 is the size of the pool.
+    /// 0 to 20, where 0 is the size of the pool.
     pub count: i128,
     /// The type chosen: 0 to 15.
     pub level: i128,
@@ -102,7 +102,7 @@ pub struct PoolPart {
     pub pgp_num: i128,
     /// The id of the pool's rule: 0 to 255.
     pub rule: i128,
-    /// How many OSDs a group has: 1 to 10.
+    /// How many OSDs a group has: 1 to 20.
     pub size: i128,
 }
 
@@ -129,7 +129,7 @@ pub struct CrushParts {
 /// An OSD as a text states it.
 #[derive(Clone, Copy, Debug, PartialEq, Eq)]
 pub struct OsdPart {
-    /// 0 to 1,023.
+    /// 0 to 4,095.
     pub id: i128,
     /// Whether it exists.
     pub exists: bool,
@@ -144,15 +144,15 @@ pub struct OsdPart {
 pub struct ExceptionPart<E> {
     /// The group: its pool is 1 to 65,535, its number has at most 32 bits.
     pub pg: PgParts,
-    /// What is said of the group, in order: 0 to 10 OSDs or pairs.
+    /// What is said of the group, in order: 0 to 20 OSDs or pairs.
     pub entries: Entries<E>,
 }
 
 /// A pair as a text states it.
 #[derive(Clone, Copy, Debug, PartialEq, Eq)]
 pub struct PairPart {
-    /// 0 to 1,023.
+    /// 0 to 4,095.
     pub from: i128,
-    /// 0 to 1,023.
+    /// 0 to 4,095.
     pub to: i128,
 }

@@ -29,13 +29,13 @@ byte_between low high (pos n) byte h = grind (arith, nat_tests)
 byte_between low high (negsuc n) byte h = absurd (false≢true h)
 
 -- a bucket's id is one of an item
-bucket_is_item : (z : ℤ) → is_bucket_id z ≡ true → IsTrue (is_between (negsuc 65535) (pos 1023) z)
+bucket_is_item : (z : ℤ) → is_bucket_id z ≡ true → IsTrue (is_between (negsuc 65535) (pos 4095) z)
 unfolding is_between
 bucket_is_item (pos n) h = grind (arith, nat_tests)
 bucket_is_item (negsuc n) h = grind (arith, nat_tests)
 
 -- the id of an item that fits has 32 bits
-pub item_id : (i : ItemPart) → item_fits i ≡ true → IsTrue (is_between (negsuc 65535) (pos 1023) i.id)
+pub item_id : (i : ItemPart) → item_fits i ≡ true → IsTrue (is_between (negsuc 65535) (pos 4095) i.id)
 unfolding item_fits
 item_id i h = grind arith
 
@@ -50,7 +50,7 @@ unfolding item_fits
 item_weight_fits i h = grind arith
 
 -- the id of a bucket that fits has 32 bits
-pub bucket_id : (b : BucketPart) → bucket_fits b ≡ true → IsTrue (is_between (negsuc 65535) (pos 1023) b.id)
+pub bucket_id : (b : BucketPart) → bucket_fits b ≡ true → IsTrue (is_between (negsuc 65535) (pos 4095) b.id)
 unfolding bucket_fits
 bucket_id b h = bucket_is_item b.id (grind arith)
 
@@ -70,14 +70,14 @@ unfolding step_fits
 leaf_tries n h = byte_between 1 200 n (omega arith) h
 
 -- what a step that fits takes has 32 bits
-pub take_id : (id : ℤ) → step_fits (Take id) ≡ true → IsTrue (is_between (negsuc 65535) (pos 1023) id)
+pub take_id : (id : ℤ) → step_fits (Take id) ≡ true → IsTrue (is_between (negsuc 65535) (pos 4095) id)
 unfolding step_fits
 take_id id h = bucket_is_item id h
 
 -- how many it chooses has 8 bits
 pub choose_count : (c : ChoosePart) → step_fits (Chooses c) ≡ true → IsTrue (is_between (pos 0) (pos 255) c.count)
 unfolding step_fits
-choose_count c h = byte_between 0 10 c.count (omega arith) (grind arith)
+choose_count c h = byte_between 0 20 c.count (omega arith) (grind arith)
 
 -- so has the type that it chooses
 pub choose_level : (c : ChoosePart) → step_fits (Chooses c) ≡ true → IsTrue (is_between (pos 0) (pos 255) c.level)
@@ -102,7 +102,7 @@ rule_id r h = word_between 0 255 r.id (omega arith) (grind arith)
 -- so has the id of an OSD
 pub osd_id : (o : OsdPart) → osd_fits o ≡ true → IsTrue (is_between (pos 0) (pos 4294967295) o.id)
 unfolding osd_fits
-osd_id o h = word_between 0 1023 o.id (omega arith) (grind arith)
+osd_id o h = word_between 0 4095 o.id (omega arith) (grind arith)
 
 -- and its reweight
 pub osd_weight : (o : OsdPart) → osd_fits o ≡ true → IsTrue (is_between (pos 0) (pos 4294967295) o.weight)
@@ -154,7 +154,7 @@ bucket_within b h =
     grind (arith, id, level, count, items)
 
 -- buckets that fit are, together, within the limits of a forest
-pub forest_limits : (buckets : List BucketPart) (max_osd : ℕ) → list_all bucket_fits buckets ≡ true → has_between 1 4096 buckets ≡ true → 1 ≤ max_osd → max_osd ≤ 1024
+pub forest_limits : (buckets : List BucketPart) (max_osd : ℕ) → list_all bucket_fits buckets ≡ true → has_between 1 4096 buckets ≡ true → 1 ≤ max_osd → max_osd ≤ 4096
     → forest_limits_ok (map bucket_of buckets) max_osd ≡ true
 forest_limits buckets max_osd fits count some few =
     let counted = count_within bucket_of 1 4096 buckets count in
@@ -168,7 +168,7 @@ step_within (SetChooseTries n) h = level_within 1 200 n h
 step_within (SetChooseleafTries n) h = level_within 1 200 n h
 step_within (Take id) h = h
 step_within (Chooses c) h =
-    let count = (natural_between 0 10 c.count (grind arith)).most in
+    let count = (natural_between 0 20 c.count (grind arith)).most in
     let level = (natural_between 0 15 c.level (grind arith)).most in
     grind (arith, nat_tests, count, level)
 step_within Emit h = refl

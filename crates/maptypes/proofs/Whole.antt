@@ -15,7 +15,7 @@ pool_within p each few =
     let pg = natural_between 1 65536 p.pg_num each.pg_num in
     let pgp = natural_between 1 65536 p.pgp_num each.pgp_num in
     let rule = natural_between 0 255 p.rule each.rule in
-    let size = natural_between 1 10 p.size each.size in
+    let size = natural_between 1 20 p.size each.size in
     let few' : pos (nat_abs p.pgp_num) ≤ℤ pos (nat_abs p.pg_num) = rw (← pgp.is, ← pg.is) few in
     record {
       id_some = omega (arith, id.least);

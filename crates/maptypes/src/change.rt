@@ -49,7 +49,7 @@ pub struct ChangeParts {
 /// An OSD and its new reweight, in parts of 65,536.
 #[derive(Clone, Copy, Debug, PartialEq, Eq)]
 pub struct Reweight {
-    /// 0 to 1,023.
+    /// 0 to 4,095.
     pub osd: u32,
     /// 65,536 is the whole; more is refused with `BadWeight` (22).
     pub weight: u32,

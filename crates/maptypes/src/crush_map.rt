@@ -27,7 +27,7 @@ use std::alloc::Global;
 use std::marker::Model;
 
 /// A CRUSH map: a forest, and 1 to 256 rules over it by id upwards (Ceph, CrushWrapper.h). The forest, whose table of
-/// parents has 3 KB, stands apart, so that a change without one is moved and kept at little cost.
+/// parents has 16 KB, stands apart, so that a change without one is moved and kept at little cost.
 #[derive(Debug, Drop)]
 pub struct CrushMap {
     forest: Box<Forest>,

@@ -14,7 +14,7 @@ use keylist::Keyed;
 pub struct Exception<E: Blank> {
     /// The group.
     pub pg: Pg,
-    /// What is said of it, in order: at most 10 OSDs or pairs.
+    /// What is said of it, in order: at most 20 OSDs or pairs.
     pub entries: Short<E>,
 }
 
@@ -27,9 +27,9 @@ pub type Items = Exception<Pair>;
 /// A pair: one OSD goes to another.
 #[derive(Clone, Copy, Debug, PartialEq, Eq)]
 pub struct Pair {
-    /// The OSD that goes: 0 to 1,023.
+    /// The OSD that goes: 0 to 4,095.
     pub from: u32,
-    /// The OSD that comes in its place: 0 to 1,023.
+    /// The OSD that comes in its place: 0 to 4,095.
     pub to: u32,
 }
 

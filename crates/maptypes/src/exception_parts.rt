@@ -48,9 +48,9 @@ impl StandsFor<Pair> for PairPart {
     }
 }
 
-/// The entries that at most 10 parts within their limits stand for, in their order.
+/// The entries that at most 20 parts within their limits stand for, in their order.
 fn entries_of<E: Blank, P: StandsFor<E>>(parts: &[P]) -> Short<E>
-    requires few { length parts.now ≤ 10 }
+    requires few { length parts.now ≤ 20 }
     requires fits { list_all P.within parts.now ≡ true }
     ensures { result ≡ map P.entry_of parts.now }
 {

@@ -3,7 +3,7 @@
 //!
 //! - `pg`, `pg_text`: placement groups and their texts
 //! - `pool`, `grow`: pools, and what they grow to
-//! - `short`, `exception`, `exception_parts`: lists of at most 10 entries, exceptions, and those that parts stand for
+//! - `short`, `exception`, `exception_parts`: lists of at most 20 entries, exceptions, and those that parts stand for
 //! - `osd`: what a map has of an OSD
 //! - `up_set`: the set of a group
 //! - `rules`, `forest_parts`, `rule_parts`, `crush_map`: rules under their ids, buckets and steps that parts stand for,

@@ -10,7 +10,7 @@ use refusal::Refusal;
 use std::marker::Model;
 
 /// A pool: 1 to 65,535 is its id, 1 to 65,536 its number of groups `pg_num`, 1 to `pg_num` the number `pgp_num` of
-/// groups for placement, 0 to 255 the id of its rule, 1 to 10 the size of a group (Ceph, `pg_pool_t`).
+/// groups for placement, 0 to 255 the id of its rule, 1 to 20 the size of a group (Ceph, `pg_pool_t`).
 #[derive(Clone, Copy, Debug, PartialEq, Eq)]
 pub struct Pool {
     id: u32,
@@ -177,11 +177,11 @@ impl Pool {
         self.rule
     }
 
-    /// How many OSDs a group has: 1 to 10.
+    /// How many OSDs a group has: 1 to 20.
     pub fn size(&self) -> u8
         ensures value { result ≡ self.now.size }
         ensures some { 1 ≤ result }
-        ensures few { result ≤ 10 }
+        ensures few { result ≤ 20 }
     {
         self.size as u8
     }

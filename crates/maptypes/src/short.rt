@@ -18,7 +18,7 @@ pub trait Blank: Copy {
         ensures { result ≡ blank };
 }
 
-/// A list of at most 10 entries, in place: as many as a group has OSDs at most. It is read as a slice.
+/// A list of at most 20 entries, in place: as many as a group has OSDs at most. It is read as a slice.
 #[derive(Copy, Debug)]
 pub struct Short<T: Blank> {
     len: usize,
@@ -36,12 +36,12 @@ impl<T: Blank> Model for Short<T> {
 
     ghost invariant = { λ s. IsFilled T.blank s.len s.places };
 
-    ghost inverse = { λ xs. record { len = length xs; places = xs ++ replicate (10 - length xs) T.blank } };
+    ghost inverse = { λ xs. record { len = length xs; places = xs ++ replicate (20 - length xs) T.blank } };
 
     ghost inverse_ok = { λ s h i. record {
-      len = length-take-le s.len s.places (omega (arith, h.few, h.ten)) i;
-      places = (ap (λ n. take s.len s.places ++ replicate (10 - n) T.blank)
-          (length-take-le s.len s.places (omega (arith, h.few, h.ten)))
+      len = length-take-le s.len s.places (omega (arith, h.few, h.twenty)) i;
+      places = (ap (λ n. take s.len s.places ++ replicate (20 - n) T.blank)
+          (length-take-le s.len s.places (omega (arith, h.few, h.twenty)))
           ∙ ap (λ xs. take s.len s.places ++ xs) (sym h.none_behind)
           ∙ take-append-drop s.len s.places) i;
     } };
@@ -101,14 +101,14 @@ impl<T: Blank> Short<T> {
     /// The entries, in order.
     pub fn as_slice(&self) -> &[T]
         ensures value { result.now ≡ self.now }
-        ensures few { length self.now ≤ 10 }
+        ensures few { length self.now ≤ 20 }
     {
         &self.places[..self.len]
     }
 
     /// One more entry, behind the others.
     pub fn push(&mut self, entry: T)
-        requires { length self.old < 10 }
+        requires { length self.old < 20 }
         ensures { self.new ≡ self.old ++ entry ∷ [] }
     {
         self.places[self.len] = entry;

@@ -13,7 +13,7 @@ use std::alloc::AllocError;
 use std::fmt;
 use std::marker::Model;
 
-/// The set of a group: at most 10 places, in order, each with an OSD or with none.
+/// The set of a group: at most 20 places, in order, each with an OSD or with none.
 #[derive(Copy, Debug, PartialEq, Eq)]
 pub struct UpSet {
     places: Short<Option<u32>>,
@@ -84,7 +84,7 @@ impl UpSet {
     /// The places, in order.
     pub fn places(&self) -> &[Option<u32>]
         ensures places { result.now ≡ self.now }
-        ensures few { length self.now ≤ 10 }
+        ensures few { length self.now ≤ 20 }
     {
         self.places.as_slice()
     }
@@ -98,7 +98,7 @@ impl UpSet {
 
     /// One more place.
     pub fn push(&mut self, place: Option<u32>)
-        requires { length self.old < 10 }
+        requires { length self.old < 20 }
         ensures { self.new ≡ self.old ++ place ∷ [] }
     {
         self.places.push(place);
@@ -106,7 +106,7 @@ impl UpSet {
 
     /// The set of some OSDs, in order.
     pub fn of(osds: &[u32]) -> UpSet
-        requires { length osds.now ≤ 10 }
+        requires { length osds.now ≤ 20 }
         ensures { result ≡ map (λ osd. Some osd) osds.now }
     {
         let mut set = UpSet::new();
@@ -134,7 +134,7 @@ impl UpSet {
 
     /// One more place, in the way of a kind: copies leave out a place without an OSD, coded parts keep it.
     pub fn add(&mut self, kind: RuleKind, place: Option<u32>)
-        requires { length self.old < 10 }
+        requires { length self.old < 20 }
         ensures { self.new ≡ self.old ++ kept_in kind place }
     {
         match kind {

@@ -42,7 +42,7 @@ use Rattle.keylist.proofs.Each.{all_more, all_so, list_all-agree, map-agree, map
 
 pub record PartsFit (p : MapParts) : Type 0 where
   pub epoch : is_between (pos 1) (pos 2147483648) p.epoch ≡ true
-  pub max_osd : is_between (pos 1) (pos 1024) p.max_osd ≡ true
+  pub max_osd : is_between (pos 1) (pos 4096) p.max_osd ≡ true
   pub count : has_between 1 4096 p.buckets ≡ true
   pub rule_count : has_between 1 256 p.rules ≡ true
   pub pool_count : has_between 0 256 p.pools ≡ true
@@ -74,11 +74,11 @@ parts_fit_each p h = record {
 
 -- a map has an OSD
 pub some_osds : (p : MapParts) → PartsFit p → 1 ≤ nat_abs p.max_osd
-some_osds p fits = (natural_between 1 1024 p.max_osd fits.max_osd).least
+some_osds p fits = (natural_between 1 4096 p.max_osd fits.max_osd).least
 
--- and at most 1,024
-pub few_osds : (p : MapParts) → PartsFit p → nat_abs p.max_osd ≤ 1024
-few_osds p fits = (natural_between 1 1024 p.max_osd fits.max_osd).most
+-- and at most 4,096
+pub few_osds : (p : MapParts) → PartsFit p → nat_abs p.max_osd ≤ 4096
+few_osds p fits = (natural_between 1 4096 p.max_osd fits.max_osd).most
 
 -- ---- the same tests of what is made
 
@@ -307,7 +307,7 @@ few_pools p m built few =
     grind (arith, nat_tests, made)
 
 -- nor have they more groups together than a map may have
-few_groups : (p : MapParts) (m : ClusterMap) → IsBuilt p m → has_few_groups p.pools ≡ true → total_groups m.pools ≤ 262144
+few_groups : (p : MapParts) (m : ClusterMap) → IsBuilt p m → has_few_groups p.pools ≡ true → total_groups m.pools ≤ 1048576
 unfolding has_few_groups
 few_groups p m built few =
     let made = sum_by-IsPermutation (λ (q : PoolFacts). q.pg_num) _ _ built.pools.same ∙ sum_by-map (λ (q : PoolFacts). q.pg_num) pool_of p.pools in

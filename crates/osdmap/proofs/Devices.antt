@@ -8,17 +8,17 @@ use Rattle.crush.specs.WellFormed.{is_known, is_item_ok, has_items_below, forest
 use Rattle.keylist.proofs.Each.{all_both}
 use Rattle.osdmap.specs.Changes.{has_devices_below}
 
--- an id that is known over 1,024 devices and below a bound is known over so many
-known : (buckets : List Bucket) (n : ℕ) (id : ℤ) → is_known buckets 1024 id ≡ true → int_lt id (pos n) ≡ true → is_known buckets n id ≡ true
+-- an id that is known over 4,096 devices and below a bound is known over so many
+known : (buckets : List Bucket) (n : ℕ) (id : ℤ) → is_known buckets 4096 id ≡ true → int_lt id (pos n) ≡ true → is_known buckets n id ≡ true
 known buckets n (pos k) here below = below
 known buckets n (negsuc k) here below = here
 
 -- so an item is right over so many
-item_ok : (buckets : List Bucket) (n level : ℕ) (i : Item) → is_item_ok buckets 1024 level i ≡ true → int_lt i.id (pos n) ≡ true → is_item_ok buckets n level i ≡ true
+item_ok : (buckets : List Bucket) (n level : ℕ) (i : Item) → is_item_ok buckets 4096 level i ≡ true → int_lt i.id (pos n) ≡ true → is_item_ok buckets n level i ≡ true
 item_ok buckets n level i ok below = grind (arith, ok, known buckets n i.id, below)
 
 -- and a bucket
-bucket_ok : (buckets : List Bucket) (n : ℕ) (b : Bucket) → list_all (is_item_ok buckets 1024 b.level) b.items ≡ true → list_all (λ i. int_lt i.id (pos n)) b.items ≡ true
+bucket_ok : (buckets : List Bucket) (n : ℕ) (b : Bucket) → list_all (is_item_ok buckets 4096 b.level) b.items ≡ true → list_all (λ i. int_lt i.id (pos n)) b.items ≡ true
     → list_all (is_item_ok buckets n b.level) b.items ≡ true
 bucket_ok buckets n b ok below = all_both _ _ _ (item_ok buckets n b.level) b.items ok below
 
@@ -26,6 +26,6 @@ bucket_ok buckets n b ok below = all_both _ _ _ (item_ok buckets n b.level) b.it
 pub over_devices : (buckets : List Bucket) (n : ℕ) → IsForest buckets → has_devices_below n buckets ≡ true → forest_ok buckets n ≡ true
 unfolding has_devices_below
 over_devices buckets n forest below =
-    let ok : has_items_below buckets 1024 ≡ true = grind (arith, forest.lawful) in
+    let ok : has_items_below buckets 4096 ≡ true = grind (arith, forest.lawful) in
     let items : has_items_below buckets n ≡ true = all_both _ _ _ (bucket_ok buckets n) buckets ok below in
     grind (arith, forest.lawful, items)

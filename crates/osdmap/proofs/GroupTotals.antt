@@ -77,9 +77,9 @@ total_after m c new once =
 
 -- a change of which no key stands twice leaves so few
 pub few-groups-after : (m : ClusterMap) (c : ChangeParts) → leaves_few_groups m c ≡ true → is_distinct (map (λ p. p.id) c.new_pools) ≡ true
-    → total_groups (pools_after m c) ≤ 262144
+    → total_groups (pools_after m c) ≤ 1048576
 unfolding leaves_few_groups
-few-groups-after m c few once = let fits : nat_le (total_groups (pools_after m c)) 262144 ≡ true = rw once at few in grind (arith, nat_tests, fits)
+few-groups-after m c few once = let fits : nat_le (total_groups (pools_after m c)) 1048576 ≡ true = rw once at few in grind (arith, nat_tests, fits)
 
 -- ---- without pools that come or grow
 
@@ -103,7 +103,7 @@ none-grown [] = refl
 none-grown (p ∷ ps) = rw (none-grown ps) refl
 
 -- where none comes or grows, there are as few groups as before
-pub few_stay : (m : ClusterMap) (c : ChangeParts) → c.new_pools ≡ [] → c.grow_pool ≡ [] → total_groups m.pools ≤ 262144 → leaves_few_groups m c ≡ true
+pub few_stay : (m : ClusterMap) (c : ChangeParts) → c.new_pools ≡ [] → c.grow_pool ≡ [] → total_groups m.pools ≤ 1048576 → leaves_few_groups m c ≡ true
 unfolding leaves_few_groups pools_after pools_there pools_kept is_distinct
 few_stay m c none same few =
     let less = sum-filter (λ (p : PoolFacts). p.pg_num) (λ p. not (has_key (λ (id : ℕ). id) c.old_pools p.id)) m.pools in

@@ -202,8 +202,8 @@ few-after : (m : ClusterMap) (c : ChangeParts) → Rightly m c → length (pools
 unfolding pools_after
 few-after m c rightly = rw length-map (most_few c.profile (length (pools_there m c)) rightly.few)
 
--- and they have at most 262,144 groups together
-groups-after : (m : ClusterMap) (c : ChangeParts) → Rightly m c → names_once c ≡ true → total_groups (pools_after m c) ≤ 262144
+-- and they have at most 1,048,576 groups together
+groups-after : (m : ClusterMap) (c : ChangeParts) → Rightly m c → names_once c ≡ true → total_groups (pools_after m c) ≤ 1048576
 unfolding names_once
 groups-after m c rightly once =
     let ids = map (λ (p : PoolFacts). p.id) c.new_pools in
@@ -280,7 +280,7 @@ HoldsTogether-after m step lawful is holds =
     let kept = crush-after m step.change is.crush_map ok.forest holds in
     record {
       some = subst (λ n. 1 ≤ n) (sym (length-apply m step)) holds.some;
-      few = subst (λ n. n ≤ 1024) (sym (length-apply m step)) holds.few;
+      few = subst (λ n. n ≤ 4096) (sym (length-apply m step)) holds.few;
       present = present-after m step ok.osds holds.present;
       weighed = weights-after m step ∙ holds.weighed ∙ sym (length-apply m step);
       weigh_little = little-after m step.change ok.weights holds.weigh_little;

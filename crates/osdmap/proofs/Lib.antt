@@ -12,6 +12,7 @@ mod Growing
 mod GroupTotals
 pub mod Kept
 pub mod PlacementLemmas
+pub mod Fitting
 pub mod BuildLemmas
 mod Listing
 pub mod Built

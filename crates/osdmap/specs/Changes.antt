@@ -82,7 +82,7 @@ unfoldable pub grows_from : List PoolFacts → Growth → Bool
 grows_from pools g =
     option_map_or (λ p. nat_le p.pg_num g.pg_num && nat_le p.pgp_num g.pgp_num) (pool_at pools g.pool) false
 
--- where no pool comes twice, all pools have at most 262,144 groups after the change
+-- where no pool comes twice, all pools have at most 1,048,576 groups after the change
 unfoldable pub leaves_few_groups : ClusterMap → ChangeParts → Bool
 leaves_few_groups m c =
     not (is_distinct (map (λ p. p.id) c.new_pools)) || nat_le (total_groups (pools_after m c)) max_total_groups

@@ -69,7 +69,7 @@ has_rule rules p = option_map_or (λ r. is_kind r.kind p.kind) (rule_at rules p.
 abbrev pub is_presence : Presence → Bool
 is_presence p = not p.up || p.exists
 
--- what holds in every map: there are 1 to 1,024 OSDs, of which only those that exist are up, each with a reweight of at
+-- what holds in every map: there are 1 to 4,096 OSDs, of which only those that exist are up, each with a reweight of at
 -- most 65,536; a forest over them; 1 to 256 rules over it by id upwards; at most 256 pools by id upwards, each within
 -- its limits and with a rule of its kind; and exceptions by group upwards, each of them soundly
 pub record HoldsTogether (m : ClusterMap) : Type 0 where

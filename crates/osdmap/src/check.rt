@@ -31,7 +31,7 @@ impl OsdMap {
     /// - `PoolExists` (24): a pool that stays has the id of a new one.
     /// - `BadForest` (13): a device of the forest that comes is not below `max_osd`.
     /// - `BadPool` (15): a pool that stays or comes has no rule of its kind then, there are more than 32 pools (256 by
-    ///   the stock profile) or 262,144 groups, or a pool gets fewer groups than it has, or fewer for placement.
+    ///   the stock profile) or 1,048,576 groups, or a pool gets fewer groups than it has, or fewer for placement.
     /// - `UnknownGroup` (25): a group that is named is not there then.
     /// - `BadNewException` (26): an explicit set is empty, longer than its pool's size or has an OSD twice; or there
     ///   are no pairs, more than the pool's size, or one with equal sides.

@@ -80,7 +80,7 @@ impl OsdMap {
         self.epoch
     }
 
-    /// OSDs have ids below this: 1 to 1,024.
+    /// OSDs have ids below this: 1 to 4,096.
     pub fn max_osd(&self) -> u32
         ensures value { result ≡ length self.now.map.presences }
         ensures few { result ≤ max_devices }
@@ -159,19 +159,19 @@ impl OsdMap {
         &self.items
     }
 
-    /// The explicit set of a group: at most 10 OSDs.
+    /// The explicit set of a group: at most 20 OSDs.
     pub fn explicit(&self, pg: Pg) -> Option<&[u32]>
         ensures value { option_copied result ≡ said_of self.now.map.explicit pg }
-        ensures few { IfSome result (λ osds. length osds.now ≤ 10) }
+        ensures few { IfSome result (λ osds. length osds.now ≤ 20) }
     {
         let explicit = entry_of(&self.explicit, pg.place())?;
         Some(explicit.entries.as_slice())
     }
 
-    /// The pairs of a group, in order: at most 10.
+    /// The pairs of a group, in order: at most 20.
     pub fn items(&self, pg: Pg) -> Option<&[Pair]>
         ensures value { option_copied result ≡ said_of self.now.map.items pg }
-        ensures few { IfSome result (λ pairs. length pairs.now ≤ 10) }
+        ensures few { IfSome result (λ pairs. length pairs.now ≤ 20) }
     {
         let items = entry_of(&self.items, pg.place())?;
         Some(items.entries.as_slice())

@@ -173,7 +173,7 @@ impl OsdMap {
 
     /// The set of those of some devices that exist, in the way of the pool's kind.
     fn existing_set(&self, pool: &Pool, devices: &[Option<i32>]) -> UpSet
-        requires { length devices.now ≤ 10 }
+        requires { length devices.now ≤ 20 }
         ensures { result ≡ kept pool.now.kind (map (option_and_then (existing self.now.map)) devices.now) }
     {
         let mut set = UpSet::new();
@@ -230,7 +230,7 @@ impl OsdMap {
     /// What exceptions make of the raw set of a group.
     #[tactic(auto, unfolding(crate::specs::Mapped::mapped))]
     fn excepted(&self, raw: UpSet, explicit: Option<&[u32]>, items: Option<&[Pair]>) -> UpSet
-        requires { IfSome explicit (λ osds. length osds.now ≤ 10) }
+        requires { IfSome explicit (λ osds. length osds.now ≤ 20) }
         ensures { result ≡ mapped self.now.map.weights (option_copied explicit.entry) (option_copied items.entry) raw }
     {
         let mut set = match explicit {
@@ -287,7 +287,7 @@ impl OsdMap {
         items: Option<&[Pair]>,
         work: &mut Work,
     ) -> Result<UpSet, Refusal>
-        requires { IfSome explicit (λ osds. length osds.now ≤ 10) }
+        requires { IfSome explicit (λ osds. length osds.now ≤ 20) }
         ensures set { Gives result (group_fault self.now.map pg)
             (λ set. IsPlacedBy (mapped_with (option_copied explicit.entry)
             (option_copied items.entry)) self.now.map pg set) }

@@ -10,7 +10,7 @@ use Rattle.monitor.specs.Members.{Monitored, IsMemberOf, IsPassOf}
 use Rattle.osdmapd.specs.declared.part.Part.{Part}
 use Rattle.osdmapd.specs.declared.playing.Left.{Left}
 use Rattle.osdmapd.specs.Pairs.{Pairs}
-use Rattle.osdmapd.specs.Serving.{text_left, seen_left, IsLeftBy, IsLeftIn, AreLeftBy}
+use Rattle.osdmapd.specs.Serving.{facts_left, seen_left, IsLeftBy, IsLeftIn, AreLeftBy}
 
 -- what begins a beginning begins the whole
 begins_on : {T : Type 0} (xs ys zs : List T) → Begins xs ys → Begins ys zs → Begins xs zs
@@ -75,7 +75,7 @@ member_at monitor lefts at left within is members =
 -- what is left of each session is of the history that was joined
 left_in : (monitor : Monitored) (all : List Step) (number : ℕ) (parts : List Part) (lefts : List Left) → Pairs (IsLeftBy monitor) number parts lefts
     → All (BeginsIn all) lefts
-    → Pairs (λ n part left. IsLeftIn monitor.first (length monitor.row.cells) monitor.profile monitor.alone all n part (text_left left)) number parts lefts
+    → Pairs (λ n part left. IsLeftIn monitor.first (length monitor.row.cells) monitor.profile monitor.alone all n part (facts_left left)) number parts lefts
 left_in monitor all number [] [] pairs begin = tt
 left_in monitor all number [] (left ∷ lefts) pairs begin = absurd pairs
 left_in monitor all number (part ∷ parts) [] pairs begin = absurd pairs

@@ -1,6 +1,7 @@
 -- The texts of sessions.
-use Rattle.std.proofs.Common.{◌≡◌, ◌∙◌, ◌==◌, ◌++◌, Bool, false, refl, ap, subst, append_assoc, ℕ, List, map, length, Option, None, IfSome, OnOk, Result, Ok, Err}
-use Rattle.std.specs.List.{concat}
+use Rattle.std.proofs.Common.{◌≡◌, ◌∙◌, ◌==◌, ◌++◌, Bool, false, ◌||◌, refl, ap, sym, subst, [], ◌∷◌, append_assoc, ℕ, List, map, length, Option, None, IfSome, OnOk, Result, Ok, Err}
+use Rattle.std.specs.List.{concat, list_any}
+use mathlib.Core.List.{map-map}
 use Rattle.std.specs.Result.{IsErrAnd}
 use Rattle.maptypes.specs.Incrementals.{Step}
 use Rattle.osdmap.specs.Maps.{ClusterMap}
@@ -22,7 +23,7 @@ use Rattle.osdmapd.specs.declared.fault.Fault.{Fault}
 use Rattle.osdmapd.specs.declared.fault.Fault.TheVariants.{Output, Memory}
 use Rattle.osdmapd.specs.Players.{IsStartedFor, Keeps}
 use Rattle.osdmapd.specs.Pairs.{Pairs}
-use Rattle.osdmapd.specs.Serving.{heading, text_left, unseen, lets_all, IsTextBy, IsLeftBy, IsLeftIn, AreLeftBy, AreTextsOf, Serves, has_output_failed}
+use Rattle.osdmapd.specs.Serving.{LeftFacts, heading, facts_left, texts_of, text_left, unseen, lets_all, IsTextBy, IsLeftBy, IsLeftIn, AreLeftBy, AreLeftOf, Serves, has_output_failed}
 use Rattle.osdmapd.proofs.Paired.{pairs_made, pairs_through}
 
 -- what is left is of the same monitor, number and part
@@ -43,26 +44,26 @@ left_by monitor players parts lefts started kept =
 -- texts of a monitor with this first map, journal and profile
 texts_from : (monitor : Monitored) (m : ClusterMap) (journal : ℕ) (profile : Profile) (alone : Bool) (all : List Step) (parts : List Part) (lefts : List Left)
     → monitor.first ≡ m → length monitor.row.cells ≡ journal → monitor.profile ≡ profile → monitor.alone ≡ alone
-    → Pairs (λ number part left. IsLeftIn monitor.first (length monitor.row.cells) monitor.profile monitor.alone all number part (text_left left)) 1 parts lefts
-    → Pairs (IsLeftIn m journal profile alone all) 1 parts (map text_left lefts)
+    → Pairs (λ number part left. IsLeftIn monitor.first (length monitor.row.cells) monitor.profile monitor.alone all number part (facts_left left)) 1 parts lefts
+    → Pairs (IsLeftIn m journal profile alone all) 1 parts (map facts_left lefts)
 texts_from monitor m journal profile alone all parts lefts first room kinds one paired =
-    subst (λ b. Pairs (IsLeftIn m journal profile b all) 1 parts (map text_left lefts)) one
-    (subst (λ p. Pairs (IsLeftIn m journal p monitor.alone all) 1 parts (map text_left lefts)) kinds
-    (subst (λ k. Pairs (IsLeftIn m k monitor.profile monitor.alone all) 1 parts (map text_left lefts)) room
-    (subst (λ f. Pairs (IsLeftIn f (length monitor.row.cells) monitor.profile monitor.alone all) 1 parts (map text_left lefts)) first
-    (pairs_made (IsLeftIn monitor.first (length monitor.row.cells) monitor.profile monitor.alone all) text_left 1 parts lefts paired))))
+    subst (λ b. Pairs (IsLeftIn m journal profile b all) 1 parts (map facts_left lefts)) one
+    (subst (λ p. Pairs (IsLeftIn m journal p monitor.alone all) 1 parts (map facts_left lefts)) kinds
+    (subst (λ k. Pairs (IsLeftIn m k monitor.profile monitor.alone all) 1 parts (map facts_left lefts)) room
+    (subst (λ f. Pairs (IsLeftIn f (length monitor.row.cells) monitor.profile monitor.alone all) 1 parts (map facts_left lefts)) first
+    (pairs_made (IsLeftIn monitor.first (length monitor.row.cells) monitor.profile monitor.alone all) facts_left 1 parts lefts paired))))
 
 -- the texts from the map that a text states
-pub texts_of : (monitor : Monitored) (m : ClusterMap) (journal : ℕ) (profile : Profile) (stated : List ℕ) (parts : List Part) (lefts : List Left)
+pub lefts_of : (monitor : Monitored) (m : ClusterMap) (journal : ℕ) (profile : Profile) (stated : List ℕ) (parts : List Part) (lefts : List Left)
     → StatesMap profile stated m → monitor.first ≡ m → length monitor.row.cells ≡ journal → monitor.profile ≡ profile
-    → monitor.alone ≡ (length parts == 1) → AreLeftBy monitor parts lefts → AreTextsOf journal profile stated parts (map text_left lefts)
-texts_of monitor m journal profile stated parts lefts states first room kinds one (all, lawful, paired) =
+    → monitor.alone ≡ (length parts == 1) → AreLeftBy monitor parts lefts → AreLeftOf journal profile stated parts (map facts_left lefts)
+lefts_of monitor m journal profile stated parts lefts states first room kinds one (all, lawful, paired) =
     (m, states, all, subst (λ f. IsLawful f all) first lawful, texts_from monitor m journal profile (length parts == 1) all parts lefts first room kinds one paired)
 
 -- what is out where the output fails, at whatever error is told
 pub served_part : (r : Result Unit Fault) (journal : ℕ) (profile : Profile) (stated : List ℕ) (parts : List Part) (before after : List ℕ)
     → IsErrAnd r (λ e. e ≡ Output) → map_text_fault profile stated ≡ None
-    → ((texts : List (List ℕ)) × (rest : List ℕ) × AreTextsOf journal profile stated parts texts × HasPut before (concat texts) rest after)
+    → ((lefts : List LeftFacts) × (rest : List ℕ) × AreLeftOf journal profile stated parts lefts × HasPut before (texts_of lefts) rest after)
     → Serves journal profile stated parts before after r
 served_part (Ok done) journal profile stated parts before after is accepted out = absurd is
 served_part (Err e) journal profile stated parts before after is accepted out = rw is (accepted, out)
@@ -99,3 +100,12 @@ told_live monitor number seen ends old mid after known (Ok done) same out (read,
   put ∙ ap (λ o. o ++ bytes) out ∙ append_assoc old (heading number) bytes,
 )
 told_live monitor number seen ends old mid after known (Err e) same out told = tt
+
+-- the texts of what is left are those of what is left without its members
+pub texts_left : (lefts : List Left) → concat (map text_left lefts) ≡ texts_of (map facts_left lefts)
+texts_left lefts = ap concat (sym (map-map (λ (left : LeftFacts). left.text) facts_left lefts))
+
+-- so is it told by the same sessions
+pub told_left : (lefts : List Left) → list_any (λ left. left.has_told) lefts ≡ list_any (λ left. left.told) (map facts_left lefts)
+told_left [] = refl
+told_left (left ∷ lefts) = ap (λ b. left.has_told || b) (told_left lefts)

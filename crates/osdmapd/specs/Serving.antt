@@ -1,7 +1,7 @@
 -- What a run of the program writes.
-use Rattle.std.specs.Prelude.{◌≡◌, ◌==◌, ℕ, Bool, true, false, List, [], ◌++◌, codes, length, Some, None, Result, Ok, Err}
+use Rattle.std.specs.Prelude.{◌≡◌, ◌==◌, ℕ, Bool, true, false, List, [], ◌++◌, codes, length, map, Some, None, Result, Ok, Err}
 use Rattle.std.specs.Fmt.{decimal}
-use Rattle.std.specs.List.{concat}
+use Rattle.std.specs.List.{concat, list_any}
 use Rattle.maptypes.specs.Incrementals.{Step}
 use Rattle.osdmap.specs.Maps.{ClusterMap}
 use Rattle.osdmap.specs.Changes.{IsLawful}
@@ -49,15 +49,25 @@ abbrev pub IsTextBy : Monitored → ℕ → List ℕ → List ℕ → List Step 
 IsTextBy monitor number script text seen =
     IsSessionText monitor.first (length monitor.row.cells) monitor.profile monitor.alone number script text seen
 
--- what is left to put out of the session of a part, once it has ended: the text of a script; of a live session nothing
-abbrev pub IsLeftOf : ClusterMap → ℕ → Profile → Bool → ℕ → Part → List ℕ → List Step → Type 0
-IsLeftOf first journal profile alone number (Script script) text seen =
-    IsSessionText first journal profile alone number script.items text seen
-IsLeftOf first journal profile alone number (Live source target) text seen = text ≡ []
+-- what is left of a session that has ended: what is to be put out, and whether a file of it has failed, which it told
+pub record LeftFacts : Type 0 where
+  pub text : List ℕ
+  pub told : Bool
+
+-- what is left of the session of a part: the text of a script, which has no file that can fail; of a live session, whose
+-- answers are out, no text
+abbrev pub IsLeftOf : ClusterMap → ℕ → Profile → Bool → ℕ → Part → LeftFacts → List Step → Type 0
+IsLeftOf first journal profile alone number (Script script) left seen =
+    IsSessionText first journal profile alone number script.items left.text seen × (left.told ≡ false)
+IsLeftOf first journal profile alone number (Live source target) left seen = left.text ≡ []
 
 -- what is to be put out of what is left
 abbrev pub text_left : Left → List ℕ
 text_left left = buffered left.text
+
+-- what is left, without its member
+abbrev pub facts_left : Left → LeftFacts
+facts_left left = record { text = text_left left; told = left.has_told }
 
 -- what the member has seen that is left
 abbrev pub seen_left : Left → List Step
@@ -67,15 +77,15 @@ seen_left left = left.member.pass.history
 abbrev pub IsLeftBy : Monitored → ℕ → Part → Left → Type 0
 IsLeftBy monitor number part left =
     IsMemberOf monitor left.member
-    × IsLeftOf monitor.first (length monitor.row.cells) monitor.profile monitor.alone number part (text_left left)
+    × IsLeftOf monitor.first (length monitor.row.cells) monitor.profile monitor.alone number part (facts_left left)
     (seen_left left)
 
 -- ---- all sessions
 
 -- what is left of a session whose last history begins this one
-abbrev pub IsLeftIn : ClusterMap → ℕ → Profile → Bool → List Step → ℕ → Part → List ℕ → Type 0
-IsLeftIn first journal profile alone all number part text =
-    (seen : List Step) × Begins seen all × IsLeftOf first journal profile alone number part text seen
+abbrev pub IsLeftIn : ClusterMap → ℕ → Profile → Bool → List Step → ℕ → Part → LeftFacts → Type 0
+IsLeftIn first journal profile alone all number part left =
+    (seen : List Step) × Begins seen all × IsLeftOf first journal profile alone number part left seen
 
 -- what is left of the sessions of these parts, numbered from 1, at one monitor: the last history of each begins one
 -- that is lawful from the first map
@@ -83,34 +93,39 @@ abbrev pub AreLeftBy : Monitored → List Part → List Left → Type 0
 AreLeftBy monitor parts lefts =
     (all : List Step) × IsLawful monitor.first all
     × Pairs (λ number part left.
-    IsLeftIn monitor.first (length monitor.row.cells) monitor.profile monitor.alone all number part (text_left left))
+    IsLeftIn monitor.first (length monitor.row.cells) monitor.profile monitor.alone all number part (facts_left left))
     1 parts lefts
 
 -- what is left of the sessions of these parts, numbered from 1, from the map that a text states: there is one history,
 -- lawful from that map, which the last history of each session begins; a session that is the only one sees nothing but
 -- what its own answers tell
-abbrev pub AreTextsOf : ℕ → Profile → List ℕ → List Part → List (List ℕ) → Type 0
-AreTextsOf journal profile stated parts texts =
+abbrev pub AreLeftOf : ℕ → Profile → List ℕ → List Part → List LeftFacts → Type 0
+AreLeftOf journal profile stated parts lefts =
     (m : ClusterMap) × StatesMap profile stated m × (all : List Step) × IsLawful m all
-    × Pairs (IsLeftIn m journal profile (length parts == 1) all) 1 parts texts
+    × Pairs (IsLeftIn m journal profile (length parts == 1) all) 1 parts lefts
 
--- the texts of a map that is not refused are out, one after the other
-abbrev pub IsServed : ℕ → Profile → List ℕ → List Part → List ℕ → List ℕ → Type 0
-IsServed journal profile stated parts before after =
+-- the texts that are left, one after the other
+abbrev pub texts_of : List LeftFacts → List ℕ
+texts_of lefts = concat (map (λ left. left.text) lefts)
+
+-- the texts of a map that is not refused are out, and a session has told that a file of it failed, or none has
+abbrev pub IsServed : ℕ → Profile → List ℕ → List Part → Bool → List ℕ → List ℕ → Type 0
+IsServed journal profile stated parts told before after =
     (map_text_fault profile stated ≡ None)
-    × ((texts : List (List ℕ)) × AreTextsOf journal profile stated parts texts × (after ≡ before ++ concat texts))
+    × ((lefts : List LeftFacts) × AreLeftOf journal profile stated parts lefts
+    × (list_any (λ left. left.told) lefts ≡ told) × (after ≡ before ++ texts_of lefts))
 
--- what is out at the end: the texts, also where a live session has told that a file of it failed, or where the output
--- fails a beginning of them; nothing where the map is refused or memory is short
+-- what is out at the end: the texts, at `Told` where a live session has told that a file of it failed; a beginning of
+-- them where the output fails; nothing where the map is refused or memory is short
 abbrev pub Serves : ℕ → Profile → List ℕ → List Part → List ℕ → List ℕ → Result Unit Fault → Type 0
-Serves journal profile stated parts before after (Ok done) = IsServed journal profile stated parts before after
+Serves journal profile stated parts before after (Ok done) = IsServed journal profile stated parts false before after
 Serves journal profile stated parts before after (Err (Map refusal)) =
     (map_text_fault profile stated ≡ Some refusal) × (after ≡ before)
 Serves journal profile stated parts before after (Err Output) =
     (map_text_fault profile stated ≡ None)
-    × ((texts : List (List ℕ)) × (rest : List ℕ) × AreTextsOf journal profile stated parts texts
-    × HasPut before (concat texts) rest after)
-Serves journal profile stated parts before after (Err Told) = IsServed journal profile stated parts before after
+    × ((lefts : List LeftFacts) × (rest : List ℕ) × AreLeftOf journal profile stated parts lefts
+    × HasPut before (texts_of lefts) rest after)
+Serves journal profile stated parts before after (Err Told) = IsServed journal profile stated parts true before after
 Serves journal profile stated parts before after (Err Memory) = after ≡ before
 
 -- whether the sink has failed: where the output is told to have, and else not

@@ -32,9 +32,9 @@ pub struct RawChange {
     pub new_pools: Entries<PoolPart>,
     /// The pools that grow, and what to.
     pub grow_pool: Entries<GrowPart>,
-    /// The OSDs that go down: 0 to 1,023.
+    /// The OSDs that go down: 0 to 4,095.
     pub down: Entries<i128>,
-    /// The OSDs that come up: 0 to 1,023.
+    /// The OSDs that come up: 0 to 4,095.
     pub up: Entries<i128>,
     /// The OSDs that get another reweight.
     pub weight: Entries<RawReweight>,
@@ -51,7 +51,7 @@ pub struct RawChange {
 /// An OSD and its new reweight as a text states them.
 #[derive(Clone, Copy, Debug, PartialEq, Eq)]
 pub struct RawReweight {
-    /// 0 to 1,023.
+    /// 0 to 4,095.
     pub osd: i128,
     /// 0 to 4,294,967,295.
     pub weight: i128,

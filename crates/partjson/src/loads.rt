@@ -12,7 +12,7 @@ use std::alloc::Global;
 /// An OSD and what it carries as a text states them.
 #[derive(Clone, Copy, Debug, PartialEq, Eq)]
 pub struct RawLoad {
-    /// 0 to 1,023.
+    /// 0 to 4,095.
     pub osd: i128,
     /// -2,147,483,648 to 2,147,483,647.
     pub carried: i128,

@@ -28,13 +28,13 @@ found_at key (y ∷ ys) (suc i) x rises inside is =
 
 -- ---- mapped sets
 
--- an OSD that exists is below 1,024
-small_place : (m : ClusterMap) (place : Option ℕ) → length m.presences ≤ 1024 → IfSome place (λ osd. osd_exists m osd ≡ true) → IfSome place (λ osd. osd < 1024)
+-- an OSD that exists is below 4,096
+small_place : (m : ClusterMap) (place : Option ℕ) → length m.presences ≤ 4096 → IfSome place (λ osd. osd_exists m osd ≡ true) → IfSome place (λ osd. osd < 4096)
 small_place m None few is = tt
-small_place m (Some osd) few is = let below : nat_lt osd 1024 ≡ true = below_max m osd 1024 few is in grind (arith, nat_tests)
+small_place m (Some osd) few is = let below : nat_lt osd 4096 ≡ true = below_max m osd 4096 few is in grind (arith, nat_tests)
 
 -- so are all of a mapped set
-pub mapped_small : (m : ClusterMap) (p : PoolFacts) (n : ℕ) (set : List (Option ℕ)) → HoldsTogether m → set ≡ mapped_set m p n → All (λ place. IfSome place (λ osd. osd < 1024)) set
+pub mapped_small : (m : ClusterMap) (p : PoolFacts) (n : ℕ) (set : List (Option ℕ)) → HoldsTogether m → set ≡ mapped_set m p n → All (λ place. IfSome place (λ osd. osd < 4096)) set
 mapped_small m p n set holds is k d inside = small_place m (get_or set k d) holds.few (rw (← is) at (mapped_exist m p n holds) k d inside)
 
 -- a pool has at most 65,536 sets

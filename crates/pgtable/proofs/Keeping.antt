@@ -1,5 +1,5 @@
 -- A pool that a change does not touch as a whole: what is kept of its table.
-use Rattle.std.proofs.Common.{◌≡◌, ◌∙◌, refl, sym, ap, ℕ, ◌+◌, ◌<◌, Bool, true, false, eqb, List, [], ◌∷◌, length, get_or, map, set, Option, Some, None, IsSome, inl, inr, arith}
+use Rattle.std.proofs.Common.{◌≡◌, ◌∙◌, refl, sym, ap, ℕ, ◌+◌, ◌<◌, ◌≤◌, Bool, true, false, eqb, List, [], ◌∷◌, length, get_or, map, set, Option, Some, None, IsSome, inl, inr, arith}
 use mathlib.Core.Bool.{false≢true}
 use Rattle.std.specs.Prelude.{slice_get, is_some, position, nat_lt}
 use Rattle.std.specs.List.{All, AllPairs, list_any, find, filter, count_by, range_with_len, position_or_len}
@@ -18,7 +18,8 @@ use Rattle.maptypes.specs.Sets.{Places}
 use Rattle.grouptable.proofs.Changes.{length-changed}
 use Rattle.maptypes.specs.declared.change.ChangeParts.{ChangeParts}
 use Rattle.maptypes.specs.Pools.{PoolFacts}
-use Rattle.osdmap.specs.Maps.{ClusterMap, pool_at}
+use Rattle.osdmap.specs.Maps.{ClusterMap, pool_at, HoldsTogether}
+use Rattle.osdmap.proofs.Fitting.{mapped_fits, pool_within}
 use Rattle.osdmap.specs.Evals.{is_touched, concerns, is_evaluated}
 use Rattle.osdmap.specs.Placement.{group_of, mapped_set}
 use Rattle.placement_laws.proofs.Others.{others_stay, pool_there}
@@ -100,6 +101,13 @@ changes_ascend n c p i j d less inside =
     let second = get_or-map (λ k. (k, mapped_set n p k)) (concerned n c p) j 0 d last in
     rw (first, second) (AllPairs-filter (λ a b. a < b) (λ k. concerns n c (group_of p k)) (range_with_len 0 p.pg_num) (rising p.pg_num) i j 0 less last)
 
+-- no set of them has more places than the pool
+pub changes_fit : (n : ClusterMap) (c : ChangeParts) (p : PoolFacts) → HoldsTogether n → pool_at n.pools p.id ≡ Some p → All (λ e. length e.1 ≤ p.size) (changes_of n c p)
+changes_fit n c p holds there =
+    let limits = pool_within n p holds there in
+    All-map (λ (e : ℕ × Places). length e.1 ≤ p.size) (λ k. (k, mapped_set n p k)) (concerned n c p)
+    (λ k d inside. mapped_fits n p (get_or (concerned n c p) k d) holds there (omega (arith, concerned_within n c p k d inside, limits.groups_most)))
+
 -- each group that is not changed has its set already: then all have theirs after the changes
 all_set : (f : ℕ → Places) (ns : List ℕ) (sets : List Places) (k : ℕ) → k < length sets → (list_any (λ n. eqb n k) ns ≡ false → get_or sets k [] ≡ f k) → get_or (changed sets (map (λ n. (n, f n)) ns)) k [] ≡ f k
 all_set f [] sets k inside same = same refl
@@ -158,10 +166,15 @@ module _ (m after : ClusterMap) (c : ChangeParts) (p : PoolFacts) (leads : Leads
     pub at_place : slice_get t.pools at ≡ Some (pool_table m p)
     at_place = found ∙ table_was_there t is
 
-    pub within_table : (q : PoolTable) (cs : List (ℕ × Places)) → q ≡ get_or t.pools at q → cs ≡ changes_of after c p → All (λ e. e.0 < length q.groups) cs
+    pub within_table : (q : PoolTable) (cs : List (ℕ × Places)) → q ≡ get_or t.pools at q → cs ≡ changes_of after c p → All (λ e. e.0 < length q.groups.sets) cs
     within_table q cs here made =
         let same : q ≡ pool_table m p = here ∙ get_or_from_slice_get t.pools at (pool_table m p) q at_place in
         rw (same, made) (changes_within m after c p)
+
+    pub fit_there : (q : PoolTable) (cs : List (ℕ × Places)) → q ≡ get_or t.pools at q → cs ≡ changes_of after c p → All (λ e. length e.1 ≤ q.groups.width) cs
+    fit_there q cs here made =
+        let same : q ≡ pool_table m p = here ∙ get_or_from_slice_get t.pools at (pool_table m p) q at_place in
+        rw (same, made) (changes_fit after c p leads.holds_after there)
 
     pub ascend_there : (cs : List (ℕ × Places)) → cs ≡ changes_of after c p → AllPairs (λ a b. a.0 < b.0) cs
     ascend_there cs made = rw made (changes_ascend after c p)
@@ -176,5 +189,5 @@ module _ (m after : ClusterMap) (c : ChangeParts) (p : PoolFacts) (leads : Leads
             patch = rw there (rw same at fits);
           };
           id = rw there refl;
-          sets = rw (there, made) sets_kept;
+          sets = rw (there, made) (ap (λ sets. record { width = p.size; sets = sets }) sets_kept);
         }

@@ -11,7 +11,7 @@ use Rattle.std.proofs.lemmas.Option.{slice_get-map, slice_get_within, get_or_fro
 use Rattle.keylist.specs.Keys.{has_key, entry_at}
 use Rattle.keylist.specs.Order.{IsRising}
 use Rattle.keylist.proofs.KeyedMaps.{entry-puts, entry-reverse, entry-without}
-use Rattle.grouptable.specs.Sets.{changed}
+use Rattle.grouptable.specs.Sets.{changed_in}
 use Rattle.maptypes.specs.Sets.{Places}
 use Rattle.grouptable.specs.Tables.{IsPatchFor}
 use Rattle.grouptable.specs.declared.table.GroupPatch.{GroupPatch}
@@ -39,7 +39,7 @@ use Rattle.pgtable.specs.Candidates.{IsCandidates}
 use Rattle.pgtable.proofs.Concerning.{concerned_alike, concerned_found}
 use Rattle.pgtable.proofs.Carrying.{same_lists, get_set_other, get_set_same, long_zip, get_zip}
 use Rattle.pgtable.proofs.Found.{found_at, mapped_small}
-use Rattle.pgtable.proofs.Keeping.{sets_kept, changes_within, changes_ascend}
+use Rattle.pgtable.proofs.Keeping.{sets_kept, changes_within, changes_fit, changes_ascend}
 use Rattle.pgtable.proofs.Making.{element, get_before, get_behind, get_past, evals_whole}
 
 -- ---- what such a change leaves
@@ -183,20 +183,20 @@ leads_next m c lawful is holds = record {
   holds_after = HoldsTogether-after m (record { epoch = m.epoch + 1; change = c }) lawful is holds;
 }
 
--- what such a set names are OSDs below 1,024
+-- what such a set names are OSDs below 4,096
 pub small_then : (m : ClusterMap) (c : ChangeParts) (p : PoolFacts) (n : ℕ) (places : List (Option ℕ)) → LeadsFrom m c (changed_map m c) → places ≡ mapped_set (changed_map m c) p n
-    → All (λ place. IfSome place (λ osd. osd < 1024)) places
+    → All (λ place. IfSome place (λ osd. osd < 4096)) places
 small_then m c p n places leads is = mapped_small (changed_map m c) p n places leads.holds_after is
 
 -- the table of a pool with the sets that a change gives to its groups
 pub pool_regroups : (m : ClusterMap) (c : ChangeParts) (q : PoolTable) (one : Option GroupPatch) (cs : List (ℕ × Places)) → LeadsFrom m c (changed_map m c) → LeavesRawSets c → q ≡ pool_table m q.pool → pool_at m.pools q.pool.id ≡ Some q.pool
-    → cs ≡ changes_of (changed_map m c) c q.pool → regrouped q one ≡ record { pool = q.pool; groups = changed q.groups cs } → IfSome one (IsPatchFor q.groups) → RegroupsPool (changed_map m c) q one
+    → cs ≡ changes_of (changed_map m c) c q.pool → regrouped q one ≡ record { pool = q.pool; groups = changed_in q.groups cs } → IfSome one (IsPatchFor q.groups) → RegroupsPool (changed_map m c) q one
 pool_regroups m c q one cs leads s is there made gives fits =
     let there_after : pool_at (changed_map m c).pools q.pool.id ≡ Some q.pool = rw (pools_stay m c s) there in
     let sets = sets_kept m (changed_map m c) c q.pool leads there_after (none_touched (changed_map m c) c q.pool s) in
-    let groups : q.groups ≡ sets_of m q.pool = ap (λ (t : PoolTable). t.groups) is in
+    let groups : q.groups ≡ (pool_table m q.pool).groups = ap (λ (t : PoolTable). t.groups) is in
     record {
-      table = gives ∙ ap (λ gs. record { pool = q.pool; groups = gs }) (rw (groups, made) sets);
+      table = gives ∙ rw (groups, made) (ap (λ sets. record { pool = q.pool; groups = record { width = q.pool.size; sets = sets } }) sets);
       fits = fits;
     }
 
@@ -341,9 +341,9 @@ no_entries (x ∷ xs) n b is empty long = let none : n ≡ 0 = eqb-true n 0 (sym
 
 module _ (m : ClusterMap) (c : ChangeParts) (q : PoolTable) (cs : List (ℕ × Places)) (is : q ≡ pool_table m q.pool) (made : cs ≡ changes_of (changed_map m c) c q.pool) where
   -- the groups that get other sets are there
-  pub within_regrouped : All (λ e. e.0 < length q.groups) cs
+  pub within_regrouped : All (λ e. e.0 < length q.groups.sets) cs
   within_regrouped =
-      let groups : q.groups ≡ sets_of m q.pool = ap (λ (t : PoolTable). t.groups) is in
+      let groups : q.groups.sets ≡ sets_of m q.pool = ap (λ (t : PoolTable). t.groups.sets) is in
       rw (groups, made) (changes_within m (changed_map m c) c q.pool)
 
   -- in ascending order
@@ -354,6 +354,12 @@ module _ (m : ClusterMap) (c : ChangeParts) (q : PoolTable) (cs : List (ℕ × P
     -- a pool of which none gets another set
     pub regroups_none : cs ≡ [] → RegroupsPool (changed_map m c) q None
     regroups_none none = pool_regroups m c q None cs leads s is there made (rw none refl) tt
+
+    -- no set of them has more places than the pool
+    pub fit_regrouped : All (λ e. length e.1 ≤ q.groups.width) cs
+    fit_regrouped =
+        let width : q.groups.width ≡ q.pool.size = ap (λ (t : PoolTable). t.groups.width) is in
+        rw (width, made) (changes_fit (changed_map m c) c q.pool leads.holds_after (rw (pools_stay m c s) there))
 
     -- a pool of which some do
     pub regroups_some : (g : GroupPatch) → g.changes.items ≡ cs → IsPatchFor q.groups g → RegroupsPool (changed_map m c) q (Some g)

@@ -95,7 +95,7 @@ of_pool m up p n is = rw (is, slice_get_in (mapped_set m p) p.pg_num n) (elim (c
 pub up_shown : (t : TableFacts) (m : ClusterMap) (g : Pg) → IsTableOf t m → shown_at t g ≡ up_at m g
 up_shown t m g is = rw (is.pools, find_map (λ (q : PoolTable). eqb q.pool.id g.pool) (pool_table m) m.pools) (by_pool (pool_at m.pools g.pool))
   where
-    by_pool : (p : Option PoolFacts) → option_and_then (λ q. option_map (shown_set t q) (slice_get q.groups g.number)) (option_map (pool_table m) p) ≡ option_and_then (λ q. if nat_lt g.number q.pg_num then Some (up_set m q g.number) else None) p
+    by_pool : (p : Option PoolFacts) → option_and_then (λ q. option_map (shown_set t q) (slice_get q.groups.sets g.number)) (option_map (pool_table m) p) ≡ option_and_then (λ q. if nat_lt g.number q.pg_num then Some (up_set m q g.number) else None) p
     by_pool None = refl
     by_pool (Some p) = of_pool m t.up p g.number is.up
 

@@ -6,7 +6,7 @@ use Rattle.osdmap.specs.Placement.{group_of, mapped_set}
 use Rattle.std.specs.Option.{option_map, option_map_or, option_or}
 use Rattle.buckets.specs.Limits.{max_devices}
 use Rattle.mapparts.specs.Limits.{max_pools}
-use Rattle.grouptable.specs.Sets.{changed}
+use Rattle.grouptable.specs.Sets.{GroupSets, changed_in}
 use Rattle.maptypes.specs.Sets.{Places}
 use Rattle.grouptable.specs.Tables.{IsPatchFor}
 use Rattle.grouptable.specs.declared.table.GroupPatch.{GroupPatch}
@@ -78,18 +78,18 @@ abbrev pub evals_in : ClusterMap → ChangeParts → PoolFacts → ℕ
 evals_in m c p = count_by (is_evaluated m c p) (range_with_len 0 p.pg_num)
 
 -- the sets of the pool that stands at a place
-abbrev pub sets_at : List PoolTable → ℕ → List Places
-sets_at old at = option_map_or (λ q. q.groups) (slice_get old at) []
+abbrev pub groups_at : List PoolTable → ℕ → GroupSets
+groups_at old at = option_map_or (λ q. q.groups) (slice_get old at) (record { width = 0; sets = [] })
 
 -- a pool's table as a patch makes it: anew, or that of an old one with other sets for some groups
 abbrev pub carried : List PoolTable → PoolTable → Option KeptTable → PoolTable
 carried old q None = q
-carried old q (Some k) = record { pool = q.pool; groups = changed (sets_at old k.at) k.patch.changes.items }
+carried old q (Some k) = record { pool = q.pool; groups = changed_in (groups_at old k.at) k.patch.changes.items }
 
 -- a pool's table that stays, with other sets for some groups
 abbrev pub regrouped : PoolTable → Option GroupPatch → PoolTable
 regrouped q None = q
-regrouped q (Some g) = record { pool = q.pool; groups = changed q.groups g.changes.items }
+regrouped q (Some g) = record { pool = q.pool; groups = changed_in q.groups g.changes.items }
 
 -- each pool's table that gets other sets gets them for groups that it has
 pub record FitGroups (old : List PoolTable) (patches : List (Option GroupPatch)) : Type 0 where
@@ -110,7 +110,7 @@ pub record RegroupsAll (old : List PoolTable) (m : ClusterMap) (patches : List (
 -- what is kept is there, and gets other sets for groups that it has
 pub record FitsAt (old : List PoolTable) (k : KeptTable) : Type 0 where
   pub inside : k.at < length old
-  pub patch : IsPatchFor (sets_at old k.at) k.patch
+  pub patch : IsPatchFor (groups_at old k.at) k.patch
 
 -- each table that is kept fits, and none is kept twice
 pub record FitAll (old pools : List PoolTable) (kept : List (Option KeptTable)) : Type 0 where
@@ -123,7 +123,7 @@ pub record FitAll (old pools : List PoolTable) (kept : List (Option KeptTable)) 
 pub record KeepsPool (old : List PoolTable) (m : ClusterMap) (p : PoolFacts) (k : KeptTable) : Type 0 where
   pub fits : FitsAt old k
   pub id : option_map (λ q. q.pool.id) (slice_get old k.at) ≡ Some p.id
-  pub sets : changed (sets_at old k.at) k.patch.changes.items ≡ sets_of m p
+  pub sets : changed_in (groups_at old k.at) k.patch.changes.items ≡ (pool_table m p).groups
 
 -- a pool's table as it is made, with what is kept, gets the sets of a map
 pub record MakesPool (old : List PoolTable) (m : ClusterMap) (p : PoolFacts) (q : PoolTable) (one : Option KeptTable) :

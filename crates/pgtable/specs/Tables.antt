@@ -22,8 +22,9 @@ pub record TableFacts : Type 0 where
 abbrev pub sets_of : ClusterMap → PoolFacts → List Places
 sets_of m p = map (mapped_set m p) (range_with_len 0 p.pg_num)
 
+-- with its groups' sets, which have as many places at most as the pool
 abbrev pub pool_table : ClusterMap → PoolFacts → PoolTable
-pool_table m p = record { pool = p; groups = sets_of m p }
+pool_table m p = record { pool = p; groups = record { width = p.size; sets = sets_of m p } }
 
 -- for each pool of a map
 abbrev pub tables_of : ClusterMap → List PoolTable
@@ -54,11 +55,11 @@ abbrev pub shown_set : TableFacts → PoolTable → Places → Places
 shown_set t q set = kept q.pool.kind (map (option_and_then (upward_in t.up)) set)
 
 abbrev pub shown_at : TableFacts → Pg → Option Places
-shown_at t g = option_and_then (λ q. option_map (shown_set t q) (slice_get q.groups g.number)) (pool_in t g.pool)
+shown_at t g = option_and_then (λ q. option_map (shown_set t q) (slice_get q.groups.sets g.number)) (pool_in t g.pool)
 
 -- the groups of a pool in whose set an OSD stands
 abbrev pub held_in : ℕ → PoolTable → List Pg
-held_in osd q = map (group_of q.pool) (groups_of osd q.groups)
+held_in osd q = map (group_of q.pool) (groups_of osd q.groups.sets)
 
 -- the groups of all pools in whose set an OSD stands that is up
 abbrev pub shown_groups : TableFacts → ℕ → List Pg

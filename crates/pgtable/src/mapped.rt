@@ -4,11 +4,11 @@ ghost use Rattle.std.specs.Prelude.{◌≡◌, ◌<◌, length, map, Some, IfOk,
 ghost use Rattle.std.specs.List.{range_with_len};
 ghost use Rattle.buckets.specs.Limits.{max_devices};
 ghost use Rattle.osdmap.specs.Maps.{pool_at};
-ghost use Rattle.pgtable.specs.Tables.{sets_of, RunsMore};
+ghost use Rattle.pgtable.specs.Tables.{pool_table, RunsMore};
 ghost use Rattle.pgtable.specs.Patches.{with_sets};
 
 use crush::Work;
-use grouptable::OsdSet;
+use grouptable::{OsdSet, SetList};
 use maptypes::{Pool, UpSet};
 use osdmap::{OsdMap, Placing};
 use refusal::Memory;
@@ -94,16 +94,18 @@ pub fn all_mapped(
     map: &OsdMap,
     pool: &Pool,
     work: &mut Work,
-) -> Result<Vec<OsdSet>, Memory>
+) -> Result<SetList, Memory>
     requires { pool_at map.now.map.pools pool.now.id ≡ Some pool.now }
-    ensures sets { IfOk result (λ sets. sets.items ≡ sets_of map.now.map pool.now) }
+    ensures sets { IfOk result (λ sets. sets ≡ (pool_table map.now.map pool.now).groups) }
     ensures runs { OnOk result (RunsMore pool.now.pg_num work.old work.new) }
 {
     let _ = work.runs();
+    map.holds_together();
+    pool.is_within_limits();
     let placing = map.placing(pool);
-    let mut sets = Vec::with_capacity(alloc, pool.pg_num() as usize)?;
+    let mut sets = SetList::with_room(alloc, usize::from(pool.size()), pool.pg_num() as usize)?;
     for number in 0..pool.pg_num() {
-        sets.push(placing.set(number, work)?)?;
+        sets.push(&placing.set(number, work)?)?;
     }
     Ok(sets)
 }

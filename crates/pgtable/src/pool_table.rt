@@ -45,11 +45,11 @@ impl PoolTable {
 
     /// The table of a pool without its groups. It takes no memory.
     pub(crate) fn empty(alloc: Global, pool: Pool) -> PoolTable
-        ensures { result ≡ record { pool = pool; groups = [] } }
+        ensures { result ≡ record { pool = pool; groups = record { width = pool.size; sets = [] } } }
     {
         PoolTable {
             pool,
-            groups: GroupTable::nothing(alloc),
+            groups: GroupTable::nothing(alloc, usize::from(pool.size())),
         }
     }
 

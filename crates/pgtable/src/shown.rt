@@ -1,11 +1,13 @@
 //! Stored sets as callers see them.
 
-ghost use Rattle.std.specs.Prelude.{◌≡◌, map, option_and_then};
+ghost use Rattle.std.specs.Prelude.{◌≡◌, ◌≤◌, length, map, option_and_then};
+ghost use Rattle.crush.specs.Limits.{max_size};
+ghost use Rattle.grouptable.specs.Sets.{place_stored};
 ghost use Rattle.maptypes.specs.Sets.{kept};
 ghost use Rattle.pgtable.specs.Tables.{upward_in};
 
 use crush::RuleKind;
-use grouptable::OsdSet;
+use grouptable::osd_in;
 use maptypes::UpSet;
 
 /// The OSD of a place, where there is one that is up.
@@ -20,13 +22,14 @@ fn shown_place(place: Option<u16>, up: &[bool]) -> Option<u32>
     }
 }
 
-/// The set without the OSDs that are down, in the way of a kind.
-pub fn shown(set: &OsdSet, kind: RuleKind, up: &[bool]) -> UpSet
-    ensures { result ≡ kept kind (map (option_and_then (upward_in up.now)) set.now) }
+/// The stored set without the OSDs that are down, in the way of a kind.
+pub fn shown(set: &[u16], kind: RuleKind, up: &[bool]) -> UpSet
+    requires { length set.now ≤ max_size }
+    ensures { result ≡ kept kind (map (option_and_then (upward_in up.now)) (map place_stored set.now)) }
 {
     let mut shown = UpSet::new();
     for place in 0..set.len() {
-        shown.add(kind, shown_place(set.at(place), up));
+        shown.add(kind, shown_place(osd_in(set, place), up));
     }
     shown
 }

@@ -122,7 +122,7 @@ impl PgTable {
         ensures { result ≡ shown_at self.now pg }
     {
         let table = self.pool(pg.pool)?;
-        let set = table.groups.sets().get(pg.number as usize)?;
+        let set = table.groups.set(pg.number)?;
         Some(shown(set, table.pool.kind(), &self.up))
     }
 

@@ -38,6 +38,7 @@ use Rattle.osdmap.specs.Changes.{pools_kept, pools_after, with_weight, apply, po
 use Rattle.osdmap.specs.Evals.{reaches_reweighted, is_touched, is_named, names_reweighted, concerns}
 use Rattle.maptypes.specs.Sets.{kept}
 use Rattle.osdmap.specs.Placement.{placement_input, group_of, existing, placed, raw_set, steps_of}
+use Rattle.osdmap.proofs.Fitting.{not_both, found_of_all, same_pool, few_numbers}
 use Rattle.osdmap.proofs.PlacementLemmas.{found_passes}
 use Rattle.osdmap.proofs.Grown.{entry-grown}
 use Rattle.osdmap.proofs.Kept.{exists-after}
@@ -57,17 +58,9 @@ or_second : (a b : Bool) → (a || b) ≡ false → b ≡ false
 or_second true b h = absurd (false≢true (sym h))
 or_second false b h = h
 
--- nothing is true and false
-not_both : (b : Bool) → b ≡ true → b ≡ false → ⊥
-not_both b h k = false≢true (sym k ∙ h)
-
 -- what is neither is not the one and not the other
 neither : (a b : Bool) → a ≡ false → b ≡ false → (not a && not b) ≡ true
 neither a b h k = rw (h, k) refl
-
--- what is found is one of the list
-found_of_all : {X : Type 0} (P : X → Type 0) (p : X → Bool) (xs : List X) (x : X) → find p xs ≡ Some x → All P xs → P x
-found_of_all P p xs x found all = let at = find-place p xs x found in subst P at.2 (all at.0 x at.1)
 
 -- where all that is sought stays, it is found as before
 find_kept : {X : Type 0} (p q good : X → Bool) (xs : List X) → ((x : X) → good x ≡ true → p x ≡ true → q x ≡ true) → list_all good xs ≡ true → find p (filter q xs) ≡ find p xs
@@ -134,22 +127,6 @@ pool_stays m c id p none stays found = by_pool (entry_at (λ q. q.id) (pools_the
         pool_put m c id p none (is ∙ ap (λ x. Some x) one)
 
 -- ---- exceptions
-
--- places of groups are equal only where their pools are
-same_pool : (p q a b : ℕ) → p * 2 ^ 32 + a ≡ q * 2 ^ 32 + b → a < 2 ^ 32 → b < 2 ^ 32 → p ≡ q
-same_pool p q a b e f g = omega arith
-
--- the number of a group of a map has at most 32 bits
-few_numbers : (pools : List PoolFacts) (g : Pg) → All IsWithinLimits pools → has_group pools g ≡ true → g.number < 2 ^ 32
-few_numbers pools g within has = by_pool (entry_at (λ p. p.id) pools g.pool) refl
-  where
-    by_pool : (p : Option PoolFacts) → entry_at (λ q. q.id) pools g.pool ≡ p → g.number < 2 ^ 32
-    by_pool None found = absurd (not_both _ has (rw found refl))
-    by_pool (Some p) found =
-        let limits = found_of_all IsWithinLimits (λ q. eqb q.id g.pool) pools p found within in
-        let below : nat_lt g.number p.pg_num ≡ true = rw found at has in
-        let less : g.number < p.pg_num = grind (arith, nat_tests) in
-        omega (arith, less, limits.groups_most)
 
 module _ {E : Type 0} (names : E → List ℕ) (sound : List E → Bool) (m : ClusterMap) (within : All IsWithinLimits m.pools) where
   abbrev is_good : Exception E → Bool

@@ -4,12 +4,16 @@ ghost use Rattle.std.specs.List.{list_all};
 ghost use Rattle.std.specs.Option.{option_map_or};
 ghost use Rattle.mapparts.specs.Parts.{crush_fits, growth_fits, has_between, is_osd_id, pg_fits, pool_fits};
 ghost use Rattle.mapparts.specs.Limits.{max_entries};
-ghost use Rattle.mapjson.specs.ChangeTexts.{is_pool_id, reweight_fits, entries_fit, change_fits, change_is_plain};
+ghost use Rattle.mapparts.specs.Plain.{osd_is_plain, pool_is_plain, growth_is_plain};
+ghost use Rattle.mapjson.specs.ChangeTexts.{is_pool_id, reweight_fits, entries_fit, change_fits, entries_are_plain, change_is_plain};
 
 use mapparts::fits::crush_fits;
 use mapparts::limits::{MAX_ENTRIES, MAX_POOL_ID};
 use mapparts::numbers::{has_between, is_between, is_osd_id};
-use mapparts::plain::{crush_is_plain, growths_are_plain, is_plain_list, pools_are_plain};
+use mapparts::plain::{
+    crush_is_plain, exceptions_are_plain, growths_are_plain, is_plain_list, osd_is_plain,
+    osds_are_plain, pools_are_plain,
+};
 use mapparts::pools::{all_growths_fit, all_pools_fit};
 use mapparts::{CrushParts, GrowPart, PgParts, PoolPart, exceptions_fit, pg_fits};
 use partjson::{RawChange, RawReweight};
@@ -141,23 +145,56 @@ pub(super) fn change_fits(change: &RawChange) -> bool
         && exceptions_fit(&change.new_items)
 }
 
-/// Whether no list of a change is longer, no pool of it has more groups, and no forest more buckets or items than in
-/// plain clusters.
+/// Whether new pools are those of a plain cluster.
+fn new_pools_are_plain(pools: &[PoolPart]) -> bool
+    ensures { result ≡ entries_are_plain pool_is_plain pools.now }
+{
+    is_plain_list(pools) && pools_are_plain(pools)
+}
+
+/// Whether growths are those of a plain cluster.
+fn all_growths_are_plain(growths: &[GrowPart]) -> bool
+    ensures { result ≡ entries_are_plain growth_is_plain growths.now }
+{
+    is_plain_list(growths) && growths_are_plain(growths)
+}
+
+/// Whether a list of OSDs is one of a plain cluster.
+fn osd_list_is_plain(osds: &[i128]) -> bool
+    ensures { result ≡ entries_are_plain osd_is_plain osds.now }
+{
+    is_plain_list(osds) && osds_are_plain(osds)
+}
+
+/// Whether each reweight is of an OSD that a plain cluster may have.
+fn all_reweights_are_plain(reweights: &[RawReweight]) -> bool
+    ensures { result ≡ list_all (λ w. osd_is_plain w.osd) reweights.now }
+{
+    reweights.iter().all(|reweight| osd_is_plain(reweight.osd))
+}
+
+/// Whether a list of reweights is one of a plain cluster.
+fn reweights_are_plain(reweights: &[RawReweight]) -> bool
+    ensures { result ≡ entries_are_plain (λ w. osd_is_plain w.osd) reweights.now }
+{
+    is_plain_list(reweights) && all_reweights_are_plain(reweights)
+}
+
+/// Whether no list of a change is longer, no OSD another, no pool of it has more groups or places, and no CRUSH map is
+/// greater than in plain clusters.
 #[tactic(auto, unfolding(crate::specs::ChangeTexts::change_is_plain))]
 pub(super) fn change_is_plain(change: &RawChange) -> bool
     ensures { result ≡ change_is_plain change.now }
 {
     is_plain_list(&change.old_pools)
         && crush_is_plain(&change.new_crush)
-        && is_plain_list(&change.new_pools)
-        && pools_are_plain(&change.new_pools)
-        && is_plain_list(&change.grow_pool)
-        && growths_are_plain(&change.grow_pool)
-        && is_plain_list(&change.down)
-        && is_plain_list(&change.up)
-        && is_plain_list(&change.weight)
+        && new_pools_are_plain(&change.new_pools)
+        && all_growths_are_plain(&change.grow_pool)
+        && osd_list_is_plain(&change.down)
+        && osd_list_is_plain(&change.up)
+        && reweights_are_plain(&change.weight)
         && is_plain_list(&change.old_upmap)
         && is_plain_list(&change.old_items)
-        && is_plain_list(&change.new_upmap)
-        && is_plain_list(&change.new_items)
+        && exceptions_are_plain(&change.new_upmap)
+        && exceptions_are_plain(&change.new_items)
 }

@@ -97,7 +97,7 @@ pub(super) fn crush_within(
     }
 }
 
-/// The CRUSH map over 1,024 devices that parts within the limits state: `BadForest` (13), `BadRule` (14).
+/// The CRUSH map over 4,096 devices that parts within the limits state: `BadForest` (13), `BadRule` (14).
 #[tactic(auto, unfolding(mapparts::specs::Parts::crush_fits))]
 fn crush_stated(alloc: Global, parts: &CrushParts) -> Result<CrushMap, Refusal>
     requires { crush_fits parts.now ≡ true }

@@ -125,7 +125,7 @@ impl OsdMap {
         total
     }
 
-    /// Whether all pools have at most 262,144 groups after a change, where no pool comes twice.
+    /// Whether all pools have at most 1,048,576 groups after a change, where no pool comes twice.
     #[tactic(auto, using(crate::proofs::GroupTotals::total_after), unfolding(crate::specs::Changes::leaves_few_groups))]
     fn leaves_few_groups(&self, change: &Change) -> bool
         requires { brings_new self.now.map change.now ≡ true }
@@ -145,7 +145,7 @@ impl OsdMap {
     }
 
     /// Whether each pool that stays or comes has a rule of its kind, there are no more pools then than the profile
-    /// allows, none gets fewer groups, and all have at most 262,144.
+    /// allows, none gets fewer groups, and all have at most 1,048,576.
     #[tactic(auto, unfolding(crate::specs::Changes::brings_rightly))]
     pub(crate) fn brings_rightly(&self, change: &Change) -> bool
         requires { brings_new self.now.map change.now ≡ true }

@@ -15,5 +15,5 @@ returns-in-Ok c =
 
 pub returns-in-Err : goal.returns-in-Err
 returns-in-Err c =
-    let far : 1024 ≤ c.args.osd = grind (arith, ints, c.in-Err.ensures) in
+    let far : 4096 ≤ c.args.osd = grind (arith, ints, c.in-Err.ensures) in
     sym (ancestor_far c.args.forest.now c.args.osd c.args.level c.buckets.ensures.forest far)

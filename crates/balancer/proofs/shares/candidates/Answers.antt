@@ -18,4 +18,4 @@ loop-osd-preserved c = elim c.if-is_candidate.branch [
 
 pub returns-clause-few : goal.returns-clause-few
 returns-clause-few c =
-    rw c.loop-osd.invariant (few_filtered (is_candidate c.args.map.now.map c.args.pool.now) c.loop-osd.osd 1024 (omega (arith, c.loop-osd.auto.osd-end, c.max_osd-osd-end.ensures.few)))
+    rw c.loop-osd.invariant (few_filtered (is_candidate c.args.map.now.map c.args.pool.now) c.loop-osd.osd 4096 (omega (arith, c.loop-osd.auto.osd-end, c.max_osd-osd-end.ensures.few)))

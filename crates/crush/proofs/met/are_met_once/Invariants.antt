@@ -5,4 +5,4 @@ use Rattle.crush.proofs.met.are_met_once.Given as goal
 
 -- the marks are what the buckets so far hold
 abbrev pub invariant-loop-bucket : goal.invariant-loop-bucket
-invariant-loop-bucket l = (id : ℤ) → IsTrue (is_known l.buckets 1024 id) → marks l.buckets l.seen id ≡ times_in (take l.bucket-index l.buckets) id
+invariant-loop-bucket l = (id : ℤ) → IsTrue (is_known l.buckets 4096 id) → marks l.buckets l.seen id ≡ times_in (take l.bucket-index l.buckets) id

@@ -18,7 +18,7 @@ returns-then-seen-slot-clause-twice c =
     let no_item : Item = record { id = pos 0; weight = 0 } in
     let item : Item = get_or items k (record { id = pos 0; weight = 0 }) in
     let fits : SFits w32 item.id = search rules in
-    let known = list_all-at (λ (i : Item). is_known buckets 1024 i.id) items k (record { id = pos 0; weight = 0 }) c.loop-item-test.true c.requires.known in
+    let known = list_all-at (λ (i : Item). is_known buckets 4096 i.id) items k (record { id = pos 0; weight = 0 }) c.loop-item-test.true c.requires.known in
     let place : c.slot_of-slot.result ≡ slot buckets item.id = rw (to_z-of_z w32 item.id fits) at c.slot_of-slot.ensures.value in
     let marked : get_or c.loop-item.seen (slot buckets item.id) false ≡ true = rw place at c.if-seen-slot.true in
     (item, (k, c.loop-item-test.true, get_or_default items k item no_item c.loop-item-test.true), marked_twice buckets items k c.loop-item.seen (marks buckets c.args.seen.now item.id) no_item item.id c.loop-item-test.true refl marked (c.loop-item.invariant item.id known))
@@ -32,7 +32,7 @@ loop-item-preserved c =
     let no_item : Item = record { id = pos 0; weight = 0 } in
     let item : Item = get_or items k (record { id = pos 0; weight = 0 }) in
     let fits : SFits w32 item.id = search rules in
-    let known = list_all-at (λ (i : Item). is_known buckets 1024 i.id) items k (record { id = pos 0; weight = 0 }) c.loop-item-test.true c.requires.known in
+    let known = list_all-at (λ (i : Item). is_known buckets 4096 i.id) items k (record { id = pos 0; weight = 0 }) c.loop-item-test.true c.requires.known in
     let place : c.slot_of-slot.result ≡ slot buckets item.id = rw (to_z-of_z w32 item.id fits) at c.slot_of-slot.ensures.value in
     let fresh : get_or c.loop-item.seen (slot buckets item.id) false ≡ false = rw place at c.if-seen-slot.false in
     rw place (marked_more buckets items k c.loop-item.seen (marks buckets c.args.seen.now) no_item item.id (omega arith) (omega (arith, place, c.slot_of-slot.ensures.within)) c.loop-item-test.true refl known fresh c.loop-item.invariant)

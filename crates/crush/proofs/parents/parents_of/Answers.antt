@@ -8,7 +8,7 @@ use Rattle.crush.proofs.ParentPlaces.{placed_none, placed_more}
 use Rattle.crush.proofs.parents.parents_of.Goals as goal
 
 pub loop-place-init : goal.loop-place-init
-loop-place-init c = λ id known. placed_none c.args.buckets.now (limits-buckets c.args.buckets.now 1024 c.requires.limits) id known
+loop-place-init c = λ id known. placed_none c.args.buckets.now (limits-buckets c.args.buckets.now 4096 c.requires.limits) id known
 
 pub enter-requires-clause-known : goal.enter-requires-clause-known
 enter-requires-clause-known c =
@@ -17,7 +17,7 @@ enter-requires-clause-known c =
     let below = (and_parts _ _ (and_parts _ _ (and_parts _ _ c.requires.lawful).0).0).1 in
     let lt : k < length buckets = omega arith in
     let b = get_or buckets k c.index-buckets-place.result in
-    rw c.deref.ensures (items_known buckets 1024 k b lt (ap (get_or buckets k) c.index-buckets-place.is) below)
+    rw c.deref.ensures (items_known buckets 4096 k b lt (ap (get_or buckets k) c.index-buckets-place.is) below)
 
 pub loop-place-preserved : goal.loop-place-preserved
 loop-place-preserved c = λ id known.

@@ -6,4 +6,4 @@ use Rattle.crush.proofs.parents.parents_of.Given as goal
 
 -- the places are those among the buckets so far, which are the last
 abbrev pub invariant-loop-place : goal.invariant-loop-place
-invariant-loop-place l = (id : ℤ) → IsTrue (is_known l.buckets 1024 id) → slice_get l.buckets (slice_index l.parents (slot l.buckets id)) ≡ find (has_item id) (drop l.place l.buckets)
+invariant-loop-place l = (id : ℤ) → IsTrue (is_known l.buckets 4096 id) → slice_get l.buckets (slice_index l.parents (slot l.buckets id)) ≡ find (has_item id) (drop l.place l.buckets)

@@ -34,7 +34,7 @@ pub word-requires-5 : goal.word-requires-5
 word-requires-5 c =
     let fits : SFits w128 c.args.part.size = search rules in
     let each : PoolFits c.args.part = pool_fits_each _ (search rules) in
-    rw to_z-of_z (word_between 1 10 c.args.part.size (omega arith) each.size)
+    rw to_z-of_z (word_between 1 20 c.args.part.size (omega arith) each.size)
 
 pub invariant_of-result : goal.invariant_of-result
 invariant_of-result c =

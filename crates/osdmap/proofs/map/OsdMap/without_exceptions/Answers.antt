@@ -15,7 +15,7 @@ pub word-max_osd-requires : goal.word-max_osd-requires
 word-max_osd-requires c =
     let fits : SFits w128 c.args.parts.now.max_osd = search rules in
     let each = parts_fit_each c.args.parts.now c.requires in
-    rw to_z-of_z (word_between 1 1024 c.args.parts.now.max_osd (omega arith) each.max_osd)
+    rw to_z-of_z (word_between 1 4096 c.args.parts.now.max_osd (omega arith) each.max_osd)
 
 pub stated-requires-clause-buckets_fit : goal.stated-requires-clause-buckets_fit
 stated-requires-clause-buckets_fit c =

@@ -2,7 +2,7 @@ use Rattle.std.proofs.Common.{◌≡◌, refl, ap, ◌∙◌, arith}
 use Rattle.std.specs.Prelude.{slice_get}
 use Rattle.std.proofs.lemmas.Option.{slice_get_within}
 use Rattle.pgtable.specs.Tables.{pool_table, pool_in}
-use Rattle.pgtable.proofs.Keeping.{concerned_within, evals_concerned, evals_changes, table_was_there, at_place, within_table, ascend_there, keeps_pool}
+use Rattle.pgtable.proofs.Keeping.{concerned_within, evals_concerned, evals_changes, table_was_there, at_place, within_table, fit_there, ascend_there, keeps_pool}
 use Rattle.pgtable.proofs.table.PgTable.kept.Goals as goal
 
 pub place-at-requires : goal.place-at-requires
@@ -22,6 +22,13 @@ prepare-requires-clause-within c =
     let found : slice_get c.args.self.now.pools c.place-at.result ≡ pool_in c.args.self.now c.args.pool.now.id = rw c.id.ensures at c.place-at.ensures in
     let here = rw c.pools.ensures.pools at c.index-pools-at.is in
     rw (← c.index-pools-at.is) (within_table c.args.update.now.before.now.map c.args.update.now.after.now.map c.args.update.now.change.now c.args.pool.now c.leads_from.ensures c.requires.there c.requires.untouched c.args.self.now c.requires.table c.place-at.result found c.index-pools-at.result c.in_ok-changes.changes.items here changes)
+
+pub prepare-requires-clause-fits : goal.prepare-requires-clause-fits
+prepare-requires-clause-fits c =
+    let changes = rw (c.placing.ensures.map, c.placing.ensures.pool, c.deref.ensures.value ∙ c.in_ok-numbers.ensures) at c.in_ok-changes.ensures.changes in
+    let found : slice_get c.args.self.now.pools c.place-at.result ≡ pool_in c.args.self.now c.args.pool.now.id = rw c.id.ensures at c.place-at.ensures in
+    let here = rw c.pools.ensures.pools at c.index-pools-at.is in
+    rw (← c.index-pools-at.is) (fit_there c.args.update.now.before.now.map c.args.update.now.after.now.map c.args.update.now.change.now c.args.pool.now c.leads_from.ensures c.requires.there c.requires.untouched c.args.self.now c.requires.table c.place-at.result found c.index-pools-at.result c.in_ok-changes.changes.items here changes)
 
 pub prepare-requires-clause-ascending : goal.prepare-requires-clause-ascending
 prepare-requires-clause-ascending c =

@@ -9,7 +9,7 @@ returns-clause-leads c =
     let leads : LeadsTo c.in_ok-after.after.map c.args.self.now _ = record {
       fits = record {
         pools = record { pools = made.fits; few_pools = omega (arith, made.long, c.holds_together-2.ensures.few_pools) };
-        few_osds = rw c.in_ok-up.ensures (few_ups c.in_ok-after.after.map 1024 c.holds_together-2.ensures.few);
+        few_osds = rw c.in_ok-up.ensures (few_ups c.in_ok-after.after.map 4096 c.holds_together-2.ensures.few);
       };
       table = record {
         holds = c.holds_together-2.ensures;

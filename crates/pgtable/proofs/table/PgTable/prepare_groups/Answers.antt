@@ -37,7 +37,7 @@ returns-clause-leads c =
     let up = c.in_ok-up.ensures ∙ ap (λ us. ups_after us c.args.change.now) c.requires.table.up ∙ sym (ups_follow m c.args.change.now) in
     let made = c.in_ok-patches.ensures.made in
     record {
-      fits = record { pools = made.fits; few_osds = rw up (few_ups (changed_map m c.args.change.now) 1024 leads.holds_after.few) };
+      fits = record { pools = made.fits; few_osds = rw up (few_ups (changed_map m c.args.change.now) 4096 leads.holds_after.few) };
       table = record { holds = leads.holds_after; pools = made.tables; up = up };
     }
 

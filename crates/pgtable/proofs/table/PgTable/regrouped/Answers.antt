@@ -2,7 +2,7 @@ use Rattle.std.proofs.Common.{◌∙◌, [], ap, refl, sym, arith}
 use Rattle.pgtable.specs.After.{map_after}
 use Rattle.pgtable.specs.Patches.{with_sets}
 use Rattle.pgtable.proofs.Keeping.{concerned_within, evals_concerned, evals_changes}
-use Rattle.pgtable.proofs.Regrouping.{leaving, none_touched, numbers_regrouped, no_entries, none_concerned, within_regrouped, ascend_regrouped, regroups_none, regroups_some}
+use Rattle.pgtable.proofs.Regrouping.{leaving, none_touched, numbers_regrouped, no_entries, none_concerned, within_regrouped, fit_regrouped, ascend_regrouped, regroups_none, regroups_some}
 use Rattle.pgtable.proofs.table.PgTable.regrouped.Goals as goal
 
 pub with_sets-requires : goal.with_sets-requires
@@ -14,6 +14,13 @@ prepare-requires-clause-within c =
     let s = leaving r.change.now c.holds.ensures.leaves in
     let changes = rw (numbers_regrouped r.map.now.map r.change.now c.args.table.now.pool _ s (c.deref.ensures.value ∙ c.in_ok-numbers.ensures)) at c.in_ok-changes.ensures.changes in
     within_regrouped r.map.now.map r.change.now c.args.table.now _ c.requires.table changes
+
+pub prepare-requires-clause-fits : goal.prepare-requires-clause-fits
+prepare-requires-clause-fits c =
+    let r = c.args.regroup.now in
+    let s = leaving r.change.now c.holds.ensures.leaves in
+    let changes = rw (numbers_regrouped r.map.now.map r.change.now c.args.table.now.pool _ s (c.deref.ensures.value ∙ c.in_ok-numbers.ensures)) at c.in_ok-changes.ensures.changes in
+    fit_regrouped r.map.now.map r.change.now c.args.table.now _ c.requires.table changes c.holds.ensures.leads s c.requires.there
 
 pub prepare-requires-clause-ascending : goal.prepare-requires-clause-ascending
 prepare-requires-clause-ascending c =
