@@ -3,9 +3,9 @@
 
     rt ci 2>&1 | clock.py
 
-`rt ci` prints the lines of a part when the part has ended, so what is told is the minute by the clock at which it came, from the
-beginning on: parts run side by side, and one that was kept from an earlier run comes at once. The processor time of all is told by
-the shell (`times`).
+`rt ci` prints the lines of a part when the part has ended, so what is told is the minute by the clock at which it came,
+from the beginning on: parts run side by side, and one that was kept from an earlier run comes at once. The processor
+time of all is told by the shell (`times`).
 """
 
 import re

@@ -3,7 +3,8 @@
 
     libraries.py [ROOT]
 
-A crate uses a library where a path of its `.rt` files begins with its name, or one of its `.antt` files with `Rattle.` and its name.
+A crate uses a library where a path of its `.rt` files begins with its name, or one of its `.antt` files with `Rattle.`
+and its name.
 """
 
 import pathlib

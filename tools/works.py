@@ -1,12 +1,13 @@
 #!/usr/bin/env python3
-"""Tells of each place that makes a room for runs of rules (a `Work` of crush), or something that brings one, where it may not be
-made: status 1 where there is one.
+"""Tells of each place that makes a room for runs of rules (a `Work` of crush), or something that brings one, where it
+may not be made: status 1 where there is one.
 
     works.py [ROOT]
 
-A run of a rule needs a `Work`, which counts it by a clause. A monitor makes one `Work`, which its state lends to all that runs rules,
-and clauses of the state say how many runs there were. Runs with a second work would be counted elsewhere, and no contract could tell.
-So each of these is made in the files that stand here, in one place of each, and in no other.
+A run of a rule needs a `Work`, which counts it by a clause. A monitor makes one `Work`, which its state lends to all
+that runs rules, and clauses of the state say how many runs there were. Runs with a second work would be counted
+elsewhere, and no contract could tell. So each of these is made in the files that stand here, in one place of each, and
+in no other.
 """
 
 import pathlib
@@ -57,9 +58,8 @@ def main():
             f"crates/{place} makes a {what}, or a second one, which tools/works.py does not allow there",
             file=sys.stderr,
         )
-    print(
-        f"works: {len(found)} places that make one or bring one, {len(wrong)} of them where none may be, or one too many"
-    )
+    told = f"{len(wrong)} of them where none may be, or one too many"
+    print(f"works: {len(found)} places that make one or bring one, {told}")
     return 1 if wrong else 0
 
 

@@ -1,4 +1,7 @@
-"""Runs the commands: `python3 -m rekhuso COMMAND ..`, or `python3 tools/rekhuso COMMAND ..`."""
+"""Runs the commands: `python3 -m rekhuso COMMAND ..`, or `python3 tools/rekhuso COMMAND ..`.
+
+The table of commands and their modules stands in `commands/__init__.py`.
+"""
 
 import pathlib
 import sys

@@ -12,13 +12,14 @@ import gc
 import io
 import os
 import pathlib
+import signal
 import sys
 from typing import IO, NoReturn
 
-from . import __version__, bring, check, df, explain, net, picture, plan, report, shell, unlike, whatif
+from . import __version__
+from .commands import COMMANDS
 from .faults import Fault, Misuse
-
-COMMANDS = [bring, check, plan, net, df, unlike, whatif, explain, picture, report, shell]
+from .progress import PROGRESS
 
 
 class Parser(argparse.ArgumentParser):
@@ -72,16 +73,30 @@ def put_out() -> None:
         raise
 
 
+def end_by_pipe() -> int:
+    """Ends this as a program ends whose output nobody reads any more: by the signal of it, with nothing said. The
+    status that a shell then tells, where the signal is held back.
+    """
+    os.dup2(os.open(os.devnull, os.O_WRONLY), sys.stdout.fileno())
+    signal.signal(signal.SIGPIPE, signal.SIG_DFL)
+    signal.raise_signal(signal.SIGPIPE)
+    return 128 + signal.SIGPIPE
+
+
 def run() -> int:
     """Does what the words of the command line ask for, and tells the status. Faults and OSError go on to who asked."""
     try:
         options = parser().parse_args()
+        if sys.stderr.isatty() and options.command != "shell":
+            PROGRESS.begin(options.command)
         options.work(options)
         status = 0
     except SystemExit as end:  # Of the parser: help, the version, or an error of use that it has told.
         status = int(end.code or 0)
     except Misuse as fault:
         raise Misuse(f"rekhuso {options.command}: error: {fault} (--help tells the use)") from None
+    finally:
+        PROGRESS.end()
     put_out()
     return status
 
@@ -97,9 +112,12 @@ def main() -> int:
         lines, status = fault.lines, fault.status
     except KeyboardInterrupt:
         lines, status = ["interrupted"], 1
+    except BrokenPipeError:
+        return end_by_pipe()
     except OSError as fault:
         lines, status = [f"{fault.filename or 'output'}: {fault.strerror}"], 1
-    print("\n".join(lines), file=sys.stderr)
+    with contextlib.suppress(BrokenPipeError):
+        print("\n".join(lines), file=sys.stderr)
     with contextlib.suppress(OSError, AttributeError):
         put_out()
     return status

@@ -1,0 +1,158 @@
+"""What becomes of a cluster by commands: each makes a map, at which the monitor takes exceptions away (`cleanup`)."""
+
+from __future__ import annotations
+
+from collections.abc import Mapping
+from dataclasses import dataclass
+from typing import Union
+
+from ..faults import Fault
+from ..program.maps import Change, Exceptions, Map, Program, altered, entries_of, with_all_up
+from .cleanup import Cleaned, cleaned, group_fault
+from .cluster import Cluster
+from .conversion import map_of, monitor_of, pool_of
+from .dump_types import OsdDump
+from .effects import Host, with_change, with_osd, with_weights
+from .imports import map_clusters
+from .judge import Places, Present, Reason, judge_of_cluster
+from .map_dumps import cluster_of_map
+from .reasons import reasons
+from .shadows import with_shadows
+
+
+@dataclass(frozen=True)
+class StateChange:
+    """A command that changes states, reweights, pools or exceptions, as a change of the program has them."""
+
+    __slots__ = ("change",)
+    change: Change
+
+
+@dataclass(frozen=True)
+class CrushWeights:
+    """`ceph osd crush reweight`, or of all OSDs below a bucket `reweight-subtree`: weights in units of 1/65,536."""
+
+    __slots__ = ("weights", "is_subtree")
+    weights: dict[int, int]
+    is_subtree: bool
+
+
+@dataclass(frozen=True)
+class Arrival:
+    """A new OSD on a host that comes, with its weight in units of 1/65,536."""
+
+    __slots__ = ("host", "weight")
+    host: Host
+    weight: int
+
+
+@dataclass(frozen=True)
+class NewMap:
+    """A map in place of another, with which nothing else is known of the cluster."""
+
+    __slots__ = ("value",)
+    value: Map
+
+
+Command = Union[StateChange, CrushWeights, Arrival, NewMap]
+
+
+@dataclass(frozen=True)
+class Aftermath:
+    """A cluster after some commands: it itself, the groups whose exceptions went on the way with the reason of each,
+    those of whose pairs some went, and those whose exceptions go at a later map.
+    """
+
+    __slots__ = ("cluster", "gone", "fewer", "later")
+    cluster: Cluster
+    gone: dict[str, Reason]
+    fewer: list[str]
+    later: dict[str, Reason]
+
+
+def with_command(cluster: Cluster, step: Command) -> Cluster:
+    """A cluster after a command, before the monitor looks at exceptions."""
+    if isinstance(step, NewMap):
+        return cluster_of_map(step.value, cluster.all_names())
+    if isinstance(step, Arrival):
+        return with_osd(cluster, step.host, step.weight)
+    dump, crush = cluster.osd_dump, cluster.crush
+    if isinstance(step, StateChange):
+        dump = with_change(dump, step.change)
+    else:
+        crush = with_weights(crush, step.weights)
+        crush = with_shadows(crush) if step.is_subtree else crush
+    return Cluster(dump, crush, cluster.torn, cluster.gone)
+
+
+def exceptions_in(dump: OsdDump) -> Exceptions:
+    """All exceptions of an OSD dump in the map's form."""
+    return {
+        "pg_upmap": [[entry["pgid"], entry["osds"]] for entry in entries_of(dump, "pg_upmap")],
+        "pg_upmap_items": [
+            [entry["pgid"], [[pair["from"], pair["to"]] for pair in entry["mappings"]]]
+            for entry in entries_of(dump, "pg_upmap_items")
+        ],
+    }
+
+
+def with_exceptions(cluster: Cluster, kept: Exceptions) -> Cluster:
+    """A cluster with other exceptions, in the map's form."""
+    dump = altered(
+        cluster.osd_dump,
+        pg_upmap=[{"pgid": group, "osds": osds} for group, osds in entries_of(kept, "pg_upmap")],
+        pg_upmap_items=[
+            {"pgid": group, "mappings": [{"from": was, "to": now} for was, now in pairs]}
+            for group, pairs in entries_of(kept, "pg_upmap_items")
+        ],
+    )
+    return Cluster(dump, cluster.crush, cluster.torn, cluster.gone)
+
+
+def excepted_groups(exceptions: Exceptions) -> set[str]:
+    """The groups that have exceptions."""
+    return {entry[0] for key in ("pg_upmap", "pg_upmap_items") for entry in entries_of(exceptions, key)}
+
+
+def raw_sets(maps: list[Map], groups: set[str], program: Program) -> dict[str, Places]:
+    """What the rules of some groups give, by the program."""
+    found: dict[str, Places] = {}
+    for value in maps:
+        pools = {str(pool["id"]) for pool in value["pools"]}
+        own = sorted(group for group in groups if group.split(".")[0] in pools)
+        if own:
+            with monitor_of(altered(with_all_up(value), pg_upmap=[], pg_upmap_items=[]), program) as monitor:
+                found.update({group: up.places for group, up in monitor.ups(own).items()})
+    return found
+
+
+def cleaned_at(cluster: Cluster, program: Program) -> tuple[Cleaned, Cleaned]:
+    """What a monitor leaves of a cluster's exceptions at one map, and what of these at the next."""
+    exceptions, judge = exceptions_in(cluster.osd_dump), judge_of_cluster(cluster)
+    pools = {pool["pool"]: pool_of(pool) for pool in cluster.pools}
+    reweights = {**cluster.gone, **{osd: round(own["weight"] * 65536) for osd, own in cluster.osds.items()}}
+    present = Present(pools, reweights, cluster.osd_dump["max_osd"])
+    there = {group for group in excepted_groups(exceptions) if group_fault(group, pools, judge.pending) is None}
+    raw = raw_sets([map_of(part) for part in map_clusters(cluster)], there, program) if there else {}
+    first = cleaned(judge, present, raw, exceptions)
+    return first, cleaned(judge, present, raw, first.kept)
+
+
+def aftermath(cluster: Cluster, steps: list[Command], program: Program) -> Aftermath:
+    """What becomes of a cluster by commands, each of which makes a map. A fault where the cluster then stays out."""
+    known = set(reasons(cluster, True, False))
+    gone: dict[str, Reason] = {}
+    later: Mapping[str, Reason] = {}
+    fewer: set[str] = set()
+    for step in steps:
+        cluster = with_command(cluster, step)
+        found = [line for line in reasons(cluster, True, False) if line not in known]
+        if found:
+            raise Fault(*(f"after the change {line}" for line in found))
+        if excepted_groups(exceptions_in(cluster.osd_dump)):
+            now, then = cleaned_at(cluster, program)
+            cluster = with_exceptions(cluster, now.kept)
+            gone.update(now.gone)
+            fewer |= set(now.fewer)
+            later = then.gone
+    return Aftermath(cluster, gone, sorted(fewer - gone.keys()), dict(later))

@@ -1,0 +1,77 @@
+"""A cluster's dumps in the form of a map, and a session over it."""
+
+from __future__ import annotations
+
+from ..faults import Fault, Refused
+from ..program.defects import map_defects
+from ..program.map_forms import TRIES
+from ..program.maps import Bucket, Map, Osd, Pool, Program, Rule, has_straw2
+from ..program.monitor import Monitor
+from .cluster import Cluster, KINDS_BY_TYPE
+from .dump_types import DumpOsd, DumpPool
+
+
+def bucket_of(cluster: Cluster, number: int, is_own: bool = False) -> Bucket:
+    """A bucket in the map's form; with its own weights where those in force are of a weight set, and these are asked
+    for.
+    """
+    bucket, items = cluster.buckets[number], [list(item) for item in cluster.held[number]]
+    if is_own and cluster.has_weight_set:
+        own = dict(zip(cluster.listed_in(number), map(cluster.weight, bucket["items"])))
+        items = [[item, own[item]] for item, _ in items]
+    return {"id": number, "items": items, "kind": bucket["alg"], "type": bucket["type_id"]}
+
+
+def osd_of(osd: DumpOsd) -> Osd:
+    """An OSD in the map's form; a reweight above 1 is one of 1 to Ceph."""
+    return {"exists": True, "id": osd["osd"], "up": bool(osd["up"]), "weight": min(round(osd["weight"] * 65536), 65536)}
+
+
+def pool_of(pool: DumpPool) -> Pool:
+    """A pool in the map's form."""
+    return {
+        "id": pool["pool"],
+        "kind": KINDS_BY_TYPE[pool["type"]],
+        "pg_num": pool["pg_num"],
+        "pgp_num": pool["pg_placement_num"],
+        "rule": pool["crush_rule"],
+        "size": pool["size"],
+    }
+
+
+def map_of(cluster: Cluster) -> Map:
+    """The map of a cluster that is in the profile."""
+    rules: list[Rule] = [
+        {"id": rule["rule_id"], "kind": KINDS_BY_TYPE[rule["type"]], "steps": cluster.steps_of(rule)}
+        for rule in cluster.rules
+    ]
+    tries = any(step[0] in TRIES for rule in rules for step in rule["steps"])
+    explicit, items = cluster.exceptions
+    gone: list[Osd] = [
+        {"exists": False, "id": osd, "up": False, "weight": min(weight, 65536)}
+        for osd, weight in cluster.gone.items()
+        if osd < cluster.max_osd
+    ]
+    return {
+        "buckets": [bucket_of(cluster, number) for number in cluster.kept],
+        "epoch": cluster.epoch,
+        "max_osd": cluster.max_osd,
+        "osds": [osd_of(osd) for osd in cluster.osds.values()] + gone,
+        "pg_upmap": explicit,
+        "pg_upmap_items": items,
+        "pools": [pool_of(pool) for pool in cluster.pools],
+        "rules": rules,
+        "version": 2 if tries else 1,
+    }
+
+
+def monitor_of(value: Map, program: Program, stock: bool | None = None) -> Monitor:
+    """A session over a map that nothing was found against. A fault where the program refuses it: its own name for
+    it, and the places.
+    """
+    try:
+        return Monitor(value, program, stock=stock)
+    except Refused as refused:
+        raise Fault(
+            f"the program refuses the map: {refused.name}", *map(str, map_defects(value, has_straw2(value)))
+        ) from None

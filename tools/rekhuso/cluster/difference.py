@@ -1,0 +1,110 @@
+"""What differs between two maps: as a change where a change can say it, as Ceph's commands, and what moves."""
+
+from __future__ import annotations
+
+from typing import Any
+
+from ..output.json_forms import MovedParts
+from ..program.answers import Up
+from ..program.maps import Change, Entry, Exceptions, Map, altered, entries_of, group_key
+
+# The exceptions of a map, and the word that Ceph's commands have for each.
+EXCEPTION_WORDS = {"pg_upmap": "pg-upmap", "pg_upmap_items": "pg-upmap-items"}
+
+
+def by_key(entries: list[Any], key: Any) -> dict[Any, Any]:
+    """The entries of a list by their key."""
+    return {entry[key]: entry for entry in entries}
+
+
+def pool_changes(old: Map, new: Map) -> Change:
+    """The pools that go, come and grow. A pool that differs otherwise goes and comes, which no one change can say."""
+    before, after = by_key(old["pools"], "id"), by_key(new["pools"], "id")
+    grown, other = [], []
+    for number in sorted(before.keys() & after.keys()):
+        was, now = before[number], after[number]
+        same = altered(was, pg_num=now["pg_num"], pgp_num=now["pgp_num"]) == now
+        if was != now and same and was["pg_num"] <= now["pg_num"] and was["pgp_num"] <= now["pgp_num"]:
+            grown.append([number, now["pg_num"], now["pgp_num"]])
+        elif was != now:
+            other.append(number)
+    return {
+        "old_pools": sorted(before.keys() - after.keys()),
+        "new_pools": [after[n] for n in sorted(after.keys() - before.keys())],
+        "grow_pool": grown,
+        "other": other,
+    }
+
+
+def exception_parts(old: Map, new: Map, key: str, gone: list[int]) -> tuple[list[str], list[Entry]]:
+    """The groups whose exception goes, pools that go aside, and the exceptions that come or change."""
+    before, after = by_key(entries_of(old, key), 0), by_key(entries_of(new, key), 0)
+    lost = [group for group in before.keys() - after.keys() if group_key(group)[0] not in gone]
+    return sorted(lost, key=group_key), [
+        after[group] for group in sorted(after, key=group_key) if before.get(group) != after[group]
+    ]
+
+
+def change_of(old: Map, new: Map) -> tuple[Change, list[str]]:
+    """The change that makes the one map of the other, and what no change can say."""
+    change: Change = {"base": old["epoch"]}
+    pools = pool_changes(old, new)
+    unsaid = [f"pool {number} differs in more than its numbers of groups" for number in pools.pop("other")]
+    change.update({key: value for key, value in pools.items() if value})
+    if any(by_key(entries_of(old, key), "id") != by_key(entries_of(new, key), "id") for key in ("buckets", "rules")):
+        change["new_crush"] = {"buckets": new["buckets"], "rules": new["rules"]}
+    before, after = by_key(old["osds"], "id"), by_key(new["osds"], "id")
+    none = {"exists": False, "up": False, "weight": 0}
+    parts: Change = {"down": [], "up": [], "weight": []}
+    for osd in sorted(before.keys() | after.keys()):
+        was, now = before.get(osd, none), after.get(osd, none)
+        if was["exists"] != now["exists"]:
+            unsaid.append(f"osd.{osd} {'comes' if now['exists'] else 'goes'}")
+            continue
+        if was["up"] != now["up"]:
+            parts["up" if now["up"] else "down"].append(osd)
+        if was["weight"] != now["weight"]:
+            parts["weight"].append([osd, now["weight"]])
+    for name, key in (("upmap", "pg_upmap"), ("items", "pg_upmap_items")):
+        parts[f"old_{name}"], parts[f"new_{name}"] = exception_parts(old, new, key, change.get("old_pools", []))
+    change.update({key: value for key, value in parts.items() if value})
+    if old["max_osd"] != new["max_osd"]:
+        unsaid.append(f"max_osd is {old['max_osd']}, then {new['max_osd']}")
+    return change, unsaid
+
+
+def exception_commands(old: Map, new: Map, kept: Exceptions | None = None) -> list[str]:
+    """What Ceph is told so that the exceptions of one map become those of the other, group by group; what goes, goes
+    first. `kept` is what Ceph has, where the old map has not all of it: an explicit set that did nothing would keep
+    pairs that come from acting.
+    """
+    tables = {key: [dict(entries_of(value, key)) for value in (old, new, kept or old)] for key in EXCEPTION_WORDS}
+    groups = {
+        group
+        for before, after, _ in tables.values()
+        for group in before.keys() | after.keys()
+        if before.get(group) != after.get(group)
+    }
+    found = []
+    for group in sorted(groups, key=group_key):
+        gone, come = [], []
+        for key, (_, after, own) in tables.items():
+            if group in own and group not in after:
+                gone.append(f"ceph osd rm-{EXCEPTION_WORDS[key]} {group}")
+            elif group in after and own.get(group) != after[group]:
+                osds = after[group] if key == "pg_upmap" else [osd for pair in after[group] for osd in pair]
+                come.append(f"ceph osd {EXCEPTION_WORDS[key]} {group} {' '.join(map(str, osds))}")
+        found += gone + come
+    return found
+
+
+def moved_parts(before: dict[str, Up], after: dict[str, Up]) -> MovedParts:
+    """How many groups and places differ, and which OSDs take part."""
+    groups, places = 0, 0
+    osds: set[int | None] = set()
+    for group in before.keys() & after.keys():
+        was, now = set(before[group].places) - {None}, set(after[group].places) - {None}
+        groups += before[group].places != after[group].places
+        places += len(now - was)
+        osds |= was ^ now
+    return {"groups": groups, "places": places, "osds": sorted(osd for osd in osds if osd is not None)}

@@ -1,0 +1,205 @@
+"""The types of what the tools pass on: maps and changes of the program, what Ceph's tools dump, names, and what is
+told.
+
+What has keys that are not fixed, or lists of several kinds as JSON has them, stands here under a name of its own.
+"""
+
+from __future__ import annotations
+
+import math
+from typing import Any, Dict, cast
+
+from ..files import JsonObject
+
+# The form of a dump: what stands at each key.
+DumpForm = Dict[str, Any]
+
+
+# A key that may be missing begins with a question mark; a list of one shape stands for any number of such entries.
+GROUP_KEYS = {"pgid": str}
+OSD_DUMP = {
+    "epoch": int,
+    "max_osd": int,
+    "pools": [
+        {
+            "pool": int,
+            "pool_name": str,
+            "type": int,
+            "size": int,
+            "crush_rule": int,
+            "pg_num": int,
+            "pg_placement_num": int,
+            "?flags": int,
+            "?object_hash": int,
+            "?min_size": int,
+            "?pg_num_pending": int,
+        }
+    ],
+    "osds": [{"osd": int, "up": int, "weight": float, "?state": [str], "?primary_affinity": float}],
+    "?pg_upmap": [dict(GROUP_KEYS, osds=[int])],
+    "?pg_upmap_items": [dict(GROUP_KEYS, mappings=[{"from": int, "to": int}])],
+    "?osd_xinfo": [object],
+    "?pg_temp": [object],
+    "?primary_temp": [object],
+    "?pg_upmap_primaries": [object],
+}
+CRUSH_DUMP = {
+    "devices": [{"id": int, "name": str, "?class": str}],
+    "types": [{"type_id": int, "name": str}],
+    "buckets": [
+        {"id": int, "name": str, "type_id": int, "alg": str, "?hash": str, "items": [{"id": int, "weight": int}]}
+    ],
+    "rules": [
+        {
+            "rule_id": int,
+            "rule_name": str,
+            "type": int,
+            "steps": [{"op": str, "?item": int, "?item_name": str, "?num": int, "?type": str}],
+        }
+    ],
+    "tunables": {
+        "?choose_local_tries": int,
+        "?choose_local_fallback_tries": int,
+        "?choose_total_tries": int,
+        "?chooseleaf_descend_once": int,
+        "?chooseleaf_vary_r": int,
+        "?chooseleaf_stable": int,
+    },
+    "?choose_args": {},
+}
+# What a weight set has for a bucket.
+WEIGHT_SET = {"bucket_id": int, "?weight_set": [[float]], "?ids": [int]}
+# What `ceph osd tree -f json` tells of OSDs, those that do not exist among them.
+TREE = {"nodes": [{"id": int, "?exists": int, "?reweight": float}]}
+# What `ceph df --format json` tells of all OSDs, and of the data of pools: bytes on all OSDs, and those that are
+# stored.
+DF = {
+    "?stats": {"?total_bytes": int},
+    "pools": [{"id": int, "?name": str, "stats": {"bytes_used": int, "?stored": int}}],
+}
+# What a step must have beside its word.
+STEP_KEYS = {
+    "take": ("item",),
+    "choose_firstn": ("num", "type"),
+    "choose_indep": ("num", "type"),
+    "chooseleaf_firstn": ("num", "type"),
+    "chooseleaf_indep": ("num", "type"),
+    "set_choose_tries": ("num",),
+    "set_chooseleaf_tries": ("num",),
+}
+# The steps of a rule that a monitor dumps by their numbers alone (Ceph, crush.h `crush_opcodes`).
+OPCODES = {
+    10: "set_choose_local_tries",
+    11: "set_choose_local_fallback_tries",
+    12: "set_chooseleaf_vary_r",
+    13: "set_chooseleaf_stable",
+}
+TYPE_WORDS = {int: "whole number", float: "number", str: "text"}
+
+
+def is_kind(value: object, kind: type) -> bool:
+    """Whether a value is of a kind; a truth value is no number, nor is what JSON has no number for."""
+    if kind is object:
+        return True
+    if kind is float:
+        return isinstance(value, (int, float)) and not isinstance(value, bool) and math.isfinite(value)
+    return isinstance(value, kind) and not isinstance(value, bool)
+
+
+def doubtful(entries: list[object], shape: object) -> list[int]:
+    """Where entries of a list may have another form than a shape. Nearly all of long lists are objects whose every key
+    is there with a whole number or a text as it must be, which is seen at once.
+    """
+    is_plain = isinstance(shape, dict) and all(kind in (int, str) and key[0] != "?" for key, kind in shape.items())
+    if not isinstance(shape, dict) or not is_plain:
+        return list(range(len(entries)))
+    keys, kinds = list(shape), list(shape.values())
+    return [
+        at
+        for at, entry in enumerate(entries)
+        if not isinstance(entry, dict) or [type(entry.get(key)) for key in keys] != kinds
+    ]
+
+
+def misfits(value: object, shape: object, place: str) -> list[str]:
+    """Each place below one at which a value has another form than it must have, and what is wanted there."""
+    if isinstance(shape, list):
+        if not isinstance(value, list):
+            return [f"{place}: no list"]
+        places = doubtful(value, shape[0])
+        return [found for at in places for found in misfits(value[at], shape[0], f"{place}[{at}]")]
+    if isinstance(shape, dict):
+        if not isinstance(value, dict):
+            return [f"{place}: no object"]
+        found = []
+        for key, own in shape.items():
+            name = key.removeprefix("?")
+            below = f"{place}.{name}" if place else name
+            if name in value:
+                found += misfits(value[name], own, below)
+            elif name == key:
+                found.append(f"{below}: missing")
+        if "op" in shape and not found:
+            found += [f"{place}.{name}: missing" for name in STEP_KEYS.get(value["op"], ()) if name not in value]
+        return found
+    kind = cast(type, shape)
+    return [] if is_kind(value, kind) else [f"{place}: no {TYPE_WORDS[kind]}"]
+
+
+def fitting(value: object, shape: DumpForm) -> tuple[JsonObject, frozenset[str]]:
+    """What of a dump is of its form: the entries of its lists that are, blanks for what is not; and the keys of
+    which something is gone.
+    """
+    value, kept, torn = value if isinstance(value, dict) else {}, {}, set()
+    for key, own in shape.items():
+        name = key.removeprefix("?")
+        if name in value and not misfits(value[name], own, ""):
+            kept[name] = value[name]
+        elif name in value or name == key:
+            torn.add(name)
+            kept[name] = fitting_parts(value.get(name), own)
+    return kept, frozenset(torn)
+
+
+def fitting_parts(value: object, shape: object) -> object:
+    """The entries of a list or an object that are of their form; 1 in place of a number."""
+    if isinstance(shape, list):
+        entries = value if isinstance(value, list) else []
+        wrong = {at for at in doubtful(entries, shape[0]) if misfits(entries[at], shape[0], "")}
+        return [entry for at, entry in enumerate(entries) if at not in wrong]
+    if isinstance(shape, dict):
+        return fitting(value, shape)[0]
+    return 1
+
+
+def with_words(step: object) -> object:
+    """A step of a rule by its word, where a monitor dumps it by its number."""
+    if not isinstance(step, dict) or "op" in step or not is_kind(step.get("opcode"), int):
+        return step
+    return dict(step, op=OPCODES.get(step["opcode"], f"of number {step['opcode']}"))
+
+
+def with_steps_by_word(crush_dump: JsonObject) -> JsonObject:
+    """A CRUSH dump whose rules have all steps by their words."""
+    rules = crush_dump.get("rules")
+    if not isinstance(rules, list):
+        return crush_dump
+    return dict(
+        crush_dump,
+        rules=[
+            dict(rule, steps=list(map(with_words, rule["steps"])))
+            if isinstance(rule, dict) and isinstance(rule.get("steps"), list)
+            else rule
+            for rule in rules
+        ],
+    )
+
+
+def is_crush_dump(value: object) -> bool:
+    """Whether a value is what `ceph osd crush dump` prints, and no map."""
+    return isinstance(value, dict) and {"devices", "tunables"} <= value.keys()
+
+
+def is_osd_dump(value: object) -> bool:
+    """Whether a value is what `ceph osd dump -f json` prints, and no map: a map has buckets too."""
+    return isinstance(value, dict) and {"max_osd", "osds", "pools"} <= value.keys() and "buckets" not in value

@@ -1,0 +1,142 @@
+"""Dumps as files: what of them is of its form, and which places are not."""
+
+from __future__ import annotations
+
+import re
+from dataclasses import dataclass
+from typing import cast
+
+from ..faults import Fault
+from ..files import JsonObject, json_of
+from ..progress import doing
+from .cluster import Cluster
+from .dump_forms import (
+    CRUSH_DUMP,
+    DumpForm,
+    OSD_DUMP,
+    TREE,
+    fitting,
+    is_crush_dump,
+    is_kind,
+    is_osd_dump,
+    misfits,
+    with_steps_by_word,
+)
+from .dump_types import CrushDump, OsdDump, Tree
+from .names import pools_named
+from .sources import DumpFiles
+
+# How many places at fault of one file are told one by one.
+MOST_MISFITS = 20
+
+
+@dataclass(frozen=True)
+class Misfit:
+    """A place of a dump that is not of its form, in a line; and which pool or rule it is in, where that is known."""
+
+    __slots__ = ("line", "pool", "rule")
+    line: str
+    pool: int | None
+    rule: int | None
+
+    def concerns(self, cluster: Cluster, is_part: bool) -> bool:
+        """Whether a cluster needs what is not of its form; where it is a part of the pools of another, those of the
+        others and their rules keep it not out.
+        """
+        if is_part and self.pool is not None and self.pool not in cluster.sizes:
+            return False
+        rules = {pool["crush_rule"] for pool in cluster.pools}
+        is_known = bool(rules) and (is_part or "pools" not in cluster.torn)
+        return self.rule is None or not is_known or self.rule in rules
+
+
+def misfit_at(path: str, place: str, value: JsonObject) -> Misfit:
+    """A place of the dump in a file that is not of its form."""
+    found = re.match(r"(pools|rules)\[(\d+)\]", place)
+    own = value[found[1]][int(found[2])] if found else None
+    number = own.get("pool" if found and found[1] == "pools" else "rule_id") if isinstance(own, dict) else None
+    if found is None or not is_kind(number, int):
+        return Misfit(f"{path}: {place}", None, None)
+    return Misfit(f"{path}: {place}", *((number, None) if found[1] == "pools" else (None, number)))
+
+
+def read_dump(path: str, value: JsonObject, shape: DumpForm) -> tuple[JsonObject, frozenset[str], list[Misfit]]:
+    """What of the dump of a file is of its form, the keys of which something is not, and each place that is not."""
+    value = with_steps_by_word(value) if shape is CRUSH_DUMP else value
+    found = misfits(value, shape, "")
+    if not found:
+        names = [key.removeprefix("?") for key in shape]
+        return {name: value[name] for name in names if name in value}, frozenset(), []
+    return *fitting(value, shape), [misfit_at(path, place, value) for place in found]
+
+
+def first_lines(faults: list[Misfit]) -> list[str]:
+    """The lines of places that are not of their form, file by file, and of many the first alone."""
+    found: list[str] = []
+    for path in dict.fromkeys(fault.line.partition(": ")[0] for fault in faults):
+        own = [fault.line for fault in faults if fault.line.startswith(f"{path}: ")]
+        found += own[:MOST_MISFITS] + (
+            [f"{path}: and {len(own) - MOST_MISFITS} more"] if len(own) > MOST_MISFITS else []
+        )
+    return found
+
+
+def gone_in(tree: Tree, osd_dump: OsdDump) -> dict[int, int]:
+    """The reweights, in units of 1/65,536, of the OSDs that a tree tells not to exist any more and that the OSD dump
+    does not list.
+    """
+    there = {osd["osd"] for osd in osd_dump["osds"]}
+    return {
+        node["id"]: round(node["reweight"] * 65536)
+        for node in tree["nodes"]
+        if node["id"] >= 0 and node.get("exists") == 0 and node.get("reweight", -1) >= 0 and node["id"] not in there
+    }
+
+
+def objects_of(paths: list[str]) -> list[JsonObject]:
+    """The object of each file; a fault that tells of each that is no JSON object."""
+    found, unread = [], []
+    for path in paths:
+        try:
+            found.append(json_of(path))
+        except Fault as fault:
+            unread += fault.lines
+    if unread:
+        raise Fault(*unread)
+    return found
+
+
+def both_dumps(osd_dump: str, crush_dump: str, tree: str | None = None) -> tuple[Cluster, list[Misfit]]:
+    """The cluster of two dumps, or of three, as far as these are of their forms, and each place that is not; a fault
+    that tells of each file that is no JSON object, or that the two are swapped.
+    """
+    doing("reading dumps")
+    files: list[tuple[str, DumpForm]] = [(osd_dump, OSD_DUMP), (crush_dump, CRUSH_DUMP)]
+    files += [] if tree is None else [(tree, TREE)]
+    values = objects_of([path for path, _ in files])
+    if is_crush_dump(values[0]) and is_osd_dump(values[1]):
+        raise Fault(
+            f"the dumps are swapped: {osd_dump} is the CRUSH dump, and {crush_dump} the OSD dump, which comes first"
+        )
+    found = [read_dump(path, value, form) for (path, form), value in zip(files, values)]
+    osds, crush = cast(OsdDump, found[0][0]), cast(CrushDump, found[1][0])
+    gone = {} if tree is None else gone_in(cast(Tree, found[2][0]), osds)
+    return Cluster(osds, crush, found[0][1] | found[1][1], gone), [fault for _, _, faults in found for fault in faults]
+
+
+def with_pools(cluster: Cluster, words: str | None) -> Cluster:
+    """A cluster with some of its pools alone, by their ids or names with a comma between them. A fault for a word
+    that is neither.
+    """
+    if words is None:
+        return cluster
+    return cluster.of_pools(pools_named([words], {pool["pool"]: pool["pool_name"] for pool in cluster.pools}))
+
+
+def chosen_cluster(files: DumpFiles) -> tuple[Cluster, list[Misfit]]:
+    """The cluster of two dumps, or of three, with the pools that are chosen, and each place that is not of its form
+    and that it needs.
+    """
+    cluster, faults = both_dumps(files.osd_dump, files.crush_dump, files.tree)
+    cluster = with_pools(cluster, files.pools)
+    return cluster, [fault for fault in faults if fault.concerns(cluster, files.pools is not None)]

@@ -1,0 +1,89 @@
+"""How even a cluster is: what its OSDs have beside their shares, over all pools, by groups and by bytes."""
+
+from __future__ import annotations
+
+import math
+from collections import defaultdict
+from collections.abc import Mapping
+from dataclasses import dataclass
+
+from ..output.json_forms import FillParts, OsdFillParts
+
+# The share of an OSD that may be in use before Ceph takes no more (full_ratio, as it is where nobody sets it).
+FULL = 0.95
+
+
+@dataclass(frozen=True)
+class Spread:
+    """What each OSD has, and its share of it."""
+
+    __slots__ = ("has", "share")
+
+    has: Mapping[int, float]
+    share: Mapping[int, float]
+
+    def ratio(self, osd: int) -> float:
+        """How many times its share an OSD has."""
+        share, has = self.share.get(osd, 0.0), self.has.get(osd, 0)
+        return has / share if share > 0 else float("inf") if has > 0 else 0.0
+
+    def osds(self) -> list[int]:
+        """The OSDs that have a share."""
+        return sorted(osd for osd, share in self.share.items() if share > 0)
+
+    def fullest(self) -> float:
+        """The greatest ratio of what an OSD has to its share."""
+        return max(map(self.ratio, self.osds()), default=0.0)
+
+    def deviation(self) -> float:
+        """The standard deviation from the shares."""
+        away = [self.has.get(osd, 0) - self.share[osd] for osd in self.osds()]
+        return math.sqrt(sum(gap * gap for gap in away) / len(away)) if away else 0.0
+
+    def relative(self) -> float:
+        """The standard deviation of the ratios from 1."""
+        away = [self.ratio(osd) - 1 for osd in self.osds()]
+        return math.sqrt(sum(gap * gap for gap in away) / len(away)) if away else 0.0
+
+    def filled(self, osd: int) -> OsdFillParts:
+        """What is told of an OSD."""
+        return {
+            "id": osd,
+            "has": round(self.has.get(osd, 0), 2),
+            "share": round(self.share[osd], 2),
+            "ratio": round(self.ratio(osd), 4),
+        }
+
+    def fill(self, is_relative: bool = False) -> FillParts:
+        """What is told of all: the fullest OSD, the emptiest, and the standard deviation, which may be that of the
+        ratios.
+        """
+        osds = self.osds()
+        deviation = round(self.relative(), 4) if is_relative else round(self.deviation(), 2)
+        if not osds:
+            return {"fullest": None, "emptiest": None, "deviation": deviation}
+        fullest, emptiest = max(osds, key=lambda osd: (self.ratio(osd), -osd)), min(osds, key=self.ratio)
+        return {"fullest": self.filled(fullest), "emptiest": self.filled(emptiest), "deviation": deviation}
+
+
+def sums_by_osd(
+    by_pool: Mapping[int, Mapping[int, float]], places: Mapping[int, float] | None = None
+) -> dict[int, float]:
+    """The sum over pools of what each OSD has of them, or of what these places hold."""
+    found: defaultdict[int, float] = defaultdict(int)
+    for pool, own in by_pool.items():
+        place = 1 if places is None else places[pool]
+        for osd, count in own.items():
+            found[osd] += count * place
+    return found
+
+
+def room(trees: list[dict[int, int]], used: Mapping[int, float], unit: float, rate: float) -> float:
+    """What a pool may still take until its fullest OSD is full (MAX AVAIL of `ceph df`): the trees of its rule with the
+    weights of their OSDs, the bytes in use on each OSD, the bytes of a weight of 1, and the bytes that one takes.
+    """
+    found = []
+    for weights in trees:
+        total = sum(weights.values())
+        found += [(FULL * own * unit - used.get(osd, 0)) * total / own for osd, own in weights.items()]
+    return max(min(found, default=0.0), 0.0) / rate

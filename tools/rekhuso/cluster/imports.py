@@ -1,0 +1,136 @@
+"""Clusters of two dumps with the maps that they take, or all that keeps them out."""
+
+from __future__ import annotations
+
+import sys
+from dataclasses import dataclass
+
+from ..faults import Fault
+from ..program.map_forms import PLAIN
+from ..program.maps import Map
+from ..words import listed
+from .advice import advised
+from .cluster import Cluster
+from .conversion import map_of
+from .dumps import Misfit, chosen_cluster, first_lines
+from .map_parts import pools_by_map
+from .names import with_pool_names
+from .reasons import reasons
+from .reasons.buckets import root_reasons
+from .reasons.counts import count_reasons
+from .reasons.matches import unmatched
+from .reasons.rules import size_reasons
+from .sources import DumpFiles
+
+# The longest list of pools in the name of a file.
+LONGEST = 200
+
+
+@dataclass(frozen=True)
+class ImportedCluster:
+    """A cluster of two dumps, the cluster of each map that it takes, and these maps, which the program has not seen
+    yet.
+    """
+
+    __slots__ = ("cluster", "parts", "maps")
+    cluster: Cluster
+    parts: list[Cluster]
+    maps: list[Map]
+
+
+def pool_ids(part: Cluster) -> str:
+    """The pools of a map, by their ids."""
+    return ",".join(str(pool["pool"]) for pool in part.pools)
+
+
+def map_file(part: Cluster) -> str:
+    """The name of the file of a map: all its pools by their ids, or where these are too many the first and how many
+    more.
+    """
+    found = pool_ids(part)
+    if len(found) > LONGEST:
+        found = f"{part.pools[0]['pool']}-and-{len(part.pools) - 1}-more"
+    return f"pools-{found}.json"
+
+
+def several_words(parts: list[Cluster]) -> str:
+    """How a cluster comes in that takes several maps."""
+    return (
+        f"it takes {len(parts)} maps: --out FOLDER writes all, "
+        + listed([f"--pools {pool_ids(part)}" for part in parts])
+        + " one each"
+    )
+
+
+def map_clusters(cluster: Cluster) -> list[Cluster]:
+    """The cluster of each map that one takes."""
+    pools = pools_by_map(cluster)
+    return [cluster] if len(pools) == 1 else [cluster.of_pools(own) for own in pools]
+
+
+def plain_reasons(cluster: Cluster) -> list[str]:
+    """What keeps those maps of a cluster out that have no straw2 bucket, where others have one: such a map has the
+    limits of plain ones, by which the program reads it. Each with what is done about it.
+    """
+    kinds = {cluster.buckets[number]["alg"] for number in cluster.kept}
+    parts = map_clusters(cluster) if "straw2" in kinds and len(kinds) > 1 else []
+    told = {pool_ids(part): count_reasons(part) if part.limits == PLAIN else [] for part in parts}
+    free = ",".join(pools for pools, lines in told.items() if not lines)
+    return [
+        f"the map of the pools {pools} has no straw2 bucket: {line}"
+        for pools, lines in told.items()
+        for line in advised(lines, free)
+    ]
+
+
+def free_pools(cluster: Cluster, faults: list[Misfit], is_unmatched: bool) -> str:
+    """The pools of a cluster that stays out that come in without the others, by their ids; none where these are all
+    that it has, or too many for one another.
+    """
+
+    def is_free(pools: set[int]) -> bool:
+        """Whether some pools come in without the others."""
+        part = cluster.of_pools(pools)
+        return not any(fault.concerns(part, True) for fault in faults) and not reasons(part, is_unmatched, False)
+
+    found = {pool["pool"] for pool in cluster.pools if is_free({pool["pool"]})}
+    is_part = 0 < len(found) < len(cluster.pools)
+    return ",".join(map(str, sorted(found))) if is_part and is_free(found) else ""
+
+
+def with_advice(cluster: Cluster, faults: list[Misfit], found: list[str], is_unmatched: bool) -> list[str]:
+    """Each reason with what is done about it."""
+    return advised(found, free_pools(cluster, faults, is_unmatched) if found else "") + plain_reasons(cluster)
+
+
+def against(cluster: Cluster, faults: list[Misfit], is_unmatched: bool, is_one: bool) -> list[str]:
+    """All that is told against a cluster; where one map is asked for, what it takes several for too."""
+    found = first_lines(faults) + reasons(cluster, is_unmatched, False)
+    apart = (
+        [line for line in root_reasons(cluster, True) + size_reasons(cluster) if line not in found] if is_one else []
+    )
+    if cluster.is_stock:
+        found = with_advice(cluster, faults, found, is_unmatched)
+    if apart:
+        apart[-1] += f"; {several_words(map_clusters(cluster))}"
+    return found + apart
+
+
+def named_reasons(cluster: Cluster, found: list[str]) -> list[str]:
+    """Reasons with the names of pools beside their numbers."""
+    names = {pool["pool"]: pool["pool_name"] for pool in cluster.pools}
+    return [with_pool_names(line, names) for line in found]
+
+
+def imported(files: DumpFiles, is_one: bool = False) -> ImportedCluster:
+    """The cluster of two dumps and its maps, or its one map; a fault that says all that keeps it out. What only one
+    of the dumps has is no fault where it is to be taken so, and is told on standard error.
+    """
+    cluster, faults = chosen_cluster(files)
+    found = against(cluster, faults, files.is_unmatched, is_one)
+    if found:
+        raise Fault(*named_reasons(cluster, found))
+    for own in unmatched(cluster):
+        print(own.told(), file=sys.stderr)
+    parts = map_clusters(cluster)
+    return ImportedCluster(cluster, parts, [map_of(part) for part in parts])

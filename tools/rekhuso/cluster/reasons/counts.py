@@ -1,0 +1,68 @@
+"""Reasons by numbers: what is outside its range, stands twice, or is too many for a map."""
+
+from __future__ import annotations
+
+from collections import Counter
+from typing import Iterable
+
+from ...words import some
+from ..cluster import Cluster
+from ..dump_types import DumpPool
+from ..map_parts import pools_by_map
+
+# How many things of one kind are told one by one; of more, their number.
+FEW = 3
+
+
+def range_reason(what: str, number: int, low: int, high: int) -> list[str]:
+    """The reason of a number outside its range, as `the epoch is 0, less than 1`; none inside."""
+    if number < low:
+        return [f"{what}, less than {low}"]
+    return [f"{what}, more than {high}"] if number > high else []
+
+
+def doubles(numbers: Iterable[int]) -> list[int]:
+    """The numbers that stand twice or more, ascending."""
+    return sorted(number for number, count in Counter(numbers).items() if count > 1)
+
+
+# How many there are
+
+
+def buckets_reason(cluster: Cluster) -> list[str]:
+    """More buckets than a map has."""
+    return range_reason(f"{len(cluster.kept)} buckets that pools use", len(cluster.kept), 0, cluster.limits.buckets)
+
+
+def rules_reason(cluster: Cluster) -> list[str]:
+    """More rules than a map has."""
+    return range_reason(f"{len(cluster.rules)} rules that pools use", len(cluster.rules), 0, cluster.limits.rules)
+
+
+def pools_reason(cluster: Cluster) -> list[str]:
+    """More pools than a map has."""
+    return range_reason(f"{len(cluster.pools)} pools", len(cluster.pools), 0, cluster.limits.pools)
+
+
+def groups_reason(cluster: Cluster, pool: DumpPool) -> list[str]:
+    """More groups than a pool has in a map, or none."""
+    return range_reason(f"pool {pool['pool']} has {pool['pg_num']} groups", pool["pg_num"], 1, cluster.limits.groups)
+
+
+def count_reasons(cluster: Cluster) -> list[str]:
+    """More of anything than a map has whose limits depend on its buckets."""
+    groups = [line for pool in cluster.pools if pool["pg_num"] > 0 for line in groups_reason(cluster, pool)]
+    return buckets_reason(cluster) + rules_reason(cluster) + groups + pools_reason(cluster)
+
+
+def total_reasons(cluster: Cluster) -> list[str]:
+    """The maps of a cluster whose pools have too many groups together, those aside that have too many alone."""
+    most = cluster.limits
+    sizes = {pool: groups for pool, groups in cluster.sizes.items() if groups <= most.groups}
+    if sum(sizes.values()) <= most.total:
+        return []
+    found = []
+    for pools in pools_by_map(cluster):
+        names, total = sorted(pools & sizes.keys()), sum(sizes.get(pool, 0) for pool in pools)
+        found += range_reason(f"pools {some(list(map(str, names)))} have {total} groups together", total, 0, most.total)
+    return found

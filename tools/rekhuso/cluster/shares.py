@@ -1,0 +1,155 @@
+"""How many places of up sets each OSD has, and how many its weight calls for."""
+
+from __future__ import annotations
+
+from collections import Counter
+from itertools import chain
+
+from ..output.json_forms import PoolRowParts, RowParts, SpreadParts, TotalParts
+from ..program.answers import Up
+from ..program.maps import Map, Pool, groups_in
+
+
+class Shares:
+    """How many places of up sets each OSD has, beside the share that its weight calls for."""
+
+    def __init__(self, value: Map, ups: dict[str, Up]) -> None:
+        """Takes a lawful map and the up set of each of its groups."""
+        self.value, self.ups = value, ups
+        self.osds = {osd["id"]: osd for osd in value["osds"]}
+        self.sets = {pool["id"]: [ups[group] for group in groups_in(pool)] for pool in value["pools"]}
+        self.counts_in = {pool["id"]: self.counted(pool) for pool in value["pools"]}
+        self.counts: Counter[int] = Counter()
+        for counts in self.counts_in.values():
+            self.counts.update(counts)
+        self.buckets = {bucket["id"]: bucket for bucket in value["buckets"]}
+        self.items = {item: weight for bucket in value["buckets"] for item, weight in bucket["items"]}
+        self.trees: dict[int, list[dict[int, int]]] = {}
+        self.shares_by = {pool["id"]: self.shares_in(pool) for pool in value["pools"]}
+        self.wanted: dict[int, float] = {}
+        for own in self.shares_by.values():
+            for osd, wanted in own.items():
+                self.wanted[osd] = self.wanted.get(osd, 0.0) + wanted
+
+    def ups_in(self, pool: Pool) -> list[Up]:
+        """The up sets of a pool's groups."""
+        return self.sets[pool["id"]]
+
+    def counted(self, pool: Pool) -> Counter[int]:
+        """In how many groups of a pool each OSD stands."""
+        return Counter(
+            osd for osd in chain.from_iterable(set(up.places) for up in self.ups_in(pool)) if osd is not None
+        )
+
+    def weights_for(self, pool: Pool) -> dict[int, int]:
+        """The weights of the OSDs that may have groups of a pool: they are below what its rule takes, up and in."""
+        return {osd: weight for tree in self.trees_for(pool) for osd, weight in tree.items()}
+
+    def trees_for(self, pool: Pool) -> list[dict[int, int]]:
+        """The same tree by tree, where the rule takes several; those with OSDs in common are one."""
+        if pool["rule"] not in self.trees:
+            steps = next(rule["steps"] for rule in self.value["rules"] if rule["id"] == pool["rule"])
+            trees: list[set[int]] = []
+            for osds in [set(self.below(step[1])) for step in steps if step[0] == "take"]:
+                joined = [tree for tree in trees if tree & osds]
+                trees = [tree for tree in trees if tree not in joined] + [osds.union(*joined)]
+            found = [{osd: self.weight(osd) for osd in tree} for tree in trees]
+            kept = [{osd: weight for osd, weight in tree.items() if weight} for tree in found]
+            self.trees[pool["rule"]] = [tree for tree in kept if tree]
+        return self.trees[pool["rule"]]
+
+    def weight(self, osd: int) -> int:
+        """What an OSD weighs: its weight times its reweight, nothing where it is not there, or down."""
+        state = self.osds.get(osd)
+        return self.items[osd] * state["weight"] if state and state["exists"] and state["up"] else 0
+
+    def shares_in(self, pool: Pool) -> dict[int, float]:
+        """How many places of a pool the weights of the OSDs call for, tree by tree."""
+        found: dict[int, float] = {}
+        for weights in self.trees_for(pool):
+            places, total = sum(self.counts_in[pool["id"]][osd] for osd in weights), sum(weights.values())
+            found.update({osd: places * weight / total for osd, weight in weights.items()})
+        return found
+
+    def roots(self) -> list[int]:
+        """The buckets that stand in no other."""
+        return [number for number in sorted(self.buckets, reverse=True) if number not in self.items]
+
+    def stray(self) -> list[RowParts]:
+        """What is told of the OSDs that exist and stand in no bucket, as Ceph calls them stray."""
+        return [self.osd_row(osd) for osd, own in sorted(self.osds.items()) if own["exists"] and osd not in self.items]
+
+    def total(self) -> TotalParts:
+        """What the tree and the OSDs outside come to: weights, groups and shares."""
+        return {
+            "weight": sum(weight for item, weight in self.items.items() if item >= 0) / 65536,
+            "groups": sum(self.counts.values()),
+            "share": round(sum(self.wanted.values()), 2),
+        }
+
+    def state(self, osd: int) -> str:
+        """Whether an OSD is there, up and in."""
+        own = self.osds.get(osd)
+        if own is None or not own["exists"]:
+            return "absent"
+        return ("up" if own["up"] else "down") + ("" if own["weight"] else ",out")
+
+    def osd_row(self, osd: int) -> RowParts:
+        """What is told of an OSD."""
+        groups, wanted = self.counts.get(osd, 0), self.wanted.get(osd, 0.0)
+        return {
+            "id": osd,
+            "weight": self.items.get(osd, 0) / 65536,
+            "reweight": (self.osds[osd]["weight"] if osd in self.osds else 0) / 65536,
+            "state": self.state(osd),
+            "groups": groups,
+            "share": round(wanted, 2),
+            "deviation": round(groups - wanted, 2) + 0.0,
+        }
+
+    def below(self, number: int) -> list[int]:
+        """The OSDs below an item."""
+        if number >= 0:
+            return [number]
+        return [osd for item, _ in self.buckets[number]["items"] for osd in self.below(item)]
+
+    def rows(self, number: int, depth: int = 0) -> list[tuple[int, RowParts]]:
+        """What is told of a bucket and all below it, each with its depth."""
+        if number >= 0:
+            return [(depth, self.osd_row(number))]
+        own = [self.osd_row(osd) for osd in self.below(number)]
+        total: RowParts = {
+            "id": number,
+            "type": self.buckets[number]["type"],
+            "weight": sum(row["weight"] for row in own),
+            "groups": sum(row["groups"] for row in own),
+            "share": round(sum(self.wanted.get(row["id"], 0.0) for row in own), 2),
+        }
+        return [(depth, total)] + [
+            row for item, _ in self.buckets[number]["items"] for row in self.rows(item, depth + 1)
+        ]
+
+    def pools(self) -> list[PoolRowParts]:
+        """What is told of each pool."""
+        found: list[PoolRowParts] = []
+        for pool in self.value["pools"]:
+            full = [len(up.places) - up.places.count(None) for up in self.ups_in(pool)]
+            found.append(
+                {
+                    "id": pool["id"],
+                    "size": pool["size"],
+                    "groups": pool["pg_num"],
+                    "rule": pool["rule"],
+                    "places": sum(full),
+                    "short": sum(count < pool["size"] for count in full),
+                }
+            )
+        return found
+
+
+def spread_parts(shares: Shares) -> SpreadParts:
+    """How even the OSDs are that may have groups: least, greatest, and the standard deviation from their shares."""
+    counts = [shares.counts.get(osd, 0) for osd, wanted in shares.wanted.items() if wanted]
+    away = [shares.counts.get(osd, 0) - wanted for osd, wanted in shares.wanted.items() if wanted]
+    deviation = (sum(gap * gap for gap in away) / len(away)) ** 0.5 if away else 0.0
+    return {"least": min(counts, default=0), "greatest": max(counts, default=0), "deviation": round(deviation, 2)}

@@ -1,0 +1,52 @@
+"""Where a command reads from: the files of dumps, and the files of what it works on."""
+
+from __future__ import annotations
+
+from dataclasses import dataclass
+
+from ..faults import Misuse
+from ..program.maps import Program
+
+
+@dataclass(frozen=True)
+class DumpFiles:
+    """The files of a cluster's dumps, and how they are taken: the OSD dump, the CRUSH dump, the tree if there is one,
+    the pools that are chosen by their ids or names (None for all), and whether OSDs that only one dump has are taken as
+    out.
+    """
+
+    __slots__ = ("osd_dump", "crush_dump", "tree", "pools", "is_unmatched")
+    osd_dump: str
+    crush_dump: str
+    tree: str | None
+    pools: str | None
+    is_unmatched: bool
+
+
+@dataclass(frozen=True)
+class Source:
+    """What a command works on: the file of a map, or the two of dumps; a file of names, if there is one; the program;
+    and how dumps are taken.
+    """
+
+    __slots__ = ("paths", "names", "program", "tree", "pools", "is_unmatched")
+    paths: tuple[str, ...]
+    names: str | None
+    program: Program
+    tree: str | None
+    pools: str | None
+    is_unmatched: bool
+
+    @property
+    def has_dumps(self) -> bool:
+        """Whether it is two dumps."""
+        return len(self.paths) == 2
+
+    def dumps(self) -> DumpFiles:
+        """The files of two dumps."""
+        return DumpFiles(self.paths[0], self.paths[1], self.tree, self.pools, self.is_unmatched)
+
+    def check_map(self) -> None:
+        """An error of use where options for dumps stand beside a map."""
+        if self.is_unmatched or self.tree is not None or self.pools is not None:
+            raise Misuse("--unmatched, --tree and --pools go with two dumps alone")

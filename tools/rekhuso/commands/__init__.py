@@ -1,0 +1,22 @@
+"""Commands, a module for each:
+
+| Command   | Module       | Does                                      |
+|-----------|--------------|-------------------------------------------|
+| `import`  | `import_.py` | a map of what Ceph's tools dump           |
+| `check`   | `check.py`   | whether a map or a change is lawful       |
+| `plan`    | `plan.py`    | a balancer's plan as Ceph's commands      |
+| `net`     | `net.py`     | the fewest pairs for the same sets        |
+| `df`      | `df.py`      | the tree with the groups of each OSD      |
+| `diff`    | `diff.py`    | what differs between two maps             |
+| `whatif`  | `whatif.py`  | what moves if a change is made            |
+| `explain` | `explain.py` | why a group is where it is                |
+| `picture` | `picture.py` | the OSDs and their shares as SVG          |
+| `report`  | `report.py`  | one HTML page of a map                    |
+| `shell`   | `shell.py`   | a prompt over a live session              |
+
+`arguments.py` has what several of them take, and `whatif_words.py` the words of `whatif`.
+"""
+
+from . import check, df, diff, explain, import_, net, picture, plan, report, shell, whatif
+
+COMMANDS = [import_, check, plan, net, df, diff, whatif, explain, picture, report, shell]

@@ -1,0 +1,101 @@
+"""Arguments that several commands take: files, dumps, names, JSON."""
+
+from __future__ import annotations
+
+import argparse
+from collections.abc import Callable, Sequence
+from typing import TYPE_CHECKING, TypeVar
+
+from ..cluster.sources import Source
+
+# What the command line says; each command takes of it the options of its own.
+Arguments = argparse.Namespace
+if TYPE_CHECKING:
+    Commands = argparse._SubParsersAction[argparse.ArgumentParser]
+else:
+    Commands = argparse._SubParsersAction
+
+Own = TypeVar("Own")
+
+FILES = "MAP | OSD_DUMP CRUSH_DUMP"
+ABOUT_FILES = (
+    "a map, as `import` writes it (- is standard input); or the two dumps of a cluster, what `ceph osd dump -f json` "
+    "and `ceph osd "
+    "crush dump` print"
+)
+
+
+class Files(argparse.Action):
+    """One file or two; an error of use where there are more."""
+
+    counts: tuple[int, ...] = (1, 2)
+    words = "one map, or two dumps"
+
+    def __call__(
+        self,
+        parser: argparse.ArgumentParser,
+        namespace: argparse.Namespace,
+        values: str | Sequence[object] | None,
+        option: str | None = None,
+    ) -> None:
+        """Keeps the words, or ends the command with status 2."""
+        if values is not None and len(values) not in self.counts:
+            parser.error(f"{parser.prog.split(' ')[-1]} takes {self.words}")
+        setattr(namespace, self.dest, values)
+
+
+def usage(*words: str) -> str:
+    """The use of a command with its own words, a line for each form: over a map, and over two dumps."""
+    own = " ".join([*words, "[--names FILE]"])
+    return (
+        f"%(prog)s MAP {own}\n       %(prog)s OSD_DUMP CRUSH_DUMP {own} [--pools ID|NAME,..] [--tree FILE] "
+        f"[--unmatched]"
+    )
+
+
+def add_map_files(own: argparse.ArgumentParser) -> None:
+    """The files of a command over a map or two dumps."""
+    own.add_argument("files", metavar=FILES, nargs="+", action=Files, help=ABOUT_FILES)
+
+
+def add_files(own: argparse.ArgumentParser, *words: str) -> None:
+    """The same, and the options for dumps and names; the words are the command's own ones in its use."""
+    own.usage = usage(*words)
+    add_map_files(own)
+    add_names(own)
+
+
+def add_names(own: argparse.ArgumentParser) -> None:
+    """The options for names and for dumps."""
+    own.add_argument("--names", metavar="FILE", help="names, as `import --names` wrote them")
+    add_dump_options(own)
+
+
+UNMATCHED = "take OSDs that only one of the dumps has as out, and tell which"
+
+
+def add_dump_options(own: argparse.ArgumentParser) -> None:
+    """The options of a command that takes dumps."""
+    own.add_argument("--unmatched", action="store_true", help=UNMATCHED)
+    own.add_argument(
+        "--tree",
+        metavar="FILE",
+        help="what `ceph osd tree -f json` prints: the reweights of OSDs that were removed and stand in CRUSH",
+    )
+    own.add_argument("--pools", metavar="ID|NAME,..", help="only these pools")
+
+
+def add_json(own: argparse.ArgumentParser) -> None:
+    """The option for JSON."""
+    own.add_argument("--json", action="store_true", help="tell all of it as one JSON object")
+
+
+def source_of(arguments: Arguments, paths: Sequence[str] | None = None) -> Source:
+    """What a command works on; its files are those of the arguments where none are given."""
+    files = tuple(arguments.files if paths is None else paths)
+    return Source(files, arguments.names, arguments.program, arguments.tree, arguments.pools, arguments.unmatched)
+
+
+def set_work(own: argparse.ArgumentParser, options_of: Callable[[Arguments], Own], work: Callable[[Own], None]) -> None:
+    """What a command does, with the options that it takes of the command line."""
+    own.set_defaults(work=lambda arguments: work(options_of(arguments)))

@@ -1,0 +1,93 @@
+"""`df`: the tree of buckets with the columns of `ceph osd df tree`, its totals, and the pools.
+
+VAR is the ratio of an OSD's groups to its share, which is what its weight and reweight call for; DEVIATION is the
+difference of the two, in groups. Of two dumps the tree is the cluster's, without the shadow buckets of device classes,
+and with what weighs 0; groups and shares are those of all pools.
+"""
+
+from __future__ import annotations
+
+from collections import Counter
+from dataclasses import dataclass
+
+from ..cluster.affinity import told_affinities
+from ..cluster.names import Names, named
+from ..cluster.shares import Shares
+from ..cluster.sources import Source
+from ..cluster.view import ClusterView, view_with_sets
+from ..files import JsonObject
+from ..output.df_table import node, nodes, summary, tree_lines
+from ..output.fill_words import osd_words
+from ..output.json_forms import PoolRowParts, put_json
+from ..program.answers import Up
+from ..words import counted
+from .arguments import Arguments, Commands, add_files, add_json, set_work, source_of
+
+
+def pool_line(pool: PoolRowParts, names: Names) -> str:
+    """What is told of a pool."""
+    short = f", {pool['short']} with fewer places than its size" if pool["short"] else ""
+    groups = counted(pool["groups"], "group")
+    return f"{named(names, 'pools', pool['id'])}: {groups} of size {pool['size']} by rule {pool['rule']}{short}"
+
+
+def summary_lines(total: JsonObject, names: Names) -> list[str]:
+    """How even the OSDs are, in words."""
+    groups = counted(total["max_pgs"], "group")
+    found = [
+        f"an OSD has {total['min_pgs']} to {groups}; MIN/MAX VAR {total['min_var']:.2f}/{total['max_var']:.2f}; "
+        f"standard deviation from the shares {total['deviation']}"
+    ]
+    ends = [f"{word} {osd_words(total[word], names)}" for word in ("fullest", "emptiest") if total[word]]
+    return found + ([f"over all pools: {', '.join(ends)}"] if ends else [])
+
+
+def put_df_json(view: ClusterView, sets: dict[str, Up], shares: Shares) -> None:
+    """Puts out the tree, the pools and the totals as one object, with how often each OSD is a primary."""
+    names, primaries = view.names, Counter(up.primary for up in sets.values())
+    tree, stray = nodes(shares, names), [node(shares, row, names) for row in shares.stray()]
+    for own in (own for own in [*tree, *stray] if own["id"] >= 0):
+        own["primaries"] = primaries[own["id"]]
+    put_json(
+        "df",
+        view.tree["epoch"],
+        nodes=tree,
+        stray=stray,
+        summary=summary(shares),
+        pools=[dict(pool, name=named(names, "pools", pool["id"])) for pool in shares.pools()],
+        primary_affinity=told_affinities(view.affinities),
+    )
+
+
+@dataclass(frozen=True)
+class DfOptions:
+    """What `df` works on, and whether it is told as JSON."""
+
+    __slots__ = ("source", "is_json")
+    source: Source
+    is_json: bool
+
+
+def options_of(arguments: Arguments) -> DfOptions:
+    """The options of the command line."""
+    return DfOptions(source_of(arguments), arguments.json)
+
+
+def work(options: DfOptions) -> None:
+    """Tells the tree, the pools and the totals of a map or a cluster."""
+    view, sets = view_with_sets(options.source)
+    names, shares = view.names, view.shares(sets)
+    if options.is_json:
+        put_df_json(view, sets, shares)
+        return
+    total, stray = summary(shares), [node(shares, row, names) for row in shares.stray()]
+    lines = tree_lines(nodes(shares, names), stray, total) + [pool_line(pool, names) for pool in shares.pools()]
+    print("\n".join(lines + summary_lines(total, names)))
+
+
+def add_to(commands: Commands) -> None:
+    """The subcommand."""
+    own = commands.add_parser("df", help="the tree with the groups of each OSD", description=__doc__)
+    add_files(own, "[--json]")
+    add_json(own)
+    set_work(own, options_of, work)

@@ -1,0 +1,117 @@
+"""`diff`: what differs between two maps, as a change where a change can say it, and what moves.
+
+Each may also be the two dumps of a cluster that one map holds, which are then told by its own names.
+"""
+
+from __future__ import annotations
+
+from dataclasses import dataclass
+
+from ..cluster.conversion import monitor_of
+from ..cluster.difference import change_of, moved_parts
+from ..cluster.flows import flows
+from ..cluster.imports import imported
+from ..cluster.names import Names, names_in, with_names
+from ..cluster.sources import Source
+from ..faults import Refused
+from ..output.flow_words import pair_lines
+from ..output.json_forms import put_json
+from ..program.answers import Up
+from ..program.maps import Change, Map, groups_of, has_straw2, written
+from ..program.questions import map_with_sets, raw_answers
+from ..words import counted
+from .arguments import Arguments, Commands, Files, add_json, add_names, set_work, source_of
+
+DIFF_FILES = "OLD_MAP NEW_MAP | OLD_OSD_DUMP OLD_CRUSH_DUMP NEW_OSD_DUMP NEW_CRUSH_DUMP"
+
+
+@dataclass(frozen=True)
+class DiffOptions:
+    """What is before and after, and whether it is told as JSON."""
+
+    __slots__ = ("old", "new", "is_json")
+    old: Source
+    new: Source
+    is_json: bool
+
+
+@dataclass(frozen=True)
+class Side:
+    """A map with the up set of each of its groups, and its names."""
+
+    __slots__ = ("value", "sets", "names")
+    value: Map
+    sets: dict[str, Up]
+    names: Names
+
+
+def options_of(arguments: Arguments) -> DiffOptions:
+    """The options of the command line."""
+    files, half = arguments.files, len(arguments.files) // 2
+    return DiffOptions(source_of(arguments, files[:half]), source_of(arguments, files[half:]), arguments.json)
+
+
+def side_of(source: Source) -> Side:
+    """A map, or that of two dumps. A fault where it is not lawful, or a cluster stays out or takes several maps."""
+    if not source.has_dumps:
+        source.check_map()
+        return Side(*map_with_sets(source.paths[0], source.program), names_in(source.names))
+    found = imported(source.dumps(), True)
+    value, names = found.maps[0], names_in(source.names) if source.names else found.cluster.all_names()
+    with monitor_of(value, source.program) as monitor:
+        return Side(value, monitor.ups(groups_of(value)), names)
+
+
+def check_change(old: Map, new: Map, change: Change, source: Source) -> None:
+    """`Refused` where the program does not take the change that was found."""
+    is_stock = has_straw2(old) or has_straw2(new)
+    answer = raw_answers(source.program, old, [f"change {written(change)}"], is_stock)[0]
+    if not answer.startswith("ok "):
+        raise Refused(answer.split(" ")[2], int(answer.split(" ")[1]))
+
+
+def work(options: DiffOptions) -> None:
+    """Tells the change between two maps and what it moves."""
+    old, new = side_of(options.old), side_of(options.new)
+    change, unsaid = change_of(old.value, new.value)
+    if not unsaid:
+        check_change(old.value, new.value, change, options.old)
+    names = {kind: {**old.names.get(kind, {}), **own} for kind, own in new.names.items()}
+    unsaid, told = [with_names(line, names) for line in unsaid], moved_parts(old.sets, new.sets)
+    there = {group: up for group, up in old.sets.items() if group in new.sets}
+    pairs = [
+        [*pair, count] for pair, count in sorted(flows(there, new.sets).items(), key=lambda own: (-own[1], own[0]))
+    ]
+    if options.is_json:
+        epochs = old.value["epoch"], new.value["epoch"]
+        put_json("diff", epochs[0], new_epoch=epochs[1], change=change, unsaid=unsaid, **told, flows=pairs)
+        return
+    lines = [f"change {written(change)}", *(f"no change says: {line}" for line in unsaid), *pair_lines(pairs, names)]
+    moving = counted(told["groups"], "group"), counted(told["places"], "place"), counted(len(told["osds"]), "OSD")
+    print("\n".join([*lines, f"{moving[0]}, {moving[1]} and {moving[2]} move"]))
+
+
+class Pair(Files):
+    """Two files or four; an error of use where there are others."""
+
+    counts, words = (2, 4), "two maps, or the two dumps of each"
+
+
+def add_to(commands: Commands) -> None:
+    """The subcommand."""
+    own = commands.add_parser("diff", help="what differs between two maps", description=__doc__)
+    own.usage = (
+        "%(prog)s OLD_MAP NEW_MAP [--names FILE] [--json]\n"
+        "       %(prog)s OLD_OSD_DUMP OLD_CRUSH_DUMP NEW_OSD_DUMP NEW_CRUSH_DUMP [--names FILE] [--json] "
+        "[--pools ID|NAME,..] [--tree FILE] [--unmatched]"
+    )
+    own.add_argument(
+        "files",
+        metavar=DIFF_FILES,
+        nargs="+",
+        action=Pair,
+        help="the map before and the one after, as `import` writes them (- is standard input); or the dumps of each",
+    )
+    add_names(own)
+    add_json(own)
+    set_work(own, options_of, work)

@@ -1,0 +1,313 @@
+"""`plan`: a plan that evens a whole cluster, as the commands that Ceph takes, on standard output.
+
+The proved balancer plans each pool beside what its OSDs carry from all others, so that the cluster gets more even too:
+by groups, and with --df by bytes. The plan ends where no two OSDs differ by more than twice --deviation groups; 0.5 is
+the whole plan. The first commands are worth most. With --pool only these pools are planned, for the sake of all; with
+--alone each pool is planned by itself. Standard error tells how even the cluster is before and after, and then each
+pool.
+
+Comments above the commands tell what one must know before they are run, and a table below them what moves, by pool and
+by OSD. The commands are the difference of the two maps' exceptions, where each group has the fewest pairs that lead to
+its set (as `net` has them). With --undo the same words give the commands that take the exceptions of these groups back
+to what they are now, whichever part of the plan was run. With --batch the commands go into files that are run one
+after the other.
+"""
+
+from __future__ import annotations
+
+import argparse
+import json
+import sys
+from contextlib import ExitStack
+from dataclasses import dataclass
+from fractions import Fraction
+
+from ..cluster.conversion import monitor_of
+from ..cluster.imports import imported
+from ..cluster.judge import judge_of_cluster, judge_of_map
+from ..cluster.names import Names, names_in, pools_named
+from ..cluster.outage import check_outage
+from ..cluster.pool_data import Data, data_in
+from ..cluster.sources import Source
+from ..cluster.view import NO_PLAN, has_other_weights, tree_in
+from ..faults import Fault, Misuse
+from ..files import text_of
+from ..output.json_forms import put_json
+from ..output.plan_scripts import Script, part_file, put_batches
+from ..output.plan_words import plan_lines, refusal_words
+from ..plans.movement import PlaceBytes, place_bytes
+from ..plans.plan import ALL, Outcome, Wish, outage_in, planned
+from ..plans.rounds import Live, MOST_MOVES
+from ..plans.steps import steps_by_pool
+from ..program.maps import Map, Pool, altered
+from ..program.monitor import Monitor
+from ..progress import doing
+from .arguments import Arguments, Commands, add_files, add_json, set_work, source_of
+
+# What is told above a plan of its other forms.
+PARTS = "parts:  the same words with --batch N --to FOLDER write files of N commands each, with what each moves"
+UNDO = "undo:   the same words with --undo, over the same files, which are to be kept"
+# The least --deviation of a plan for the whole cluster, and the greatest of all: no pool has more groups.
+LEAST, FARTHEST = Fraction(1, 2), 65536
+
+
+@dataclass(frozen=True)
+class ToldPlan:
+    """What is told of plans: the epoch of the map, what the plans are, what the groups weigh, and names."""
+
+    __slots__ = ("epoch", "outcome", "weights", "names")
+
+    epoch: int
+    outcome: Outcome
+    weights: PlaceBytes
+    names: Names
+
+
+@dataclass(frozen=True)
+class PlanOptions:
+    """What is planned over, and how: which pools, at most how many commands, how near to the shares, whether each pool
+    by itself, whether amid an outage too, and by which file of data; and how it is put out: as the way back, in files
+    of so many commands in a folder, or as JSON.
+    """
+
+    __slots__ = (
+        *("source", "pools", "most", "deviation", "is_alone", "is_anyway", "df"),
+        *("is_undo", "batch", "to", "is_json"),
+    )
+    source: Source
+    pools: tuple[str, ...]
+    most: int | None
+    deviation: Fraction | None
+    is_alone: bool
+    is_anyway: bool
+    df: str | None
+    is_undo: bool
+    batch: int | None
+    to: str | None
+    is_json: bool
+
+
+def options_of(arguments: Arguments) -> PlanOptions:
+    """The options of the command line. An error of use for options of which one would be passed over."""
+    own = arguments
+    if (own.batch is None) != (own.to is None):
+        raise Misuse("--batch and --to go together: files of so many commands, and their folder")
+    if own.json and (own.batch is not None or own.undo):
+        raise Misuse("--json tells the plan and its undoing at once: --batch and --undo do not go with it")
+    if own.deviation is not None and own.deviation < LEAST and not own.alone:
+        raise Misuse(f"--deviation {own.deviation}: 0.5 is the whole plan; less goes with --alone")
+    if own.alone and own.max is not None and own.max > MOST_MOVES:
+        raise Misuse(f"--max {own.max}: with --alone at most {MOST_MOVES} moves a pool")
+    return PlanOptions(
+        source_of(own),
+        tuple(own.pool or ()),
+        own.max,
+        own.deviation,
+        own.alone,
+        own.anyway,
+        own.df,
+        own.undo,
+        own.batch,
+        own.to,
+        own.json,
+    )
+
+
+def wish_of(options: PlanOptions, pools: list[Pool], names: Names, data: Data | None) -> Wish:
+    """What is asked for. A fault for a word that names no pool."""
+    most = options.most or (MOST_MOVES if options.is_alone else ALL)
+    own = {pool["id"]: names.get("pools", {}).get(str(pool["id"]), "") for pool in pools}
+    named_pools = frozenset(pools_named(options.pools, own))
+    return Wish(named_pools, options.deviation, most, options.batch or ALL, options.is_alone, data)
+
+
+def told_by(lives: list[Live], options: PlanOptions, names: Names, data: Data | None, epoch: int) -> ToldPlan:
+    """The plans over some sessions, which end with them. A fault where a pool that is named gets none."""
+    check_outage(outage_in(lives), options.is_anyway)
+    pools = [pool for live in lives for pool in live.pools.values()]
+    wish = wish_of(options, pools, names, data)
+    outcome = planned(lives, wish, doing)
+    refused = [parts for parts in outcome.pools if parts["refused"]]
+    if refused and options.pools:
+        raise Fault(*(f"{parts['name']}: {refusal_words(parts['refused'] or '')}" for parts in refused))
+    weighed = [pool for pool in pools if pool["id"] in {parts["id"] for parts in outcome.pools}]
+    return ToldPlan(epoch, outcome, place_bytes(weighed, data), names)
+
+
+def plan_of_map(options: PlanOptions, data: Data | None) -> ToldPlan:
+    """The plans of a map in a file, and what is known of the data of its pools."""
+    source = options.source
+    if source.tree is not None or source.pools is not None:
+        raise Misuse("--tree and --pools go with two dumps alone")
+    names, text = names_in(source.names), text_of(source.paths[0])
+    with Monitor(text, source.program, stock=True) as monitor:
+        value: Map = json.loads(text)
+        if has_other_weights(value, tree_in(source.names)):
+            raise Fault(NO_PLAN)
+        if data is not None:
+            data.check(value["pools"], names["pools"], False)
+        live = Live(value, value, names, judge_of_map(value, names), monitor)
+        told = told_by([live], options, names, data, value["epoch"])
+    return told
+
+
+def plan_of_dumps(options: PlanOptions, data: Data | None) -> ToldPlan:
+    """The plans of two dumps, over all maps that the cluster takes. A fault where a weight set is in force."""
+    source = options.source
+    found = imported(source.dumps())
+    names = names_in(source.names) if source.names else found.cluster.names()
+    if found.cluster.has_weight_set:
+        raise Fault(NO_PLAN)
+    if data is not None:
+        data.check([pool for value in found.maps for pool in value["pools"]], names["pools"], source.pools is None)
+    with ExitStack() as stack:
+        lives = [
+            Live(
+                value,
+                part.kept_exceptions(),
+                names,
+                judge_of_cluster(part),
+                stack.enter_context(monitor_of(value, source.program, True)),
+            )
+            for part, value in zip(found.parts, found.maps)
+        ]
+        told = told_by(lives, options, names, data, found.cluster.epoch)
+    return told
+
+
+# What is put out
+
+
+def put_plan_json(told: ToldPlan) -> None:
+    """Puts out the plan, its undoing, how even it leaves the cluster, and what moves as one object."""
+    weights, steps, outcome = told.weights, told.outcome.steps, told.outcome
+    own, pools = steps_by_pool(steps), []
+    for parts in outcome.pools:
+        moving = weights.moving(own.get(parts["id"], []))
+        pools.append(altered(parts, places=moving["places"], bytes=moving["bytes"], share=moving["share"]))
+    put_json(
+        "plan",
+        told.epoch,
+        commands=[line for step in steps for line in step.commands],
+        undo=[line for step in steps for line in step.undo],
+        cluster={"before": outcome.before, "after": outcome.after, "largest": outcome.largest},
+        taken_out=outcome.taken_out,
+        moving=weights.moving(steps),
+        osds=weights.by_osd(steps),
+        pools=pools,
+    )
+
+
+def script_of(told: ToldPlan, options: PlanOptions, number: int = 1, count: int = 1) -> Script:
+    """What stands round the commands of a plan or of one of several parts of it, or of what takes these back."""
+    part = f", part {number} of {count}" if options.batch is not None else ""
+    if options.is_undo:
+        title = f"The way back from a plan over epoch {told.epoch}{part}"
+        end = "after:  these groups have the exceptions of that epoch again, whichever part of the plan was run"
+        return Script(title, [end], told.weights, told.names)
+    order = [f"order:  part {number - 1} is run before, and its groups have moved"] if number > 1 else []
+    undo = UNDO + (f", write {part_file('undo', number, count)}" if part else "")
+    notes = [*order, undo] if part else [PARTS, undo]
+    return Script(f"A plan over epoch {told.epoch}{part}", notes, told.weights, told.names)
+
+
+def put_parts(told: ToldPlan, options: PlanOptions) -> None:
+    """Writes the plan, or the way back from it, in parts of so many commands of the plan."""
+    parts, found = told.outcome.parts, []
+    for number, part in enumerate(parts, 1):
+        steps = [step.undone() for step in part] if options.is_undo else part
+        found.append(script_of(told, options, number, len(parts)).text(steps))
+    put_batches(options.to or "", "undo" if options.is_undo else "plan", found)
+
+
+def work(options: PlanOptions) -> None:
+    """Asks the program for its plans, in one session a map, and tells them."""
+    data = data_in(options.df)
+    told = plan_of_dumps(options, data) if options.source.has_dumps else plan_of_map(options, data)
+    print("\n".join(plan_lines(told.outcome, told.names, options.deviation)), file=sys.stderr)
+    if options.is_json:
+        put_plan_json(told)
+        return
+    if options.batch is not None:
+        put_parts(told, options)
+        return
+    steps = [step.undone() for step in told.outcome.steps] if options.is_undo else told.outcome.steps
+    print(script_of(told, options).text(steps) if steps else "", end="")
+
+
+# The command line
+
+
+def commands_a_file(word: str) -> int:
+    """A number of commands; an error of use where it is none."""
+    number = int(word) if word.isdecimal() else 0
+    if not 1 <= number <= 2**31:
+        raise argparse.ArgumentTypeError(f"{word}: no number of commands from 1 on")
+    return number
+
+
+def distance(word: str) -> Fraction:
+    """A number of groups from a share; an error of use where it is none."""
+    try:
+        number = Fraction(word)
+    except (ValueError, ZeroDivisionError):
+        number = Fraction(-1)
+    if not 0 <= number <= FARTHEST:
+        raise argparse.ArgumentTypeError(f"{word}: no number of groups from 0 to {FARTHEST:,}")
+    return number
+
+
+def add_to(commands_of: Commands) -> None:
+    """The subcommand."""
+    own = commands_of.add_parser("plan", help="a balancer's plan as Ceph's commands", description=__doc__)
+    forms = [
+        "[--pool ID|NAME,..]..",
+        "[--max N]",
+        "[--deviation D]",
+        "[--alone]",
+        "[--undo]",
+        "[--batch N --to FOLDER]",
+    ]
+    add_files(own, *forms, "[--df FILE]", "[--anyway]", "[--json]")
+    add_json(own)
+    own.add_argument(
+        "--pool",
+        metavar="ID|NAME,..",
+        action="append",
+        help="plan only these pools, for the sake of all; may be given again (else all of several groups)",
+    )
+    own.add_argument(
+        "--max",
+        metavar="N",
+        type=commands_a_file,
+        help="the first N commands, which are worth most; with --alone at most N moves a pool",
+    )
+    own.add_argument(
+        "--deviation",
+        metavar="D",
+        type=distance,
+        help="move only between OSDs that differ by more than 2 D groups (1 where nothing is said; 0.5 is the whole "
+        "plan); with --alone: only as many moves as bring each OSD within D groups of its share",
+    )
+    own.add_argument("--alone", action="store_true", help="plan each pool by itself, whatever OSDs carry from others")
+    own.add_argument(
+        "--undo",
+        action="store_true",
+        help="the commands that take the groups of the plan back to the exceptions that they have in the files given",
+    )
+    own.add_argument(
+        "--batch",
+        metavar="N",
+        type=commands_a_file,
+        help="write files of at most N commands each, to be run one after the other; those of one group stay together",
+    )
+    own.add_argument(
+        "--anyway", action="store_true", help="a plan also amid an outage, in which Ceph's balancer would wait"
+    )
+    own.add_argument("--to", metavar="FOLDER", help="the folder of these files: plan-001.sh, .. or undo-001.sh, ..")
+    own.add_argument(
+        "--df",
+        metavar="FILE",
+        help="what `ceph df --format json` prints: even the data too, and tell how much of it moves",
+    )
+    set_work(own, options_of, work)

@@ -1,0 +1,272 @@
+"""`shell`: a prompt over a live session of the program. It reads a pipe too, and then shows no prompt.
+
+The lines are those of a script; beside them `help`, `help COMMAND`, `save FILE` and `quit`. At a terminal the lines
+that were typed are kept in ~/.rekhuso_history, and sets are told by the names that dumps or --names have.
+"""
+
+from __future__ import annotations
+
+import contextlib
+import io
+import os
+import pathlib
+import shutil
+import signal
+import sys
+from collections.abc import Iterator
+from dataclasses import dataclass
+
+from ..cluster.conversion import monitor_of
+from ..cluster.imports import imported
+from ..cluster.names import Names, named, names_in
+from ..cluster.sources import Source
+from ..faults import Misuse
+from ..files import text_of
+from ..program.answers import up_of
+from ..program.monitor import Monitor
+from .arguments import Arguments, Commands, add_files, set_work, source_of
+
+HELP = {
+    "up": "up PG: the up set of a group and its primary, as up 1.0",
+    "count": "count OSD: in how many groups' up sets an OSD stands",
+    "groups": "groups OSD: in which groups' up sets an OSD stands",
+    "epoch": "epoch: the epoch of the map",
+    "dump": "dump: the map as one line of JSON",
+    "change": 'change JSON: commits a change, as change {"base":1,"down":[2]}',
+    "await": "await N: waits until the epoch is at least N; nobody else changes the map here",
+    "balance": "balance POOL LIMIT: plans at most LIMIT moves of groups of a pool, and commits them; under --stock "
+    "also balance POOL LIMIT APART [[OSD,CARRIED],..], both in 256ths of a group: by how much two OSDs must differ, "
+    "and what an OSD counts as having beside its groups",
+    "follow": "follow: the session's follower goes on to the last epoch",
+    "fup": "fup PG: the up set of a group by the follower's map",
+    "fdump": "fdump: the follower's map as one line of JSON",
+    "save": "save FILE: writes the map as it is, for a later start",
+    "help": "help [COMMAND]: this",
+    "quit": "quit: ends the session, as the end of the input does",
+}
+
+# How many lines the file of lines that were typed has at most.
+LINES = 1000
+# Seconds between two ticks of the clock while a line is typed.
+TICK = 0.05
+
+
+def completer(text: str, number: int) -> str | None:
+    """The command of a number that begins with a text, for readline."""
+    found = [word for word in HELP if word.startswith(text)]
+    return found[number] + " " if number < len(found) else None
+
+
+def put_whole(path: str, text: str) -> None:
+    """Puts a text in place of a file at once; into what is no file (a pipe, a terminal) it is written."""
+    if os.path.exists(path) and not os.path.isfile(path):
+        with open(path, "w", encoding="utf-8") as file:
+            file.write(text)
+        return
+    place = os.path.realpath(path)
+    beside = f"{place}.{os.getpid()}"
+    try:
+        with open(beside, "x", encoding="utf-8") as file:
+            file.write(text)
+        if os.path.exists(place):
+            shutil.copymode(place, beside)
+        os.replace(beside, place)
+    except BaseException:
+        if os.path.exists(beside):
+            os.remove(beside)
+        raise
+
+
+def saved(monitor: Monitor, path: str) -> str:
+    """Writes the map to a file: beside it first, so that a write which fails leaves what stood there."""
+    text = monitor.text()
+    try:
+        put_whole(path, text + "\n")
+    except OSError as fault:
+        return f"{path}: {fault.strerror}"
+    except ValueError:
+        return f"{path!r}: no path"
+    return f"saved {path}"
+
+
+@dataclass(frozen=True)
+class LiveMap:
+    """A live session, and the names of what its map has by number."""
+
+    __slots__ = ("monitor", "names")
+    monitor: Monitor
+    names: Names
+
+
+def shown(monitor: Monitor, line: str) -> str | None:
+    """What is shown for a line; None where it ends the shell."""
+    word, _, rest = line.partition(" ")
+    if line == "quit":
+        return None
+    if word == "help":
+        return "\n".join(HELP.values()) if not rest else HELP.get(rest, f"{rest}: no command")
+    if word == "save":
+        return saved(monitor, rest) if rest else HELP["save"]
+    return monitor.raw([line])[0]
+
+
+def place_words(osd: int | None, live: LiveMap, holders: dict[int, int]) -> str:
+    """An OSD of a set by its name, with the bucket in which it stands."""
+    if osd is None:
+        return "none"
+    name = named(live.names, "osds", osd)
+    return f"{name} in {named(live.names, 'buckets', holders[osd])}" if osd in holders else name
+
+
+def remark(live: LiveMap, answer: str) -> str | None:
+    """What a terminal shows below an answer: the set of a group by its names, and where help is."""
+    if answer.startswith("err 33 "):
+        return "help tells the commands"
+    word, *rest = answer.split(" ")
+    if word not in ("up", "fup") or len(rest) != 4 or not live.names["buckets"]:
+        return None
+    holders = {item: bucket["id"] for bucket in live.monitor.dump()["buckets"] for item, _ in bucket["items"]}
+    pool = named(live.names, "pools", int(rest[1].split(".")[0]))
+    return f"{pool}: {', '.join(place_words(osd, live, holders) for osd in up_of(answer).places)}"
+
+
+class Prompt:
+    """The prompt at a terminal. Ctrl-C drops the line that is being typed; at any other time it does nothing, so that
+    what is begun is answered and shown.
+
+    Python sees a signal only where it ends a wait for the next key: one that comes just before that wait begins would
+    be seen with the next key. So a clock ticks while a line is typed, and it is the tick that drops the line.
+    """
+
+    def __enter__(self) -> Prompt:
+        """Takes Ctrl-C and the clock over."""
+        self.has_come = False
+        self.before = signal.signal(signal.SIGINT, signal.SIG_IGN), signal.signal(signal.SIGALRM, self.ticked)
+        return self
+
+    def __exit__(self, *_: object) -> None:
+        """Gives both back."""
+        signal.signal(signal.SIGINT, self.before[0])
+        signal.signal(signal.SIGALRM, self.before[1])
+
+    def came(self, *_: object) -> None:
+        """Ctrl-C."""
+        self.has_come = True
+
+    def ticked(self, *_: object) -> None:
+        """KeyboardInterrupt where Ctrl-C has come. Nothing else comes behind it: `input` cannot bear that."""
+        if self.has_come:
+            self.end()
+            raise KeyboardInterrupt
+
+    def end(self) -> None:
+        """No line is typed any more."""
+        signal.setitimer(signal.ITIMER_REAL, 0)
+        signal.signal(signal.SIGINT, signal.SIG_IGN)
+
+    def line(self) -> str:
+        """The line that is typed. KeyboardInterrupt where Ctrl-C drops it; EOFError where there is none."""
+        self.has_come = False
+        signal.signal(signal.SIGINT, self.came)
+        signal.setitimer(signal.ITIMER_REAL, TICK, TICK)
+        try:
+            return input("osdmap> ")
+        finally:
+            self.end()
+
+
+def is_last(live: LiveMap, line: str, is_terminal: bool) -> bool:
+    """Shows what there is to show for a line, and tells whether it ends the shell. An empty line is passed over."""
+    answer = shown(live.monitor, line) if line else ""
+    if answer:
+        more = remark(live, answer) if is_terminal else None
+        print(answer if more is None else f"{answer}\n  {more}", flush=True)
+    return answer is None
+
+
+def history_file() -> pathlib.Path:
+    """The file of the lines that were typed."""
+    return pathlib.Path.home() / ".rekhuso_history"
+
+
+@contextlib.contextmanager
+def history() -> Iterator[None]:
+    """Lines can be edited, completed and found again, also those of earlier shells; where Python has that."""
+    try:
+        import readline
+    except ImportError:
+        yield
+        return
+    readline.set_completer(completer)
+    readline.parse_and_bind("tab: complete")
+    readline.set_history_length(LINES)
+    with contextlib.suppress(OSError):
+        readline.read_history_file(history_file())
+    try:
+        yield
+    finally:
+        with contextlib.suppress(OSError):
+            readline.write_history_file(history_file())
+
+
+def prompted(live: LiveMap) -> None:
+    """Reads lines from a terminal until they end."""
+    print("help tells the commands", file=sys.stderr)
+    with history(), Prompt() as prompt:
+        while True:
+            try:
+                if is_last(live, prompt.line().strip(), True):
+                    return
+            except EOFError:
+                print()
+                return
+            except KeyboardInterrupt:
+                print()
+
+
+def piped(live: LiveMap) -> None:
+    """Reads lines from a pipe or a file, as they are, until they end."""
+    for line in sys.stdin:
+        if is_last(live, line.removesuffix("\n"), False):
+            return
+
+
+@dataclass(frozen=True)
+class ShellOptions:
+    """What the shell is over: a map, or the dumps of a cluster that one map holds."""
+
+    __slots__ = ("source",)
+    source: Source
+
+
+def options_of(arguments: Arguments) -> ShellOptions:
+    """The options of the command line."""
+    return ShellOptions(source_of(arguments))
+
+
+def live_map(source: Source) -> LiveMap:
+    """A session over what the shell is over. A fault where a cluster stays out, or takes several maps."""
+    if source.has_dumps:
+        found = imported(source.dumps(), True)
+        names = names_in(source.names) if source.names else found.cluster.all_names()
+        return LiveMap(monitor_of(found.maps[0], source.program), names)
+    source.check_map()
+    return LiveMap(Monitor(text_of(source.paths[0]), source.program), names_in(source.names))
+
+
+def work(options: ShellOptions) -> None:
+    """Answers lines until they end."""
+    if "-" in options.source.paths:
+        raise Misuse("shell reads lines from standard input, so the map must be a file")
+    if isinstance(sys.stdin, io.TextIOWrapper):
+        sys.stdin.reconfigure(errors="surrogateescape")
+    live = live_map(options.source)
+    with live.monitor:
+        (prompted if sys.stdin.isatty() else piped)(live)
+
+
+def add_to(commands_of: Commands) -> None:
+    """The subcommand."""
+    own = commands_of.add_parser("shell", help="a prompt over a live session", description=__doc__)
+    add_files(own)
+    set_work(own, options_of, work)

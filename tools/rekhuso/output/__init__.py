@@ -1,0 +1,1 @@
+"""Output: tables, JSON forms, pictures, scripts and the page."""

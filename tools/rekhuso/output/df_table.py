@@ -1,0 +1,116 @@
+"""The tree with the columns of `ceph osd df tree`, as `df` and the page tell it."""
+
+from __future__ import annotations
+
+from ..cluster.evenness import Spread
+from ..cluster.names import Names, named
+from ..cluster.shares import Shares, spread_parts
+from ..files import JsonObject
+from .json_forms import RowParts
+from .tables import aligned
+
+COLUMNS = ["ID", "CLASS", "WEIGHT", "REWEIGHT", "SHARE", "DEVIATION", "VAR", "PGS", "STATUS", "TYPE NAME"]
+# The state of an OSD as Ceph tells it: one that is out has the reweight 0.
+STATUS = {"up": "up", "up,out": "up", "down": "down", "down,out": "down", "absent": "DNE"}
+INDENT = "    "
+
+
+def ratio(groups: int, share: float) -> float | None:
+    """How many times its share an OSD has; None where it has groups and no share."""
+    return groups / share if share > 0 else None if groups else 0.0
+
+
+def node(shares: Shares, row: RowParts, names: Names) -> JsonObject:
+    """What is told of an OSD or a bucket, under the keys of Ceph's own JSON, and with its share."""
+    number = row["id"]
+    var = ratio(row["groups"], sum(shares.wanted.get(osd, 0.0) for osd in shares.below(number)))
+    found = {
+        "id": number,
+        "name": named(names, "buckets" if number < 0 else "osds", number),
+        "crush_weight": row["weight"],
+        "pgs": row["groups"],
+        "share": row["share"],
+        "var": None if var is None else round(var, 4),
+    }
+    if number < 0:
+        kind = names.get("types", {}).get(str(row["type"]), f"type {row['type']}")
+        return dict(found, type=kind, type_id=row["type"], reweight=-1)
+    own = names.get("classes", {}).get(str(number), "")
+    return dict(
+        found,
+        type="osd",
+        type_id=0,
+        reweight=row["reweight"],
+        deviation=row["deviation"],
+        status=STATUS[row["state"]],
+        device_class=own,
+    )
+
+
+def nodes(shares: Shares, names: Names) -> list[JsonObject]:
+    """The tree, each bucket before what stands in it, with its depth."""
+    return [dict(node(shares, row, names), depth=depth) for root in shares.roots() for depth, row in shares.rows(root)]
+
+
+def summary(shares: Shares) -> JsonObject:
+    """The totals, how even the OSDs are that may have groups, the least and the greatest ratio to a share, and the OSDs
+    that have them over all pools.
+    """
+    total, even, fill = shares.total(), spread_parts(shares), Spread(shares.counts, shares.wanted).fill()
+    ratios = [shares.counts.get(osd, 0) / share for osd, share in shares.wanted.items() if share]
+    return {
+        "crush_weight": total["weight"],
+        "pgs": total["groups"],
+        "share": total["share"],
+        "min_pgs": even["least"],
+        "max_pgs": even["greatest"],
+        "min_var": round(min(ratios, default=0.0), 4),
+        "max_var": round(max(ratios, default=0.0), 4),
+        "deviation": even["deviation"],
+        "fullest": fill["fullest"],
+        "emptiest": fill["emptiest"],
+    }
+
+
+def decimal(number: float, places: int) -> str:
+    """A number as Ceph's tables have it: 0 without decimals."""
+    return f"{number:.{places}f}" if number else "0"
+
+
+def cells(own: JsonObject, depth: int) -> list[str]:
+    """A row of the table, for an OSD or a bucket."""
+    weight, groups, share = decimal(own["crush_weight"], 5), str(own["pgs"]), decimal(own["share"], 2)
+    var = "-" if own["var"] is None else decimal(own["var"], 2)
+    if own["id"] < 0:
+        name = (
+            f"{own['type']} {own['name']}" if not own["type"].startswith("type ") else f"{own['name']} of {own['type']}"
+        )
+        return [str(own["id"]), "", weight, "-", share, "-", var, groups, "", INDENT * depth + name]
+    return [
+        str(own["id"]),
+        own["device_class"],
+        weight,
+        decimal(own["reweight"], 5),
+        share,
+        f"{own['deviation']:+.2f}",
+        var,
+        groups,
+        own["status"],
+        INDENT * depth + own["name"],
+    ]
+
+
+def total_row(total: JsonObject) -> list[str]:
+    """The row of the totals."""
+    weight, share = decimal(total["crush_weight"], 5), decimal(total["share"], 2)
+    return ["", "", weight, "", share, "", "", str(total["pgs"]), "", "TOTAL"]
+
+
+def tree_lines(tree: list[JsonObject], stray: list[JsonObject], total: JsonObject) -> list[str]:
+    """The tree as a table of text, then the OSDs outside every bucket, then the totals."""
+    rows = [COLUMNS] + [cells(own, own["depth"]) for own in tree]
+    if stray:
+        rows.append([""] * (len(COLUMNS) - 1) + ["outside every bucket"])
+    rows += [cells(own, 1) for own in stray]
+    rows.append(total_row(total))
+    return aligned(rows)

@@ -1,0 +1,201 @@
+"""The forms of what commands tell as JSON, and how it is put out."""
+
+from __future__ import annotations
+
+import json
+from typing import TypedDict
+
+from ..program.maps import Entry
+
+
+class ItemParts(TypedDict):
+    """What is told of a bucket or an OSD."""
+
+    id: int
+    weight: float
+    groups: int
+    share: float
+
+
+class RowParts(ItemParts, total=False):
+    """The same with the type of a bucket, and what an OSD alone has."""
+
+    type: int
+    reweight: float
+    state: str
+    deviation: float
+
+
+class TotalParts(TypedDict):
+    """What a tree comes to."""
+
+    weight: float
+    groups: int
+    share: float
+
+
+class PoolRowParts(TypedDict):
+    """What is told of a pool."""
+
+    id: int
+    size: int
+    groups: int
+    rule: int
+    places: int
+    short: int
+
+
+class SpreadParts(TypedDict):
+    """How even OSDs are: the least and the greatest number of groups, and the standard deviation from the shares."""
+
+    least: int
+    greatest: int
+    deviation: float
+
+
+class PoolSpreadParts(SpreadParts):
+    """The same for one pool, with the greatest distance from a share."""
+
+    farthest: float
+
+
+class OsdFillParts(TypedDict):
+    """What an OSD has, groups or bytes, its share, and the ratio of the two."""
+
+    id: int
+    has: float
+    share: float
+    ratio: float
+
+
+class FillParts(TypedDict):
+    """How even a cluster is: its fullest OSD and its emptiest, to their shares, None where no OSD has a share, and the
+    standard deviation: of groups in groups, of bytes as a part of the share.
+    """
+
+    fullest: OsdFillParts | None
+    emptiest: OsdFillParts | None
+    deviation: float
+
+
+class ClusterParts(TypedDict):
+    """What is told of a cluster over all pools: by groups and, where it is known what the pools hold, by bytes, and
+    the bytes that the pool with most data may still take.
+    """
+
+    groups: FillParts
+    bytes: FillParts | None
+    room: int | None
+
+
+class MovingParts(TypedDict):
+    """What a plan, or a part of it, moves; bytes and their share of the data of all pools are None where nobody tells
+    how much the pools hold.
+    """
+
+    groups: int
+    places: int
+    bytes: int | None
+    share: float | None
+
+
+class PoolMovingParts(MovingParts):
+    """The same of one pool, which has so many groups."""
+
+    id: int
+    of: int
+
+
+class OsdMovingParts(TypedDict):
+    """How many places come to an OSD and go from it, and where it is known their bytes."""
+
+    id: int
+    come: int
+    go: int
+    bytes_come: int | None
+    bytes_go: int | None
+
+
+class PlanParts(TypedDict):
+    """What is told of a pool's plan."""
+
+    id: int
+    name: str
+    moves: int
+    groups: int
+    refused: str | None
+    moves_within: int | None
+    moves_whole: int | None
+    left_out: list[str]
+    left_out_by: str
+    before: PoolSpreadParts
+    after: PoolSpreadParts
+
+
+class PairParts(TypedDict):
+    """What is told of a pair: where it leads, why it does nothing, and the set behind it."""
+
+    was: int
+    now: int
+    idle: str | None
+    places: list[int | None]
+
+
+# What moves between two maps
+
+
+class MovedParts(TypedDict):
+    """How many groups and places differ, and which OSDs take part."""
+
+    groups: int
+    places: int
+    osds: list[int]
+
+
+class FullestParts(TypedDict):
+    """The fullest OSD, None where no OSD has a group; its groups; and its share of them where it is the fullest by
+    share.
+    """
+
+    osd: int | None
+    groups: int
+    share: float | None
+
+
+class ExceptionParts(TypedDict):
+    """How many groups have exceptions before a change, which then have none, and of which some pairs go."""
+
+    before: int
+    gone: list[str]
+    fewer: list[str]
+
+
+class OutageParts(TypedDict):
+    """An outage: the OSDs that are down, and how many groups are short."""
+
+    down: list[int]
+    short: int
+
+
+class FlowParts(TypedDict):
+    """What moves, from where to where; what is left short, and what anew; the fullest OSDs; what exceptions go."""
+
+    groups: int
+    places: int
+    short: list[str]
+    short_anew: list[str]
+    below_min_size: list[str]
+    fullest_by_count: FullestParts
+    fullest_by_share: FullestParts
+    exceptions: ExceptionParts
+    outage: OutageParts | None
+    notes: list[str]
+    unbalanced: list[Entry]
+    flows: list[list[int]]
+
+
+def put_json(command: str, epoch: int | None, **parts: object) -> None:
+    """Puts out what a command tells as one object: which command it is, of which epoch it tells (None where there is
+    no lawful map), and its own parts.
+    """
+    print(json.dumps({"command": command, "epoch": epoch, **parts}, indent=1))

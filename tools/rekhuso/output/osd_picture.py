@@ -1,0 +1,113 @@
+"""The picture of OSDs and their shares, as SVG."""
+
+from __future__ import annotations
+
+import html
+
+from ..cluster.names import Names, named
+from ..cluster.shares import Shares
+from ..words import counted
+
+# Squares keep their colours in the dark, and so what stands in them.
+STYLE = (
+    "text{font:11px sans-serif;fill:#333}.r{font-weight:bold}.n{font-size:8px;text-anchor:middle;fill:#222}"
+    ".g{fill:#fff}.c{stroke:#999;stroke-width:.5}"
+    ".m{stroke:#111;stroke-width:1.5;fill:none}@media (prefers-color-scheme:dark){text{fill:#ddd}.n{fill:#222}"
+    ".g{fill:#181818}}"
+)
+CELL, GAP, ROW, LABEL, ACROSS, TALL = 18, 2, 22, 90, 32, 640
+
+
+def colour(groups: int, wanted: float) -> str:
+    """Grey at the share, towards red at twice as much, towards blue at nothing; white where nothing is due."""
+    if wanted <= 0:
+        return "#ffffff" if groups == 0 else "#c0392b"
+    away = max(-1.0, min(1.0, groups / wanted - 1))
+    ends = (192, 57, 43) if away > 0 else (41, 98, 180)
+    return "#" + "".join(f"{round(208 + (end - 208) * abs(away)):02x}" for end in ends)
+
+
+def cell(shares: Shares, osd: int, left: int, top: int) -> str:
+    """The square of an OSD."""
+    row = shares.osd_row(osd)
+    told = f"osd.{osd}: {counted(row['groups'], 'group')}, share {row['share']}, {row['state']}"
+    marks = ""
+    if "out" in row["state"] or row["state"] == "absent":
+        marks += f'<path d="M{left} {top}l{CELL} {CELL}M{left + CELL} {top}l-{CELL} {CELL}" class="m"/>'
+    if "down" in row["state"]:
+        marks += f'<path d="M{left} {top + CELL // 2}h{CELL}" class="m"/>'
+    fill = colour(row["groups"], row["share"])
+    number = "" if marks else f'<text x="{left + CELL // 2}" y="{top + CELL // 2 + 3}" class="n">{row["groups"]}</text>'
+    return (
+        f'<g><title>{html.escape(told)}</title><rect x="{left}" y="{top}" width="{CELL}" height="{CELL}" '
+        f'fill="{fill}" class="c"/>{marks}{number}</g>'
+    )
+
+
+def hosts_of(shares: Shares) -> list[tuple[str | int, int]]:
+    """The buckets that hold devices, each behind the bucket above it, in the order of the tree."""
+    found: list[tuple[str | int, int]] = []
+
+    def walk(number: int, above: str | int) -> None:
+        """Finds the hosts at or below a bucket that stands in another, or in none."""
+        items = [item for item, _ in shares.buckets[number]["items"]]
+        if any(item >= 0 for item in items):
+            found.append((above, number))
+        for item in items:
+            if item < 0:
+                walk(item, number)
+
+    for root in shares.roots():
+        walk(root, "")
+    return found
+
+
+def drawn(shares: Shares, names: Names, left: int) -> tuple[list[str], int, int]:
+    """The parts of one map's picture, where it ends on the right, and its height. A rack that would begin far down
+    begins a column.
+    """
+    hosts = hosts_of(shares)
+    widest = max(
+        (len([item for item, _ in shares.buckets[host]["items"] if item >= 0]) for _, host in hosts), default=1
+    )
+    column = LABEL + min(widest, ACROSS) * (CELL + GAP) + 24
+    parts, top, height, last = [], 24, 24, None
+    for above, host in hosts:
+        if above != last and above != "":
+            if top > TALL:
+                left, top = left + column, 24
+            parts.append(
+                f'<text x="{left}" y="{top + 12}" class="r">{html.escape(named(names, "buckets", int(above)))}</text>'
+            )
+            top += ROW
+        last = above
+        parts.append(f'<text x="{left}" y="{top + 13}">{html.escape(named(names, "buckets", host))}</text>')
+        devices = [item for item, _ in shares.buckets[host]["items"] if item >= 0]
+        for at, osd in enumerate(devices):
+            parts.append(
+                cell(shares, osd, left + LABEL + at % ACROSS * (CELL + GAP), top + at // ACROSS * (CELL + GAP))
+            )
+        top += max(ROW, ((len(devices) + ACROSS - 1) // ACROSS) * (CELL + GAP) + GAP)
+        height = max(height, top)
+    return parts, left + column, height
+
+
+def osd_picture(maps: list[Shares], names: Names, titles: list[str]) -> str:
+    """The SVG of one map or two."""
+    parts, left, height = [], 8, 0
+    for shares, title in zip(maps, titles):
+        own, right, tall = drawn(shares, names, left)
+        parts += [f'<text x="{left}" y="16" class="r">{html.escape(title)}</text>'] + own
+        left, height = right, max(height, tall)
+    width = max(left, 660)
+    legend = "".join(
+        f'<rect x="{8 + at * 24}" y="{height + 8}" width="24" height="10" fill="{colour(round(ratio * 100), 100)}"/>'
+        for at, ratio in enumerate((0, 0.5, 1, 1.5, 2))
+    )
+    return (
+        f'<svg xmlns="http://www.w3.org/2000/svg" width="{width}" height="{height + 40}" viewBox="0 0 {width} '
+        f'{height + 40}">'
+        f'<style>{STYLE}</style><rect width="100%" height="100%" class="g"/>{"".join(parts)}{legend}'
+        f'<text x="136" y="{height + 17}">no groups .. the share .. twice as many; in a square its groups; cross: out;'
+        f" bar: down</text></svg>\n"
+    )

@@ -1,0 +1,150 @@
+"""The HTML page of a map or a cluster, without outside parts."""
+
+from __future__ import annotations
+
+import html
+import json
+from collections.abc import Sequence
+from contextlib import ExitStack
+
+from ..cluster.names import Names, named
+from ..cluster.shares import Shares, spread_parts
+from ..cluster.view import ClusterView, NO_PLAN
+from ..plans.plan import DEFAULT_WISH, opened, outage_in, planned
+from ..program.answers import Up
+from ..program.maps import Map, Program, altered, entries_of, group_key, with_all_up
+from ..program.questions import up_sets
+from ..words import counted
+from .df_table import cells, node, nodes, summary, total_row
+from .osd_picture import osd_picture
+from .plan_words import page_words
+
+# The columns of `df`, those first that a narrow screen shows.
+PAGE_COLUMNS = ["PGS", "SHARE", "DEVIATION", "VAR", "STATUS", "WEIGHT", "REWEIGHT", "CLASS"]
+STYLE = """:root{color-scheme:light dark}body{font:15px/1.45 system-ui,sans-serif;margin:1rem auto;max-width:86rem;
+padding:0 1rem}
+table{border-collapse:collapse;width:100%;display:block;overflow-x:auto}
+td,th{padding:.2rem .6rem;text-align:right;border-bottom:1px solid #8884}
+th{text-align:right;white-space:nowrap}.sorts th{cursor:pointer}
+td:first-child,th:first-child{text-align:left;white-space:pre;position:sticky;left:0;background:Canvas}
+@media (max-width:40rem){td,th{padding:.2rem .3rem}body{padding:0 .4rem;font-size:13px}}
+pre,figure{overflow-x:auto;margin:0}h2{margin-top:2rem}.pair{display:grid;grid-template-columns:minmax(0,1fr);gap:1rem}
+.tree{max-height:48rem;overflow-y:auto}
+@media (min-width:75rem){.pair{grid-template-columns:minmax(0,1fr) minmax(0,1fr)}}"""
+SCRIPT = """document.querySelectorAll('.sorts th').forEach(h=>h.addEventListener('click',()=>{
+const t=h.closest('table'),b=t.tBodies[0],
+k=[...h.parentNode.children].indexOf(h),d=h.dataset.d=h.dataset.d==='1'?'-1':'1',
+v=r=>r.children[k].textContent,n=x=>parseFloat(x.replace('osd.',''));
+[...b.rows].sort((p,q)=>d*(isNaN(n(v(p)))||isNaN(n(v(q)))?v(p).localeCompare(v(q)):n(v(p))-n(v(q))))
+.forEach(r=>b.append(r))}))"""
+
+
+def table(columns: list[str], rows: Sequence[Sequence[object]], kind: str = "sorts") -> str:
+    """A table, which a click on a column sorts unless it is of another kind."""
+    head = "".join(f"<th>{html.escape(column)}</th>" for column in columns)
+    body = "".join("<tr>" + "".join(f"<td>{html.escape(str(entry))}</td>" for entry in row) + "</tr>" for row in rows)
+    return f'<table class="{kind}"><thead><tr>{head}</tr></thead><tbody>{body}</tbody></table>'
+
+
+def page_row(row: list[str]) -> list[str]:
+    """A row of `df` as the page has it: the name first, then the groups, so that a narrow screen shows both."""
+    number, kind, weight, reweight, share, deviation, var, groups, status, name = row
+    return [name, groups, share, deviation, var, status, weight, reweight, kind]
+
+
+def tree_rows(shares: Shares, names: Names) -> list[list[str]]:
+    """The tree with its sums as rows, the OSDs outside every bucket, and the totals, as `df` has them."""
+    tree, stray = nodes(shares, names), [node(shares, row, names) for row in shares.stray()]
+    rows = [[*cells(own, 0)[:-1], "  " * own["depth"] + own["name"]] for own in tree]
+    rows += [[*cells(own, 0)[:-1], f"{own['name']} (outside every bucket)"] for own in stray]
+    return [page_row(row) for row in [*rows, total_row(summary(shares))]]
+
+
+def osd_rows(shares: Shares, names: Names) -> list[list[str]]:
+    """Each OSD as a row, by its number."""
+    found = [node(shares, shares.osd_row(osd), names) for osd in sorted(shares.osds)]
+    return [page_row([*cells(own, 0)[:-1], own["name"]]) for own in found]
+
+
+def pool_rows(shares: Shares, names: Names) -> list[list[object]]:
+    """Each pool as a row."""
+    return [
+        [
+            named(names, "pools", pool["id"]),
+            pool["groups"],
+            pool["size"],
+            named(names, "rules", pool["rule"]),
+            pool["places"],
+            pool["short"],
+        ]
+        for pool in shares.pools()
+    ]
+
+
+def exception_rows(value: Map, program: Program) -> list[list[str]]:
+    """Each group with exceptions: what it would have without them, what it has, and whether they do anything."""
+    groups = sorted(
+        {group for key in ("pg_upmap", "pg_upmap_items") for group, _ in entries_of(value, key)}, key=group_key
+    )
+    up = with_all_up(value)
+    with_them = up_sets(program, up, groups) if groups else {}
+    without = up_sets(program, altered(up, pg_upmap=[], pg_upmap_items=[]), groups) if groups else {}
+    return [
+        [
+            group,
+            json.dumps(without[group].places),
+            json.dumps(with_them[group].places),
+            "acts" if without[group].places != with_them[group].places else "does nothing",
+        ]
+        for group in groups
+    ]
+
+
+def plan_part(whole: ClusterView, program: Program) -> str:
+    """The plan of the cluster as the page has it: what is said of it, as `plan` says it, and its commands."""
+    if whole.has_weight_set:
+        return f"<p>{html.escape(NO_PLAN)}</p>"
+    with ExitStack() as stack:
+        lives = opened(stack, whole, program)
+        outage, outcome = outage_in(lives), planned(lives, DEFAULT_WISH)
+    plan = [line for step in outcome.steps for line in step.commands]
+    said = ([] if outage is None else [str(outage)]) + page_words(outcome, whole.names)
+    told = "".join(f"<p>{html.escape(line)}</p>" for line in said)
+    return told + (f"<pre>{html.escape(chr(10).join(plan))}</pre>" if plan else "<p>Nothing is left to move.</p>")
+
+
+def heading(value: Map, shares: Shares, title: str) -> str:
+    """What the page begins with."""
+    even, pools = spread_parts(shares), len(value["pools"])
+    return (
+        f"<h1>{html.escape(title)}</h1><p>Epoch {value['epoch']}; {counted(len(shares.osds), 'OSD')}, "
+        f"{counted(pools, 'pool')}. "
+        f"An OSD has {even['least']} to {counted(even['greatest'], 'group')}; the standard deviation from the shares "
+        f"is {even['deviation']}.</p>"
+    )
+
+
+def page(whole: ClusterView, sets: dict[str, Up], program: Program, title: str) -> str:
+    """The page of a lawful map or of a cluster, as HTML."""
+    names, value, shares = whole.names, whole.tree, whole.shares(sets)
+    excepted = [row for own in whole.maps for row in exception_rows(own, program)]
+    parts = [
+        heading(value, shares, title),
+        '<h2>Where the groups are</h2><div class="pair"><figure>',
+        osd_picture([shares], names, [title]),
+        '</figure><div class="tree">',
+        table(["TYPE NAME", *PAGE_COLUMNS], tree_rows(shares, names), "sums"),
+        "</div></div><h2>OSDs</h2>",
+        table(["OSD", *PAGE_COLUMNS], osd_rows(shares, names)),
+        "<h2>Pools</h2>",
+        table(["POOL", "PGS", "SIZE", "RULE", "PLACES", "SHORT"], pool_rows(shares, names)),
+        "<h2>Exceptions</h2>",
+        table(["group", "without", "with", ""], excepted) if excepted else "<p>None.</p>",
+        "<h2>The plan</h2>",
+        plan_part(whole, program),
+    ]
+    return (
+        '<!doctype html><html lang="en"><meta charset="utf-8"><meta name="viewport" '
+        'content="width=device-width,initial-scale=1">'
+        f"<title>{html.escape(title)}</title><style>{STYLE}</style>{''.join(parts)}<script>{SCRIPT}</script></html>\n"
+    )

@@ -1,0 +1,119 @@
+"""The scripts of a plan: its commands group by group, and round them, as comments, what one must know before they are
+run and what they move.
+"""
+
+from __future__ import annotations
+
+import pathlib
+from dataclasses import dataclass
+
+from ..cluster.names import Names, named
+from ..faults import Fault
+from ..files import put
+from ..plans.movement import PlaceBytes
+from ..plans.steps import PlanStep
+from ..words import counted, share_words, size_words
+from .json_forms import MovingParts
+from .tables import aligned
+
+# What is told above the commands of a plan.
+BEFORE = [
+    "before: ceph balancer off (else its module undoes the moves, or goes on from them)",
+    "before: ceph osd set-require-min-compat-client luminous (clients must know upmap; refused beside older ones)",
+    "watch:  data moves as soon as a command is given: ceph status, until no group backfills or is misplaced, and",
+    "        ceph osd df tree, as an OSD to which groups come must not get nearfull",
+]
+
+
+def moving_words(found: MovingParts) -> str:
+    """What moves, in one phrase."""
+    words = f"{counted(found['groups'], 'group')} and {counted(found['places'], 'place')} move"
+    if found["bytes"] is None or found["share"] is None:
+        return words
+    return f"{words}, some {size_words(found['bytes'])}, {share_words(found['share'])} of the data"
+
+
+def comments(lines: list[str]) -> list[str]:
+    """Lines as comments of a shell, whatever characters names have."""
+    return ["# " + "".join(sign if sign.isprintable() else "?" for sign in line) for line in lines]
+
+
+def pool_table(weights: PlaceBytes, steps: list[PlanStep], names: Names) -> list[str]:
+    """What moves of each pool, as a table of text."""
+    rows, has_data = [["groups", "of", "places", "bytes", "of the data", "pool"]], weights.total is not None
+    for own in weights.by_pool(steps):
+        size = [size_words(own["bytes"] or 0), share_words(own["share"] or 0.0)] if has_data else ["", ""]
+        counts = [str(own["groups"]), str(own["of"]), str(own["places"])]
+        rows.append([*counts, *size, named(names, "pools", own["id"])])
+    return aligned([row if has_data else [*row[:3], row[5]] for row in rows])
+
+
+def osd_table(weights: PlaceBytes, steps: list[PlanStep], names: Names) -> list[str]:
+    """How many places come to each OSD and go from it, as a table of text."""
+    rows, total = [["come", "go", "more", "bytes more", "of the data", "OSD"]], weights.total
+    for own in weights.by_osd(steps):
+        more = (own["bytes_come"] or 0) - (own["bytes_go"] or 0)
+        size = [f"{'-' * (more < 0)}{size_words(abs(more))}", share_words(more / max(total or 0, 1))]
+        counts = [str(own["come"]), str(own["go"]), f"{own['come'] - own['go']:+d}"]
+        rows.append([*counts, *size, named(names, "osds", own["id"])])
+    return aligned([row if total is not None else [*row[:3], row[5]] for row in rows])
+
+
+def movement_tables(weights: PlaceBytes, steps: list[PlanStep], names: Names) -> list[str]:
+    """The table below a script: what moves, by pool and by OSD."""
+    return [
+        "What moves, by pool:",
+        *pool_table(weights, steps, names),
+        "By OSD, in places of groups:",
+        *osd_table(weights, steps, names),
+    ]
+
+
+@dataclass(frozen=True)
+class Script:
+    """A script: its first line, what else is told above it, what its steps weigh, and names."""
+
+    __slots__ = ("title", "notes", "weights", "names")
+    title: str
+    notes: list[str]
+    weights: PlaceBytes
+    names: Names
+
+    def text(self, steps: list[PlanStep]) -> str:
+        """The commands of some steps between what is told of them; the first that is refused ends the script."""
+        lines = [line for step in steps for line in step.commands]
+        moving = moving_words(self.weights.moving(steps))
+        title = f"{self.title}: {moving}, by {counted(len(lines), 'command')}; a table stands at the end"
+        above, below = comments([title, *BEFORE, *self.notes]), comments(
+            movement_tables(self.weights, steps, self.names)
+        )
+        return "\n".join([*above, "set -e", *lines, *below]) + "\n"
+
+
+def part_file(word: str, number: int, count: int) -> str:
+    """The name of a file for one of so many parts, by which they stand in their order."""
+    return f"{word}-{number:0{max(3, len(str(count)))}}.sh"
+
+
+def folder_of(path: str, word: str) -> pathlib.Path:
+    """A folder for files of a name, which is made where there is none. A fault where it cannot, or where it has such
+    files, which would be run with those that come.
+    """
+    folder = pathlib.Path(path)
+    try:
+        folder.mkdir(parents=True, exist_ok=True)
+        there = sorted(own.name for own in folder.iterdir() if own.match(f"{word}-*.sh"))
+    except OSError as fault:
+        raise Fault(f"{path}: {fault.strerror}") from None
+    if there:
+        raise Fault(f"{folder / there[0]} is there already: name another folder")
+    return folder
+
+
+def put_batches(path: str, word: str, texts: list[str]) -> None:
+    """Writes each part into a file of a folder, by its number, and tells the files; where there is none, nothing."""
+    folder = folder_of(path, word) if texts else pathlib.Path(path)
+    for number, text in enumerate(texts, 1):
+        own = str(folder / part_file(word, number, len(texts)))
+        put(own, text)
+        print(own)

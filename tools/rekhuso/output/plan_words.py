@@ -1,0 +1,87 @@
+"""Plans in words."""
+
+from __future__ import annotations
+
+from fractions import Fraction
+
+from ..cluster.names import Names, named
+from ..plans.plan import Outcome
+from ..plans.rounds import MOST_MOVES
+from ..words import counted
+from .fill_words import fill_words, room_words, spread_words
+from .json_forms import PlanParts
+
+# The number of the refusal of a pool whose rule has several blocks, and what is said of it.
+BLOCKS = "29 "
+OF_BLOCKS = "its rule takes OSDs in several steps, of which the balancer plans none"
+
+
+def refusal_words(refusal: str) -> str:
+    """Why a pool gets no plan."""
+    return f"no plan: {OF_BLOCKS} ({refusal})" if refusal.startswith(BLOCKS) else f"no plan: {refusal}"
+
+
+def left_words(left: list[str], why: str) -> str:
+    """How many groups are left out, and why, where some are."""
+    if not left:
+        return ""
+    count = "1 group is" if len(left) == 1 else f"{len(left)} groups are"
+    return f"; {count} left out, whose pairs Ceph's monitor would take away again, by {why}"
+
+
+def length_words(parts: PlanParts, deviation: Fraction | None) -> str:
+    """How long a plan is, beside the one that a deviation asks for and the whole one."""
+    wanted, length = parts["moves_within"], parts["moves_whole"]
+    if length is None or deviation is None:
+        return ""
+    most = f"{float(deviation):g}"
+    whole = f"{length} in the whole plan" if length < MOST_MOVES else f"{MOST_MOVES} in a plan of at most {MOST_MOVES}"
+    if wanted is None:
+        return f"; {whole}, which does not come within {most} of each share"
+    return f"; {counted(wanted, 'move')} {'comes' if wanted == 1 else 'come'} within {most} of each share, {whole}"
+
+
+def pool_words(parts: PlanParts, deviation: Fraction | None) -> str:
+    """What a pool's plan is."""
+    if parts["refused"]:
+        return f"{refusal_words(parts['refused'])}; it has {spread_words(parts['before'])}"
+    return (
+        f"{counted(parts['moves'], 'move')} of {counted(parts['groups'], 'group')}{length_words(parts, deviation)}; "
+        f"before {spread_words(parts['before'])}; "
+        f"after {spread_words(parts['after'])}{left_words(parts['left_out'], parts['left_out_by'])}"
+    )
+
+
+def cluster_words(outcome: Outcome, names: Names) -> list[str]:
+    """How even the cluster is before and after its plans, a line each by groups, by bytes, and for the pool with most
+    data.
+    """
+    before, after = outcome.before, outcome.after
+    found = [f"by groups: before {fill_words(before['groups'], names)}; after {fill_words(after['groups'], names)}"]
+    if before["bytes"] is not None and after["bytes"] is not None:
+        words = fill_words(before["bytes"], names, True), fill_words(after["bytes"], names, True)
+        found.append(f"by bytes: before {words[0]}; after {words[1]}")
+    if outcome.largest is not None and before["room"] is not None and after["room"] is not None:
+        name = named(names, "pools", outcome.largest)
+        found.append(f"room of {name}, the pool with most data: {room_words(before['room'], after['room'])}")
+    if outcome.taken_out:
+        count = len(outcome.taken_out)
+        groups = "1 group is" if count == 1 else f"{count} groups are"
+        found.append(
+            f"as a whole: {groups} left where they are, or it would get less even, or an OSD fuller than the fullest"
+        )
+    return [f"cluster {line}" for line in found]
+
+
+def page_words(outcome: Outcome, names: Names) -> list[str]:
+    """What a page says of plans: of the cluster, and of the pools that get none."""
+    refused = [parts for parts in outcome.pools if parts["refused"]]
+    return cluster_words(outcome, names) + [
+        f"{parts['name']}: {refusal_words(parts['refused'] or '')}" for parts in refused
+    ]
+
+
+def plan_lines(outcome: Outcome, names: Names, deviation: Fraction | None) -> list[str]:
+    """All that is told of plans: first of the cluster, then of each pool."""
+    pools = [f"{parts['name']}: {pool_words(parts, deviation)}" for parts in outcome.pools]
+    return cluster_words(outcome, names) + pools

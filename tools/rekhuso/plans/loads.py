@@ -1,0 +1,118 @@
+"""What OSDs carry from other pools: by this each pool of a cluster is planned for the sake of the whole.
+
+A pool's plan evens the pool, and beside it the cluster: the balancer counts on an OSD, beside its groups of the pool,
+what it carries from all other pools. There G is by how many groups an OSD is above its shares of the other pools, and
+B the same where each pool counts by what its places hold, of the mean over all places. Where s is what a place of the
+pool itself holds, an OSD carries (G + s * B) / (2 + s * s) groups, and without data G / 2; at most half of what two
+OSDs must differ by for a move. With the other pools held still, a plan then lowers the sum of the squares of all
+deviations: those of the pools, those of the groups over all pools, and those of the data.
+
+All is reckoned in whole numbers of parts of a group, so no sum depends on its order.
+"""
+
+from __future__ import annotations
+
+from collections.abc import Iterable, Mapping
+from dataclasses import dataclass
+from fractions import Fraction
+
+# The parts of a group, and of what a place holds in the mean.
+GROUP_PARTS, MEAN_PARTS = 1 << 64, 1 << 32
+# The program is told 256ths of a group.
+STEP_PARTS = GROUP_PARTS >> 8
+
+
+@dataclass(frozen=True)
+class Laid:
+    """A pool as it lies on OSDs: what a place of it holds (0 where nobody tells), the shares of the OSDs that may have
+    its groups, and how many groups each has.
+    """
+
+    __slots__ = ("place", "shares", "counts")
+
+    place: int
+    shares: dict[int, int]
+    counts: dict[int, int]
+
+    def deviations(self, most: int | None = None) -> dict[int, int]:
+        """How far each OSD is above its share or, negative, below it; at most so many parts, where these are given."""
+        counts = self.counts
+        found = {osd: counts.get(osd, 0) * GROUP_PARTS - share for osd, share in self.shares.items()}
+        if most is None:
+            return found
+        return {osd: -most if own < -most else most if own > most else own for osd, own in found.items()}
+
+
+def shares_of(trees: Iterable[Mapping[int, int]], counts: Mapping[int, int]) -> dict[int, int]:
+    """The shares of OSDs by their weights: each tree's groups are shared among its own OSDs."""
+    found: dict[int, int] = {}
+    for weights in trees:
+        groups, total = sum(counts.get(osd, 0) for osd in weights), sum(weights.values())
+        found.update({osd: groups * weight * GROUP_PARTS // total for osd, weight in weights.items()})
+    return found
+
+
+def held_by_places(held: Mapping[int, int], places: Mapping[int, int]) -> dict[int, int]:
+    """What a place of each pool holds, by the bytes and the places of all pools; 0 where no pool holds anything."""
+    total, count = sum(held.values()), sum(places.values())
+    return {pool: held[pool] * count * MEAN_PARTS // (own * total) if total else 0 for pool, own in places.items()}
+
+
+def order_of(pools: Iterable[int], places: Mapping[int, int], held: Mapping[int, int] | None) -> list[int]:
+    """Some pools in the order in which they are planned: first the one whose places hold most, or where no pool holds
+    anything the one with most places; of several the lowest.
+    """
+    own = held or {}
+    if not any(own.values()):
+        return sorted(pools, key=lambda pool: (-places[pool], pool))
+    return sorted(pools, key=lambda pool: (-Fraction(own[pool], places[pool]), pool))
+
+
+class Loads:
+    """What the pools lay on OSDs beyond their shares, in groups and by what these hold. A pool whose plan is still to
+    come counts with no more than a plan leaves.
+    """
+
+    def __init__(self, pools: Mapping[int, Laid], later: Iterable[int], most: int) -> None:
+        """Takes pools by their numbers, which of them are still to be planned, and the parts that a plan leaves."""
+        self.pools, self.later = pools, set(later)
+        self.groups: dict[int, int] = {}
+        self.data: dict[int, int] = {}
+        self.own = {number: pool.deviations(most if number in self.later else None) for number, pool in pools.items()}
+        for number, own in self.own.items():
+            self.add(number, own)
+
+    def add(self, number: int, more: Mapping[int, int]) -> None:
+        """So many parts more of a pool count on OSDs."""
+        groups, data, place = self.groups, self.data, self.pools[number].place
+        for osd, parts in more.items():
+            groups[osd] = groups.get(osd, 0) + parts
+            data[osd] = data.get(osd, 0) + parts * place
+
+    def put(self, number: int, moved: Mapping[int, int]) -> None:
+        """A pool has so many groups more on OSDs that may have some, and from now on it counts as it lies."""
+        pool, own = self.pools[number], self.own[number]
+        for osd, groups in moved.items():
+            pool.counts[osd] = pool.counts.get(osd, 0) + groups
+        if number in self.later:
+            self.later.discard(number)
+            self.own[number] = pool.deviations()
+            self.add(number, {osd: parts - own[osd] for osd, parts in self.own[number].items() if parts != own[osd]})
+            return
+        more = {osd: groups * GROUP_PARTS for osd, groups in moved.items() if osd in own}
+        for osd, parts in more.items():
+            own[osd] += parts
+        self.add(number, more)
+
+    def carried(self, number: int, half: int) -> dict[int, int]:
+        """What each OSD that may have groups of a pool carries from the others, in 256ths of a group: to the nearest,
+        and at most so many.
+        """
+        place, squared, found = self.pools[number].place, MEAN_PARTS * MEAN_PARTS, {}
+        groups, data = self.groups, self.data
+        one = STEP_PARTS * (2 * squared + place * place)
+        for osd, own in self.own[number].items():
+            parts = (groups[osd] - own) * squared + place * (data[osd] - own * place)
+            nearest = (2 * parts + one) // (2 * one)
+            found[osd] = -half if nearest < -half else half if nearest > half else nearest
+        return found

@@ -1,0 +1,72 @@
+"""What the steps of a plan move, by pool and by OSD: groups, places and bytes."""
+
+from __future__ import annotations
+
+from collections import Counter
+from dataclasses import dataclass
+from typing import cast
+
+from ..cluster.pool_data import Data
+from ..output.json_forms import MovingParts, OsdMovingParts, PoolMovingParts
+from ..program.maps import Pool, altered
+from .steps import PlanStep, steps_by_pool
+
+
+@dataclass(frozen=True)
+class PlaceBytes:
+    """The pools of a plan, the bytes of one place of each, and the bytes of all pools of the cluster, where they are
+    known, else None.
+    """
+
+    __slots__ = ("pools", "places", "total")
+    pools: list[Pool]
+    places: dict[int, float]
+    total: int | None
+
+    def moving(self, steps: list[PlanStep]) -> MovingParts:
+        """What some steps move: groups, places, and where it is known bytes and their share of all pools' data."""
+        places = Counter(step.pool for step in steps for _ in step.comes())
+        size = sum(self.places.get(pool, 0.0) * count for pool, count in places.items())
+        return {
+            "groups": sum(step.was != step.now for step in steps),
+            "places": sum(places.values()),
+            "bytes": None if self.total is None else round(size),
+            "share": None if self.total is None else size / max(self.total, 1),
+        }
+
+    def by_pool(self, steps: list[PlanStep]) -> list[PoolMovingParts]:
+        """The same pool by pool, of pools of which something moves."""
+        own = steps_by_pool(steps)
+        found = [altered(self.moving(own.get(pool["id"], [])), id=pool["id"], of=pool["pg_num"]) for pool in self.pools]
+        return [cast(PoolMovingParts, part) for part in found if part["groups"]]
+
+    def by_osd(self, steps: list[PlanStep]) -> list[OsdMovingParts]:
+        """How many places come to each OSD and go from it, and where they are known their bytes."""
+        come: Counter[int] = Counter()
+        gone: Counter[int] = Counter()
+        size: dict[tuple[int, bool], float] = {}
+        for step in steps:
+            place = self.places.get(step.pool, 0.0)
+            for counts, osds in ((come, step.comes()), (gone, step.leaves())):
+                for osd in osds:
+                    counts[osd] += 1
+                    key = osd, counts is come
+                    size[key] = size.get(key, 0.0) + place
+        is_told = self.total is not None
+        return [
+            {
+                "id": osd,
+                "come": come[osd],
+                "go": gone[osd],
+                "bytes_come": round(size.get((osd, True), 0.0)) if is_told else None,
+                "bytes_go": round(size.get((osd, False), 0.0)) if is_told else None,
+            }
+            for osd in sorted(come | gone)
+        ]
+
+
+def place_bytes(pools: list[Pool], data: Data | None) -> PlaceBytes:
+    """What the places of some pools hold, by the output of `ceph df` where there is one."""
+    if data is None:
+        return PlaceBytes(pools, {}, None)
+    return PlaceBytes(pools, {pool["id"]: data.place(pool) for pool in pools}, sum(data.of_pool.values()))

@@ -1,0 +1,61 @@
+"""The fewest pairs that lead each group to the set that it has now."""
+
+from __future__ import annotations
+
+from ..faults import Fault
+from ..program.answers import Up
+from ..program.maps import Map, altered, entries_of, group_key
+from ..program.session import Session
+from ..words import counted
+
+
+def own_pairs(base: list[int | None], wanted: list[int | None]) -> list[list[int]] | None:
+    """One pair for each place that differs; None where pairs alone cannot say it."""
+    differ = [(was, now) for was, now in zip(base, wanted) if was != now]
+    if len(base) != len(wanted) or any(was is None or now is None or now in base for was, now in differ):
+        return None
+    return [[was, now] for was, now in differ if was is not None and now is not None]
+
+
+def netted(value: Map, wanted: dict[str, Up], base: dict[str, Up]) -> Map:
+    """The map with the fewest pairs, where some groups want these sets and have those by their rule alone."""
+    explicit: dict[str, list[int | None]] = dict(entries_of(value, "pg_upmap"))
+    items: dict[str, list[list[int]]] = {}
+    for group, pairs in value.get("pg_upmap_items", []):
+        places = wanted[group].places
+        found = own_pairs(base[group].places, places)
+        if found is not None:
+            explicit.pop(group, None)
+            items.update({group: pairs if sorted(found) == sorted(pairs) else found} if found else {})
+        elif None not in places and len(set(places)) == len(places):
+            explicit[group] = places
+        else:
+            items[group] = pairs
+    return altered(
+        value,
+        pg_upmap=[[group, explicit[group]] for group in sorted(explicit, key=group_key)],
+        pg_upmap_items=[[group, items[group]] for group in sorted(items, key=group_key)],
+    )
+
+
+def settled(session: Session, value: Map) -> Map:
+    """A session's map with the fewest pairs, once the program has answered that the set of each group with pairs is
+    as it was. All OSDs of the session's map are up afterwards. A fault where a group would move.
+    """
+    groups = [group for group, _ in value.get("pg_upmap_items", [])]
+    if not groups:
+        return value
+    session.change(up=[osd["id"] for osd in value["osds"] if osd["exists"] and not osd["up"]])
+    wanted = session.ups(groups)
+    session.change(old_upmap=groups, old_items=groups)
+    new = netted(value, wanted, session.ups(groups))
+    own = set(groups)
+    explicit, items = (
+        [entry for entry in entries_of(new, key) if entry[0] in own] for key in ("pg_upmap", "pg_upmap_items")
+    )
+    session.change(new_upmap=explicit, new_items=items)
+    after = session.ups(groups)
+    unlike = [group for group in groups if wanted[group].places != after[group].places]
+    if unlike:
+        raise Fault(f"{counted(len(unlike), 'group')} would move, the first {unlike[0]}: nothing is put out")
+    return new

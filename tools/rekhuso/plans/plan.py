@@ -1,0 +1,240 @@
+"""Plans of a cluster's pools as steps, and how even the pools and the cluster are before and after them."""
+
+from __future__ import annotations
+
+import sys
+from collections.abc import Callable
+from contextlib import ExitStack
+from dataclasses import dataclass
+from fractions import Fraction
+
+from ..cluster.cleanup import going, reason_words
+from ..cluster.conversion import monitor_of
+from ..cluster.judge import Reason, judge_of_cluster, judge_of_map
+from ..cluster.names import named
+from ..cluster.outage import Outage, outage_of
+from ..cluster.pool_data import Data
+from ..cluster.view import ClusterView, NO_PLAN
+from ..faults import Fault
+from ..output.json_forms import ClusterParts, PlanParts
+from ..program.maps import Program, group_key
+from .measures import Measures, counts_after, pool_spread
+from .mend import mended
+from .pairs import settled
+from .pool_plans import PoolPlan, pool_plans
+from .rounds import Live, Planner, barred_words, left_out
+from .step_order import parts_in_order
+from .steps import PlanStep, appended_pairs, batches, in_old_order, steps_by_pool, steps_of
+
+# How many groups an OSD may be from its share after a plan, where nothing else is asked for.
+DEVIATION = Fraction(1)
+
+
+@dataclass(frozen=True)
+class Wish:
+    """What plans are asked for: the pools that are named (all of several groups where none is), how near its shares a
+    plan brings OSDs, how many commands or moves there are at most, how many commands stand in a part, whether each pool
+    is planned by itself, and what the pools hold.
+    """
+
+    __slots__ = ("named", "deviation", "most", "batch", "is_alone", "data")
+
+    named: frozenset[int]
+    deviation: Fraction | None
+    most: int
+    batch: int
+    is_alone: bool
+    data: Data | None
+
+    def half(self) -> int:
+        """Half of what two OSDs must differ by for a move, in 256ths of a group."""
+        return round(256 * (DEVIATION if self.deviation is None else self.deviation))
+
+
+# As much as anyone asks for.
+ALL = sys.maxsize
+# The plan of a whole cluster, where nothing else is asked for.
+DEFAULT_WISH = Wish(frozenset(), None, ALL, ALL, False, None)
+
+
+@dataclass(frozen=True)
+class Outcome:
+    """What plans are: the steps in the parts in which they are taken, the groups whose steps were taken out for the
+    sake of the cluster, what is told of each pool and of the cluster before and after, and the pool with most data, if
+    it is known.
+    """
+
+    __slots__ = ("parts", "taken_out", "pools", "before", "after", "largest")
+
+    parts: list[list[PlanStep]]
+    taken_out: list[str]
+    pools: list[PlanParts]
+    before: ClusterParts
+    after: ClusterParts
+    largest: int | None
+
+    @property
+    def steps(self) -> list[PlanStep]:
+        """All steps in their order."""
+        return [step for part in self.parts for step in part]
+
+
+@dataclass(frozen=True)
+class PlannedSteps:
+    """What has been planned: why a pool has no plan, the groups that are left out, each with the reason, the plans of
+    pools by themselves, and the steps.
+    """
+
+    __slots__ = ("refusals", "left", "plans", "steps")
+
+    refusals: dict[int, str]
+    left: dict[str, Reason]
+    plans: dict[int, PoolPlan]
+    steps: list[PlanStep]
+
+
+def alone_steps(lives: list[Live], wanted: list[int], wish: Wish) -> PlannedSteps:
+    """Plans pools each by itself, and takes back what is left out."""
+    plans: dict[int, PoolPlan] = {}
+    gone: dict[str, Reason] = {}
+    steps: list[PlanStep] = []
+    for live in lives:
+        own = {number: PoolPlan(0, barred_words(why), None, None) for number, why in live.barred.items()}
+        free = [pool for number, pool in live.pools.items() if number in wanted and number not in own]
+        own.update(pool_plans(live, free, wish.deviation, wish.most))
+        left = left_out(live, live.changed())
+        come = appended_pairs(live.value, live.session.dump())
+        if left:
+            live.take_back(list(left))
+        kept, lost = steps_in(live)
+        left.update(lost)
+        for number in own.keys() & set(wanted):
+            plan = own[number]
+            pairs = sum(len(pairs) for group, pairs in come.get(number, {}).items() if group in left)
+            plans[number] = PoolPlan(plan.moves - pairs, plan.refusal, plan.wanted, plan.whole)
+        gone.update(left)
+        steps += kept
+    return PlannedSteps({number: plan.refusal for number, plan in plans.items() if plan.refusal}, gone, plans, steps)
+
+
+def cluster_steps(lives: list[Live], wanted: list[int], wish: Wish, tell: Callable[[str], None]) -> PlannedSteps:
+    """Plans pools for the sake of the whole cluster."""
+    planner = Planner(lives, wanted, wish.data, wish.half())
+    planner.play(tell)
+    left, steps = planner.left, []
+    for live in lives:
+        kept, lost = steps_in(live)
+        left.update(lost)
+        steps += kept
+    return PlannedSteps(planner.refusals, left, {}, steps)
+
+
+def steps_in(live: Live) -> tuple[list[PlanStep], dict[str, Reason]]:
+    """The steps from a map to what its session has now, with the fewest pairs; and the groups without a step, as a
+    monitor would take away what it gives them, each with the reason. Afterwards no other session is like it.
+    """
+    ups, new = live.session.ups(live.changed()), live.session.dump()
+    new = in_old_order(live.value, settled(live.session, new))
+    steps = steps_of(live.value, live.kept, new, live.before.ups, ups)
+    lost = going(live.judge, live.session, new, [step.group for step in steps])
+    return [step for step in steps if step.group not in lost], lost
+
+
+def first_steps(parts: list[list[PlanStep]], most: int) -> list[list[PlanStep]]:
+    """The first steps of some parts, with at most so many commands."""
+    found: list[list[PlanStep]] = []
+    for part in parts:
+        own: list[PlanStep] = []
+        for step in part:
+            most -= len(step.commands)
+            if most < 0:
+                return found + ([own] if own else [])
+            own.append(step)
+        found.append(own)
+    return found
+
+
+def step_parts(measures: Measures, steps: list[PlanStep], wish: Wish) -> list[list[PlanStep]]:
+    """The steps of a plan in parts: of plans of pools by themselves as the groups are numbered, else those first that
+    are worth most.
+    """
+    if wish.is_alone:
+        return batches(steps, wish.batch)
+    used = measures.bytes(measures.counts)
+    if used is None or not used.osds():
+        parts = parts_in_order(measures.groups(measures.counts), None, steps, wish.batch)
+    else:
+        parts = parts_in_order(used, measures.places, steps, wish.batch)
+    return first_steps(parts, wish.most)
+
+
+def wanted_of(lives: list[Live], wish: Wish) -> list[int]:
+    """The pools that are to be planned: those that are named, else all of several groups, and by themselves all."""
+    pools = {number: pool for live in lives for number, pool in live.pools.items()}
+    if wish.named or wish.is_alone:
+        return sorted(number for number in pools if number in wish.named or not wish.named)
+    return sorted(number for number, pool in pools.items() if pool["pg_num"] > 1)
+
+
+def opened(stack: ExitStack, whole: ClusterView, program: Program) -> list[Live]:
+    """The maps of a cluster with a session each, which end with the stack. A fault where a weight set is in force."""
+    if whole.has_weight_set:
+        raise Fault(NO_PLAN)
+    sessions = [stack.enter_context(monitor_of(value, program, True)) for value in whole.maps]
+    if whole.found:
+        return [
+            Live(value, part.kept_exceptions(), whole.names, judge_of_cluster(part), session)
+            for value, part, session in zip(whole.maps, whole.found.parts, sessions)
+        ]
+    return [
+        Live(value, value, whole.names, judge_of_map(value, whole.names), session)
+        for value, session in zip(whole.maps, sessions)
+    ]
+
+
+def outage_in(lives: list[Live]) -> Outage | None:
+    """The outage that a cluster is amid; None where it is amid none."""
+    osds = {osd["id"]: osd for live in lives for osd in live.value["osds"]}
+    pools = [pool for live in lives for pool in live.pools.values()]
+    return outage_of(osds.values(), pools, {group: up for live in lives for group, up in live.before.ups.items()})
+
+
+def silent(_: str) -> None:
+    """Tells nobody how far a plan is."""
+
+
+def planned(lives: list[Live], wish: Wish, tell: Callable[[str], None] = silent) -> Outcome:
+    """Plans pools of a cluster, and tells how far it is meanwhile."""
+    wanted = wanted_of(lives, wish)
+    made = alone_steps(lives, wanted, wish) if wish.is_alone else cluster_steps(lives, wanted, wish, tell)
+    measures = Measures(lives, wish.data)
+    steps = sorted(made.steps, key=lambda step: group_key(step.group))
+    kept = steps if wish.is_alone else mended(measures.gauges(), steps)
+    parts, taken_out = step_parts(measures, kept, wish), sorted(
+        {step.group for step in steps} - {step.group for step in kept}, key=group_key
+    )
+    of_pool = steps_by_pool([step for part in parts for step in part])
+    after = {number: counts_after(own, of_pool.get(number, [])) for number, own in measures.counts.items()}
+    pools = [pool_parts(measures, number, made, after[number], of_pool.get(number, [])) for number in wanted]
+    return Outcome(parts, taken_out, pools, measures.told(measures.counts), measures.told(after), measures.largest())
+
+
+def pool_parts(
+    measures: Measures, number: int, made: PlannedSteps, after: dict[int, int], steps: list[PlanStep]
+) -> PlanParts:
+    """What is told of a pool's plan."""
+    live, plan, shares = measures.lives[number], made.plans.get(number), measures.shares[number]
+    left = {group: why for group, why in made.left.items() if group_key(group)[0] == number}
+    return {
+        "id": number,
+        "name": named(live.names, "pools", number),
+        "moves": sum(len(step.comes()) for step in steps) if plan is None else plan.moves,
+        "groups": sum(step.was != step.now for step in steps),
+        "refused": made.refusals.get(number),
+        "moves_within": None if plan is None else plan.wanted,
+        "moves_whole": None if plan is None else plan.whole,
+        "left_out": list(left),
+        "left_out_by": reason_words(left.values()),
+        "before": pool_spread(measures.counts[number], shares),
+        "after": pool_spread(after, shares),
+    }

@@ -1,0 +1,196 @@
+"""What moves if commands are given to a cluster: two runs over all groups, and their difference."""
+
+from __future__ import annotations
+
+from collections.abc import Sequence
+from contextlib import ExitStack
+from dataclasses import dataclass
+
+from ..cluster.affinity import affinities_of, all_with_affinity, applied_words
+from ..cluster.aftermath import (
+    Aftermath,
+    Arrival,
+    Command,
+    NewMap,
+    StateChange,
+    aftermath,
+    excepted_groups,
+    exceptions_in,
+)
+from ..cluster.cleanup import reason_words
+from ..cluster.conversion import map_of, monitor_of
+from ..cluster.flows import fewer_in, flows, fullest_by_count, fullest_by_share, short_in
+from ..cluster.imports import ImportedCluster, map_clusters
+from ..cluster.map_dumps import cluster_of_map
+from ..cluster.outage import check_outage, outage_of
+from ..cluster.view import ClusterView
+from ..faults import Fault
+from ..output.json_forms import FlowParts
+from ..program.answers import Up
+from ..program.map_forms import change_form
+from ..program.maps import Change, Entry, Map, Program, group_key, groups_of, written
+from ..words import some
+from .plan import DEFAULT_WISH, opened, outage_in, planned
+
+
+@dataclass(frozen=True)
+class ClusterSets:
+    """The sets of a cluster's groups by its maps, and the pools that could not be balanced, each with why."""
+
+    __slots__ = ("ups", "refused")
+    ups: dict[str, Up]
+    refused: list[Entry]
+
+
+def sets_of_maps(maps: Sequence[Map], program: Program) -> ClusterSets:
+    """What the program answers over the maps of a cluster."""
+    found: dict[str, Up] = {}
+    for value in maps:
+        with monitor_of(value, program) as monitor:
+            found.update(monitor.ups(groups_of(value)))
+    return ClusterSets(found, [])
+
+
+@dataclass(frozen=True)
+class Balance:
+    """That a cluster is balanced after a change: also amid an outage, or not then."""
+
+    __slots__ = ("is_anyway",)
+    is_anyway: bool
+
+
+def balanced_sets(whole: ClusterView, program: Program, balance: Balance) -> ClusterSets:
+    """The same once the cluster is balanced by the plan that `plan` makes. A fault where a weight set is in force, or
+    amid an outage unless it is balanced anyway.
+    """
+    with ExitStack() as stack:
+        lives = opened(stack, whole, program)
+        check_outage(outage_in(lives), balance.is_anyway)
+        outcome = planned(lives, DEFAULT_WISH)
+    found = {group: up for live in lives for group, up in live.before.ups.items()}
+    for step in outcome.steps:
+        first = next((osd for osd in step.now if osd is not None), None)
+        found[step.group] = found[step.group]._replace(places=step.now, primary=first)
+    return ClusterSets(found, [[parts["id"], parts["refused"]] for parts in outcome.pools if parts["refused"]])
+
+
+def pool_in(entry: Entry | int | str) -> int:
+    """The pool that an entry of a change names, by its id or by a group."""
+    key = entry[0] if isinstance(entry, list) else entry
+    return key if isinstance(key, int) else int(key.split(".")[0])
+
+
+def change_for(value: Map, change: Change, maps: list[Map]) -> Change:
+    """What of a change concerns one map of several: what it says of OSDs, and of pools and groups of this map; what
+    it says of pools that are in none goes to the first, whose refusal tells it. A fault for a part that no cluster
+    of several maps can be given.
+    """
+    if len(maps) == 1 or list(change_form(True)(change, "")):
+        return change
+    whole = [key for key in ("new_crush", "new_pools") if key in change]
+    if whole:
+        raise Fault(f"{whole[0]}: the cluster takes {len(maps)} maps: import one by --pools, and ask of that")
+    own = {pool["id"] for pool in value["pools"]}
+    others = {pool["id"] for each in maps for pool in each["pools"]} - own
+    found = dict(change)
+    for key in ("old_pools", "grow_pool", "old_upmap", "old_items", "new_upmap", "new_items"):
+        if key in change:
+            mine = [
+                entry
+                for entry in change[key]
+                if (number := pool_in(entry)) in own or number not in others and value is maps[0]
+            ]
+            found.pop(key)
+            found.update({key: mine} if mine else {})
+    return found
+
+
+def accepted(maps: list[Map], change: Change, program: Program) -> Command:
+    """A change as a command, once the program accepts it over each map. A fault where it does not."""
+    change = {"base": maps[0]["epoch"], **change}
+    for value in maps:
+        with monitor_of(value, program) as monitor:
+            answer = monitor.raw([f"change {written(change_for(value, change, maps))}"])[0]
+            if not answer.startswith("ok "):
+                raise Fault(f"the change is refused: {answer.removeprefix('err ')}")
+            if "new_crush" in change:
+                return NewMap(monitor.dump())
+    return StateChange(change)
+
+
+class Question:
+    """A cluster, or the one that a map alone tells of, with the sets that it has before anything is changed."""
+
+    def __init__(self, whole: ClusterView, program: Program, balance: Balance | None = None) -> None:
+        """Takes what a command works on, and how the cluster is balanced after a change, if it is; asks the program for
+        the sets.
+        """
+        self.whole, self.program, self.balance = whole, program, balance
+        self.cluster = whole.found.cluster if whole.found else cluster_of_map(whole.maps[0], whole.names)
+        self.affinities = affinities_of(self.cluster)
+        self.before = all_with_affinity(whole.pools, sets_of_maps(whole.maps, program).ups, self.affinities)
+        self.outage = outage_of(whole.tree["osds"], whole.pools, self.before)
+
+    def result(self, steps: list[Command]) -> tuple[FlowParts, ClusterView]:
+        """What some commands move, and the cluster after them."""
+        course = aftermath(self.cluster, steps, self.program)
+        parts = map_clusters(course.cluster)
+        maps = [map_of(part) for part in parts]
+        whole = ClusterView(maps, course.cluster.all_names(), ImportedCluster(course.cluster, parts, maps))
+        if self.balance is None:
+            answers = sets_of_maps(maps, self.program)
+        else:
+            answers = balanced_sets(whole, self.program, self.balance)
+        found = self.told(course, whole, answers)
+        if not self.whole.found and any(isinstance(step, Arrival) for step in steps):
+            found["notes"].append(
+                "the id of the new host's bucket is a guess, by which the moves go: a map alone does not tell "
+                "which ids are taken, the dumps do"
+            )
+        return found, whole
+
+    def notes(self, course: Aftermath) -> list[str]:
+        """What else is told of the cluster after some commands."""
+        found = []
+        if course.gone:
+            found.append(
+                f"{len(course.gone)} of {self.count()} groups with exceptions lose them, as Ceph's monitor takes them "
+                f"away: {reason_words(course.gone.values())}"
+            )
+        if course.fewer:
+            found.append(f"{some(course.fewer)} lose pairs that do nothing then")
+        if course.later:
+            found.append(f"{some(sorted(course.later, key=group_key))} lose exceptions at the map after it")
+        return found + ([applied_words(self.affinities)] if self.affinities else [])
+
+    def count(self) -> int:
+        """How many groups have exceptions before anything is changed."""
+        return len(excepted_groups(exceptions_in(self.cluster.osd_dump)))
+
+    def told(self, course: Aftermath, whole: ClusterView, answers: ClusterSets) -> FlowParts:
+        """All that is told of the cluster after some commands."""
+        before, pools = self.before, whole.pools
+        ups = all_with_affinity(pools, answers.ups, self.affinities)
+        sizes = {pool["id"]: pool["size"] for pool in pools}
+        least = {pool["pool"]: pool["min_size"] for pool in course.cluster.pools if "min_size" in pool}
+        short, shares = short_in(ups, sizes), whole.shares(ups)
+        both = {group: up for group, up in ups.items() if group in before}
+        moved = sorted(flows(before, ups).items(), key=lambda own: (-own[1], own[0]))
+        return {
+            "groups": sum(up.places != before[group].places for group, up in both.items()),
+            "places": sum(len(set(up.places) - set(before[group].places) - {None}) for group, up in both.items()),
+            "short": short,
+            "short_anew": fewer_in(short, before, ups, sizes),
+            "below_min_size": fewer_in(short_in(ups, least), before, ups, least),
+            "fullest_by_count": fullest_by_count(shares.counts),
+            "fullest_by_share": fullest_by_share(shares),
+            "exceptions": {
+                "before": self.count(),
+                "gone": sorted(course.gone, key=group_key),
+                "fewer": sorted(course.fewer, key=group_key),
+            },
+            "outage": None if self.outage is None else {"down": self.outage.down, "short": len(self.outage.short)},
+            "notes": self.notes(course),
+            "unbalanced": answers.refused,
+            "flows": [[*pair, count] for pair, count in moved],
+        }

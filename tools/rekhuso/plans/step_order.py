@@ -1,0 +1,119 @@
+"""The order in which the steps of a plan are taken: from the fullest OSD first, so that each part of a plan is worth
+most, and no OSD gets fuller on the way than the fullest was before, or is at the end.
+
+How full an OSD is, is what it has to its share: bytes where it is known what pools hold, else groups. The next step is
+one from the fullest OSD, of several the one to the emptiest. It comes into a part only if no OSD then gets above a
+bound, where all that comes in the part counts and nothing that goes. The bound is the fullest OSD before the part, or
+that after the whole plan, or 1.05 of a share, whichever is most.
+"""
+
+from __future__ import annotations
+
+from collections.abc import Mapping
+from heapq import heapify, heappop, heappush
+
+from ..cluster.evenness import Spread
+from .steps import PlanStep, batches
+
+# To this ratio to its share an OSD may always be filled, and what is no more than rounding.
+EVEN, ROUNDING = 1.05, 1e-12
+
+
+class StepOrder:
+    """The steps that are still to be taken, and what the OSDs have meanwhile."""
+
+    def __init__(self, spread: Spread, places: Mapping[int, float] | None, steps: list[PlanStep]) -> None:
+        """Takes what the OSDs have before the steps, what a place of each pool counts (else 1), and the steps."""
+        self.steps, self.share, self.has = steps, spread.share, dict(spread.has)
+        self.sizes = [1.0 if places is None else places[step.pool] for step in steps]
+        self.come, self.go = [step.comes() for step in steps], [step.leaves() for step in steps]
+        self.leaving: dict[int, list[int]] = {}
+        for at, osds in enumerate(self.go):
+            for osd in osds:
+                self.leaving.setdefault(osd, []).append(at)
+        self.left = {at for at, osds in enumerate(self.go) if osds}
+        self.high: dict[int, float] = {}
+        self.bound, end = 0.0, dict(self.has)
+        for at in range(len(steps)):
+            self.shift(end, at)
+        self.end = Spread(end, self.share).fullest()
+
+    def shift(self, has: dict[int, float], at: int) -> None:
+        """What OSDs have once a step is taken."""
+        for osd in self.come[at]:
+            has[osd] = has.get(osd, 0) + self.sizes[at]
+        for osd in self.go[at]:
+            has[osd] = has.get(osd, 0) - self.sizes[at]
+
+    def ratio(self, has: float, osd: int) -> float:
+        """How many times its share an OSD has that has so much."""
+        share = self.share.get(osd, 0.0)
+        return has / share if share > 0 else float("inf") if has > 0 else 0.0
+
+    def full(self, osd: int) -> float:
+        """How full an OSD is."""
+        return self.ratio(self.has.get(osd, 0), osd)
+
+    def peak(self, at: int) -> float:
+        """How full a step makes an OSD at most, beside all that comes in the part."""
+        size = self.sizes[at]
+        return max((self.ratio(self.high.get(osd, 0) + size, osd) for osd in self.come[at]), default=0.0)
+
+    def begin(self) -> None:
+        """A part begins."""
+        self.high = dict(self.has)
+        self.bound = max(Spread(self.has, self.share).fullest(), self.end, EVEN) + ROUNDING
+
+    def next_from(self, osd: int) -> int | None:
+        """The step from an OSD that comes next in the part, or None where none may come."""
+        self.leaving[osd] = [at for at in self.leaving[osd] if at in self.left]
+        allowed = [at for at in self.leaving[osd] if self.peak(at) <= self.bound]
+        ranked = [(max(map(self.full, self.come[at]), default=0.0), at) for at in allowed]
+        return min(ranked)[1] if ranked else None
+
+    def take(self, at: int) -> None:
+        """Takes a step."""
+        self.left.discard(at)
+        self.shift(self.has, at)
+        for osd in self.come[at]:
+            self.high[osd] = self.high.get(osd, 0) + self.sizes[at]
+
+    def part(self, most: int) -> list[PlanStep]:
+        """The next part, with at most so many commands, or one step with more. Where no step may come, the one that
+        fills least.
+        """
+        self.begin()
+        heap = [(-self.full(osd), osd) for osd in self.leaving]
+        heapify(heap)
+        found: list[int] = []
+        count = 0
+        while heap:
+            key, osd = heappop(heap)
+            at = self.next_from(osd) if -key == self.full(osd) else None
+            if at is None:
+                continue
+            count += len(self.steps[at].commands)
+            if found and count > most:
+                break
+            self.take(at)
+            found.append(at)
+            for other in self.come[at] + self.go[at]:
+                if other in self.leaving:
+                    heappush(heap, (-self.full(other), other))
+        if not found:
+            found = [min(self.left, key=lambda at: (self.peak(at), at))]
+            self.take(found[0])
+        return [self.steps[at] for at in found]
+
+
+def parts_in_order(
+    spread: Spread, places: Mapping[int, float] | None, steps: list[PlanStep], most: int
+) -> list[list[PlanStep]]:
+    """The steps of a plan in parts of at most so many commands, in the order in which they are taken; those from which
+    no OSD gets emptier stand at the end.
+    """
+    order, found = StepOrder(spread, places, steps), []
+    while order.left:
+        found.append(order.part(most))
+    rest = [step for step, osds in zip(steps, order.go) if not osds]
+    return found + batches(rest, most)

@@ -1,0 +1,110 @@
+"""Steps of a plan: what is done to each group on the way from one map to another with other exceptions."""
+
+from __future__ import annotations
+
+from dataclasses import dataclass
+
+from ..cluster.difference import exception_commands
+from ..program.answers import Up
+from ..program.maps import Exceptions, Map, altered, entries_of, group_key
+from .move_order import PairsByGroup
+
+
+@dataclass(frozen=True)
+class PlanStep:
+    """What is done to a group: the commands, those that take it back to the exceptions of the dump, and the group's
+    sets before and after.
+    """
+
+    __slots__ = ("group", "commands", "undo", "was", "now")
+    group: str
+    commands: list[str]
+    undo: list[str]
+    was: list[int | None]
+    now: list[int | None]
+
+    @property
+    def pool(self) -> int:
+        """The group's pool."""
+        return int(self.group.split(".")[0])
+
+    def leaves(self) -> list[int]:
+        """The OSDs from which the group goes."""
+        return [osd for osd in self.was if osd is not None and osd not in self.now]
+
+    def comes(self) -> list[int]:
+        """The OSDs to which it comes."""
+        return [osd for osd in self.now if osd is not None and osd not in self.was]
+
+    def undone(self) -> PlanStep:
+        """The step back."""
+        return PlanStep(self.group, self.undo, self.commands, self.now, self.was)
+
+
+def steps_by_pool(steps: list[PlanStep]) -> dict[int, list[PlanStep]]:
+    """The steps of each pool that has some."""
+    found: dict[int, list[PlanStep]] = {}
+    for step in steps:
+        found.setdefault(step.pool, []).append(step)
+    return found
+
+
+def batches(steps: list[PlanStep], most: int) -> list[list[PlanStep]]:
+    """The steps in parts of at most so many commands, where those of one group stand together."""
+    found: list[list[PlanStep]] = []
+    count = most
+    for step in steps:
+        if count + len(step.commands) > most:
+            found.append([])
+            count = 0
+        found[-1].append(step)
+        count += len(step.commands)
+    return found
+
+
+def appended_pairs(old: Map, new: Map) -> dict[int, PairsByGroup]:
+    """By pool, the pairs that each group has in the one map beyond those in the other."""
+    before = dict(old.get("pg_upmap_items", []))
+    found: dict[int, PairsByGroup] = {}
+    for group, pairs in new["pg_upmap_items"]:
+        own = pairs[len(before.get(group, [])) :]
+        if own:
+            found.setdefault(group_key(group)[0], {})[group] = own
+    return found
+
+
+def changed_groups(old: Map, new: Map) -> list[str]:
+    """The groups that have other pairs in a new map than in the old one, in which they may have none."""
+    kept = dict(old.get("pg_upmap_items", []))
+    return [group for group, pairs in new["pg_upmap_items"] if kept.get(group) != pairs]
+
+
+def in_old_order(old: Map, new: Map) -> Map:
+    """A new map in which a group has its pairs in the old one's order where they are the same pairs."""
+    kept: dict[str, list[list[int]]] = dict(entries_of(old, "pg_upmap_items"))
+    items = [
+        [group, kept[group] if sorted(kept.get(group, [])) == sorted(pairs) else pairs]
+        for group, pairs in entries_of(new, "pg_upmap_items")
+    ]
+    return altered(new, pg_upmap_items=items)
+
+
+def by_group(lines: list[str]) -> dict[str, list[str]]:
+    """The commands of each group."""
+    found: dict[str, list[str]] = {}
+    for line in lines:
+        found.setdefault(line.split(" ")[3], []).append(line)
+    return found
+
+
+def steps_of(value: Map, kept: Exceptions, new: Map, before: dict[str, Up], after: dict[str, Up]) -> list[PlanStep]:
+    """What is done to each group on the way to another map, and what takes it back to the exceptions that act now:
+    those that do nothing name OSDs that are not there, and Ceph takes no such command. `kept` is what Ceph has. The
+    sets before and after are those of groups that may move.
+    """
+    back, steps = by_group(exception_commands(new, value)), []
+    for group, lines in by_group(exception_commands(value, new, kept)).items():
+        was = before[group].places if group in before else []
+        now = after[group].places if group in after else was
+        steps.append(PlanStep(group, lines, back.get(group, []), was, now))
+    return steps

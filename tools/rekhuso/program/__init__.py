@@ -1,0 +1,1 @@
+"""The program: its maps, sessions and answers."""

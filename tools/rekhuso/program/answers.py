@@ -1,0 +1,64 @@
+"""Answers of the program as values, and the line of a balance."""
+
+from __future__ import annotations
+
+import json
+from collections.abc import Mapping
+from typing import NamedTuple
+
+from ..faults import Refused
+from .maps import written
+
+
+class Up(NamedTuple):
+    """The up set of a group: its places, None where none could be chosen, and its primary, None where there is none."""
+
+    epoch: int
+    places: list[int | None]
+    primary: int | None
+
+
+class Made(NamedTuple):
+    """A change that was accepted: its epoch, and how many groups were evaluated for it."""
+
+    epoch: int
+    evals: int
+
+
+class Moved(NamedTuple):
+    """A balancer's plan that was committed: how many moves, and the epoch then."""
+
+    moves: int
+    epoch: int
+
+
+def up_of(answer: str) -> Up:
+    """The up set that an answer tells."""
+    _, epoch, _, places, primary = answer.split(" ")
+    words = places[1:-1].split(",") if len(places) > 2 else []
+    osds = [None if word == "none" else int(word) for word in words] if "none" in words else list(map(int, words))
+    return Up(int(epoch), osds, None if primary == "-1" else int(primary))
+
+
+def ups_of(answers: list[str]) -> list[Up]:
+    """The up sets that many answers tell: as `up_of` of each, in less time."""
+    words = " ".join(answers).split(" ")
+    sets = json.loads(f"[{','.join(words[3::5])}]".replace("none", "null"))
+    primaries = (None if word == "-1" else int(word) for word in words[4::5])
+    return list(map(Up, map(int, words[1::5]), sets, primaries))
+
+
+def balance_line(pool: int, most: int, apart: int = 256, carried: Mapping[int, int] | None = None) -> str:
+    """The line by which a pool is balanced: in the short form where two OSDs must differ by no more than a group and
+    nothing is carried.
+    """
+    pairs = [[osd, parts] for osd, parts in sorted((carried or {}).items()) if parts]
+    return f"balance {pool} {most}" + (f" {apart} {written(pairs)}" if pairs or apart != 256 else "")
+
+
+def accepted_answer(answer: str) -> str:
+    """An answer that is no refusal; one that is ends this as `Refused`."""
+    if answer.startswith("err "):
+        _, number, name, *_ = answer.split(" ")
+        raise Refused(name, int(number))
+    return answer

@@ -1,0 +1,348 @@
+"""The form of a map and of a change: which places of a text are at fault, each with its number.
+
+A number from 11 to 16 belongs to a place as docs/FORMATS.md has it. What only the whole map tells (17, and what a
+change is tested for against a map) is in `defects`.
+"""
+
+from __future__ import annotations
+
+import re
+from dataclasses import dataclass
+from typing import Callable, Iterator
+
+REFUSALS = {
+    10: "BadJson",
+    11: "BadField",
+    12: "BadLimit",
+    13: "BadForest",
+    14: "BadRule",
+    15: "BadPool",
+    16: "BadOsd",
+    17: "BadException",
+    20: "StaleEpoch",
+    21: "UnknownOsd",
+    22: "BadWeight",
+    23: "UnknownPool",
+    24: "PoolExists",
+    25: "UnknownGroup",
+    26: "BadException",
+    27: "DuplicatePart",
+}
+STEP_LENGTHS = {
+    "take": 1,
+    "emit": 0,
+    "choose_firstn": 2,
+    "choose_indep": 2,
+    "chooseleaf_firstn": 2,
+    "chooseleaf_indep": 2,
+}
+TRIES = {"set_choose_tries": 1, "set_chooseleaf_tries": 1}
+# The ranges of the numbers of a step; of one that chooses, those of its count and its type.
+RANGES: dict[str, list[tuple[int, int]]] = {"take": [(-65536, -1)], "emit": [], **{op: [(1, 200)] for op in TRIES}}
+GROUP_PATTERN = re.compile(r"(0|[1-9][0-9]*)\.(0|[1-9a-f][0-9a-f]*)")
+POOL_KINDS = ("replicated", "erasure")
+
+
+@dataclass(frozen=True)
+class Limits:
+    """What a map may have at most that has other limits under `--stock`: groups of a pool and of all pools, entries of
+    a list, items of a straw2 bucket, buckets, pools, rules, OSDs, and places of a pool.
+    """
+
+    __slots__ = ("groups", "total", "entries", "items", "buckets", "pools", "rules", "osds", "size")
+    groups: int
+    total: int
+    entries: int
+    items: int
+    buckets: int
+    pools: int
+    rules: int
+    osds: int
+    size: int
+
+
+# A plain map has no straw2 bucket, and its 32 pools never reach the total.
+PLAIN = Limits(
+    groups=4096, total=1048576, entries=131072, items=64, buckets=512, pools=32, rules=32, osds=1024, size=10
+)
+STOCK = Limits(
+    groups=65536, total=1048576, entries=1048576, items=4096, buckets=4096, pools=256, rules=256, osds=4096, size=20
+)
+# The items of a bucket of another kind.
+ITEMS = 64
+
+
+@dataclass(frozen=True)
+class Defect:
+    """A place that is at fault: the number of the refusal, the path to the place, and why."""
+
+    __slots__ = ("number", "path", "why")
+    number: int
+    path: str
+    why: str
+
+    def __str__(self) -> str:
+        """The place in words, as `check` tells it."""
+        return f"{self.path}: {self.why} ({self.number} {REFUSALS[self.number]})"
+
+
+Defects = Iterator[Defect]
+Form = Callable[[object, str], Defects]
+
+
+def number_between(low: int, high: int) -> Form:
+    """A whole number from low to high."""
+
+    def form(value: object, path: str) -> Defects:
+        """What is wrong with a value as such a number."""
+        if isinstance(value, bool) or not isinstance(value, int) or not -(2**63) <= value < 2**64:
+            yield Defect(11, path, "no whole number of 64 bits")
+        elif not low <= value <= high:
+            yield Defect(
+                12, path, f"{value:,}, at {'least' if value < low else 'most'} {low if value < low else high:,}"
+            )
+
+    return form
+
+
+def flag(value: object, path: str) -> Defects:
+    """true or false."""
+    if not isinstance(value, bool):
+        yield Defect(11, path, "neither true nor false")
+
+
+def one_of(*words: str) -> Form:
+    """One of some words."""
+
+    def form(value: object, path: str) -> Defects:
+        """What is wrong with a value as such a word."""
+        if value not in words:
+            yield Defect(11, path, f"none of {', '.join(words)}")
+
+    return form
+
+
+def group(value: object, path: str) -> Defects:
+    """A group's text."""
+    match = GROUP_PATTERN.fullmatch(value) if isinstance(value, str) else None
+    if match is None:
+        yield Defect(11, path, "no group; one is written as 1.1f")
+    elif not 1 <= int(match[1]) <= 65535 or int(match[2], 16) >= 2**32:
+        yield Defect(12, path, "the pool's id is outside 1 to 65,535, or the number has more than 32 bits")
+
+
+def list_of(form: Form, least: int, most: int) -> Form:
+    """A list of so many entries of a form."""
+
+    def whole(value: object, path: str) -> Defects:
+        """What is wrong with a value as such a list, and with its entries."""
+        if not isinstance(value, list):
+            yield Defect(11, path, "no list")
+            return
+        if not least <= len(value) <= most:
+            yield Defect(
+                12,
+                path,
+                f"{len(value):,} entries, at {'least' if len(value) < least else 'most'} "
+                f"{least if len(value) < least else most:,}",
+            )
+        for at, entry in enumerate(value):
+            yield from form(entry, f"{path}[{at}]")
+
+    return whole
+
+
+def tuple_of(*forms: Form) -> Form:
+    """A list with an entry of each form."""
+
+    def whole(value: object, path: str) -> Defects:
+        """What is wrong with a value as such a list, and with its entries."""
+        if not isinstance(value, list) or len(value) != len(forms):
+            yield Defect(11, path, f"no list of {len(forms)}")
+            return
+        for at, (form, entry) in enumerate(zip(forms, value)):
+            yield from form(entry, f"{path}[{at}]")
+
+    return whole
+
+
+def object_of(required: dict[str, Form], optional: dict[str, Form] | None = None) -> Form:
+    """An object with these keys."""
+    forms = {**required, **(optional or {})}
+
+    def whole(value: object, path: str) -> Defects:
+        """What is wrong with a value as such an object, and with what stands at its keys."""
+        dot = f"{path}." if path else ""
+        if not isinstance(value, dict):
+            yield Defect(11, path or "the text", "no object")
+            return
+        for key in (key for key in required if key not in value):
+            yield Defect(11, f"{dot}{key}", "missing")
+        for key in (key for key in value if key not in forms):
+            yield Defect(11, f"{dot}{key}", "an unknown key")
+        for key in (key for key in forms if key in value):
+            yield from forms[key](value[key], f"{dot}{key}")
+
+    return whole
+
+
+def rule_step(has_tries: bool, size: int) -> Form:
+    """A step of a rule, which chooses at most as many items as a pool has places."""
+    words = {**STEP_LENGTHS, **(TRIES if has_tries else {})}
+
+    def form(value: object, path: str) -> Defects:
+        """What is wrong with a value as such a step."""
+        if (
+            not isinstance(value, list)
+            or not value
+            or not isinstance(value[0], str)
+            or value[0] not in words
+            or len(value) != 1 + words[value[0]]
+        ):
+            tries = (
+                "; steps of tries stand in maps of version 2"
+                if isinstance(value, list) and value[:1] in [[op] for op in TRIES]
+                else ""
+            )
+            yield Defect(11, path, f"no step{tries}")
+            return
+        for at, ((low, high), entry) in enumerate(zip(RANGES.get(value[0], [(0, size), (0, 15)]), value[1:]), 1):
+            yield from number_between(low, high)(entry, f"{path}[{at}]")
+
+    return form
+
+
+def limits_of(is_stock: bool) -> Limits:
+    """The limits under `--stock`, or without it."""
+    return STOCK if is_stock else PLAIN
+
+
+def bucket(is_stock: bool) -> Form:
+    """A bucket; of kind straw2 under `--stock` alone, where it may have more items."""
+    kinds, limits = ("uniform", "list", "tree") + (("straw2",) if is_stock else ()), limits_of(is_stock)
+    item = number_between(-65536, limits.osds - 1)
+    plain, straw2 = (
+        object_of(
+            {
+                "id": number_between(-65536, -1),
+                "type": number_between(1, 15),
+                "kind": one_of(*kinds),
+                "items": list_of(tuple_of(item, number_between(1, 2**32 - 1)), 1, most),
+            }
+        )
+        for most in (ITEMS, limits.items)
+    )
+
+    def form(value: object, path: str) -> Defects:
+        """What is wrong with a value as such a bucket."""
+        is_wide = isinstance(value, dict) and value.get("kind") == "straw2"
+        yield from (straw2 if is_wide else plain)(value, path)
+
+    return form
+
+
+def buckets(is_stock: bool) -> Form:
+    """The buckets of a map."""
+    return list_of(bucket(is_stock), 1, limits_of(is_stock).buckets)
+
+
+def pool(limits: Limits) -> Form:
+    """A pool."""
+    return object_of(
+        {
+            "id": number_between(1, 65535),
+            "kind": one_of(*POOL_KINDS),
+            "pg_num": number_between(1, limits.groups),
+            "pgp_num": number_between(1, limits.groups),
+            "rule": number_between(0, 255),
+            "size": number_between(1, limits.size),
+        }
+    )
+
+
+def pools(limits: Limits) -> Form:
+    """The pools of a map, with the groups of all of them."""
+    single = list_of(pool(limits), 0, limits.pools)
+
+    def form(value: object, path: str) -> Defects:
+        """What is wrong with a value as such pools; their groups are added up where nothing else is."""
+        found = list(single(value, path))
+        yield from found
+        total = sum(own["pg_num"] for own in value) if isinstance(value, list) and not found else 0
+        if total > limits.total:
+            yield Defect(12, path, f"{total:,} groups in all pools, at most {limits.total:,}")
+
+    return form
+
+
+def osd_id(limits: Limits) -> Form:
+    """The number of an OSD."""
+    return number_between(0, limits.osds - 1)
+
+
+def osd(limits: Limits) -> Form:
+    """An OSD."""
+    return object_of({"id": osd_id(limits), "exists": flag, "up": flag, "weight": number_between(0, 65536)})
+
+
+def explicit_sets(limits: Limits) -> Form:
+    """Explicit sets."""
+    return list_of(tuple_of(group, list_of(osd_id(limits), 0, limits.size)), 0, limits.entries)
+
+
+def pairs(limits: Limits) -> Form:
+    """The pairs of groups."""
+    pair = tuple_of(osd_id(limits), osd_id(limits))
+    return list_of(tuple_of(group, list_of(pair, 0, limits.size)), 0, limits.entries)
+
+
+def rules(has_tries: bool, limits: Limits) -> Form:
+    """The rules of a map."""
+    rule = object_of(
+        {
+            "id": number_between(0, 255),
+            "kind": one_of(*POOL_KINDS),
+            "steps": list_of(rule_step(has_tries, limits.size), 1, 16),
+        }
+    )
+    return list_of(rule, 1, limits.rules)
+
+
+def map_form(has_tries: bool, is_stock: bool) -> Form:
+    """A map."""
+    limits = limits_of(is_stock)
+    return object_of(
+        {
+            "version": number_between(1, 2),
+            "epoch": number_between(1, 2**31),
+            "max_osd": number_between(1, limits.osds),
+            "buckets": buckets(is_stock),
+            "rules": rules(has_tries, limits),
+            "pools": pools(limits),
+            "osds": list_of(osd(limits), 0, 2**63),
+        },
+        {"pg_upmap": explicit_sets(limits), "pg_upmap_items": pairs(limits)},
+    )
+
+
+def change_form(is_stock: bool) -> Form:
+    """A change."""
+    limits = limits_of(is_stock)
+    groups, number, most = number_between(1, limits.groups), osd_id(limits), limits.entries
+    crush = object_of({"buckets": buckets(is_stock), "rules": rules(True, limits)})
+    return object_of(
+        {"base": number_between(0, 2**64 - 1)},
+        {
+            "old_pools": list_of(number_between(1, 65535), 0, most),
+            "new_crush": crush,
+            "new_pools": list_of(pool(limits), 0, most),
+            "grow_pool": list_of(tuple_of(number_between(1, 65535), groups, groups), 0, most),
+            "down": list_of(number, 0, most),
+            "up": list_of(number, 0, most),
+            "weight": list_of(tuple_of(number, number_between(0, 2**32 - 1)), 0, most),
+            "old_upmap": list_of(group, 0, most),
+            "old_items": list_of(group, 0, most),
+            "new_upmap": explicit_sets(limits),
+            "new_items": pairs(limits),
+        },
+    )

@@ -1,0 +1,129 @@
+"""Maps and changes of the program: their types, how they are written, and their groups.
+
+What has keys that are not fixed, or lists of several kinds as JSON has them, stands here under a name of its own.
+"""
+
+from __future__ import annotations
+
+import json
+import os
+from collections.abc import Mapping
+from typing import Any, Dict, List, TypeVar, TypedDict, Union, cast
+
+# A step of a rule: its word, then its numbers. An entry of a table: a group, or an id, and what belongs to it.
+RuleStep = List[Any]
+Entry = List[Any]
+# A change's parts by their keys.
+Change = Dict[str, Any]
+# The path of the program; None for the one that is found.
+Program = Union[str, "os.PathLike[str]", None]
+
+
+class Bucket(TypedDict):
+    """A bucket: its items are pairs of a number and a weight."""
+
+    id: int
+    items: list[list[int]]
+    kind: str
+    type: int
+
+
+class Rule(TypedDict):
+    """A rule."""
+
+    id: int
+    kind: str
+    steps: list[RuleStep]
+
+
+class Pool(TypedDict):
+    """A pool."""
+
+    id: int
+    kind: str
+    pg_num: int
+    pgp_num: int
+    rule: int
+    size: int
+
+
+class Osd(TypedDict):
+    """An OSD."""
+
+    id: int
+    exists: bool
+    up: bool
+    weight: int
+
+
+class Exceptions(TypedDict, total=False):
+    """What a map may have: explicit sets, pairs, and a version."""
+
+    pg_upmap: list[Entry]
+    pg_upmap_items: list[Entry]
+    version: int
+
+
+class Map(Exceptions):
+    """A map."""
+
+    buckets: list[Bucket]
+    epoch: int
+    max_osd: int
+    osds: list[Osd]
+    pools: list[Pool]
+    rules: list[Rule]
+
+
+Altered = TypeVar("Altered", bound=Mapping[str, object])
+
+
+def altered(value: Altered, **parts: object) -> Altered:
+    """An object with other values at some of its keys."""
+    return cast(Altered, dict(value, **parts))
+
+
+def entries_of(value: Mapping[str, object], key: str) -> list[Any]:
+    """The entries at a key; none where there is no such key."""
+    return cast(List[Any], value.get(key, []))
+
+
+def written(value: object) -> str:
+    """The written form of a value: compact JSON, keys in byte order."""
+    return json.dumps(value, separators=(",", ":"), sort_keys=True)
+
+
+def group_key(group: str) -> tuple[int, int]:
+    """Where a group stands among all."""
+    pool, number = group.split(".")
+    return int(pool), int(number, 16)
+
+
+def has_straw2(value: object) -> bool:
+    """Whether a map has a straw2 bucket, so that the program reads it under `--stock` alone; a value, or a text that
+    may be none.
+    """
+    if isinstance(value, str):
+        if "straw2" not in value and "\\" not in value:
+            return False
+        try:
+            value = json.loads(value)
+        except (ValueError, RecursionError):
+            return False
+    buckets = value.get("buckets") if isinstance(value, dict) else None
+    return isinstance(buckets, list) and any(isinstance(own, dict) and own.get("kind") == "straw2" for own in buckets)
+
+
+def groups_in(pool: Pool) -> list[str]:
+    """All groups of a pool."""
+    return [f"{pool['id']}.{number:x}" for number in range(pool["pg_num"])]
+
+
+def groups_of(value: Map) -> list[str]:
+    """All groups of a map, pool by pool."""
+    return [group for pool in value["pools"] for group in groups_in(pool)]
+
+
+def with_all_up(value: Map) -> Map:
+    """The map with every OSD up that is there, so that up sets are the mapped ones."""
+    return altered(value, osds=[altered(osd, up=osd["exists"]) for osd in value["osds"]])

@@ -1,0 +1,107 @@
+"""The program's process: where it is found, who waits for it, and Ctrl-C while it starts."""
+
+from __future__ import annotations
+
+import os
+import pathlib
+import shutil
+import signal
+import subprocess
+import threading
+import time
+from collections.abc import Callable
+from types import FrameType
+
+from ..faults import Fault
+
+# The crate of the program, where the tools stand in its repository, and what `make run` builds there.
+CRATE = pathlib.Path(__file__).resolve().parents[3] / "crates" / "osdmapd"
+BUILT = CRATE / "out" / "osdmapd"
+
+
+def built() -> pathlib.Path:
+    """The program where none is named: that of the repository in which the tools stand, else `osdmapd` on the path.
+    A fault that tells where it was looked for.
+    """
+    found = str(BUILT) if BUILT.exists() else shutil.which("osdmapd")
+    if found is None:
+        places = ([f"{BUILT} is not there"] if CRATE.is_dir() else []) + [
+            f"no folder of PATH has osdmapd ({os.environ.get('PATH', '')})"
+        ]
+        raise Fault(
+            f"no program: {', and '.join(places)}; `make run` in its repository proves and builds it, and --program "
+            f"FILE names it"
+        )
+    return pathlib.Path(found)
+
+
+class Patience:
+    """Ends a program that lets somebody wait for longer than some seconds, if any are given: whoever waits stands in
+    a `with` of it.
+    """
+
+    def __init__(self, process: subprocess.Popen[bytes], seconds: float | None) -> None:
+        """Watches a process; without seconds nobody waits for too long."""
+        self.process, self.seconds, self.is_spent = process, seconds, False
+        self.since: dict[int, float] = {}
+        self.done = threading.Event()
+        if seconds is not None:
+            threading.Thread(target=self.watch, args=(seconds,), daemon=True).start()
+
+    def watch(self, seconds: float) -> None:
+        """Looks from time to time, until all is done, whether somebody has waited for too long."""
+        while not self.done.wait(seconds / 20):
+            if any(time.monotonic() - since > seconds for since in list(self.since.values())):
+                self.is_spent = True
+                self.process.kill()
+                return
+
+    def __enter__(self) -> None:
+        """This thread begins to wait."""
+        self.since[threading.get_ident()] = time.monotonic()
+
+    def __exit__(self, *_: object) -> None:
+        """This thread waits no longer."""
+        self.since.pop(threading.get_ident(), None)
+
+
+class Held:
+    """Keeps Ctrl-C back while a program is being started, in a `with`: an exception then would leave it running with
+    nobody who holds it. It comes once it is let go. Only the main thread has it come. Blocking the signal would not do:
+    another thread would take it, and the program would be started with the signal blocked.
+    """
+
+    def __init__(self) -> None:
+        """Keeps nothing back yet."""
+        self.has_come = False
+        self.before: Callable[[int, FrameType | None], object] | None = None
+
+    def __enter__(self) -> Held:
+        """Begins to keep it back, where somebody has it come as an exception, or otherwise as a call."""
+        before = signal.getsignal(signal.SIGINT) if threading.current_thread() is threading.main_thread() else None
+        if callable(before):
+            self.before = before
+            signal.signal(signal.SIGINT, self.came)
+        return self
+
+    def came(self, *_: object) -> None:
+        """It has come."""
+        self.has_come = True
+
+    def let_go(self) -> None:
+        """Keeps it back no longer: it comes now, where it has come meanwhile."""
+        if self.before is not None:
+            signal.signal(signal.SIGINT, self.before)
+            self.before = None
+            if self.has_come:
+                signal.raise_signal(signal.SIGINT)
+
+    def __exit__(self, *_: object) -> None:
+        """Keeps it back no longer."""
+        self.let_go()
+
+
+def unblocked(pipe: int) -> int:
+    """An open pipe that waits from now on."""
+    os.set_blocking(pipe, True)
+    return pipe

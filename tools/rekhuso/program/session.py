@@ -1,0 +1,142 @@
+"""A session of a program that runs: lines that go in, answers that come out."""
+
+from __future__ import annotations
+
+import json
+import threading
+from collections.abc import Callable, Iterable, Mapping
+from itertools import islice
+from typing import IO, NoReturn
+
+from ..faults import Closed
+from ..progress import doing
+from ..words import counted
+from .answers import Made, Moved, Up, accepted_answer, balance_line, up_of, ups_of
+from .maps import Map, written
+from .process import Patience
+
+
+class Session:
+    """A session of a program that runs: where its lines go, where its answers come from, what tells why it has
+    ended, and how long an answer may take.
+    """
+
+    def __init__(self, lines: IO[bytes], answers: IO[bytes], gone: Callable[[], NoReturn], patience: Patience) -> None:
+        """Takes two open pipes, what raises the fault of a program that has ended, and who watches waits."""
+        self._lines, self._answers, self._gone, self._patience = lines, answers, gone, patience
+        self._is_closed = False
+
+    # Lines and their answers
+
+    def _send(self, text: bytes) -> None:
+        """Puts text to the program."""
+        try:
+            self._lines.write(text)
+            self._lines.flush()
+        except (BrokenPipeError, ValueError):
+            pass
+
+    def _answer(self) -> str:
+        """The next answer."""
+        try:
+            line = self._answers.readline()
+        except ValueError:  # Another thread has closed it meanwhile.
+            raise Closed from None
+        if not line.endswith(b"\n"):
+            self._gone()
+        return line[:-1].decode("utf-8")
+
+    def one(self, line: str) -> str:
+        """The answer of one line, which is not empty and has no newline; a refusal ends this as `Refused`."""
+        if not line or "\n" in line:
+            raise ValueError("a line that is empty, or more than one")
+        self._check_open()
+        with self._patience:
+            self._send((line + "\n").encode("utf-8", "surrogateescape"))
+            return accepted_answer(self._answer())
+
+    def _check_open(self) -> None:
+        """`Closed` where the monitor was closed."""
+        if self._is_closed:
+            raise Closed
+
+    def raw(self, lines: list[str]) -> list[str]:
+        """The answer of each line, refusals among them. The lines go in beside the answers that come out."""
+        self._check_open()
+        text = "".join(line + "\n" for line in lines).encode("utf-8", "surrogateescape")
+        sender = threading.Thread(target=self._send, args=(text,), daemon=True)
+        sender.start()
+        wanted = sum(map(bool, text.split(b"\n")))
+        with self._patience:
+            try:
+                answers = b"".join(islice(self._answers, wanted)).decode("utf-8").split("\n")
+            except ValueError:  # Another thread has closed it meanwhile.
+                raise Closed from None
+            if len(answers) <= wanted:
+                self._gone()
+            sender.join()
+        return answers[:wanted]
+
+    def ask(self, lines: list[str]) -> list[str]:
+        """The answer of each line; a refusal ends this as `Refused`."""
+        answers = self.raw(lines)
+        for answer in answers:
+            if answer.startswith("err "):
+                accepted_answer(answer)
+        return answers
+
+    # Questions
+
+    def epoch(self) -> int:
+        """The epoch."""
+        return int(self.one("epoch").split(" ")[1])
+
+    def up(self, group: str) -> Up:
+        """The up set of a group, as `1.0`."""
+        return up_of(self.one(f"up {group}"))
+
+    def ups(self, groups: list[str]) -> dict[str, Up]:
+        """The up set of each group."""
+        doing(f"asking for {counted(len(groups), 'group')}")
+        return dict(zip(groups, ups_of(self.ask([f"up {group}" for group in groups]))))
+
+    def count(self, osd: int) -> int:
+        """In how many groups' up sets an OSD stands."""
+        return int(self.one(f"count {osd}").split(" ")[3])
+
+    def counts(self, osds: Iterable[int]) -> dict[int, int]:
+        """In how many groups' up sets each of some OSDs stands."""
+        asked = list(osds)
+        return {
+            osd: int(answer.split(" ")[3]) for osd, answer in zip(asked, self.ask([f"count {osd}" for osd in asked]))
+        }
+
+    def groups(self, osd: int) -> list[str]:
+        """In which groups' up sets an OSD stands."""
+        groups = self.one(f"groups {osd}").split(" ")[3][1:-1]
+        return groups.split(",") if groups else []
+
+    def dump(self) -> Map:
+        """The map as it is."""
+        value: Map = json.loads(self.text())
+        return value
+
+    def text(self) -> str:
+        """The written form of the map as it is."""
+        return self.one("dump").removeprefix("dump ")
+
+    # Changes
+
+    def change(self, base: int | None = None, **parts: object) -> Made:
+        """Commits a change: its parts by their keys, as `down=[2]`. Without a base it is the present epoch."""
+        value = dict(parts, base=self.epoch() if base is None else base)
+        _, epoch, _, evals = self.one(f"change {written(value)}").split(" ")
+        return Made(int(epoch), int(evals))
+
+    def balance(self, pool: int, most: int = 1024, apart: int = 256, carried: Mapping[int, int] | None = None) -> Moved:
+        """Plans moves of groups of a pool, at most so many, and commits them. In 256ths of a group: by how much two
+        OSDs must differ for a move between them, and how much an OSD counts as having beside its groups of the pool.
+        A map under `stock` alone takes either.
+        """
+        _, moves, _, epoch = self.one(balance_line(pool, most, apart, carried)).split(" ")
+        return Moved(int(moves), int(epoch))
