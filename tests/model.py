@@ -3,23 +3,31 @@
 
     tests/model.py MAP SCRIPT
 
-answers the lines `up`, `count`, `groups`, `epoch`, `dump`, `balance` and `change`, as far as nothing in them is refused. The answers of
-examples/balance and of the larger map of balanced.py come from here; `run.py` also holds it against the placements that Ceph's own tools gave.
-It knows no rule that sets tries.
+answers the lines `up`, `count`, `groups`, `epoch`, `dump`, `balance` and `change`, as far as nothing in them is
+refused. The answers of examples/balance and of the larger map of forty_osds.py come from here; `model_placements.py`
+holds it against the placements that Ceph's own tools gave. It knows no rule that sets tries.
 """
 
 import functools
 import json
 import pathlib
 import sys
+from collections.abc import Callable
+from typing import Any
 
+Json = Any
+# A group by its pool and its number; the OSDs of a set, None for an empty place; a group, who leaves it and who comes.
+Group = tuple[int, int]
+Places = list[int | None]
+Move = tuple[Group, int, int]
 WORD = 0xFFFFFFFF
 TRIES, LEAF_TRIES = 51, 1
 
 
 # Hashes (Ceph, hash.c)
 
-def mix(a, b, c):
+
+def mix(a: int, b: int, c: int) -> tuple[int, int, int]:
     a = (a - b - c & WORD) ^ c >> 13
     b = (b - c - a & WORD) ^ a << 8 & WORD
     c = (c - a - b & WORD) ^ b >> 13
@@ -33,81 +41,84 @@ def mix(a, b, c):
 
 
 @functools.lru_cache(maxsize=1 << 17)
-def mixed(words, order):
+def mixed(words: tuple[int, ...], order: str) -> int:
     """The hash of words: the places of an order name the words, x, y, and the hash itself."""
     values = dict(zip("abcd", (word & WORD for word in words)), x=231232, y=1232, h=1315423911)
     for word in words:
         values["h"] ^= word & WORD
-    for one, other in order.split():
+    for pair in order.split():
+        one, other = pair[0], pair[1]
         values[one], values[other], values["h"] = mix(values[one], values[other], values["h"])
     return values["h"]
 
 
-def hash2(*words):
+def hash2(*words: int) -> int:
     return mixed(words, "ab xa by")
 
 
-def hash3(*words):
+def hash3(*words: int) -> int:
     return mixed(words, "ab cx ya bx yc")
 
 
-def hash4(*words):
+def hash4(*words: int) -> int:
     return mixed(words, "ab cd ax yb cx yd")
 
 
 # Picks of a bucket
 
-def uniform_pick(bucket, x, r):
+
+def uniform_pick(bucket: Json, x: int, r: int) -> int:
     count = len(bucket["items"])
     places = list(range(count))
     for p in range(count - 1):
         other = p + hash3(x, bucket["id"], p) % (count - p)
         places[p], places[other] = places[other], places[p]
-    return bucket["items"][places[r % count]][0]
+    return int(bucket["items"][places[r % count]][0])
 
 
-def list_pick(bucket, x, r):
+def list_pick(bucket: Json, x: int, r: int) -> int:
     items = bucket["items"]
     for place in range(len(items) - 1, 0, -1):
         item, weight = items[place]
         draw = hash4(x, item, r, bucket["id"]) % 65536
-        if draw * sum(w for _, w in items[:place + 1]) // 65536 < weight:
-            return item
-    return items[0][0]
+        if draw * sum(w for _, w in items[: place + 1]) // 65536 < weight:
+            return int(item)
+    return int(items[0][0])
 
 
-def tree_pick(bucket, x, r):
+def tree_pick(bucket: Json, x: int, r: int) -> int:
     weights = [weight for _, weight in bucket["items"]]
     half = 1 << (len(weights) - 1).bit_length()
     first = 0
     while half > 1:
         half //= 2
-        left, right = (sum(weights[at:at + half]) for at in (first, first + half))
+        left, right = (sum(weights[at : at + half]) for at in (first, first + half))
         if hash4(x, 2 * (first + half), r, bucket["id"]) * (left + right) >> 32 >= left:
             first += half
-    return bucket["items"][first][0]
+    return int(bucket["items"][first][0])
 
 
 # The tables of the logarithm: entries in pairs, a reciprocal and a logarithm; and the logarithms between two of them.
-TABLES = json.loads((pathlib.Path(__file__).resolve().parent / "logarithm.json").read_text())
+TABLES: dict[str, list[int]] = json.loads((pathlib.Path(__file__).resolve().parent / "logarithm.json").read_text())
 
 
-def logarithm(number):
+def logarithm(number: int) -> int:
     """Ceph's logarithm to the base 2 of a number of 16 bits and one more, times 2 ^ 44 (mapper.c, crush_ln)."""
     shift = max(0, 16 - (number + 1).bit_length())
     x = number + 1 << shift
     place = 2 * ((x >> 8) - 128)
-    reciprocal, whole = TABLES["RH_LH"][place:place + 2]
+    reciprocal, whole = TABLES["RH_LH"][place : place + 2]
     return (15 - shift << 44) + (whole + TABLES["LL"][(x * reciprocal >> 48) % 256] >> 4)
 
 
-def shortfall(item, weight, x, r):
-    """How far the straw of an item falls short of the longest that there may be. Ceph's straws are the negatives of these."""
-    return (2 ** 48 - logarithm(hash3(x, item, r) % 65536)) // weight
+def shortfall(item: int, weight: int, x: int, r: int) -> int:
+    """How far the straw of an item falls short of the longest that there may be. Ceph's straws are the negatives of
+    these."""
+    return (2**48 - logarithm(hash3(x, item, r) % 65536)) // weight
 
 
-def straw2_pick(bucket, x, r):
-    return min(bucket["items"], key=lambda item: shortfall(*item, x, r))[0]
+def straw2_pick(bucket: Json, x: int, r: int) -> int:
+    return int(min(bucket["items"], key=lambda item: shortfall(item[0], item[1], x, r))[0])
 
 
 PICKS = {"uniform": uniform_pick, "list": list_pick, "tree": tree_pick, "straw2": straw2_pick}
@@ -116,44 +127,54 @@ PICKS = {"uniform": uniform_pick, "list": list_pick, "tree": tree_pick, "straw2"
 class Cluster:
     """A map as it stands after some changes."""
 
-    def __init__(self, value):
+    def __init__(self, value: Json) -> None:
         self.value, self.epoch = value, value["epoch"]
         self.take_crush(value)
         self.pools = {pool["id"]: pool for pool in value["pools"]}
         self.osds = {osd["id"]: dict(osd) for osd in value["osds"]}
         self.explicit = {group_of(text): places for text, places in value.get("pg_upmap", [])}
         self.items = {group_of(text): pairs for text, pairs in value.get("pg_upmap_items", [])}
-        self.raws = {}
+        self.raws: dict[Group, Places] = {}
 
-    def take_crush(self, value):
+    def take_crush(self, value: Json) -> None:
         """Puts other buckets and rules in the place of those that were."""
-        buckets, rules = sorted(value["buckets"], key=lambda bucket: -bucket["id"]), sorted(value["rules"], key=lambda rule: rule["id"])
+        buckets, rules = sorted(value["buckets"], key=lambda bucket: -int(bucket["id"])), sorted(
+            value["rules"], key=lambda rule: int(rule["id"])
+        )
         self.crush = {"buckets": buckets, "rules": rules}
         self.buckets = {bucket["id"]: bucket for bucket in value["buckets"]}
         self.parent = {item: bucket["id"] for bucket in value["buckets"] for item, _ in bucket["items"]}
         self.weight = {item: weight for bucket in value["buckets"] for item, weight in bucket["items"]}
         self.rules = {rule["id"]: rule["steps"] for rule in value["rules"]}
 
-    def reweight(self, osd):
-        return self.osds[osd]["weight"] if osd in self.osds else 0
+    def reweight(self, osd: int) -> int:
+        return int(self.osds[osd]["weight"]) if osd in self.osds else 0
 
-    def exists(self, osd):
-        return osd in self.osds and self.osds[osd]["exists"]
+    def exists(self, osd: int) -> bool:
+        return osd in self.osds and bool(self.osds[osd]["exists"])
 
-    def is_up(self, osd):
-        return osd in self.osds and self.osds[osd]["up"]
+    def is_up(self, osd: int) -> bool:
+        return osd in self.osds and bool(self.osds[osd]["up"])
 
     # Rules
 
-    def is_out(self, item, x):
+    def is_out(self, item: int | None, x: int) -> bool:
         """Whether an item is an OSD that is out."""
-        return item >= 0 and self.reweight(item) < 65536 and hash2(x, item) % 65536 >= self.reweight(item)
+        return (
+            item is not None
+            and item >= 0
+            and self.reweight(item) < 65536
+            and hash2(x, item) % 65536 >= self.reweight(item)
+        )
 
-    def type_of(self, item):
-        return self.buckets[item]["type"] if item < 0 else 0
+    def type_of(self, item: int) -> int:
+        return int(self.buckets[item]["type"]) if item < 0 else 0
 
-    def descend(self, item, level, x, r, coded=None):
-        """The item of a type to which the picks lead, None where they meet a device of another type; and the number of the last pick."""
+    def descend(
+        self, item: int, level: int, x: int, r: int, coded: tuple[int, int] | None = None
+    ) -> tuple[int | None, int]:
+        """The item of a type to which the picks lead, None where they meet a device of another type; and the number of
+        the last pick."""
         while True:
             bucket, number = self.buckets[item], r
             if coded is not None:
@@ -165,9 +186,10 @@ class Cluster:
             if item >= 0:
                 return None, number
 
-    def firstn(self, start, count, level, leafwise, x, room):
+    def firstn(self, start: int, count: int, level: int, leafwise: bool, x: int, room: int) -> Places:
         """What packing chooses below a bucket: the items, or their leaves."""
-        items, leaves = [], []
+        items: Places = []
+        leaves: Places = []
         for replica in range(count):
             for failures in range(TRIES):
                 if len(items) == room:
@@ -185,10 +207,12 @@ class Cluster:
                 break
         return leaves
 
-    def indep(self, start, count, level, leafwise, x, room):
+    def indep(self, start: int, count: int, level: int, leafwise: bool, x: int, room: int) -> Places:
         """What choosing for positions gives below a bucket."""
         positions = min(count, room)
-        items, leaves, decided = [None] * positions, [None] * positions, [False] * positions
+        items: Places = [None] * positions
+        leaves: Places = [None] * positions
+        decided = [False] * positions
         for rounds in range(TRIES):
             for place in (place for place in range(positions) if not decided[place]):
                 item, number = self.descend(start, level, x, place, (count, rounds))
@@ -200,26 +224,29 @@ class Cluster:
                     items[place], leaves[place], decided[place] = item, leaf, True
         return leaves
 
-    def run(self, steps, x, size):
+    def run(self, steps: list[list[Any]], x: int, size: int) -> Places:
         """A rule's result."""
-        result, working = [], []
+        result: Places = []
+        working: Places = []
         for step in steps:
             if step[0] == "take":
                 working = [step[1]]
             elif step[0] == "emit":
-                result, working = result + working[:size - len(result)], []
+                result, working = result + working[: size - len(result)], []
             else:
                 choose = self.indep if step[0].endswith("indep") else self.firstn
-                chosen = []
+                chosen: Places = []
                 for start in working:
                     if start is not None and start < 0 and len(chosen) < size:
-                        chosen += choose(start, step[1] or size, step[2], step[0].startswith("chooseleaf"), x, size - len(chosen))
+                        chosen += choose(
+                            start, step[1] or size, step[2], step[0].startswith("chooseleaf"), x, size - len(chosen)
+                        )
                 working = chosen
         return result
 
     # Groups
 
-    def raw(self, group):
+    def raw(self, group: Group) -> Places:
         """What the rule gives, as long as nothing changes that it goes by."""
         if group not in self.raws:
             pool = self.pools[group[0]]
@@ -228,12 +255,12 @@ class Cluster:
             self.raws[group] = self.run(self.rules[pool["rule"]], hash2(place, group[0]), pool["size"])
         return self.without(group, self.raws[group], self.exists)
 
-    def without(self, group, places, keeps):
+    def without(self, group: Group, places: Places, keeps: Callable[[int], bool]) -> Places:
         """A set without the OSDs that are not kept: closed up, or with holes."""
         kept = [osd if osd is not None and keeps(osd) else None for osd in places]
         return kept if self.pools[group[0]]["kind"] == "erasure" else [osd for osd in kept if osd is not None]
 
-    def mapped(self, group):
+    def mapped(self, group: Group) -> Places:
         places, explicit = list(self.raw(group)), self.explicit.get(group)
         if explicit is not None and any(self.reweight(osd) == 0 for osd in explicit):
             return places
@@ -244,27 +271,27 @@ class Cluster:
                 places[places.index(left)] = right
         return places
 
-    def up(self, group):
+    def up(self, group: Group) -> Places:
         return self.without(group, self.mapped(group), self.is_up)
 
-    def groups(self):
+    def groups(self) -> list[Group]:
         return [(pool, number) for pool in sorted(self.pools) for number in range(self.pools[pool]["pg_num"])]
 
     # Changes
 
-    def below(self, item):
+    def below(self, item: int) -> list[int]:
         """The devices under an item."""
         return [item] if item >= 0 else [osd for below, _ in self.buckets[item]["items"] for osd in self.below(below)]
 
-    def reached(self, rule):
+    def reached(self, rule: int) -> set[int]:
         return {osd for step in self.rules[rule] if step[0] == "take" for osd in self.below(step[1])}
 
-    def concerns(self, group, osds):
+    def concerns(self, group: Group, osds: set[int]) -> bool:
         """Whether the rule of a group reaches one of some OSDs, or its exceptions name one."""
         named = set(self.explicit.get(group, [])) | {osd for pair in self.items.get(group, []) for osd in pair}
         return bool(osds & named) or bool(osds & self.reached(self.pools[group[0]]["rule"]))
 
-    def take_pools(self, change):
+    def take_pools(self, change: Json) -> None:
         """Lets pools go with their exceptions, come, and grow."""
         for number in change.get("old_pools", []):
             del self.pools[number]
@@ -276,7 +303,7 @@ class Cluster:
         for number, groups, placed_by in change.get("grow_pool", []):
             self.pools[number] = dict(self.pools[number], pg_num=groups, pgp_num=placed_by)
 
-    def take_states(self, change):
+    def take_states(self, change: Json) -> None:
         """Puts OSDs down and up, and gives them other reweights."""
         for key, is_up in (("down", False), ("up", True)):
             for osd in change.get(key, []):
@@ -284,14 +311,14 @@ class Cluster:
         for osd, weight in change.get("weight", []):
             self.osds[osd]["weight"] = weight
 
-    def take_exceptions(self, change):
+    def take_exceptions(self, change: Json) -> None:
         """Lets explicit sets and pairs go and come."""
         for old, new, entries in (("old_upmap", "new_upmap", self.explicit), ("old_items", "new_items", self.items)):
             for text in change.get(old, []):
                 entries.pop(group_of(text), None)
             entries.update((group_of(text), own) for text, own in change.get(new, []))
 
-    def change(self, change):
+    def change(self, change: Json) -> int:
         """The number of evaluations of a change that nothing refuses, which is then made."""
         self.take_pools(change)
         if "new_crush" in change:
@@ -303,33 +330,37 @@ class Cluster:
         self.epoch += 1
         return sum(self.is_new(group, change) for group in self.groups())
 
-    def is_new(self, group, change):
+    def is_new(self, group: Group, change: Json) -> bool:
         """Whether a change may place a group otherwise."""
         named = {group_of(text) for key in ("old_upmap", "old_items") for text in change.get(key, [])}
         named |= {group_of(text) for key in ("new_upmap", "new_items") for text, _ in change.get(key, [])}
-        pools = {pool["id"] for pool in change.get("new_pools", [])} | {pool for pool, *_ in change.get("grow_pool", [])}
+        pools = {pool["id"] for pool in change.get("new_pools", [])} | {
+            pool for pool, *_ in change.get("grow_pool", [])
+        }
         osds = {osd for osd, _ in change.get("weight", [])}
         return "new_crush" in change or group in named or group[0] in pools or bool(osds) and self.concerns(group, osds)
 
-    def written(self):
+    def written(self) -> str:
         """The map as text."""
         osds = [osd for _, osd in sorted(self.osds.items()) if osd["exists"] or osd["weight"]]
-        exceptions = {key: [[group_text(group), own] for group, own in sorted(entries.items())]
-                      for key, entries in (("pg_upmap", self.explicit), ("pg_upmap_items", self.items))}
+        exceptions = {
+            key: [[group_text(group), own] for group, own in sorted(entries.items())]
+            for key, entries in (("pg_upmap", self.explicit), ("pg_upmap_items", self.items))
+        }
         pools = [pool for _, pool in sorted(self.pools.items())]
         after = {**self.value, **self.crush, **exceptions, "epoch": self.epoch, "osds": osds, "pools": pools}
         return json.dumps(after, sort_keys=True, separators=(",", ":"))
 
     # Balancing
 
-    def ancestor(self, item, level):
+    def ancestor(self, item: int, level: int) -> int | None:
         while item in self.parent:
             item = self.parent[item]
             if self.type_of(item) == level:
                 return item
         return None
 
-    def balance(self, pool, limit):
+    def balance(self, pool: int, limit: int) -> int:
         """The greedy plan, put into the map; and how many moves it has."""
         board = Board(self, pool)
         moves = 0
@@ -344,34 +375,35 @@ class Cluster:
 class Board:
     """What moves of a pool go by: its mapped sets, pairs, and how far each candidate is from its share."""
 
-    def __init__(self, cluster, pool):
+    def __init__(self, cluster: Cluster, pool: int) -> None:
         self.cluster, self.size = cluster, cluster.pools[pool]["size"]
         steps = cluster.rules[cluster.pools[pool]["rule"]]
         self.levels = [step[2] for step in steps if step[0].startswith("choose")]
         candidates = sorted(cluster.below(steps[[step[0] for step in steps].index("take")][1]))
-        self.share = {osd: cluster.weight[osd] * cluster.reweight(osd) for osd in candidates
-                      if cluster.is_up(osd) and cluster.reweight(osd) > 0}
+        self.share = {
+            osd: cluster.weight[osd] * cluster.reweight(osd)
+            for osd in candidates
+            if cluster.is_up(osd) and cluster.reweight(osd) > 0
+        }
         self.mapped = {group: cluster.mapped(group) for group in cluster.groups() if group[0] == pool}
         self.pairs = {group: list(cluster.items[group]) for group in self.mapped if group in cluster.items}
         self.total = sum(self.share.values())
 
-    def counts(self):
-        found = dict.fromkeys(self.share, 0)
-        for places in self.mapped.values():
-            for osd in set(places) & set(found):
-                found[osd] += 1
-        return found
+    def counts(self) -> dict[int, int]:
+        """How many groups each candidate has."""
+        sets = [set(places) for places in self.mapped.values()]
+        return {osd: sum(osd in places for places in sets) for osd in self.share}
 
-    def deviations(self):
+    def deviations(self) -> dict[int, int]:
         """How far each candidate is from its share, times T."""
         counts = self.counts()
         places = sum(counts.values())
         return {osd: counts[osd] * self.total - places * share for osd, share in self.share.items()}
 
-    def domain(self, osd):
-        return osd if self.levels[-1] == 0 else self.cluster.ancestor(osd, self.levels[-1])
+    def domain(self, osd: int | None) -> int | None:
+        return osd if osd is None or self.levels[-1] == 0 else self.cluster.ancestor(osd, self.levels[-1])
 
-    def is_allowed(self, group, leaves, comes):
+    def is_allowed(self, group: Group, leaves: int, comes: int) -> bool:
         places, ancestor = self.mapped[group], self.cluster.ancestor
         if places.count(leaves) != 1 or comes in places or len(self.pairs.get(group, [])) >= self.size:
             return False
@@ -380,13 +412,17 @@ class Board:
         domain = self.domain(comes)
         return domain is not None and all(self.domain(osd) != domain for osd in places if osd not in (leaves, None))
 
-    def good(self):
+    def good(self) -> list[tuple[int, int, int]]:
         """The pairs of candidates whose deviations differ by more than T, by how much they differ, then by number."""
         away = self.deviations()
-        return sorted((away[comes] - away[leaves], leaves, comes) for leaves in away for comes in away
-                      if away[leaves] - away[comes] > self.total)
+        return sorted(
+            (away[comes] - away[leaves], leaves, comes)
+            for leaves in away
+            for comes in away
+            if away[leaves] - away[comes] > self.total
+        )
 
-    def best(self):
+    def best(self) -> Move | None:
         """The good move that greed takes: group, who leaves and who comes; None where no good move is left."""
         for _, leaves, comes in self.good():
             for group in self.mapped:
@@ -394,7 +430,7 @@ class Board:
                     return group, leaves, comes
         return None
 
-    def make(self, move):
+    def make(self, move: Move) -> None:
         group, leaves, comes = move
         self.mapped[group][self.mapped[group].index(leaves)] = comes
         self.pairs.setdefault(group, []).append([leaves, comes])
@@ -402,26 +438,27 @@ class Board:
 
 # Lines
 
-def group_of(text):
+
+def group_of(text: str) -> Group:
     pool, number = text.split(".")
     return int(pool), int(number, 16)
 
 
-def group_text(group):
+def group_text(group: Group) -> str:
     return f"{group[0]}.{group[1]:x}"
 
 
-def set_text(places):
+def set_text(places: Places) -> str:
     return "[" + ",".join("none" if osd is None else str(osd) for osd in places) + "]"
 
 
-def placed(cluster, text):
+def placed(cluster: Cluster, text: str) -> str:
     """The up set of a group and its primary."""
     places = cluster.up(group_of(text))
     return f"{set_text(places)} {next((osd for osd in places if osd is not None), -1)}"
 
 
-def answer(cluster, line):
+def answer(cluster: Cluster, line: str) -> str:
     """The answer of a line."""
     word, _, rest = line.partition(" ")
     if word == "epoch":
@@ -442,13 +479,13 @@ def answer(cluster, line):
     return f"moved {moves} epoch {cluster.epoch}"
 
 
-def answers(value, lines):
+def answers(value: Json, lines: list[str]) -> list[str]:
     """The answers of the lines of a session over a map."""
     cluster = Cluster(value)
     return [answer(cluster, line) for line in lines if line]
 
 
-def main():
+def main() -> None:
     if len(sys.argv) != 3:
         sys.exit(__doc__.strip())
     with open(sys.argv[1], encoding="utf-8") as text, open(sys.argv[2], encoding="utf-8") as script:

@@ -1,39 +1,96 @@
-#!/usr/bin/env python3
-"""The pages say what stands in the repository: the program of docs/LIBRARY.md, the function of README.md, names, calls,
-targets, options, files, links, crates and their files, the chain of proofs, the edits that must not prove, and figures.
-
-    tests/pages.py
-"""
+"""The pages say what stands in the repository: the program of docs/LIBRARY.md, the function of README.md, names,
+calls, targets, options, files, links, crates and their files, the chain of proofs, the edits that must not prove,
+and figures."""
 
 import pathlib
 import re
-import sys
+import unittest
 
-TOP = pathlib.Path(__file__).resolve().parent.parent
+from tests.cases import TOP, Case
+
 # Names of other libraries, and of Ceph's options, that a page speaks of and no file has.
 OF_OTHERS = {"dedup_by", "BufRead", "upmap_max_deviation"}
 # Options of the kit, of Python's tools, of valgrind and of Ceph's tools that pages speak of.
-OPTIONS_OF_OTHERS = {"--allow-holes", "--anew", "--format", "--jobs", "--only", "--no-build-isolation", "--strict",
-                     "--system-site-packages", "--table", "--tool", "--test-map-pgs", "--upmap", "--upmap-cleanup"}
+OPTIONS_OF_OTHERS = {
+    "--allow-holes",
+    "--anew",
+    "--format",
+    "--jobs",
+    "--only",
+    "--strict",
+    "--table",
+    "--tool",
+    "--test-map-pgs",
+    "--upmap",
+    "--upmap-cleanup",
+}
 # Paths of other libraries, and of a place that a page makes up.
 PATHS_OF_OTHERS = {"Backoff", "Reader", "count"}
 # Names of other libraries' functions and of types that the kit has, and words of scripts and answers.
-OTHER_NAMES = {"append", "format", "get", "insert", "lookup", "pop", "spare", "swap_remove", "to_float", "to_i64", "to_u64", "i128",
-               "always_out_of_memory", "hold_always_gives_back", "await", "fup", "fdump", "ok", "osdmaptool"}
+OTHER_NAMES = {
+    "append",
+    "format",
+    "get",
+    "insert",
+    "lookup",
+    "pop",
+    "spare",
+    "swap_remove",
+    "to_float",
+    "to_i64",
+    "to_u64",
+    "i128",
+    "always_out_of_memory",
+    "hold_always_gives_back",
+    "await",
+    "fup",
+    "fdump",
+    "ok",
+    "osdmaptool",
+}
 # Times that pages state and nobody measured: limits, pauses, and what follows from a figure.
 STATED_TIMES = {("60", "seconds"), ("20", "minutes"), ("250", "microseconds"), ("twenty", "hours")}
 # What pages once said and was false.
 FALSE = [
-    "`lefts`", "Only other laws stand on these", "stands in a crate beside the chain", "One tuple is left", "thirteen numbers",
-    "takes 1,586", "takes 602", "a group instead of 37", "It takes one to three minutes and proves nothing", "take 0.02 seconds",
-    "0.03 seconds in a replicated pool", "0.26 in an erasure pool", "take a tenth of a second", "1,951 instructions", "Measured on:",
-    "a map of 131,072 groups (32 pools of 4,096)", "and the primary and not the up set", "`import` and `check` tell every reason",
-    "groups were placed anew", "taken all its turns", "One thing has one word. ", "No crate has more than 110 functions",
-    "Two numbers also stand bare", "a writer tells its answer", "with two answers left free", "also of a live session (`IsLeftIn`)",
-    "an answer of a monitor that nobody has changed is that of the map", "| A refused change changes nothing |",
+    "`lefts`",
+    "Only other laws stand on these",
+    "stands in a crate beside the chain",
+    "One tuple is left",
+    "thirteen numbers",
+    "takes 1,586",
+    "takes 602",
+    "a group instead of 37",
+    "It takes one to three minutes and proves nothing",
+    "take 0.02 seconds",
+    "0.03 seconds in a replicated pool",
+    "0.26 in an erasure pool",
+    "take a tenth of a second",
+    "1,951 instructions",
+    "Measured on:",
+    "a map of 131,072 groups (32 pools of 4,096)",
+    "and the primary and not the up set",
+    "`import` and `check` tell every reason",
+    "groups were placed anew",
+    "taken all its turns",
+    "One thing has one word. ",
+    "No crate has more than 110 functions",
+    "Two numbers also stand bare",
+    "a writer tells its answer",
+    "with two answers left free",
+    "also of a live session (`IsLeftIn`)",
+    "an answer of a monitor that nobody has changed is that of the map",
+    "| A refused change changes nothing |",
 ]
 # What comments said in other words than the pages, or falsely.
-FALSE_IN_COMMENTS = ["Of so many OSDs nothing is known", "growth was refused", "growth may be refused", "want of memory", "1 to 32", "no rules or more than 32,", "placed anew"]
+FALSE_IN_COMMENTS = [
+    "Of so many OSDs nothing is known",
+    "growth was refused",
+    "growth may be refused",
+    "want of memory",
+    "1 to 32",
+    "no rules or more than 32,",
+    "placed anew",
+]
 # What a command line has of itself.
 OF_PARSERS = {"--help", "--version"}
 DIGITS = "one two three four five six seven eight nine ten".split()
@@ -43,42 +100,49 @@ NUMBER = r"\d(?:[\d,]*\d)?(?:\.\d+)?"
 UNITS = {"min": "minutes", "minute": "minutes", "s": "seconds", "second": "seconds", "hour": "hours"}
 
 
-def text(*names):
+def text(*names: str) -> str:
     """The text of a file by its path from the top."""
     return TOP.joinpath(*names).read_text(encoding="utf-8")
 
 
-def pages():
+def pages() -> list[pathlib.Path]:
     """Each page by its path."""
     below = [TOP / folder / "README.md" for folder in ("examples", "tools", "crates", "tests", "bench")]
     return [*sorted(TOP.glob("*.md")), *below, *sorted((TOP / "docs").glob("*.md")), *sorted(RESULTS.glob("*.md"))]
 
 
-def flat(page):
+def flat(page: pathlib.Path) -> str:
     """The text of a page in one line."""
     return " ".join(page.read_text(encoding="utf-8").split())
 
 
-def stands_on():
+def stands_on() -> dict[str, set[str]]:
     """The crates that each crate stands on, by crates.txt."""
     lines = re.findall(r"^(\w+)\b[^:\n]*:(.*)$", text("crates.txt"), re.MULTILINE)
     crates = {name for name, _ in lines}
     return {name: crates.intersection(below.split()) for name, below in lines}
 
 
-def code_of(page):
+def code_of(page: pathlib.Path) -> str:
     """What a page shows as code: between backticks, and in blocks."""
     shown = page.read_text(encoding="utf-8")
     return "\n".join(re.findall("`[^`\n]+`", shown) + re.findall("^ {4}.*$", shown, re.MULTILINE))
 
 
-def anchors(page):
+def anchors(page: pathlib.Path) -> set[str]:
     """The headings of a page, as links name them."""
     headings = re.findall(r"^#+ (.*)$", page.read_text(encoding="utf-8"), re.MULTILINE)
     return {re.sub(r"[^\w\- ]", "", heading.lower()).replace(" ", "-") for heading in headings}
 
 
-def figures(page):
+def found_in(pattern: str, page: str, flags: int = 0) -> str:
+    """What the first group of a pattern finds in a page; without a group, what the pattern does."""
+    found = re.search(pattern, page, flags)
+    assert found, f"{pattern} is not in the page"
+    return found[min(1, found.re.groups)]
+
+
+def figures(page: str) -> set[tuple[str, str]]:
     """The figures of a page: each number before a unit of time or a gigabyte, of a range both."""
     number = rf"\d[\d,.]*|{'|'.join(NUMBERS)}"
     units = "min|minutes?|s|seconds?|hours?|ms|µs|ns|GB|microseconds|milliseconds|instructions"
@@ -86,194 +150,257 @@ def figures(page):
     return {(NUMBERS.get(one, one), UNITS.get(unit, unit)) for low, high, unit in found for one in (low, high) if one}
 
 
-def test_program_of_the_library():
-    """The program that docs/LIBRARY.md shows is the one that the gate proves and runs, and so is what it prints"""
-    page = text("docs", "LIBRARY.md")
-    for name in ("src/main.rt", "stdout"):
-        lines = text("crates", "library_example", name).splitlines(keepends=True)
-        assert "".join(f"    {line}" if line.strip() else line for line in lines) in page, name
-
-
-def test_function_of_the_readme():
-    """The function that README.md reads aloud stands in its crate as it is shown, but for an attribute"""
-    shown = text("README.md").split("## One function, read aloud\n\n")[1].split("\n\n")[0]
-    source = re.sub(r"^ *#\[tactic\(.*\n", "", text("crates", "osdmap", "src", "placement.rt"), flags=re.MULTILINE)
-    assert shown.startswith("    /// ") and f"{shown}\n    {{\n" in source, shown
-
-
-def test_names():
-    """A name that a page says between backticks stands in a file, is of others, or is that of a wrong body"""
-    forms = [(folder, end) for folder in ("crates", "tests", "tools", "bench") for end in ("rt", "antt", "edit", "py", "json", "c")]
-    files = [path for folder, end in forms for path in (TOP / folder).rglob(f"*.{end}") if "out" not in path.relative_to(TOP).parts]
-    wrong = re.findall(r"^\| (`.*?) \|", text("docs", "PROVED.md"), re.MULTILINE)
-    known = OF_OTHERS.union(*(re.findall(r"\w+", part) for part in [*wrong, *(f"{path.stem} {path.read_text('utf-8')}" for path in files)]))
-    for page in pages():
-        said = re.findall(r"\w+", " ".join(re.findall("`[^`\n]+`", page.read_text("utf-8"))))
-        unknown = {name for name in said if re.match("[A-Z][a-z]+[A-Z]|.*_.", name) and name not in known}
-        assert not unknown, (page.name, unknown)
-
-
-def test_targets():
-    """Each target of `make` that a page names is one of the Makefile"""
-    known = set(re.search(r"^\.PHONY: (.*)$", text("Makefile"), re.MULTILINE)[1].split())
-    said = {(page.name, target) for page in pages() for target in re.findall(r"\bmake ([a-z]+)", code_of(page))}
-    unknown = {named for named in said if named[1] not in known}
-    assert len(said) > 5 and not unknown, unknown
-
-
-def test_options():
-    """Each option that a page names is one of the program, of the tools, or of others"""
-    own = re.findall(r'\.long\("([\w-]+)"\)', text("crates", "osdmapd", "src", "line.rt"))
-    known = OF_PARSERS | {f"--{name}" for name in own}
-    for path in sorted((TOP / "tools" / "rekhuso").glob("*.py")):
-        known.update(re.findall(r'"(--[a-z][\w-]*)"', path.read_text(encoding="utf-8")))
-    said = {(page.name, option) for page in pages() for option in re.findall(r"(?<![\w-])--[a-z][\w-]*", code_of(page))}
-    unknown = {named for named in said if named[1] not in known | OPTIONS_OF_OTHERS}
-    idle = OPTIONS_OF_OTHERS - {option for _, option in said}
-    assert len(own) == 3 and not unknown and not idle, (unknown, idle)
-
-
-def test_files():
-    """Each file of the repository that a page names is there"""
-    paths = [path.relative_to(TOP) for path in TOP.rglob("*") if path.is_file()]
-    there = [f"/{path}" for path in paths if not {".git", "out"} & {*path.parts}]
-    form = r"(?<![\w./~-])(?:\w[\w-]*/)+[\w-]+\.(?:py|json|md|rt|antt|svg|txt|c)\b|\b\w+\.(?:py|rt|antt)\b(?!\.)"
-    said = {(page.name, name) for page in pages() if page.name != "CHANGELOG.md" for name in re.findall(form, code_of(page))}
-    missing = {named for named in said if not any(path.endswith(f"/{named[1]}") for path in there)}
-    assert len(said) > 50 and not missing, missing
-
-
-def test_links():
-    """Each link of a page leads to a file that is there, and to a heading that it has"""
-    for page in pages():
-        for link in re.findall(r"\]\(([^)]*)\)", page.read_text(encoding="utf-8")):
-            name, _, anchor = link.partition("#")
-            path = page.parent / name if name else page
-            is_there = path.exists() and (not anchor or anchor in anchors(path))
-            assert link.startswith("http") or is_there, (page.name, link)
-
-
-def test_tables_of_files():
-    """The table of files with which a crate begins names each file of its src/, and no other"""
-    tables = {}
-    for page in sorted((TOP / "crates").glob("*/src/lib.rt")):
-        entries = re.findall("^//! - ([^:]*):", page.read_text(encoding="utf-8"), re.MULTILINE)
-        files = {path.relative_to(page.parent).with_suffix("").as_posix() for path in page.parent.rglob("*.rt")} - {"lib"}
-        named = set(re.findall("`([^`]+)`", " ".join(entries)))
-        assert not entries or named == files, (page.parent.parent.name, named ^ files)
-        tables[page] = bool(entries) or len(files) < 2
-    assert sum(tables.values()) > 20 and all(tables.values()), [page for page, is_there in tables.items() if not is_there]
-
-
-def test_crates():
-    """crates/README.md and docs/DESIGN.md have a line for each crate, and for no other"""
-    crates = set(re.findall(r"^(\w+)\b[^:\n]*:", text("crates.txt"), re.MULTILINE))
-    floors = set(re.findall(r"\[`(\w+)`\]\(", text("crates", "README.md")))
-    layers = set(re.findall(r"^\| `(\w+)` \|", text("docs", "DESIGN.md").split("\n## Libraries\n")[0], re.MULTILINE))
-    assert len(crates) > 20 and floors == layers == crates, (floors ^ crates, layers ^ crates)
-
-
-def test_figures():
-    """Each figure of a page stands in bench/results, and so does each number of the results in docs/SPEEDS.md"""
-    kept = set(re.findall(NUMBER, " ".join(path.read_text(encoding="utf-8") for path in RESULTS.glob("*.md"))))
-    said = {(page.name, *figure) for page in pages() if page.name != "CHANGELOG.md" for figure in figures(flat(page))}
-    missing = {figure for figure in said if figure[1] not in kept and figure[1:] not in STATED_TIMES}
-    assert len(said) > 30 and not missing, missing
-    rows = [row.split("|") for row in re.findall(r"^\|.*results/.*$", text("docs", "SPEEDS.md"), re.MULTILINE)]
-    numbers = {number for row in rows for number in re.findall(NUMBER, row[2])}
-    assert len(rows) == 12 and len(numbers) > 20 and numbers <= kept, numbers - kept
-
-
-def test_false_sentences():
-    """No page and no comment says again what was found to be false"""
-    said = {(page.name, sentence) for page in pages() for sentence in FALSE if sentence in f"{flat(page)} "}
-    paths = [path for part in ("src", "specs") for end in ("rt", "antt") for path in (TOP / "crates").glob(f"*/{part}/**/*.{end}")]
-    paths += (TOP / "tools" / "rekhuso").glob("*.py")
-    said.update((str(path), words) for path in paths for words in FALSE_IN_COMMENTS if words in " ".join(path.read_text("utf-8").replace("///", "").split()))
-    assert len(paths) > 100 and not said, said
-
-
-def declared():
+def declared() -> tuple[set[str], set[str]]:
     """The functions of the sources; and with them all else that they declare: types, modules, definitions."""
-    sources = {path: path.read_text("utf-8") for end in ("rt", "antt") for path in (TOP / "crates").rglob(f"*.{end}") if "out" not in path.parts}
+    sources = {
+        path: path.read_text("utf-8")
+        for end in ("rt", "antt")
+        for path in (TOP / "crates").rglob(f"*.{end}")
+        if "out" not in path.parts
+    }
     code = "\n".join(text for path, text in sources.items() if path.suffix == ".rt")
     calls = set(re.findall(r"\bfn (\w+)", code))
-    items = calls.union(re.findall(r"\b(?:struct|enum|trait|const|type|mod) (\w+)", code), (path.stem for path in sources))
-    items |= set(re.findall(r"^(?:abbrev |unfoldable )?(?:pub )?(?:record |data )?(\w+)", "\n".join(sources.values()), re.MULTILINE))
+    items = calls.union(
+        re.findall(r"\b(?:struct|enum|trait|const|type|mod) (\w+)", code), (path.stem for path in sources)
+    )
+    items |= set(
+        re.findall(
+            r"^(?:abbrev |unfoldable )?(?:pub )?(?:record |data )?(\w+)", "\n".join(sources.values()), re.MULTILINE
+        )
+    )
     return calls, items
 
 
-def test_items():
-    """A bare name between backticks in the pages on the code is declared in the sources, a crate, a wrong body or a test, or of others"""
-    known = declared()[1] | OTHER_NAMES | set(re.findall(r"\w+", text("crates.txt")))
-    known.update(re.findall(r"^def (\w+)", "\n".join(path.read_text("utf-8") for path in (TOP / "tests").glob("*.py")), re.MULTILINE))
-    known.update(*(re.findall(r"\w+", row) for row in re.findall(r"^\| (`.*?) \|", text("docs", "PROVED.md"), re.MULTILINE)))
-    said = {(name, word) for name in ("DESIGN", "PROVED", "DECISIONS", "LIBRARY") for word in re.findall(r"`([a-z]\w+)`", text("docs", f"{name}.md"))}
-    unknown = {named for named in said if named[1] not in known}
-    assert len(said) > 200 and not unknown, unknown
+class Pages(Case):
+    """What pages say, beside the repository."""
 
+    def test_program_of_the_library(self) -> None:
+        """The program that docs/LIBRARY.md shows is the one that the gate proves and runs, and so is what it prints"""
+        page = text("docs", "LIBRARY.md")
+        for name in ("src/main.rt", "stdout"):
+            with self.subTest(name=name):
+                lines = text("crates", "library_example", name).splitlines(keepends=True)
+                self.assertIn("".join(f"    {line}" if line.strip() else line for line in lines), page, name)
 
-def test_calls():
-    """What a page names by a path, and each call of the way that docs/DESIGN.md follows, stands in the sources"""
-    calls, items = declared()
-    ends = {(page.name, end) for page in pages() if page.name != "CHANGELOG.md" for end in re.findall(r"`[^`\n]*?\w::(\w+)`", page.read_text("utf-8"))}
-    unknown = {end for end in ends if end[1] not in items | PATHS_OF_OTHERS}
-    way = re.search(r"reaches its answer by these calls:.*?\n\n", text("docs", "DESIGN.md"), re.DOTALL)[0]
-    named = {name.rpartition("::")[2] for name in re.findall(r"`([\w:]+)`", way)}
-    assert len(ends) > 20 and not unknown and len(named) > 15 and named <= calls, (unknown, named - calls)
+    def test_function_of_the_readme(self) -> None:
+        """The function that README.md reads aloud stands in its crate as it is shown, but for an attribute"""
+        shown = text("README.md").split("## One function, read aloud\n\n")[1].split("\n\n")[0]
+        source = re.sub(r"^ *#\[tactic\(.*\n", "", text("crates", "osdmap", "src", "placement.rt"), flags=re.MULTILINE)
+        self.assertStarts(shown, "    /// ")
+        self.assertIn(f"{shown}\n    {{\n", source)
 
+    def test_names(self) -> None:
+        """A name that a page says between backticks stands in a file, is of others, or is that of a wrong body"""
+        forms = [
+            (folder, end)
+            for folder in ("crates", "tests", "tools", "bench")
+            for end in ("rt", "antt", "edit", "py", "json", "c")
+        ]
+        files = [
+            path
+            for folder, end in forms
+            for path in (TOP / folder).rglob(f"*.{end}")
+            if "out" not in path.relative_to(TOP).parts
+        ]
+        wrong = re.findall(r"^\| (`.*?) \|", text("docs", "PROVED.md"), re.MULTILINE)
+        known = OF_OTHERS.union(
+            *(
+                re.findall(r"\w+", part)
+                for part in [*wrong, *(f"{path.stem} {path.read_text('utf-8')}" for path in files)]
+            )
+        )
+        for page in pages():
+            said = re.findall(r"\w+", " ".join(re.findall("`[^`\n]+`", page.read_text("utf-8"))))
+            unknown = {name for name in said if re.match("[A-Z][a-z]+[A-Z]|.*_.", name) and name not in known}
+            self.assertFalse(unknown, (page.name, unknown))
 
-def test_chain():
-    """The longest chain of proofs that docs/DESIGN.md names is one by crates.txt: each crate stands on the one before"""
-    below = stands_on()
-    length = {}
-    for name in below:  # A crate stands in crates.txt behind those that it stands on.
-        length[name] = 1 + max((length[one] for one in below[name]), default=0)
-    chain = re.search(r"longest chain of proofs is ([\w, ]+)\.", flat(TOP / "docs" / "DESIGN.md"))[1].split(", ")
-    steps = [(one, two) for one, two in zip(chain, chain[1:]) if one not in below.get(two, ())]
-    assert not steps and chain[-1] == "osdmapd" and len(chain) >= length["osdmapd"] - 1, (steps, length["osdmapd"], len(chain))
+    def test_targets(self) -> None:
+        """Each target of `make` that a page names is one of the Makefile"""
+        known = set(found_in(r"^\.PHONY: (.*)$", text("Makefile"), re.MULTILINE).split())
+        said = {(page.name, target) for page in pages() for target in re.findall(r"\bmake ([a-z]+)", code_of(page))}
+        unknown = {named for named in said if named[1] not in known}
+        self.assertGreater(len(said), 5, unknown)
+        self.assertFalse(unknown)
 
+    def test_options(self) -> None:
+        """Each option that a page names is one of the program, of the tools, or of others"""
+        own = re.findall(r'\.long\("([\w-]+)"\)', text("crates", "osdmapd", "src", "line.rt"))
+        known = OF_PARSERS | {f"--{name}" for name in own}
+        for path in sorted((TOP / "tools" / "rekhuso").rglob("*.py")):
+            known.update(re.findall(r'"(--[a-z][\w-]*)"', path.read_text(encoding="utf-8")))
+        said = {
+            (page.name, option) for page in pages() for option in re.findall(r"(?<![\w-])--[a-z][\w-]*", code_of(page))
+        }
+        unknown = {named for named in said if named[1] not in known | OPTIONS_OF_OTHERS}
+        idle = OPTIONS_OF_OTHERS - {option for _, option in said}
+        self.assertEqual(len(own), 3, (unknown, idle))
+        self.assertFalse(unknown, (unknown, idle))
+        self.assertFalse(idle, (unknown, idle))
 
-def test_width():
-    """A line of a page has at most 132 columns, but for tables"""
-    wide = [(page.name, line) for page in pages() for line in page.read_text("utf-8").splitlines() if len(line) > 132 and not line.startswith("|")]
-    assert not wide, wide[:5]
+    def test_files(self) -> None:
+        """Each file of the repository that a page names is there"""
+        paths = [path.relative_to(TOP) for path in TOP.rglob("*") if path.is_file()]
+        there = [f"/{path}" for path in paths if not {".git", "out"} & {*path.parts}]
+        form = r"(?<![\w./~-])(?:\w[\w-]*/)+[\w-]+\.(?:py|json|md|rt|antt|svg|txt|c)\b|\b\w+\.(?:py|rt|antt)\b(?!\.)"
+        said = {
+            (page.name, name)
+            for page in pages()
+            if page.name != "CHANGELOG.md"
+            for name in re.findall(form, code_of(page))
+        }
+        missing = {named for named in said if not any(path.endswith(f"/{named[1]}") for path in there)}
+        self.assertGreater(len(said), 50, missing)
+        self.assertFalse(missing)
 
+    def test_links(self) -> None:
+        """Each link of a page leads to a file that is there, and to a heading that it has"""
+        for page in pages():
+            for link in re.findall(r"\]\(([^)]*)\)", page.read_text(encoding="utf-8")):
+                name, _, anchor = link.partition("#")
+                path = page.parent / name if name else page
+                is_there = path.exists() and (not anchor or anchor in anchors(path))
+                self.assertTrue(link.startswith("http") or is_there, (page.name, link))
 
-def test_edits():
-    """The table of wrong bodies in docs/PROVED.md names each edit that must not prove, at its crate"""
-    rows = re.findall(r"^\| (.*) \| edits? of `(\w+)` \|$", text("docs", "PROVED.md"), re.MULTILINE)
-    said = {(crate, name) for names, crate in rows for name in re.findall(r"`(\w+)`", names)}
-    there = {(path.parent.parent.name, path.stem) for path in (TOP / "crates").glob("*/must-fail/*.edit")}
-    assert len(there) > 40 and said == there, said ^ there
+    def test_tables_of_files(self) -> None:
+        """The table of files with which a crate begins names each file of its src/, and no other"""
+        tables = {}
+        for page in sorted((TOP / "crates").glob("*/src/lib.rt")):
+            entries = re.findall("^//! - ([^:]*):", page.read_text(encoding="utf-8"), re.MULTILINE)
+            files = {path.relative_to(page.parent).with_suffix("").as_posix() for path in page.parent.rglob("*.rt")} - {
+                "lib"
+            }
+            named = set(re.findall("`([^`]+)`", " ".join(entries)))
+            self.assertTrue(not entries or named == files, (page.parent.parent.name, named ^ files))
+            tables[page] = bool(entries) or len(files) < 2
+        self.assertGreater(sum(tables.values()), 20)
+        self.assertTrue(all(tables.values()), [page for page, is_there in tables.items() if not is_there])
 
+    def test_crates(self) -> None:
+        """crates/README.md and docs/DESIGN.md have a line for each crate, and for no other"""
+        crates = set(re.findall(r"^(\w+)\b[^:\n]*:", text("crates.txt"), re.MULTILINE))
+        floors = set(re.findall(r"\[`(\w+)`\]\(", text("crates", "README.md")))
+        layers = set(
+            re.findall(r"^\| `(\w+)` \|", text("docs", "DESIGN.md").split("\n## Libraries\n")[0], re.MULTILINE)
+        )
+        self.assertGreater(len(crates), 20, (floors ^ crates, layers ^ crates))
+        self.assertEqual(floors, layers, (floors ^ crates, layers ^ crates))
+        self.assertEqual(layers, crates, (floors ^ crates, layers ^ crates))
 
-def test_files_of_folders():
-    """README.md of tests/ and of bench/ name each file of their folder, and examples/README.md the independent program"""
-    for folder in ("tests", "bench"):
-        named = set(re.findall(r"`([\w.]+)`", text(folder, "README.md")))
-        missing = {path.name for path in (TOP / folder).iterdir() if path.is_file()} - named - {"README.md"}
-        assert not missing, (folder, missing)
-    assert "`tests/model.py`" in text("examples", "README.md")
+    def test_figures(self) -> None:
+        """Each figure of a page stands in bench/results, and so does each number of the results in docs/SPEEDS.md"""
+        kept = set(re.findall(NUMBER, " ".join(path.read_text(encoding="utf-8") for path in RESULTS.glob("*.md"))))
+        said = {
+            (page.name, *figure) for page in pages() if page.name != "CHANGELOG.md" for figure in figures(flat(page))
+        }
+        missing = {figure for figure in said if figure[1] not in kept and figure[1:] not in STATED_TIMES}
+        self.assertGreater(len(said), 30, missing)
+        self.assertFalse(missing)
+        rows = [row.split("|") for row in re.findall(r"^\|.*results/.*$", text("docs", "SPEEDS.md"), re.MULTILINE)]
+        numbers = {number for row in rows for number in re.findall(NUMBER, row[2])}
+        self.assertEqual(len(rows), 12, numbers - kept)
+        self.assertGreater(len(numbers), 20, numbers - kept)
+        self.assertLessEqual(numbers, kept, numbers - kept)
 
+    def test_false_sentences(self) -> None:
+        """No page and no comment says again what was found to be false"""
+        said = {(page.name, sentence) for page in pages() for sentence in FALSE if sentence in f"{flat(page)} "}
+        paths = [
+            path
+            for part in ("src", "specs")
+            for end in ("rt", "antt")
+            for path in (TOP / "crates").glob(f"*/{part}/**/*.{end}")
+        ]
+        paths += (TOP / "tools" / "rekhuso").rglob("*.py")
+        said.update(
+            (str(path), words)
+            for path in paths
+            for words in FALSE_IN_COMMENTS
+            if words in " ".join(path.read_text("utf-8").replace("///", "").split())
+        )
+        self.assertGreater(len(paths), 100, said)
+        self.assertFalse(said)
 
-def tests():
-    """Each test with its name."""
-    return [(test.__doc__, test) for name, test in globals().items() if name.startswith("test_")]
+    def test_items(self) -> None:
+        """A bare name between backticks in the pages on the code is declared in the sources, a crate, a wrong body or a
+        test, or of others"""
+        known = declared()[1] | OTHER_NAMES | set(re.findall(r"\w+", text("crates.txt")))
+        known.update(
+            re.findall(
+                r"^ *def (\w+)",
+                "\n".join(path.read_text("utf-8") for path in (TOP / "tests").glob("*.py")),
+                re.MULTILINE,
+            )
+        )
+        known.update(
+            *(re.findall(r"\w+", row) for row in re.findall(r"^\| (`.*?) \|", text("docs", "PROVED.md"), re.MULTILINE))
+        )
+        said = {
+            (name, word)
+            for name in ("DESIGN", "PROVED", "DECISIONS", "LIBRARY")
+            for word in re.findall(r"`([a-z]\w+)`", text("docs", f"{name}.md"))
+        }
+        unknown = {named for named in said if named[1] not in known}
+        self.assertGreater(len(said), 200, unknown)
+        self.assertFalse(unknown)
 
+    def test_calls(self) -> None:
+        """What a page names by a path, and each call of the way that docs/DESIGN.md follows, stands in the sources"""
+        calls, items = declared()
+        ends = {
+            (page.name, end)
+            for page in pages()
+            if page.name != "CHANGELOG.md"
+            for end in re.findall(r"`[^`\n]*?\w::(\w+)`", page.read_text("utf-8"))
+        }
+        unknown = {end for end in ends if end[1] not in items | PATHS_OF_OTHERS}
+        way = found_in(r"reaches its answer by these calls:.*?\n\n", text("docs", "DESIGN.md"), re.DOTALL)
+        named = {name.rpartition("::")[2] for name in re.findall(r"`([\w:]+)`", way)}
+        self.assertGreater(len(ends), 20, (unknown, named - calls))
+        self.assertFalse(unknown, (unknown, named - calls))
+        self.assertGreater(len(named), 15, (unknown, named - calls))
+        self.assertLessEqual(named, calls, (unknown, named - calls))
 
-def main():
-    """Runs each test; the status is 1 where one has failed."""
-    failed = 0
-    for name, test in tests():
-        try:
-            test()
-            print(f"passed: {name}")
-        except Exception as fault:  # A test that breaks is a failed test, and the others are run.
-            failed += 1
-            print(f"FAILED: {name}\n    {type(fault).__name__}: {fault}"[:1200])
-    return 1 if failed else 0
+    def test_chain(self) -> None:
+        """The longest chain of proofs that docs/DESIGN.md names is one by crates.txt: each crate stands on the one
+        before"""
+        below = stands_on()
+        length: dict[str, int] = {}
+        for name in below:  # A crate stands in crates.txt behind those that it stands on.
+            length[name] = 1 + max((length[one] for one in below[name]), default=0)
+        chain = found_in(r"longest chain of proofs is ([\w, ]+)\.", flat(TOP / "docs" / "DESIGN.md")).split(", ")
+        steps = [(one, two) for one, two in zip(chain, chain[1:]) if one not in below.get(two, ())]
+        self.assertFalse(steps, (steps, length["osdmapd"], len(chain)))
+        self.assertEqual(chain[-1], "osdmapd", (steps, length["osdmapd"], len(chain)))
+        self.assertGreaterEqual(len(chain), length["osdmapd"] - 1, (steps, length["osdmapd"], len(chain)))
+
+    def test_width(self) -> None:
+        """A line of a page has at most 132 columns, but for tables"""
+        wide = [
+            (page.name, line)
+            for page in pages()
+            for line in page.read_text("utf-8").splitlines()
+            if len(line) > 132 and not line.startswith("|")
+        ]
+        self.assertFalse(wide)
+
+    def test_edits(self) -> None:
+        """The table of wrong bodies in docs/PROVED.md names each edit that must not prove, at its crate"""
+        rows = re.findall(r"^\| (.*) \| edits? of `(\w+)` \|$", text("docs", "PROVED.md"), re.MULTILINE)
+        said = {(crate, name) for names, crate in rows for name in re.findall(r"`(\w+)`", names)}
+        there = {(path.parent.parent.name, path.stem) for path in (TOP / "crates").glob("*/must-fail/*.edit")}
+        self.assertGreater(len(there), 40, said ^ there)
+        self.assertEqual(said, there, said ^ there)
+
+    def test_files_of_folders(self) -> None:
+        """README.md of tests/ and of bench/ name each file of their folder, and examples/README.md the independent
+        program"""
+        for folder in ("tests", "bench"):
+            with self.subTest(folder=folder):
+                named = set(re.findall(r"`([\w.]+)`", text(folder, "README.md")))
+                missing = {path.name for path in (TOP / folder).iterdir() if path.is_file()} - named - {"README.md"}
+                self.assertFalse(missing, (folder, missing))
+        self.assertIn("`tests/model.py`", text("examples", "README.md"))
 
 
 if __name__ == "__main__":
-    sys.exit(main())
+    unittest.main()

@@ -1,30 +1,47 @@
 """Greedy plans by brute force, over small random maps.
 
-    tests/run.py --table plans PROGRAM
-
-Each group has an explicit set, so that its mapped set is known without hashes. The plan is the one of the definition: as long as some allowed move
-closes a difference of deviations above the wanted one, the move with the greatest difference, ties to the lowest OSD that is left, then to the lowest that
-comes, then to the lowest group. A plan of a pool by itself wants a difference above the weight of all candidates; one that counts what OSDs carry goes by
-256ths of a group, and is asked for under `--stock`.
+Each group has an explicit set, so that its mapped set is known without hashes. The plan is the one of the definition:
+as long as some allowed move closes a difference of deviations above the wanted one, the move with the greatest
+difference, ties to the lowest OSD that is left, then to the lowest that comes, then to the lowest group. A plan of a
+pool by itself wants a difference above the weight of all candidates; one that counts what OSDs carry goes by 256ths of
+a group, and is asked for under `--stock`.
 """
 
 import json
 import random
-import sys
+from collections.abc import Iterator
 
+from tests.cases import RowCase
+from tests.clusters import Json
+from tests.rows import written
+from tests.runs import Run
+
+# A map, the hosts of its OSDs, the racks of its hosts, and the weights of its OSDs.
+RandomMap = tuple[Json, dict[int, int], dict[int, int] | None, dict[int, int]]
 SEED = 20261123
 
 
-def random_map(rng):
-    """Hosts with OSDs under one root, or under two racks; some OSDs down, lighter or out; and a pool whose groups all have explicit sets."""
+def random_map(rng: random.Random) -> RandomMap:
+    """Hosts with OSDs under one root, or under two racks; some OSDs down, lighter or out; and a pool whose groups all
+    have explicit sets."""
     hosts = rng.randint(2, 4)
-    osds, host_of, buckets, weight_of = [], {}, [], {}
+    osds: list[Json] = []
+    buckets: list[Json] = []
+    host_of: dict[int, int] = {}
+    weight_of: dict[int, int] = {}
     for host in range(hosts):
         for _ in range(rng.randint(1, 3)):
             osd = len(osds)
             host_of[osd] = host
             weight_of[osd] = 65536 * rng.choice([1, 1, 2])
-            osds.append({"exists": True, "id": osd, "up": rng.random() < 0.85, "weight": rng.choice([65536, 65536, 65536, 32768])})
+            osds.append(
+                {
+                    "exists": True,
+                    "id": osd,
+                    "up": rng.random() < 0.85,
+                    "weight": rng.choice([65536, 65536, 65536, 32768]),
+                }
+            )
     spare = len(osds)
     osds.append({"exists": True, "id": spare, "up": True, "weight": 65536})
     racked = rng.random() < 0.4
@@ -48,15 +65,30 @@ def random_map(rng):
         osds_of = [rng.choice([osd for osd in host_of if host_of[osd] == host]) for host in chosen]
         sets.append([f"1.{group:x}", osds_of])
     value = {
-        "buckets": sorted(buckets, key=lambda b: -b["id"]), "epoch": 1, "max_osd": len(osds), "osds": osds, "pg_upmap": sets,
-        "pg_upmap_items": [], "pools": [{"id": 1, "kind": "replicated", "pg_num": groups, "pgp_num": groups, "rule": 0, "size": size}],
-        "rules": [{"id": 0, "kind": "replicated", "steps": steps}], "version": 1,
+        "buckets": sorted(buckets, key=lambda bucket: -int(bucket["id"])),
+        "epoch": 1,
+        "max_osd": len(osds),
+        "osds": osds,
+        "pg_upmap": sets,
+        "pg_upmap_items": [],
+        "pools": [{"id": 1, "kind": "replicated", "pg_num": groups, "pgp_num": groups, "rule": 0, "size": size}],
+        "rules": [{"id": 0, "kind": "replicated", "steps": steps}],
+        "version": 1,
     }
     return value, host_of, rack_of if racked else None, weight_of
 
 
-def plan(value, host_of, rack_of, weight_of, limit, carried=None, apart=256):
-    """The moves of the greedy plan, and the mapped sets after it, where OSDs carry so much and are to be so far apart, in 256ths of a group."""
+def plan(
+    value: Json,
+    host_of: dict[int, int],
+    rack_of: dict[int, int] | None,
+    weight_of: dict[int, int],
+    limit: int,
+    carried: dict[int, int] | None = None,
+    apart: int = 256,
+) -> tuple[int, list[list[int]]]:
+    """The moves of the greedy plan, and the mapped sets after it, where OSDs carry so much and are to be so far apart,
+    in 256ths of a group."""
     osds = {osd["id"]: osd for osd in value["osds"]}
     size = value["pools"][0]["size"]
     mapped = [list(places) for _, places in value["pg_upmap"]]
@@ -65,10 +97,10 @@ def plan(value, host_of, rack_of, weight_of, limit, carried=None, apart=256):
     weight = {osd: weight_of[osd] * osds[osd]["weight"] for osd in candidates}
     total = sum(weight.values())
 
-    def rack(osd):
+    def rack(osd: int) -> int | None:
         return rack_of[host_of[osd]] if rack_of is not None and osd in host_of else None
 
-    def is_allowed(group, leaves, comes):
+    def is_allowed(group: int, leaves: int, comes: int) -> bool:
         places = mapped[group]
         if places.count(leaves) != 1 or comes in places or pairs[group] >= size or rack(leaves) != rack(comes):
             return False
@@ -78,11 +110,17 @@ def plan(value, host_of, rack_of, weight_of, limit, carried=None, apart=256):
     while moves < limit:
         count = {osd: sum(osd in places for places in mapped) for osd in candidates}
         places = sum(count.values())
-        away = {osd: 256 * (count[osd] * total - places * weight[osd]) + (carried or {}).get(osd, 0) * total for osd in candidates}
+        away = {
+            osd: 256 * (count[osd] * total - places * weight[osd]) + (carried or {}).get(osd, 0) * total
+            for osd in candidates
+        }
         good = [
             (-(away[leaves] - away[comes]), leaves, comes, group)
-            for leaves in candidates for comes in candidates if away[leaves] - away[comes] > apart * total + 255
-            for group in range(len(mapped)) if is_allowed(group, leaves, comes)
+            for leaves in candidates
+            for comes in candidates
+            if away[leaves] - away[comes] > apart * total + 255
+            for group in range(len(mapped))
+            if is_allowed(group, leaves, comes)
         ]
         if not good:
             break
@@ -93,21 +131,29 @@ def plan(value, host_of, rack_of, weight_of, limit, carried=None, apart=256):
     return moves, mapped
 
 
-def random_loads(rng, osds):
-    """What some OSDs carry, in any order, some of it small, some of it whole groups, some of it more than can be evened."""
+def random_loads(rng: random.Random, osds: int) -> dict[int, int]:
+    """What some OSDs carry, in any order, some of it small, some of it whole groups, some of it more than can be
+    evened."""
     named = rng.sample(range(osds), rng.randint(0, osds))
-    return {osd: rng.choice([0, rng.randint(-300, 300), 256 * rng.randint(-3, 3), -(2 ** 31), 2 ** 31 - 1, rng.randint(-256, 256)]) for osd in named}
+    return {
+        osd: rng.choice(
+            [0, rng.randint(-300, 300), 256 * rng.randint(-3, 3), -(2**31), 2**31 - 1, rng.randint(-256, 256)]
+        )
+        for osd in named
+    }
 
 
-def cases(how_many, is_carrying=False):
-    """Names, maps, scripts and answers; where OSDs carry something, of lines that say so."""
+def cases(how_many: int, is_carrying: bool = False) -> Iterator[Run]:
+    """Runs that ask for a plan and then for all sets and counts; where OSDs carry something, the lines say so."""
     rng = random.Random(SEED + is_carrying)
     for case in range(how_many):
         value, host_of, rack_of, weight_of = random_map(rng)
         limit = rng.choice([1, 2, 1024])
         carried, apart, words = {}, 256, ""
         if is_carrying:
-            carried, apart = random_loads(rng, len(value["osds"])), rng.choice([256, 256, 257, 300, 512, 1024, 2 ** 32 - 1])
+            carried, apart = random_loads(rng, len(value["osds"])), rng.choice(
+                [256, 256, 257, 300, 512, 1024, 2**32 - 1]
+            )
             words = f" {apart} {json.dumps([[osd, load] for osd, load in carried.items()])}"
         moves, mapped = plan(value, host_of, rack_of, weight_of, limit, carried, apart)
         epoch = 2 if moves else 1
@@ -120,8 +166,19 @@ def cases(how_many, is_carrying=False):
         for osd in sorted(up):
             lines.append(f"count {osd}")
             answers.append(f"count {epoch} {osd} {sum(osd in places for places in mapped)}")
-        yield f"plan {case}{' with loads' * is_carrying}", json.dumps(value, sort_keys=True, separators=(",", ":")), lines, answers
+        output = "".join(answer + "\n" for answer in ["session 1", *answers])
+        files: dict[str, str | bytes | None] = {"map": written(value), "script": "".join(line + "\n" for line in lines)}
+        arguments = ["--stock"] * is_carrying + ["map", "script"]
+        yield Run(f"plan {case}{' with loads' * is_carrying}", files, output, arguments=arguments)
 
 
-if __name__ == "__main__":
-    sys.exit(__doc__.strip())
+class Plans(RowCase):
+    """The program's plans beside the greedy ones."""
+
+    def test_by_themselves(self) -> None:
+        """Plans of a pool by itself."""
+        self.check_runs(cases(300))
+
+    def test_with_loads(self) -> None:
+        """Plans that count what OSDs carry from other pools."""
+        self.check_runs(cases(300, True))

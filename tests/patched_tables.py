@@ -1,23 +1,27 @@
 """The table that patches lead to, beside the table built anew.
 
-    anew.py PROGRAM
-
-Each history is a small random map and a dozen random changes of all parts. After each change a script asks for every group's up set and for the
-count and the groups of every OSD, and writes the map. A second run opens the map that was written, whose table is built anew, and asks the same:
-the answers must be the same. So what a patch made is compared with what the map alone defines. Under `--stock` the buckets of a history may be
-straw2 too, whose items weigh as they like, and all answers must be those of model.py as well.
+Each history is a small random map and a dozen random changes of all parts. After each change a script asks for every
+group's up set and for the count and the groups of every OSD, and writes the map. A second run opens the map that was
+written, whose table is built anew, and asks the same: the answers must be the same. So what a patch made is compared
+with what the map alone defines. Under `--stock` the buckets of a history may be straw2 too, whose items weigh as they
+like, and all answers must be those of model.py as well.
 """
 
 import json
 import pathlib
 import random
 import subprocess
-import sys
 import tempfile
+from collections.abc import Callable, Iterable, Iterator
+from typing import Any
 
-import given
-import model
+from tests import model
+from tests.cases import RowCase
+from tests.clusters import Json
+from tests.runs import Check
 
+# The pools of a map by their numbers.
+Pools = dict[int, Json]
 SEED = 20261123
 HISTORIES = 30
 CHANGES = 12
@@ -28,16 +32,19 @@ STOCK = (*KINDS, *["straw2"] * 3)
 KIND_OF = ("replicated", "erasure", "replicated", "replicated", "replicated")
 
 
-def loosened(rng, bucket):
+def loosened(rng: random.Random, bucket: Json) -> Json:
     """A bucket; where it is a straw2 bucket, with weights that differ."""
     if bucket["kind"] == "straw2":
-        bucket["items"] = [[item, rng.choice([1, 65536, 65537, rng.randint(1, 2 ** 30)])] for item, _ in bucket["items"]]
+        bucket["items"] = [
+            [item, rng.choice([1, 65536, 65537, rng.randint(1, 2**30)])] for item, _ in bucket["items"]
+        ]
     return bucket
 
 
-def random_forest(rng, osds, kinds):
+def random_forest(rng: random.Random, osds: int, kinds: tuple[str, ...]) -> tuple[list[Json], list[Json]]:
     """Hosts of two or three OSDs under one root, and rules over them."""
-    hosts, buckets = [], []
+    hosts: list[int] = []
+    buckets: list[Json] = []
     free = rng.sample(range(osds), osds)
     while free:
         took = [free.pop() for _ in range(min(len(free), rng.randint(2, 3)))]
@@ -49,54 +56,79 @@ def random_forest(rng, osds, kinds):
     return [root] + buckets, random_rules(rng, hosts, kinds)
 
 
-def random_rules(rng, hosts, kinds):
+def random_rules(rng: random.Random, hosts: list[int], kinds: tuple[str, ...]) -> list[Json]:
     """Rules of both kinds over hosts and over OSDs. One takes twice; one sets tries first, where no model follows."""
-    def block(host, count):
+
+    def block(host: int, count: int) -> list[list[Any]]:
         return [["take", host], ["choose_firstn", count, 0], ["emit"]]
 
-    tries = [] if "straw2" in kinds else [["set_choose_tries", rng.randint(1, 60)]]
+    tries: list[list[Any]] = [] if "straw2" in kinds else [["set_choose_tries", rng.randint(1, 60)]]
     one, other, third, fourth = (rng.choice(hosts) for _ in range(4))
-    steps = [[["take", -1], [step, 0, 1], ["emit"]] for step in ("chooseleaf_firstn", "chooseleaf_indep")]
+    steps: list[list[list[Any]]] = [
+        [["take", -1], [step, 0, 1], ["emit"]] for step in ("chooseleaf_firstn", "chooseleaf_indep")
+    ]
     steps += [block(one, 0), block(other, 1) + block(third, 0), tries + block(fourth, 0)]
     return [{"id": rule, "kind": KIND_OF[rule], "steps": own} for rule, own in enumerate(steps)]
 
 
-def random_pool(rng, number):
+def random_pool(rng: random.Random, number: int) -> Json:
     rule = rng.randrange(len(KIND_OF))
     groups = rng.randint(1, 12)
-    return {"id": number, "kind": KIND_OF[rule], "pg_num": groups, "pgp_num": rng.randint(1, groups),
-            "rule": rule, "size": rng.randint(1, 4)}
+    return {
+        "id": number,
+        "kind": KIND_OF[rule],
+        "pg_num": groups,
+        "pgp_num": rng.randint(1, groups),
+        "rule": rule,
+        "size": rng.randint(1, 4),
+    }
 
 
-def random_map(rng, kinds):
+def random_map(rng: random.Random, kinds: tuple[str, ...]) -> Json:
     osds = rng.randint(4, 12)
     buckets, rules = random_forest(rng, osds, kinds)
     pools = [random_pool(rng, number) for number in rng.sample(range(1, 9), rng.randint(1, 3))]
-    states = [{"exists": True, "id": osd, "up": rng.random() < 0.8, "weight": rng.choice([65536, 65536, 32768, 0])} for osd in range(osds)]
-    return {"buckets": buckets, "epoch": 1, "max_osd": osds, "osds": states, "pools": sorted(pools, key=lambda p: p["id"]),
-            "rules": rules, "version": 1 if "straw2" in kinds else 2}
+    states = [
+        {"exists": True, "id": osd, "up": rng.random() < 0.8, "weight": rng.choice([65536, 65536, 32768, 0])}
+        for osd in range(osds)
+    ]
+    return {
+        "buckets": buckets,
+        "epoch": 1,
+        "max_osd": osds,
+        "osds": states,
+        "pools": sorted(pools, key=lambda pool: int(pool["id"])),
+        "rules": rules,
+        "version": 1 if "straw2" in kinds else 2,
+    }
 
 
-def some(rng, values, most):
-    values = list(values)
-    return rng.sample(values, min(len(values), rng.randint(1, most)))
+def some(rng: random.Random, values: Iterable[Any], most: int) -> list[Any]:
+    all_values = list(values)
+    return rng.sample(all_values, min(len(all_values), rng.randint(1, most)))
 
 
-def groups_of(pools):
+def groups_of(pools: Pools) -> list[tuple[int, int]]:
     return [(pool, number) for pool in pools for number in range(pools[pool]["pg_num"])]
 
 
-def random_change(rng, osds, pools, kinds):
+def random_change(rng: random.Random, osds: int, pools: Pools, kinds: tuple[str, ...]) -> Json:
     """A change that is not refused, of one to three parts; the pools are then those after it."""
-    change = {}
-    for part in rng.sample(["down", "up", "weight", "pools", "grow", "crush", "upmap", "items", "clear"], rng.randint(1, 3)):
+    change: dict[str, Any] = {}
+    for part in rng.sample(
+        ["down", "up", "weight", "pools", "grow", "crush", "upmap", "items", "clear"], rng.randint(1, 3)
+    ):
         if part in ("down", "up"):
-            change[part] = [osd for osd in some(rng, range(osds), 3) if osd not in change.get("up", []) + change.get("down", [])]
+            change[part] = [
+                osd for osd in some(rng, range(osds), 3) if osd not in change.get("up", []) + change.get("down", [])
+            ]
         elif part == "weight":
             change["weight"] = [[osd, rng.choice([0, 32768, 65536])] for osd in some(rng, range(osds), 2)]
         elif part == "pools":
             if len(pools) > 1 and rng.random() < 0.5:
-                gone = rng.choice([number for number in pools if [number] != [entry[0] for entry in change.get("grow_pool", [])]])
+                gone = rng.choice(
+                    [number for number in pools if [number] != [entry[0] for entry in change.get("grow_pool", [])]]
+                )
                 change["old_pools"] = [gone]
                 del pools[gone]
             else:
@@ -119,18 +151,20 @@ def random_change(rng, osds, pools, kinds):
     return change
 
 
-def exceptions(rng, osds, pools, change):
+def exceptions(rng: random.Random, osds: int, pools: Pools, change: Json) -> None:
     """Explicit sets and pairs that come or go, of groups of the pools after the change."""
     for pool, number in some(rng, groups_of(pools), 3) if rng.random() < 0.6 else []:
         name, size = f"{pool}.{number:x}", pools[pool]["size"]
         explicit, items = rng.choice(["old_upmap", "new_upmap", None]), rng.choice(["old_items", "new_items", None])
-        come = {"new_upmap": [name, rng.sample(range(osds), rng.randint(1, min(osds, size)))],
-                "new_items": [name, [rng.sample(range(osds), 2) for _ in range(rng.randint(1, size))]]}
+        come = {
+            "new_upmap": [name, rng.sample(range(osds), rng.randint(1, min(osds, size)))],
+            "new_items": [name, [rng.sample(range(osds), 2) for _ in range(rng.randint(1, size))]],
+        }
         for key in filter(None, (explicit, items)):
             change.setdefault(key, []).append(come.get(key, name))
 
 
-def questions(osds, pools):
+def questions(osds: int, pools: Pools) -> list[str]:
     """Every group's up set, every OSD's count and groups, and the map."""
     lines = [f"up {pool}.{number:x}" for pool, number in groups_of(pools)]
     return lines + [f"{word} {osd}" for word in ("count", "groups") for osd in range(osds)] + ["dump"]
@@ -139,7 +173,7 @@ def questions(osds, pools):
 class History:
     """The first map of a seed, and the lines of a script: changes, each with the questions that follow it."""
 
-    def __init__(self, seed, kinds):
+    def __init__(self, seed: int, kinds: tuple[str, ...]) -> None:
         rng = random.Random(seed)
         self.name, self.words, self.first = f"history {seed}", ["--stock"] * ("straw2" in kinds), random_map(rng, kinds)
         osds, pools = self.first["max_osd"], {pool["id"]: pool for pool in self.first["pools"]}
@@ -150,45 +184,58 @@ class History:
             self.asked.append((len(self.lines), questions(osds, pools)))
             self.lines += self.asked[-1][1]
 
-    def answers(self, program, folder, text, lines):
+    def answers(self, program: pathlib.Path, folder: pathlib.Path, text: str, lines: list[str]) -> list[str]:
         """What a run answers to these lines."""
         (folder / "map").write_text(text)
         (folder / "script").write_text("".join(line + "\n" for line in lines))
-        words = [program, *self.words, str(folder / "map"), str(folder / "script")]
+        words = [str(program), *self.words, str(folder / "map"), str(folder / "script")]
         return subprocess.run(words, capture_output=True, text=True, check=True, timeout=60).stdout.splitlines()[1:]
 
-    def faults(self, program, folder):
+    def faults(self, program: pathlib.Path, folder: pathlib.Path) -> list[str]:
         """What differs of the history, in words; none is the empty list."""
         patched, wrong = self.answers(program, folder, json.dumps(self.first), self.lines), []
         for epoch, (at, wanted) in enumerate(self.asked, 2):
             if not patched[at - 1].startswith(f"ok {epoch} "):
                 return [f"{self.name}, epoch {epoch}: {self.lines[at - 1]}: {patched[at - 1]}"]
-            mine = patched[at:at + len(wanted)]
+            mine = patched[at : at + len(wanted)]
             anew = self.answers(program, folder, mine[-1].removeprefix("dump "), wanted)
-            wrong += [f"{self.name}, epoch {epoch}: {line}: {one}, built anew {other}"
-                      for line, one, other in zip(wanted, mine, anew, strict=True) if one != other]
+            wrong += [
+                f"{self.name}, epoch {epoch}: {line}: {one}, built anew {other}"
+                for line, one, other in zip(wanted, mine, anew, strict=True)
+                if one != other
+            ]
         return wrong + (self.unlike_model(patched) if self.words else [])
 
-    def unlike_model(self, patched):
+    def unlike_model(self, patched: list[str]) -> list[str]:
         """What the model answers otherwise."""
-        return [f"{self.name}: {line}: {one}, the model {other}"
-                for line, one, other in zip(self.lines, patched, model.answers(self.first, self.lines), strict=True) if one != other]
+        return [
+            f"{self.name}: {line}: {one}, the model {other}"
+            for line, one, other in zip(self.lines, patched, model.answers(self.first, self.lines), strict=True)
+            if one != other
+        ]
 
 
-def history(program, folder, seed, kinds=KINDS):
-    """What differs of one history, in words; none is the empty list."""
-    return History(seed, kinds).faults(program, folder)
+def histories(way: str, kinds: tuple[str, ...]) -> Iterator[Check]:
+    """A check for each history of some kinds of buckets."""
 
-
-def main():
-    command, wrong = given.program(__doc__), []
-    for kinds in (KINDS, STOCK):
-        for seed in range(SEED, SEED + HISTORIES):
+    def work_of(seed: int) -> Callable[[pathlib.Path], list[str]]:
+        def work(command: pathlib.Path) -> list[str]:
             with tempfile.TemporaryDirectory() as folder:
-                wrong += history(command, pathlib.Path(folder), seed, kinds)
-    print("\n".join(wrong[:10] + [f"{2 * HISTORIES * CHANGES} tables that patches led to beside tables built anew: {len(wrong)} answers differ"]))
-    sys.exit(1 if wrong else 0)
+                return History(seed, kinds).faults(command, pathlib.Path(folder))
+
+        return work
+
+    for seed in range(SEED, SEED + HISTORIES):
+        yield Check(f"{CHANGES} tables that patches led to{way}, seed {seed}", work_of(seed))
 
 
-if __name__ == "__main__":
-    main()
+class PatchedTables(RowCase):
+    """Histories of random changes."""
+
+    def test_plain(self) -> None:
+        """Tables that changes led to are those of the maps then written."""
+        self.check_runs(histories("", KINDS))
+
+    def test_stock(self) -> None:
+        """Under `--stock` they are those of the model too."""
+        self.check_runs(histories(" under --stock", STOCK))

@@ -1,0 +1,460 @@
+"""Plans of whole clusters: beside a small model of their definition over random maps, and over stock clusters, of which
+none may get less even.
+
+In the model all is reckoned in fractions: what OSDs carry, in which order pools are planned, and the greedy plans
+themselves. Each group has an explicit set, so that its mapped set is known without hashes.
+"""
+
+import json
+import math
+import pathlib
+import random
+from collections.abc import Iterable, Mapping
+from fractions import Fraction
+from typing import Any
+
+from rekhuso import Monitor
+from rekhuso.cluster.evenness import Spread
+from rekhuso.cluster.judge import Reason, judge_of_map
+from rekhuso.plans import plan, rounds
+from rekhuso.plans.mend import Gauge, mended
+from rekhuso.plans.steps import PlanStep
+from rekhuso.program.answers import balance_line
+
+from tests import plans
+from tests.clusters import STOCK, Json, below, commands, of_groups, places, pool_lines, pooled, raised, with_commands
+from tests.tool_cases import StockCase
+
+# A map, the hosts of its OSDs, the racks of its hosts, and the weights of its OSDs; how many bytes each pool holds.
+RandomCluster = tuple[Json, dict[int, int], dict[int, int] | None, dict[int, int]]
+Held = dict[int, int]
+MOST = 1024
+# Stock clusters of few groups, that come in as one map or two, and one of many pools.
+FEW = ["002-proxmox", "004-one-host", "005-openstack-mixed", "011-drained", "019-two-roots", "025-many-pools"]
+
+
+def random_cluster(rng: random.Random) -> RandomCluster:
+    """A random map of several pools of one rule, two of one group, whose groups all have explicit sets; and where its
+    OSDs stand."""
+    value, host_of, rack_of, weight_of = plans.random_map(rng)
+    pool, hosts = value["pools"][0], sorted(set(host_of.values()))
+    pools, sets = [], []
+    for number in range(1, rng.randint(3, 6)):
+        groups, size = 1 if number == 2 else rng.randint(2, 12), rng.randint(1, min(3, len(hosts)))
+        pools.append(dict(pool, id=number, size=size, pg_num=groups, pgp_num=groups))
+        for group in range(groups):
+            osds = [rng.choice([osd for osd in host_of if host_of[osd] == host]) for host in rng.sample(hosts, size)]
+            sets.append([f"{number}.{group:x}", osds])
+    return dict(value, pools=pools, pg_upmap=sets), host_of, rack_of, weight_of
+
+
+class Model:
+    """The definition of a whole plan over a random cluster."""
+
+    def __init__(self, cluster: RandomCluster, held: Held | None = None) -> None:
+        value, self.host_of, self.rack_of, weight_of = cluster
+        self.sizes = {pool["id"]: pool["size"] for pool in value["pools"]}
+        self.mapped, self.pairs = {}, {}
+        for group, osds in value["pg_upmap"]:
+            self.mapped[group], self.pairs[group] = list(osds), 0
+        osds = {osd["id"]: osd for osd in value["osds"]}
+        self.weights = {
+            osd: weight_of[osd] * osds[osd]["weight"]
+            for osd in sorted(self.host_of)
+            if osds[osd]["up"] and osds[osd]["weight"]
+        }
+        held = held if held and any(held.values()) else None
+        self.total, self.held = sum(self.weights.values()), held
+        self.places = {pool["id"]: pool["pg_num"] * pool["size"] for pool in value["pools"]}
+        self.several = [pool["id"] for pool in value["pools"] if pool["pg_num"] > 1]
+        mean = Fraction(sum(held.values()) if held else 1, sum(self.places.values()) if held else 1)
+        self.of_place = {
+            pool: Fraction(held[pool], own) / mean if held else Fraction(0) for pool, own in self.places.items()
+        }
+
+    def groups(self, pool: int) -> list[str]:
+        """The groups of a pool."""
+        return [group for group in self.mapped if group.startswith(f"{pool}.")]
+
+    def counts(self, pool: int) -> dict[int, int]:
+        """How many groups of a pool each candidate has."""
+        return {osd: sum(osd in self.mapped[group] for group in self.groups(pool)) for osd in self.weights}
+
+    def deviations(self, pool: int, most: Fraction | None = None) -> dict[int, Fraction]:
+        """How far each candidate is from its share of a pool."""
+        counts = self.counts(pool)
+        found = {
+            osd: counts[osd] - Fraction(sum(counts.values()) * weight, self.total)
+            for osd, weight in self.weights.items()
+        }
+        return found if most is None else {osd: max(-most, min(most, own)) for osd, own in found.items()}
+
+    def carried(self, pool: int, later: set[int], half: int) -> dict[int, int]:
+        """What each candidate carries from the other pools, where some are still to be planned; `half` is that of what
+        two must differ by."""
+        found, most = {}, Fraction(half, 256)
+        others = {
+            other: self.deviations(other, most if other in later else None) for other in self.places if other != pool
+        }
+        for osd in self.weights:
+            groups = sum(own[osd] for own in others.values())
+            data = sum(own[osd] * self.of_place[other] for other, own in others.items())
+            more = (groups + self.of_place[pool] * data) / (2 + self.of_place[pool] ** 2)
+            found[osd] = max(-half, min(half, math.floor(256 * more + Fraction(1, 2))))
+        return found
+
+    def is_allowed(self, group: str, leaves: int, comes: int) -> bool:
+        """Whether a group may go from one candidate to another."""
+        osds, hosts = self.mapped[group], self.host_of
+        if osds.count(leaves) != 1 or comes in osds or self.pairs[group] >= self.sizes[int(group.split(".")[0])]:
+            return False
+        if self.rack_of is not None and self.rack_of[hosts[leaves]] != self.rack_of[hosts[comes]]:
+            return False
+        return all(hosts.get(osd) != hosts[comes] for osd in osds if osd != leaves)
+
+    def plan(self, pool: int, apart: int, carried: dict[int, int]) -> int:
+        """Makes the moves of the greedy plan of a pool, and tells how many there are."""
+        groups = self.groups(pool)
+        for moves in range(MOST):
+            counts = self.counts(pool)
+            held = sum(counts.values())
+            away = {
+                osd: 256 * (counts[osd] * self.total - held * weight) + carried[osd] * self.total
+                for osd, weight in self.weights.items()
+            }
+            good = [
+                (away[comes] - away[leaves], leaves, comes, at)
+                for leaves in away
+                for comes in away
+                if away[leaves] - away[comes] > apart * self.total + 255
+                for at, group in enumerate(groups)
+                if self.is_allowed(group, leaves, comes)
+            ]
+            if not good:
+                return moves
+            _, leaves, comes, at = min(good)
+            own = self.mapped[groups[at]]
+            own[own.index(leaves)] = comes
+            self.pairs[groups[at]] += 1
+        return MOST
+
+    def play(self, wanted: list[int], half: int) -> None:
+        """Plans some pools in two rounds."""
+        order = sorted(wanted, key=lambda pool: (-(self.of_place if self.held else self.places)[pool], pool))
+        later = set(wanted)
+        for _ in range(2):
+            moves = 0
+            for pool in order:
+                moves += self.plan(pool, 2 * half, self.carried(pool, later, half))
+                later.discard(pool)
+            if not moves:
+                return
+
+
+class Measured:
+    """How even a cluster of some maps is by the sets of its groups: by groups, and by what these hold."""
+
+    def __init__(self, maps: Iterable[Json], sets: dict[str, str], of_place: Mapping[int, float]) -> None:
+        # By groups, and by what these hold.
+        self.has: tuple[dict[int, float], dict[int, float]] = ({}, {})
+        self.share: tuple[dict[int, float], dict[int, float]] = ({}, {})
+        for value in maps:
+            items = {item: weight for bucket in value["buckets"] for item, weight in bucket["items"]}
+            osds = {osd["id"]: osd["weight"] for osd in value["osds"] if osd["exists"] and osd["up"]}
+            for pool in value["pools"]:
+                steps = next(rule["steps"] for rule in value["rules"] if rule["id"] == pool["rule"])
+                tree = set().union(*(below(value, step[1]) for step in steps if step[0] == "take"))
+                weights = {osd: items[osd] * osds[osd] for osd in tree if osds.get(osd)}
+                own = [osd for number in range(pool["pg_num"]) for osd in places(sets[f"{pool['id']}.{number:x}"])]
+                self.add(own, weights, of_place[pool["id"]])
+
+    def add(self, own: list[int], weights: dict[int, int], place: float) -> None:
+        """Counts the places of a pool."""
+        total, held = sum(weights.values()), sum(osd in weights for osd in own)
+        for at, size in enumerate((1, place)):
+            for osd in own:
+                self.has[at][osd] = self.has[at].get(osd, 0) + size
+            for osd, weight in weights.items():
+                self.share[at][osd] = self.share[at].get(osd, 0) + size * held * weight / total
+
+    def ratios(self, at: int) -> list[float]:
+        """What each OSD has to its share."""
+        return [self.has[at].get(osd, 0) / share for osd, share in self.share[at].items() if share > 0]
+
+    def all(self) -> list[float]:
+        """The standard deviation of groups, that of the ratios of bytes, and the greatest ratios."""
+        groups = [self.has[0].get(osd, 0) - share for osd, share in self.share[0].items() if share > 0]
+        data = [ratio - 1 for ratio in self.ratios(1)]
+        return [
+            *(math.sqrt(sum(own * own for own in away) / len(away)) for away in (groups, data)),
+            *(max(self.ratios(at)) for at in (0, 1)),
+        ]
+
+
+def is_of(line: str, value: Json) -> bool:
+    """Whether a command is for a group of a map."""
+    return int(line.split(" ")[3].split(".")[0]) in {pool["id"] for pool in value["pools"]}
+
+
+class ClusterPlans(StockCase):
+    """What `plan` does of all pools."""
+
+    def df_of(self, held: Held, name: str = "df") -> pathlib.Path:
+        """A file as `ceph df` prints it, of pools that hold so many bytes."""
+        stats = [
+            {"id": pool, "name": f"pool{pool}", "stats": {"bytes_used": size, "stored": size}}
+            for pool, size in held.items()
+        ]
+        return self.tools.put(name, {"stats": {"total_used_raw_bytes": 5}, "pools": stats})
+
+    def planned(self, value: Json, *words: object) -> tuple[Any, dict[str, list[int]]]:
+        """What `plan --json` tells over a map, and the sets after its commands, with all OSDs up."""
+        status, output, error = self.tools.run("plan", self.tools.put("m", value), "--json", *words)
+        self.assertEqual(status, 0, error)
+        told = json.loads(output)
+        found = self.tools.sets(raised(with_commands(value, told["commands"])))
+        return told, {group: places(answer) for group, answer in found.items()}
+
+    def test_plans_of_the_definition(self) -> None:
+        """Over random maps a plan gives the sets of the definition: with data and without, at several deviations, of
+        all pools and of one."""
+        rng, same, moves = random.Random(70), 0, 0
+        for case in range(16):
+            cluster = random_cluster(rng)
+            value, held = cluster[0], None
+            if case % 2:
+                held = {pool["id"]: rng.choice([0, 1, 7, 10**6]) * rng.randint(1, 10**9) for pool in value["pools"]}
+            deviation = rng.choice(["0.5", "1", "1.25", None])
+            words = (["--df", self.df_of(held)] if held else []) + (["--deviation", deviation] if deviation else [])
+            model = Model(cluster, held)
+            wanted = [1] if case % 8 == 2 else [2] if case % 8 == 4 else model.several
+            words += ["--pool", wanted[0]] if len(wanted) == 1 and wanted != model.several else []
+            told, sets = self.planned(value, *words, "--anyway")
+            model.play(wanted, round(256 * Fraction(deviation or 1)))
+            self.assertEqual([parts["id"] for parts in told["pools"]], sorted(wanted))
+            moves += told["moving"]["places"]
+            if not told["taken_out"]:
+                same += 1
+                self.assertEqual(sets, model.mapped, (case, words))
+        self.assertGreaterEqual(same, 10, (same, moves))
+        self.assertGreater(moves, 50, (same, moves))
+
+    def test_lines_of_a_balance(self) -> None:
+        """What is carried and how far OSDs must differ stand in the line only where they say something; a session
+        commits such a plan."""
+        self.assertEqual(balance_line(1, 9), balance_line(1, 9, 256, {3: 0}))
+        self.assertEqual(balance_line(1, 9, 256, {3: 0}), "balance 1 9")
+        self.assertEqual(balance_line(1, 9, 512), "balance 1 9 512 []")
+        self.assertEqual(balance_line(1, 9, carried={7: -3, 2: 5, 4: 0}), "balance 1 9 256 [[2,5],[7,-3]]")
+        with Monitor(self.tools.map("002-built"), self.tools.program, stock=True) as monitor:
+            self.assertEqual(monitor.balance(1, apart=2**24).moves, 0)
+            self.assertGreater(monitor.balance(1).moves, 0)
+            before = monitor.counts(range(12))
+            self.assertEqual(before, {osd: monitor.count(osd) for osd in range(12)})
+            self.assertGreater(monitor.balance(1, carried={5: 2560}).moves, 5)
+            self.assertLess(monitor.count(5), before[5] - 5)
+            self.assertEqual(monitor.balance(1, apart=1024, carried={5: 2560}).moves, 0)
+
+    def test_no_cluster_gets_less_even(self) -> None:
+        """No stock cluster is less even by its plan, by groups or by bytes, and what the plan tells of it is so; one of
+        many pools gets far more even."""
+        rng = random.Random(11)
+        for name in FEW:
+            with self.subTest(name=name):
+                files = self.dumps(name)
+                pools = STOCK[name]["osd_dump"]["pools"]
+                held = {pool["pool"]: round(2**40 * 10 ** rng.uniform(-2, 1)) for pool in pools}
+                df = self.tools.put(
+                    "df",
+                    {
+                        "pools": [
+                            {"id": pool["pool"], "name": pool["pool_name"], "stats": {"bytes_used": held[pool["pool"]]}}
+                            for pool in pools
+                        ]
+                    },
+                )
+                of_place = {pool["pool"]: held[pool["pool"]] / (pool["pg_num"] * pool["size"]) for pool in pools}
+                self.ran("import", *files, "--out", f"maps-{name}")
+                maps = [json.loads(path.read_text()) for path in sorted((self.tools.folder / f"maps-{name}").iterdir())]
+                start = Measured(maps, self.sets(*maps), of_place).all()
+                for words in ((), ("--df", df)):
+                    told = json.loads(self.output("plan", *files, "--json", *words))
+                    after = [
+                        with_commands(value, [line for line in told["commands"] if is_of(line, value)])
+                        for value in maps
+                    ]
+                    end = Measured(after, self.sets(*after), of_place).all()
+                    by = (0, 1, 2, 3) if words else (0, 2)
+                    self.assertTrue(all(end[at] <= start[at] * (1 + 1e-9) for at in by), (name, words, start, end))
+                    for key, own in (("before", start), ("after", end)):
+                        found = told["cluster"][key]
+                        self.assertLess(abs(found["groups"]["deviation"] - own[0]), 0.006, (name, key))
+                        self.assertLess(abs(found["groups"]["fullest"]["ratio"] - own[2]), 1e-4, (name, key))
+                        self.assertTrue(
+                            not words
+                            or abs(found["bytes"]["deviation"] - own[1]) < 1e-4
+                            and abs(found["bytes"]["fullest"]["ratio"] - own[3]) < 1e-4,
+                            name,
+                        )
+                    self.assertTrue(
+                        name != "025-many-pools" or end[0] < start[0] / 5 and (not words or end[1] < start[1] / 2),
+                        (start, end),
+                    )
+
+    def test_parts_and_first_commands(self) -> None:
+        """The first commands of a plan are a beginning of it; while its parts are run one after the other, no OSD gets
+        fuller than the fullest was before, or is at the end, or 1.05 of its share, though what comes in a part is there
+        before what goes."""
+        name = "025-many-pools"
+        files = self.dumps(name)
+        value = json.loads(self.output("import", *files))
+        whole = commands(self.output("plan", *files))
+        for most in (1, 20, 10_000):
+            with self.subTest(most=most):
+                self.assertEqual(commands(self.output("plan", *files, "--max", most)), whole[:most])
+        flat = dict.fromkeys((pool["id"] for pool in value["pools"]), 1)
+        now, paths = value, self.output("plan", *files, "--batch", 25, "--to", "parts").splitlines()
+        lines = [commands(pathlib.Path(self.tools.folder, path).read_text()) for path in paths]
+        self.assertGreater(len(lines), 4)
+        self.assertEqual(sorted(sum(lines, [])), sorted(whole))
+        last = Measured([with_commands(value, whole)], self.sets(with_commands(value, whole)), flat).all()[2]
+        for number, part in enumerate(lines):
+            before, after = self.sets(now), self.sets(with_commands(now, part))
+            high = Measured([now], before, flat)
+            bound = max(high.all()[2], last, 1.05)
+            for group in of_groups(part):
+                for osd in set(places(after[group])) - set(places(before[group])):
+                    high.has[0][osd] = high.has[0].get(osd, 0) + 1
+            self.assertLessEqual(max(high.ratios(0)), bound + 1e-9, (number, max(high.ratios(0)), bound))
+            now = with_commands(now, part)
+            if number == 0:
+                start, first = Measured([value], before, flat).all(), Measured([now], after, flat).all()
+                self.assertLess(first[2], start[2])
+                self.assertLess(first[0], start[0])
+
+    def test_steps_that_are_taken_out(self) -> None:
+        """A step by which a small OSD would get the fullest is taken out of a plan, and so are those by which the
+        deviation would rise; what helps stays, and where data counts what harms it goes too."""
+        has, share = {0: 6, 1: 3, 2: 0, 3: 3}, {0: 4, 1: 4, 2: 0.1, 3: 3.9}
+        good, small, worse = (
+            PlanStep(f"1.{at}", ["x"], [], [was], [now]) for at, (was, now) in enumerate(((0, 1), (0, 2), (3, 0)))
+        )
+
+        def left(steps: list[PlanStep], *more: Gauge) -> list[str]:
+            return [step.group for step in mended([Gauge(Spread(has, share), None, False), *more], steps)]
+
+        self.assertEqual(left([good, small]), ["1.0"])
+        self.assertEqual(left([good]), ["1.0"])
+        self.assertEqual(left([small, worse]), [])
+        self.assertEqual(left([]), [])
+        data = Gauge(Spread({0: 1.0, 1: 5.0, 2: 0.0, 3: 3.0}, {0: 3.0, 1: 3.0, 2: 0.1, 3: 2.9}), {1: 1.0}, True)
+        self.assertEqual(left([good], data), [])
+
+    def test_groups_that_are_left_out(self) -> None:
+        """Groups whose pairs Ceph would not keep, here every other one, stay where they are, with the pairs that they
+        had; others are moved in their place, and what is told of the cluster is so."""
+        osd_dump, crush_dump = pooled(3)
+        osd_dump["osds"][4]["up"] = 0
+        value = json.loads(self.output("import", self.tools.put("o", osd_dump), self.tools.put("c", crush_dump)))
+        there = places(self.tools.sets(value)["1.2"])
+        pair = [there[0], next(osd for osd in range(12) if osd not in there and osd != 4)]
+        value["pg_upmap_items"] = [["1.2", [pair]]]
+        keeps, before, why = rounds.left_out, self.tools.sets(value), Reason("a step", "why")
+        rounds.left_out = lambda _, groups: {group: why for group in groups if int(group.split(".")[1], 16) % 2 == 0}
+        try:
+            with Monitor(value, self.tools.program, stock=True) as monitor:
+                outcome = plan.planned(
+                    [rounds.Live(value, value, {}, judge_of_map(value, {}), monitor)], plan.DEFAULT_WISH
+                )
+                pairs = dict(monitor.dump()["pg_upmap_items"])
+        finally:
+            rounds.left_out = keeps
+        lines = [line for step in outcome.steps for line in step.commands]
+        after = self.tools.sets(with_commands(value, lines))
+        left = {group for parts in outcome.pools for group in parts["left_out"]}
+        self.assertTrue(left)
+        self.assertTrue(all(int(group.split(".")[1], 16) % 2 == 0 for group in left))
+        self.assertGreater(len(lines), 10)
+        self.assertTrue(all(int(group.split(".")[1], 16) % 2 for group in of_groups(lines)))
+        self.assertEqual([group for group in pairs if int(group.split(".")[1], 16) % 2 == 0], ["1.2"])
+        self.assertEqual(pairs["1.2"], [pair])
+        flat = dict.fromkeys((pool["id"] for pool in value["pools"]), 1)
+        for told, sets in ((outcome.before, before), (outcome.after, after)):
+            with self.subTest(told=told):
+                self.assertLess(abs(told["groups"]["deviation"] - Measured([value], sets, flat).all()[0]), 0.006)
+
+    def test_room(self) -> None:
+        """What the pool with most data may still take is what its fullest OSD leaves, by the weights of the OSDs:
+        before the plan and after."""
+        value, size = self.tools.map("002-built"), 3 * 2**40
+        told, sets = self.planned(value, "--df", self.df_of({1: size}))
+        pool, before = value["pools"][0], {
+            group: places(answer) for group, answer in self.tools.sets(raised(value)).items()
+        }
+        weights = {item: weight / 65536 for bucket in value["buckets"] for item, weight in bucket["items"] if item >= 0}
+        for key, own in (("before", before), ("after", sets)):
+            with self.subTest(key=key):
+                counts = {osd: sum(osd in group for group in own.values()) for osd in weights}
+                place = size / (pool["pg_num"] * pool["size"])
+                room = min(
+                    (0.95 * weight * 2**40 - counts[osd] * place) * sum(weights.values()) / weight
+                    for osd, weight in weights.items()
+                )
+                self.assertLessEqual(abs(told["cluster"][key]["room"] - room / pool["size"]), 1)
+        self.assertEqual(told["cluster"]["largest"], 1)
+        self.assertGreater(told["cluster"]["after"]["room"], told["cluster"]["before"]["room"])
+        self.assertGreater(told["cluster"]["before"]["room"], 0)
+
+    def test_data_of_another_cluster(self) -> None:
+        """A file of `ceph df` that lacks a pool, knows it by another name, has one twice, or one that is not there, is
+        told by its line, and no plan is made by half the data; so it is also where the pool is not the one that is
+        planned."""
+        name = "025-many-pools"
+        files, pools = self.dumps(name), STOCK[name]["osd_dump"]["pools"]
+        rows = [{"id": pool["pool"], "name": pool["pool_name"], "stats": {"bytes_used": 1}} for pool in pools]
+        last, first = rows[-1], rows[0]
+        more = dict(last, id=999, name="beside")
+        for changed, line in (
+            (rows[:-1], f"no pool {last['id']}"),
+            ([*rows, more], "the cluster has no pool 999"),
+            ([*rows, last], "a pool stands there twice"),
+            (
+                [*rows[:-1], dict(last, name="other")],
+                f"pool {last['id']} is other there, and {last['name']} in the cluster",
+            ),
+        ):
+            with self.subTest(line=line):
+                for words in ([], ["--pool", first["id"]]):
+                    found = self.tools.run("plan", *files, *words, "--df", self.tools.put("w", {"pools": changed}))
+                    self.assertEqual(found, (1, "", f"{self.tools.folder / 'w'}: {line}\n"))
+        self.assertEqual(self.tools.run("plan", *files, "--df", self.tools.put("w", {"pools": rows}))[0], 0)
+
+    def test_what_if_it_is_balanced(self) -> None:
+        """`whatif --balance` tells what moves by a change and the plan of the cluster after it, as `plan` makes it over
+        the map after the change."""
+        osd_dump, crush_dump = pooled(3)
+        value = json.loads(self.output("import", self.tools.put("o", osd_dump), self.tools.put("c", crush_dump)))
+        change = dict(value, osds=[dict(own, weight=0 if own["id"] == 5 else own["weight"]) for own in value["osds"]])
+        told = self.json("whatif", self.tools.put("m", value), "--out", 5, "--balance")
+        plan = commands(self.tools.run("plan", self.tools.put("n", change))[1])
+        before, after = self.tools.sets(value), self.tools.sets(with_commands(change, plan))
+        self.assertTrue(plan, (told, plan))
+        self.assertEqual(
+            told["groups"], sum(places(before[group]) != places(after[group]) for group in before), (told, plan)
+        )
+
+    def test_what_is_told_of_the_cluster(self) -> None:
+        """What a plan tells begins with the cluster, then come its pools by their names; a pool of one group is planned
+        only where it is named."""
+        name = "005-openstack-mixed"
+        files = self.dumps(name)
+        pools = {pool["pool_name"]: pool["pg_num"] for pool in STOCK[name]["osd_dump"]["pools"]}
+        _, error = self.ran("plan", *files)
+        self.assertStarts(error, "cluster by groups: before fullest osd.")
+        self.assertEqual(
+            [line.split(": ")[0] for line in pool_lines(error)], [own for own, groups in pools.items() if groups > 1]
+        )
+        one = next(own for own, groups in pools.items() if groups == 1)
+        self.assertEqual(
+            [line.split(": ")[0] for line in pool_lines(self.ran("plan", *files, "--pool", one)[1])], [one]
+        )

@@ -1,0 +1,185 @@
+"""The dialogues that pages show are what the program and its tools answer, and so is what the shell answers to a
+pipe."""
+
+import errno
+import json
+import os
+import pathlib
+import re
+import resource
+import signal
+import subprocess
+import sys
+import tempfile
+from collections.abc import Iterator
+
+from rekhuso.commands.shell import put_whole
+
+from tests.cases import EXAMPLE, HERE, Case
+from tests.clusters import STOCK, copied
+from tests.live_sessions import ran
+from tests.tool_cases import TOOLS
+
+SECONDS = 60
+
+
+def shown(line: str) -> str:
+    """A line of a page without the remark behind it."""
+    return re.sub(r" {2,}\(.*\)$", "", line) + "\n"
+
+
+def dialogues(page: str) -> Iterator[tuple[list[str], list[str], list[str]]]:
+    """Of each block of a page that begins with a command behind `$`: the commands, what is typed, and what is put
+    out."""
+    for block in re.findall(r"(?:^ {4}.*\n)+", (HERE.parent / page).read_text(), re.M):
+        lines = [line.removeprefix("    ") for line in block.splitlines()]
+        if lines[0].startswith("$ "):
+            commands = [shown(line[2:]) for line in lines if line.startswith("$ ")]
+            typed = [shown(line) for line in lines if line.endswith("(typed)")]
+            yield commands, typed, [
+                shown(line) for line in lines if not line.startswith("$ ") and not line.endswith("(typed)")
+            ]
+
+
+def in_a_shell(program: pathlib.Path, commands: list[str], typed: list[str]) -> str:
+    """What commands put out, in a folder with the examples and with the program as `osdmapd`. What they leave behind is
+    ended."""
+    with tempfile.TemporaryDirectory() as name:
+        folder = pathlib.Path(name)
+        (folder / "osdmapd").symlink_to(program)
+        (folder / "examples").symlink_to(HERE.parent / "examples")
+        words = ["bash", "-c", "".join([*commands, "kill $! 2> /dev/null\n"])]
+        shell = subprocess.Popen(
+            words,
+            cwd=folder,
+            stdin=subprocess.PIPE,
+            stdout=subprocess.PIPE,
+            text=True,
+            start_new_session=True,
+            env=os.environ | {"PATH": f"{folder}:{os.environ['PATH']}"},
+        )
+        try:
+            return shell.communicate("".join(typed), timeout=SECONDS)[0]
+        except subprocess.TimeoutExpired:
+            os.killpg(shell.pid, signal.SIGKILL)
+            raise
+
+
+def like(answer: str, line: str) -> bool:
+    """Whether a line that was put out is the one of a page, where two points at its end stand for the rest."""
+    return answer.startswith(line[:-3]) if line.endswith("..\n") else answer == line
+
+
+class Dialogues(Case):
+    """Each page's blocks that begin with a command."""
+
+    is_alone = True
+
+    def test_shell(self) -> None:
+        """The shell reads a pipe, answers line by line without a prompt, and writes the map for a later start."""
+        with tempfile.TemporaryDirectory() as folder:
+            words = [sys.executable, "-B", str(TOOLS), "--program", str(self.program), "shell"]
+            text = 'up 1.0\nchange {"base":1,"down":[2]}\nsave after\nsave no/where\nhelp up\nnonsense\nquit\nepoch\n'
+            done = subprocess.run(
+                [*words, str(EXAMPLE)],
+                input=text,
+                capture_output=True,
+                text=True,
+                cwd=folder,
+                timeout=SECONDS,
+                check=True,
+            )
+            self.assertEqual(
+                done.stdout.splitlines(),
+                [
+                    "up 1 1.0 [3,2,0] 3",
+                    "ok 2 evals 0",
+                    "saved after",
+                    "no/where: No such file or directory",
+                    "up PG: the up set of a group and its primary, as up 1.0",
+                    "err 33 BadCommand",
+                ],
+            )
+            done = subprocess.run(
+                [*words, "after"],
+                input="epoch\nup 1.0",
+                capture_output=True,
+                text=True,
+                cwd=folder,
+                timeout=SECONDS,
+                check=True,
+            )
+            self.assertEqual(done.stdout.splitlines(), ["epoch 2", "up 2 1.0 [3,0] 3"])
+            done = subprocess.run(
+                [*words, str(EXAMPLE)],
+                input="save /dev/full",
+                capture_output=True,
+                text=True,
+                cwd=folder,
+                timeout=SECONDS,
+                check=True,
+            )
+            self.assertEqual(done.stdout.splitlines(), ["/dev/full: No space left on device"])
+            after = pathlib.Path(folder, "after")
+            held, (soft, hard) = after.read_text(), resource.getrlimit(resource.RLIMIT_FSIZE)
+            try:
+                resource.setrlimit(resource.RLIMIT_FSIZE, (100, hard))
+                put_whole(str(after), "x" * 101)
+                raise AssertionError("a text beyond the limit of a file is written")
+            except OSError as fault:
+                self.assertEqual(fault.errno, errno.EFBIG)
+            finally:
+                resource.setrlimit(resource.RLIMIT_FSIZE, (soft, hard))
+            self.assertEqual((os.listdir(folder), after.read_text()), (["after"], held))
+
+    def test_dialogues_of_the_pages(self) -> None:
+        """Every block of README.md and of docs/LIVE.md that shows a dialogue in a shell."""
+        found = [*dialogues("README.md"), *dialogues("docs/LIVE.md")]
+        self.assertEqual(len(found), 3)
+        for commands, typed, answers in found:
+            self.assertEqual(in_a_shell(self.program, commands, typed), "".join(answers))
+
+    def test_guide(self) -> None:
+        """Every block of docs/CEPH.md that shows a dialogue, in their order in one folder, over clusters that a monitor
+        of Ceph dumped. What is told on standard error is put out too."""
+        with tempfile.TemporaryDirectory() as name:
+            folder = pathlib.Path(name)
+            other = copied(STOCK["008-rgw-ec83"])
+            other["osd_dump"]["pools"][3]["size"] = 21
+            for cluster, before in ((STOCK["001-three-hosts"], ""), (other, "other-")):
+                for part in ("osd", "crush"):
+                    (folder / f"{before}{part}.json").write_text(json.dumps(cluster[f"{part}_dump"]))
+            command = folder / "rekhuso"
+            command.write_text(f'#!/bin/sh\nexec {sys.executable} {TOOLS} --program {self.program} "$@"\n')
+            command.chmod(0o755)
+            found = [*dialogues("docs/CEPH.md")]
+            self.assertGreater(len(found), 7)
+            for commands, _, answers in found:
+                done = subprocess.run(
+                    ["bash", "-c", "".join(commands)],
+                    cwd=folder,
+                    stdout=subprocess.PIPE,
+                    stderr=subprocess.STDOUT,
+                    text=True,
+                    check=False,
+                    timeout=SECONDS,
+                    env=os.environ | {"PATH": f"{folder}:{os.environ['PATH']}"},
+                )
+                told = done.stdout.splitlines(keepends=True)
+                self.assertEqual(len(told), len(answers), (commands, told, answers))
+                self.assertTrue(all(map(like, told, answers)), (commands, told, answers))
+
+    def test_first_screen(self) -> None:
+        """The script of README.md and its answers beside it, where two points stand for the rest of a line."""
+        block = next(
+            block
+            for block in re.findall(r"(?:^ {4}.*\n)+", (HERE.parent / "README.md").read_text(), re.M)
+            if block.startswith("    up ")
+        )
+        script, wanted = zip(*(re.split(" {2,}", line.strip()) for line in block.splitlines()))
+        self.assertEqual("".join(line + "\n" for line in script), (HERE.parent / "examples" / "script.txt").read_text())
+        status, output, _ = ran(self.program, HERE, "-", text="\n".join(script).encode())
+        answers = output.splitlines()[1:]
+        self.assertEqual((status, len(answers)), (0, len(wanted)))
+        for answer, text in zip(answers, wanted):
+            self.assertEqual(answer[: len(text) - 2] + ".." if text.endswith("..") else answer, text)

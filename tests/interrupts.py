@@ -1,0 +1,139 @@
+"""Commands of the tools that are interrupted, also in the shell, and a shell whose program goes."""
+
+import json
+import os
+import signal
+import subprocess
+import sys
+import time
+
+from rekhuso import Monitor
+
+from tests.cases import EXAMPLE, example
+from tests.terminals import Terminal
+from tests.tool_cases import TOOLS, ToolCase
+from tests.tool_errors import SECONDS
+
+# Has Ctrl-C come exactly when a program has been started and before who has started it knows it; tells the program's
+# number, and what came.
+STARTED = """
+import signal, subprocess, sys, threading
+sys.path.insert(0, sys.argv[1])
+from rekhuso import Monitor
+
+class Started(subprocess.Popen):
+    def __init__(self, *words, **more):
+        super().__init__(*words, **more)
+        print(self.pid, flush=True)
+        if sys.argv[4] == "here":
+            signal.raise_signal(signal.SIGINT)
+        else:
+            other = threading.Thread(target=lambda: signal.pthread_kill(threading.get_ident(), signal.SIGINT))
+            other.start()
+            other.join()
+
+subprocess.Popen = Started
+before = signal.getsignal(signal.SIGINT)
+try:
+    Monitor("{}", sys.argv[2], sessions=int(sys.argv[3]))
+except KeyboardInterrupt:
+    print("interrupted", signal.getsignal(signal.SIGINT) is before)
+"""
+
+
+class Interrupts(ToolCase):
+    """Ctrl-C, and the end of a program beside its tool."""
+
+    def test_shell_whose_program_goes(self) -> None:
+        """Where the program is ended beside the shell, the shell says so and has failed."""
+        pipe = subprocess.PIPE
+        words = self.tools.words("shell", EXAMPLE)
+        shell = subprocess.Popen(words, stdin=pipe, stdout=pipe, stderr=pipe, text=True)
+        assert shell.stdin and shell.stdout
+        shell.stdin.write("epoch\n")
+        shell.stdin.flush()
+        self.assertEqual(shell.stdout.readline(), "epoch 1\n")
+        child = subprocess.run(
+            ["ps", "-o", "pid=", "--ppid", str(shell.pid)], capture_output=True, text=True, check=True
+        ).stdout
+        os.kill(int(child), signal.SIGKILL)
+        output, error = shell.communicate("epoch\nepoch\n", timeout=SECONDS)
+        self.is_told((shell.returncode, output, error), 1, "the program ended", "killed")
+
+    def test_interrupts(self) -> None:
+        """A command that is interrupted ends at once in one line, and its program with it."""
+        self.tools.put(
+            "slow", '#!/bin/sh\necho $$ > pid.new; mv pid.new "$PIDFILE"; echo session 1; exec sleep 60\n'
+        ).chmod(0o755)
+        pid = self.tools.folder / "pid"
+        words = [sys.executable, "-B", str(TOOLS), "df", str(EXAMPLE), "--program", str(self.tools.folder / "slow")]
+        done = subprocess.Popen(
+            words, stdout=subprocess.PIPE, stderr=subprocess.PIPE, text=True, env=os.environ | {"PIDFILE": str(pid)}
+        )
+        begin = time.monotonic()
+        while not pid.exists() and time.monotonic() < begin + SECONDS:
+            time.sleep(0.05)
+        time.sleep(
+            2
+        )  # The tool waits for an answer by now: on a busy machine it may come back from starting the program late.
+        done.send_signal(signal.SIGINT)
+        output, error = done.communicate(timeout=SECONDS)
+        self.is_told((done.returncode, output, error), 1, "interrupted", "df")
+        gone = subprocess.run(
+            ["ps", "-o", "stat,args", "-p", pid.read_text()], capture_output=True, text=True, check=False
+        ).stdout
+        self.assertLess(time.monotonic(), begin + 30, (time.monotonic() - begin, gone))
+        self.assertNotIn("sleep", gone, (time.monotonic() - begin, gone))
+
+    def test_interrupts_at_the_start(self) -> None:
+        """Ctrl-C that comes while a program is being started ends it too, whichever thread takes it, and comes
+        through."""
+        slow = self.tools.put("slow", "#!/bin/sh\nexec sleep 60\n")
+        slow.chmod(0o755)
+        for sessions in (1, 2):
+            with self.subTest(sessions=sessions):
+                for thread in ("here", "other"):
+                    words = [sys.executable, "-B", "-c", STARTED, *map(str, [TOOLS.parent, slow, sessions, thread])]
+                    done = subprocess.run(words, capture_output=True, text=True, timeout=SECONDS, check=False)
+                    pid, told = done.stdout.split("\n", 1)
+                    left = subprocess.run(
+                        ["ps", "-o", "args=", "-p", pid], capture_output=True, text=True, check=False
+                    ).stdout
+                    if left:
+                        os.kill(int(pid), signal.SIGKILL)
+                    self.assertEqual(
+                        (told, done.stderr, left), ("interrupted True\n", "", ""), (sessions, thread, done, left)
+                    )
+        with Monitor(example(), self.tools.program) as monitor:
+            blocked = next(line for line in open(f"/proc/{monitor._process.pid}/status") if line.startswith("SigBlk"))
+            self.assertEqual(int(blocked.split()[1], 16) >> (signal.SIGINT - 1) & 1, 0)
+
+    def test_interrupts_in_the_shell(self) -> None:
+        """Ctrl-C in the shell drops the line that is typed and nothing else, also while an answer is made."""
+        value, prompt = self.tools.map("001-built"), "osdmap> "
+        shell, epoch = (
+            Terminal(self.tools.words("shell", self.tools.put("m", value)), self.tools.folder),
+            value["epoch"],
+        )
+        shell.type("", prompt)
+        change = {"base": epoch, "down": [2]}
+        self.assertIn(f"\r\nok {epoch + 1} evals 0\r\n", shell.type(f"change {json.dumps(change)}\n", prompt))
+        for _ in range(
+            10
+        ):  # At once behind a key that is shown, and behind the prompt: before the shell waits for the next key.
+            shell.type("up 1.ff", "up 1.ff")
+            shell.type("\x03", prompt)
+            shell.type("\x03", prompt)
+            self.assertIn(f"\r\nepoch {epoch + 1}\r\n", shell.type("epoch\n", prompt))
+        self.assertIn(f" epoch {epoch + 2}\r\n", shell.type("balance 1 1024\n", prompt))
+        # Half a second and more goes by until this is answered, and Ctrl-C comes meanwhile. Beside an answer that may
+        # be there already, a line that is typed next could be dropped with what Ctrl-C drops.
+        shell.type("await 99\n", "await 99\r\n")
+        time.sleep(0.2)
+        shell.type("\x03", "err 34 AwaitSpent\r\n")
+        shell.type("", prompt)
+        shell.type("\x03", prompt)
+        for line, answer in (("epoch", f"epoch {epoch + 2}"), ("count 2", f"count {epoch + 2} 2 0")):
+            with self.subTest(line=line):
+                self.assertIn(f"\r\n{answer}\r\n", shell.type(f"{line}\n", prompt))
+        self.assertEqual(shell.close(), 0)

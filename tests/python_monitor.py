@@ -1,0 +1,154 @@
+"""`Monitor`, by which a program in Python speaks with a live session, and the errors that it has."""
+
+import doctest
+import functools
+import json
+import os
+import pathlib
+import random
+import signal
+import tempfile
+from collections.abc import Callable
+from concurrent.futures import ThreadPoolExecutor
+from unittest import mock
+
+from rekhuso import Closed, Fault, Monitor, Refused
+
+from tests import model, soak
+from tests.cases import EXAMPLE, EXAMPLES, TOP, Case, example
+
+SECONDS = 60
+
+
+class PythonMonitor(Case):
+    """Questions and changes by `Monitor`."""
+
+    is_alone = True
+
+    def test_monitor(self) -> None:
+        """100 random changes by `Monitor`, each answer beside the model's."""
+        value, made = json.loads((EXAMPLES / "balance" / "map.json").read_text()), random.Random(7)
+        groups, script = [f"{pool['id']}.{n:x}" for pool in value["pools"] for n in range(pool["pg_num"])], []
+        for base in range(value["epoch"], value["epoch"] + 100):
+            key, osd = made.choice(["down", "up", "weight"]), made.choice(value["osds"])["id"]
+            part = [[osd, made.choice([0, 20000, 65536])]] if key == "weight" else [osd]
+            script += [
+                "change " + json.dumps({"base": base, key: part}, separators=(",", ":")),
+                f"up {made.choice(groups)}",
+                f"count {osd}",
+            ]
+        with Monitor(value, self.program, timeout=SECONDS) as monitor:
+            for line, wanted in zip(script, model.answers(value, script), strict=True):
+                self.assertEqual(monitor.raw([line]), [wanted])
+            self.assertEqual(monitor.epoch(), value["epoch"] + 100)
+            self.assertEqual(monitor.up(groups[0]).epoch, value["epoch"] + 100)
+            self.assertEqual(len(monitor.groups(value["osds"][0]["id"])), monitor.count(value["osds"][0]["id"]))
+            self.assertEqual(monitor.dump()["epoch"], value["epoch"] + 100)
+            calls: list[tuple[str, int, Callable[[], object]]] = [
+                ("StaleEpoch", 20, lambda: monitor.change(base=1)),
+                ("UnknownPool", 23, lambda: monitor.up("999.0")),
+            ]
+            for name, number, call in calls:
+                with self.assertRaises(Refused) as refused:
+                    call()
+                self.assertEqual((refused.exception.name, refused.exception.number), (name, number))
+
+    def test_sessions(self) -> None:
+        """Four clients in four threads over one monitor ask and change at random: all answers are those of one
+        history."""
+        with tempfile.TemporaryDirectory() as folder:
+            value, scripts = soak.scripts(11, 4, 200, 4, 32)
+            _, play = soak.run(self.program, pathlib.Path(folder), scripts, value)
+            with Monitor(value, self.program, sessions=4, timeout=SECONDS) as monitor, ThreadPoolExecutor(4) as threads:
+                asked = threads.map(
+                    lambda pair: [pair[0].raw([line])[0] for line in pair[1]], zip(monitor.sessions, scripts)
+                )
+                output = "".join(
+                    f"session {number}\n" + "".join(answer + "\n" for answer in answers)
+                    for number, answers in enumerate(asked, 1)
+                )
+                self.assertEqual(monitor.epoch(), monitor.sessions[3].epoch())
+            wrong, made, _ = soak.faults(scripts, output, play)
+            self.assertFalse(wrong, (wrong[:3], made))
+            self.assertTrue(made, (wrong[:3], made))
+            with self.assertRaises(Refused) as refused:
+                Monitor("{}", self.program, sessions=3, timeout=SECONDS)
+            self.assertEqual(refused.exception.name, "BadField")
+
+    def test_timeout(self) -> None:
+        """A question that takes longer than a monitor's timeout ends the program; so does a program that opens no
+        pipe."""
+        with tempfile.TemporaryDirectory() as folder:
+            silent = pathlib.Path(folder) / "silent"
+            silent.write_text("#!/bin/sh\nexec sleep 60\n")
+            silent.chmod(0o755)
+            for tried, sessions in ((self.program, 1), (self.program, 2), (silent, 1), (silent, 2)):
+                with self.subTest(tried=tried.name, sessions=sessions), self.assertRaises(Fault) as fault:
+                    with Monitor(EXAMPLE.read_text(), tried, sessions=sessions, timeout=0.2) as monitor:
+                        monitor.raw(["await 2"])
+                self.assertEqual(str(fault.exception), "no answer within 0.2 seconds")
+
+    def test_closed_monitor(self) -> None:
+        """A monitor that was closed, or whose program has gone, has an error of its own for whatever is asked, in each
+        of its sessions."""
+        value = example()
+        with Monitor(value, self.program, sessions=2, timeout=SECONDS) as closed:
+            pass
+        with Monitor(value, self.program, timeout=SECONDS) as gone:
+            os.kill(gone._process.pid, signal.SIGKILL)
+            with self.assertRaises(Fault) as fault:
+                gone.epoch()
+            self.assertEqual(type(fault.exception), Fault)
+            self.assertEqual(str(fault.exception), "the program ended with status -9")
+            sessions = [*closed.sessions, gone]
+            for session in sessions:
+                asks: list[Callable[[], object]] = [
+                    session.epoch,
+                    functools.partial(session.up, "1.0"),
+                    functools.partial(session.raw, ["epoch", "epoch"]),
+                    functools.partial(session.change, down=[1]),
+                    functools.partial(session.ups, ["1.0"]),
+                ]
+                for ask in asks:
+                    with self.assertRaises(Closed) as closed_fault:
+                        ask()
+                    self.assertEqual(str(closed_fault.exception), "the monitor is closed")
+
+    def test_names_of_a_monitor(self) -> None:
+        """What a monitor shows beside what is its own are its questions, its program and its sessions."""
+        with Monitor(example(), self.program, timeout=SECONDS) as monitor:
+            shown = {name for name in dir(monitor) if not name.startswith("_")}
+        self.assertEqual(
+            shown,
+            {
+                "ask",
+                "balance",
+                "change",
+                "close",
+                "count",
+                "counts",
+                "dump",
+                "epoch",
+                "groups",
+                "is_stock",
+                "one",
+                "program",
+                "raw",
+                "sessions",
+                "text",
+                "up",
+                "ups",
+            },
+        )
+
+    def test_python_of_the_page(self) -> None:
+        """Every line of Python of docs/LIVE.md."""
+        with mock.patch("rekhuso.Monitor", functools.partial(Monitor, timeout=SECONDS)):
+            done = doctest.testfile(
+                str(TOP / "docs" / "LIVE.md"),
+                module_relative=False,
+                optionflags=doctest.FAIL_FAST,
+                globs={"PROGRAM": self.program, "EXAMPLE": EXAMPLE},
+            )
+        self.assertGreater(done.attempted, 10)
+        self.assertFalse(done.failed)

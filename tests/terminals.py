@@ -1,0 +1,82 @@
+"""The shell at a terminal, and what long commands tell there."""
+
+import os
+import pathlib
+import pty
+import select
+import subprocess
+import time
+from unittest import mock
+
+from tests.cases import EXAMPLE
+from tests.tool_cases import ToolCase, Tools
+from tests.tool_errors import SECONDS
+
+
+class Terminal:
+    """A shell of the tools at a terminal of its own."""
+
+    def __init__(self, words: list[str], folder: pathlib.Path) -> None:
+        self.left, (self.child, self.end) = "", pty.fork()
+        if self.child == 0:
+            os.chdir(folder)
+            os.execvp(words[0], words)
+
+    def type(self, text: str, wanted: str) -> str:
+        """What is shown once a text was typed, up to the wanted one; what comes behind it is kept for the next."""
+        os.write(self.end, text.encode())
+        end = time.monotonic() + SECONDS
+        while wanted not in self.left:
+            ready, _, _ = select.select([self.end], [], [], max(0, end - time.monotonic()))
+            assert ready, f"typed {text!r}: {wanted!r} does not come, only {self.left!r}"
+            try:
+                self.left += os.read(self.end, 4096).decode("utf-8", "replace")
+            except OSError:  # The terminal has gone with its last user.
+                raise AssertionError(f"typed {text!r}: ended after {self.left!r}") from None
+        found, self.left = self.left.split(wanted, 1)
+        return found + wanted
+
+    def close(self) -> int:
+        """The status of the shell once its input has ended."""
+        os.write(self.end, b"\x04")
+        try:
+            while os.read(self.end, 4096):
+                pass
+        except OSError:
+            pass
+        os.close(self.end)
+        return os.waitstatus_to_exitcode(os.waitpid(self.child, 0)[1])
+
+
+class Terminals(ToolCase):
+    """What is shown at a terminal alone."""
+
+    def test_names_in_a_shell(self) -> None:
+        """At a terminal the shell takes dumps, tells sets by their names, points at its help, and keeps the lines that
+        were typed."""
+        prompt, words = "osdmap> ", self.tools.words("shell", *self.tools.dumps("002-built"))
+        with mock.patch.dict(os.environ, {"HOME": str(self.tools.folder)}):
+            shell = Terminal(words, self.tools.folder)
+        shell.type("", prompt)
+        found = shell.type("up 1.0\n", prompt)
+        for part in ("\r\nup ", "\r\n  ", " in "):
+            self.assertIn(part, found)
+        self.assertIn("\r\n  help tells the commands\r\n", shell.type("nonsense\n", prompt))
+        self.assertEqual(shell.close(), 0)
+        history = (self.tools.folder / ".rekhuso_history").read_text().splitlines()
+        self.assertEqual(history[-2:], ["up 1.0", "nonsense"])
+
+    def test_long_commands(self) -> None:
+        """A command that takes more than two seconds tells on a terminal what it does, in a line that goes before its
+        output comes; elsewhere nothing is told."""
+        late = self.tools.put("late", f'#!/bin/sh\nsleep 3.5\nexec {self.tools.program} "$@"\n')
+        late.chmod(0o755)
+        words = Tools(late, self.tools.folder).words("df", EXAMPLE)
+        terminal = Terminal(words, self.tools.folder)
+        found = terminal.type("", "over all pools")
+        self.assertIn("df: the program opens a map, 2 s", found.replace("3 s", "2 s"))
+        self.assertIn("\r\x1b[K", found)
+        terminal.close()
+        done = subprocess.run(words, capture_output=True, text=True, timeout=SECONDS, check=True)
+        self.assertEqual(done.stderr, "")
+        self.assertNotIn("\x1b", done.stdout)

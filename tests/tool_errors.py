@@ -1,0 +1,260 @@
+"""The commands of the tools at their edges: whatever comes, a command that cannot do its work ends with one line and
+its status.
+
+A status is 0 where the work is done, 1 where something was refused or has failed, and 2 where the command was used
+wrongly.
+"""
+
+import subprocess
+from collections.abc import Sequence
+
+from tests.cases import EXAMPLE
+from tests.tool_cases import ToolCase, Tools
+
+SECONDS = 30
+
+# Each command that puts something out over the example's map.
+COMMANDS = [
+    ["df"],
+    ["df", "--json"],
+    ["check"],
+    ["net"],
+    ["report"],
+    ["picture"],
+    ["explain", "1.0"],
+    ["whatif", "--out", "3"],
+    ["whatif", "--out", "3", "--json"],
+    ["whatif", "--each", "10", "--json"],
+    ["diff", str(EXAMPLE)],
+]
+
+
+def over_example(words: Sequence[object]) -> list[object]:
+    """A command's words with the example's map behind its name."""
+    return [words[0], EXAMPLE, *words[1:]]
+
+
+class ToolErrors(ToolCase):
+    """What cannot be written, read, started or understood."""
+
+    def test_output_that_cannot_be_written(self) -> None:
+        """Where standard output is full or closed, each command says so and has failed; where nobody reads it, it
+        ends quietly."""
+        osd, crush = self.tools.dumps("001-built")
+        cases: list[list[object]] = [["import", osd, crush], ["plan", osd, crush], ["--help"], ["df", "--help"]]
+        cases += [["--version"], *map(over_example, COMMANDS)]
+        for words in cases:
+            with self.subTest(words=words):
+                for sink, told in ((">/dev/full", "No space left on device"), (">&-", "closed"), ("| exec true", None)):
+                    line = f'"$@" {sink}' if not sink.startswith("|") else '{ sleep 0.2; "$@"; echo $? >&2; } | :'
+                    done = subprocess.run(
+                        ["bash", "-c", line, "sh", *self.tools.words(*words)],
+                        capture_output=True,
+                        text=True,
+                        timeout=SECONDS,
+                        check=False,
+                        cwd=self.tools.folder,
+                    )
+                    lines = [
+                        entry
+                        for entry in done.stderr.splitlines()
+                        if not entry.startswith(("left out: ", "cluster ", "p1: "))
+                    ]
+                    status = int(lines.pop()) if sink.startswith("|") else done.returncode
+                    # 141: ended by SIGPIPE, as any tool before `| head`.
+                    wanted = (1, [f"output: {told}"]) if told else (141, [])
+                    self.assertEqual((status, lines), wanted, (words, sink, status, done.stderr[-300:]))
+
+    def test_files_that_cannot_be_written(self) -> None:
+        """A file beside the output that cannot be written is told by its path."""
+        found = self.tools.run("whatif", EXAMPLE, "--out", "3", "--picture", "no/flows.svg")
+        self.is_told(found, 1, "no/flows.svg: No such file or directory", "picture")
+        self.is_told(
+            self.tools.run("whatif", EXAMPLE, "--out", "3", "--picture", "/dev/full"),
+            1,
+            "/dev/full: No space left on device",
+            "picture",
+        )
+        for path, told in (("no/names", "No such file or directory"), ("/dev/full", "No space left on device")):
+            with self.subTest(told=told):
+                status, _, error = self.tools.run("import", *self.tools.dumps("001-built"), "--names", path)
+                self.assertEqual(status, 1, (status, error))
+                self.assertEqual(error.splitlines()[-1], f"{path}: {told}", (status, error))
+
+    def test_dumps_in_place_of_others(self) -> None:
+        """Dumps that are swapped, a dump where a map is wanted, and a number of files that no command takes are told
+        as that."""
+        osd, crush = self.tools.dumps("001-built")
+        for words in (["import"], ["import", "--check"], ["df"], ["plan"], ["whatif", "--out", "3"]):
+            with self.subTest(words=words):
+                told = f"the dumps are swapped: {crush} is the CRUSH dump, and {osd} the OSD dump, which comes first"
+                self.is_told(self.tools.run(words[0], crush, osd, *words[1:]), 1, told, words)
+        for path, kind in ((osd, "an OSD"), (crush, "a CRUSH")):
+            with self.subTest(kind=kind):
+                self.is_told(self.tools.run("check", path), 1, f"{path}: this is {kind} dump: use import", kind)
+        for files in ([osd], [osd, crush, osd]):
+            with self.subTest():
+                self.is_told(self.tools.run("diff", *files), 2, "diff takes two maps, or the two dumps of each", files)
+
+    def test_changes_that_are_none(self) -> None:
+        """A what-if without a change is an error of use, and so is what only a balance needs; a balance amid an
+        outage is made where it is asked for."""
+        osd, crush = self.tools.dumps("001-built")
+        self.is_told(
+            self.tools.run("whatif", osd, crush),
+            2,
+            "nothing is changed: give CHANGE, an option as --out, or --each TYPE",
+            "no change",
+        )
+        self.is_told(
+            self.tools.run("whatif", osd, crush, "--out", "3", "--anyway"),
+            2,
+            "--anyway goes with --balance alone",
+            "anyway",
+        )
+        self.is_told(
+            self.tools.run("whatif", osd, crush, "--down", "3", "--balance"),
+            1,
+            "no plan is made: --anyway makes one",
+            "an outage",
+        )
+        status, output, error = self.tools.run("whatif", osd, crush, "--down", "3", "--balance", "--anyway")
+        self.assertEqual(status, 0, (status, output, error))
+        self.assertIn(" move", output, (status, output, error))
+        self.assertStarts(error, "an outage: 1 OSD is down", (status, output, error))
+
+    def test_names_of_another_form(self) -> None:
+        """A file of names that has another form is told by its path and the place."""
+        forms = [
+            ("[]", "no JSON object"),
+            ("{", "no JSON"),
+            ('{"osds":[]}', "osds: no object"),
+            ('{"osds":{"x":"y"}}', "osds.x: no number"),
+            ('{"buckets":{"-1":5}}', "buckets.-1: no text"),
+            ('{"pools":{"1":"\\ud800"}}', "pools.1: no text"),
+            ('{"types":null}', "types: no object"),
+            ('{"buckets":{"²":"a"}}', "buckets.²: no number"),
+        ]
+        for text, told in forms:
+            for words in (["df"], ["whatif", "--out", "3"], ["explain", "1.0"], ["picture"], ["report"]):
+                found = self.tools.run(*over_example(words), "--names", self.tools.put("names", text))
+                self.is_told(found, 1, f"{self.tools.folder / 'names'}: {told}", (words, text))
+        (self.tools.folder / "bytes").write_bytes(b"\xff")
+        self.is_told(self.tools.run("df", EXAMPLE, "--names", "bytes"), 1, "bytes: no UTF-8", "bytes")
+
+    def test_words_of_another_form(self) -> None:
+        """A word that is no number, group or change where one is asked for is an error of use."""
+        for words in (
+            ["whatif", "--reweight", "3", "abc"],
+            ["whatif", "--reweight", "3", "nan"],
+            ["whatif", "--reweight", "3", "inf"],
+            ["whatif", "--reweight", "3", "1.5"],
+            ["whatif", "--reweight", "3", "-1"],
+            ["whatif", "5"],
+            ["whatif", "[]"],
+            ["whatif", "true"],
+            ["whatif", "{"],
+            ["whatif", "change 5"],
+            ["whatif", "[" * 100_000],
+            ["whatif", "--add-host", "new", "1,x"],
+            ["whatif", "--add-host", "new", "inf"],
+            ["whatif", "--add-host", "new", "nan"],
+            ["whatif", "--add-host", "new", "0"],
+            ["whatif", "--add-host", "new", "-1"],
+            ["whatif", "--add-host", "new", "1e99"],
+            ["explain", "1"],
+            ["explain", "x.y"],
+            ["explain", "1.²"],
+            ["explain", "-1.0"],
+            ["plan", "--max", "abc"],
+            ["df", "--nothing"],
+            ["nothing"],
+            ["diff"],
+            ["picture", "--names"],
+        ):
+            with self.subTest(words=words):
+                self.is_told(self.tools.run(*over_example(words)), 2, "error: ", words)
+        for word in ("²", "--3", "osd.", "-", "1_0", "99"):
+            with self.subTest(word=word):
+                self.is_told(self.tools.run("whatif", EXAMPLE, f"--out={word}"), 1, f"{word}: no OSD of the map", word)
+
+    def test_options_that_do_not_go_together(self) -> None:
+        """What would be passed over in silence is an error of use."""
+        host = ["--add-host", "new", "1"]
+        for words in (
+            ["--each", "1", "--out", "3"],
+            ["--each", "1", "{}"],
+            ["--each", "1", *host],
+            ["--each", "1", "--picture", "f"],
+            ["--under", "-1"],
+            ["--class", "ssd"],
+            [*host, *host],
+            ["--out", "3", "--in", "3"],
+            ["--weight", "3=1", "--weight", "3=2"],
+            ["--out", "3", "--reweight", "3", "0.5"],
+        ):
+            with self.subTest(words=words):
+                self.is_told(self.tools.run("whatif", EXAMPLE, *words), 2, "error: ", words)
+
+    def test_programs_that_are_none(self) -> None:
+        """A program that is no program, does not start, is not this one, or has gone, is told in one line."""
+        for name, text in (
+            ("text", "no program\n"),
+            ("other", "#!/bin/sh\nexec yes\n"),
+            ("silent", "#!/bin/sh\nexit 7\n"),
+            ("gone", "#!/bin/sh\necho session 1\nread line\nkill -9 $$\n"),
+        ):
+            with self.subTest(name=name):
+                self.tools.put(name, text).chmod(0o755)
+        other = Tools(self.tools.program, self.tools.folder)
+        for name in ("nowhere", ".", "text", "other", "silent", "gone"):
+            with self.subTest(name=name):
+                other.program = self.tools.folder / name
+                for words in (["df", EXAMPLE], ["check", EXAMPLE], ["plan", EXAMPLE]):
+                    self.is_told(other.run(*words), 1, "program", (name, words))
+        self.is_told(other.run("shell", EXAMPLE, stdin="epoch\nepoch\n"), 1, "program", "shell")
+
+    def test_standard_input_without_a_text(self) -> None:
+        """Standard input that is closed, empty or no UTF-8 is told, and a shell without input has nothing to do."""
+        for words, end, status, told in (
+            ("df -", "<&-", 1, "refused: BadJson"),
+            ("df -", "</dev/null", 1, "refused: BadJson"),
+            ("df -", "< <(printf '\\xff')", 1, "-: no UTF-8"),
+            (f"shell {EXAMPLE}", "<&-", 0, None),
+        ):
+            with self.subTest(words=words):
+                done = subprocess.run(
+                    ["bash", "-c", f'"$@" {end}', "sh", *self.tools.words(*words.split(" "))],
+                    capture_output=True,
+                    text=True,
+                    timeout=SECONDS,
+                    check=False,
+                )
+                if told is None:
+                    self.assertEqual((done.returncode, done.stdout, done.stderr), (0, "", ""), (words, end, done))
+                else:
+                    self.is_told((done.returncode, done.stdout, done.stderr), status, told, (words, end))
+
+    def test_bytes_in_the_pipe_of_the_shell(self) -> None:
+        """Bytes that are no UTF-8, and paths that there cannot be, are answered in the shell, and the session goes
+        on."""
+        lines = [
+            b"up \xff",
+            b"help \xff",
+            b"save a\0b",
+            b"save \xff/\xff",
+            b'change {"base":1,"down":[2]}\xff',
+            b"epoch",
+            b"await 9",
+            b"epoch",
+        ]
+        words = self.tools.words("shell", EXAMPLE)
+        done = subprocess.run(
+            words, input=b"\n".join(lines), capture_output=True, timeout=SECONDS, check=False, cwd=self.tools.folder
+        )
+        answers = done.stdout.splitlines()
+        self.assertEqual((done.returncode, done.stderr, len(answers)), (0, b"", len(lines)))
+        self.assertStarts(answers[0], b"err ")
+        self.assertStarts(answers[4], b"err 10 ")
+        self.assertEqual(answers[5], answers[7])
+        self.assertEqual(answers[7], b"epoch 1")
