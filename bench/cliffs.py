@@ -1,11 +1,11 @@
 #!/usr/bin/env python3
-"""What lawful input costs that is not ordinary: unequal racks, plans that find little to move, rules that try in vain, clusters of a thousand
-disks, many exceptions, long journals and answers.
+"""What lawful input costs that is not ordinary: unequal racks, plans that find little to move, rules that try in vain,
+clusters of a thousand disks, many exceptions, long journals and answers.
 
     cliffs.py PROGRAM
 
-Times are those of a run less a run without what is measured, the best of some; a run that does not end in time says so. Memory is the greatest
-resident size, less that of the run beside it. It is no part of the gate.
+Times are those of a run less a run without what is measured, the best of some; a run that does not end in time says
+so. Memory is the greatest resident size, less that of the run beside it. It is no part of the gate.
 """
 
 import json
@@ -14,20 +14,38 @@ import subprocess
 import sys
 import threading
 import time
+from collections.abc import Iterator
+from typing import Any
 
 import stuck
 from maps import a_map, flat, osds, paired, pool, stock
-from running import GOALS, LIMIT, found, goal_row, greatest, heading, in_folder, output, program, seconds, several, table
+from running import (
+    GOALS,
+    LIMIT,
+    Folder,
+    found,
+    goal_row,
+    greatest,
+    heading,
+    in_folder,
+    output,
+    piped,
+    program,
+    seconds,
+    several,
+    table,
+)
 
 GROUPS, POOLS = 4096, 32
-# So many lines are timed: of changes, of those that move half of a full list, of those that are kept, of questions. Opening a map with
-# as many exceptions as there may be takes a second, more or less by some milliseconds, so that a few lines would tell nothing.
+# So many lines are timed: of changes, of those that move half of a full list, of those that are kept, of questions.
+# Opening a map with as many exceptions as there may be takes a second, more or less by some milliseconds, so that a few
+# lines would tell nothing.
 CHANGES, MOVING, KEPT, ASKED = 40_000, 4_000, 20_000, 20_000
 # The group in the middle of all groups, whose pair comes and goes.
 MIDDLE = "16.800"
 
 
-def racks(hosts, size=3):
+def racks(hosts: Any, size: int = 3) -> Any:
     """Racks of so many hosts of 8 OSDs each, and a pool of so many copies over racks."""
     count = sum(hosts) * 8
     buckets = [{"id": -1, "items": [[-2 - r, n * 8 * 65536] for r, n in enumerate(hosts)], "kind": "list", "type": 3}]
@@ -43,20 +61,28 @@ def racks(hosts, size=3):
     return stated
 
 
-def one_heavy():
+def one_heavy() -> Any:
     """64 OSDs in 8 hosts, of which one OSD weighs a thousand times as much as each other."""
-    def weight(osd):
+
+    def weight(osd: Any) -> Any:
         return 65536 * (1000 if osd == 0 else 1)
 
     hosts = [[[osd, weight(osd)] for osd in range(8 * host, 8 * host + 8)] for host in range(8)]
-    buckets = [{"id": -1, "items": [[-2 - host, sum(weight for _, weight in items)] for host, items in enumerate(hosts)], "kind": "list", "type": 10}]
+    buckets = [
+        {
+            "id": -1,
+            "items": [[-2 - host, sum(weight for _, weight in items)] for host, items in enumerate(hosts)],
+            "kind": "list",
+            "type": 10,
+        }
+    ]
     buckets += [{"id": -2 - host, "items": items, "kind": "list", "type": 1} for host, items in enumerate(hosts)]
     return a_map(buckets, 64, [["chooseleaf_firstn", 0, 1]], 1, GROUPS)
 
 
-def in_vain(kind="list", is_coded=False):
-    """One group under four blocks with 200 and 200 tries, over fifteen buckets of 64 items of which the heavy one stands first; all
-    OSDs are out."""
+def in_vain(kind: str = "list", is_coded: bool = False) -> dict[Any, Any]:
+    """One group under four blocks with 200 and 200 tries, over fifteen buckets of 64 items of which the heavy one
+    stands first; all OSDs are out."""
     buckets, device = [], 0
     for level in range(15, 0, -1):
         heavy = [[-(17 - level), 2**31]] if level > 1 else []
@@ -66,42 +92,69 @@ def in_vain(kind="list", is_coded=False):
     placing, step = ("erasure", "chooseleaf_indep") if is_coded else ("replicated", "chooseleaf_firstn")
     block = [["take", -1], [step, 0, 14], ["emit"]]
     rule = {"id": 0, "kind": placing, "steps": [["set_choose_tries", 200], ["set_chooseleaf_tries", 200]] + block * 4}
-    return {"buckets": buckets, "epoch": 1, "max_osd": device, "osds": [{"exists": True, "id": i, "up": True, "weight": 0} for i in range(device)],
-            "pools": [dict(pool(1, 1, 10), kind=placing)], "rules": [rule], "version": 2}
+    return {
+        "buckets": buckets,
+        "epoch": 1,
+        "max_osd": device,
+        "osds": [{"exists": True, "id": i, "up": True, "weight": 0} for i in range(device)],
+        "pools": [dict(pool(1, 1, 10), kind=placing)],
+        "rules": [rule],
+        "version": 2,
+    }
 
 
-def one_host(kind="list"):
-    """256 groups of ten under three blocks with 200 tries, which seek hosts, of which there is one, fourteen buckets deep."""
-    buckets = [{"id": level - 16, "items": [[level - 17, 64 * 65536]], "kind": kind, "type": level} for level in range(15, 1, -1)]
+def one_host(kind: str = "list") -> dict[Any, Any]:
+    """256 groups of ten under three blocks with 200 tries, which seek hosts, of which there is one, fourteen buckets
+    deep."""
+    buckets = [
+        {"id": level - 16, "items": [[level - 17, 64 * 65536]], "kind": kind, "type": level}
+        for level in range(15, 1, -1)
+    ]
     buckets.append({"id": -15, "items": [[i, 65536] for i in range(64)], "kind": kind, "type": 1})
     block = [["take", -1], ["chooseleaf_firstn", 0, 1], ["emit"]]
     rule = {"id": 0, "kind": "replicated", "steps": [["set_choose_tries", 200]] + block * 3}
-    return {"buckets": buckets, "epoch": 1, "max_osd": 64, "osds": osds(64), "pools": [pool(1, 256, 10)], "rules": [rule], "version": 2}
+    return {
+        "buckets": buckets,
+        "epoch": 1,
+        "max_osd": 64,
+        "osds": osds(64),
+        "pools": [pool(1, 256, 10)],
+        "rules": [rule],
+        "version": 2,
+    }
 
 
-def lines(parts, count, first):
+def lines(parts: Any, count: Any, first: Any) -> Any:
     """Lines of changes, by the parts in turn."""
     return "".join(f'change {{"base":{first + at},{parts[at % len(parts)]}}}\n' for at in range(count))
 
 
-def a_change(runs, stated, parts, count):
+def a_change(runs: Folder, stated: Any, parts: Any, count: Any) -> Any:
     """The microseconds of a change beyond the same line refused."""
-    return (seconds(runs.words(stated, lines(parts, count, 100_000))) - seconds(runs.words(stated, lines(parts, count, 900_000)))) / count * 1e6
+    return (
+        (
+            seconds(runs.words(stated, lines(parts, count, 100_000)))
+            - seconds(runs.words(stated, lines(parts, count, 900_000)))
+        )
+        / count
+        * 1e6
+    )
 
 
-def a_pair(runs, stated, count):
+def a_pair(runs: Folder, stated: Any, count: Any) -> Any:
     """The microseconds of a change that replaces a group's pair."""
     return a_change(runs, stated, [f'"new_items":[["{MIDDLE}",[[{osd},63]]]]' for osd in (61, 60)], count)
 
 
-def a_key(runs, stated, count):
+def a_key(runs: Folder, stated: Any, count: Any) -> Any:
     """The microseconds of a change by which a group's pair comes or goes."""
     return a_change(runs, stated, [f'"new_items":[["{MIDDLE}",[[61,63]]]]', f'"old_items":["{MIDDLE}"]'], count)
 
 
-def kept(runs):
+def kept(runs: Folder) -> Any:
     """The bytes that a change takes in the journal."""
-    def beyond_refused(count):
+
+    def beyond_refused(count: Any) -> Any:
         scripts = [lines(['"down":[5]', '"up":[5]'], count, first) for first in (100_000, 900_000)]
         taken, refused = (greatest(runs.words(stated, script)) for script in scripts)
         return taken - refused
@@ -110,28 +163,31 @@ def kept(runs):
     return (beyond_refused(2 * KEPT) - beyond_refused(KEPT)) / KEPT
 
 
-def beyond(runs, stated, line, without="epoch\n"):
+def beyond(runs: Folder, stated: Any, line: Any, without: Any = "epoch\n") -> Any:
     """What a run holds beyond the same map with another script, to the length of its answers."""
     words = runs.words(stated, line)
     return (greatest(words) - greatest(runs.words(stated, without))) / sum(len(answer) + 1 for answer in output(words))
 
 
-def planned(runs, stated):
+def planned(runs: Folder, stated: Any) -> Any:
     """The milliseconds of a plan of 1,024 moves at most."""
     return (seconds(runs.words(stated, "balance 1 1024\n"), 3) - seconds(runs.words(stated, ""), 3)) * 1e3
 
 
-def plans(runs):
+def plans(runs: Folder) -> Iterator[Any]:
     """Plans over maps that cannot be made even, or hardly."""
-    for name, value, goal in (("3 racks of 2, 2, 4 hosts of 8", racks((2, 2, 4)), 50), ("3 racks of 8, 8, 16 hosts", racks((8, 8, 16)), 200),
-                              ("3 racks of 32, 32, 64 hosts", racks((32, 32, 64)), 300),
-                              ("10 racks of 1 to 10 hosts, groups of 10", racks(range(1, 11), 10), None),
-                              ("64 OSDs in 8 hosts, one of a thousandfold weight", one_heavy(), None)):
+    for name, value, goal in (
+        ("3 racks of 2, 2, 4 hosts of 8", racks((2, 2, 4)), 50),
+        ("3 racks of 8, 8, 16 hosts", racks((8, 8, 16)), 200),
+        ("3 racks of 32, 32, 64 hosts", racks((32, 32, 64)), 300),
+        ("10 racks of 1 to 10 hosts, groups of 10", racks(range(1, 11), 10), None),
+        ("64 OSDs in 8 hosts, one of a thousandfold weight", one_heavy(), None),
+    ):
         stated = runs.map(value)
         yield goal_row(f"`balance` over {name}", lambda: planned(runs, stated), "ms", goal)
 
 
-def moved(runs, stated, moves):
+def moved(runs: Folder, stated: Any, moves: Any) -> Any:
     """What a plan answers, which must have so many moves where a number is given."""
     answer = found(lambda: output(runs.words(stated, "balance 1 1024\n"))[0])
     if moves is not None and answer.startswith("moved ") and not answer.startswith(f"moved {moves} "):
@@ -139,21 +195,30 @@ def moved(runs, stated, moves):
     return answer.split(" epoch")[0]
 
 
-def stuck_rows(runs):
-    """Plans that find little to move among many pairs of OSDs, and how long another session waits behind one. The lock is held meanwhile, so
-    the goal of each is a wait that a person hardly notices; they took 75 to 110 ms where they were first measured."""
+def stuck_rows(runs: Folder) -> Iterator[Any]:
+    """Plans that find little to move among many pairs of OSDs, and how long another session waits behind one. The
+    lock is held meanwhile, so the goal of each is a wait that a person hardly notices; they took 75 to 110 ms where
+    they were first measured."""
     for name, value, moves in stuck.CASES:
         stated = runs.map(value())
-        yield goal_row(f"`balance` over 1,024 OSDs, {name}: {moved(runs, stated, moves)}", lambda: planned(runs, stated), "ms", 300)
+        yield goal_row(
+            f"`balance` over 1,024 OSDs, {name}: {moved(runs, stated, moves)}", lambda: planned(runs, stated), "ms", 300
+        )
     stated = runs.map(stuck.closed())
-    yield goal_row("the longest look-up of another session beside the plan where all groups are closed",
-                   lambda: several(lambda: longest_look(runs, stated), 3), "ms", 300)
+    yield goal_row(
+        "the longest look-up of another session beside the plan where all groups are closed",
+        lambda: several(lambda: longest_look(runs, stated), 3),
+        "ms",
+        300,
+    )
 
 
-def longest_look(runs, stated):
-    """The milliseconds of the longest look-up of a live session while another plans, which awaits that session's change to begin."""
-    words, times = runs.words(stated, "await 100001\nbalance 1 1024\n") + ["-"], []
-    with subprocess.Popen(words, stdin=subprocess.PIPE, stdout=subprocess.PIPE) as live:
+def longest_look(runs: Folder, stated: Any) -> Any:
+    """The milliseconds of the longest look-up of a live session while another plans, which awaits that session's
+    change to begin."""
+    words = runs.words(stated, "await 100001\nbalance 1 1024\n") + ["-"]
+    times: list[float] = []
+    with piped(words) as live:
         late = threading.Timer(LIMIT, live.kill)
         late.start()
         live.stdout.readline()
@@ -171,58 +236,81 @@ def longest_look(runs, stated):
     return max(times)
 
 
-def opened(runs, value):
+def opened(runs: Folder, value: Any) -> Any:
     """The milliseconds of opening a map."""
     return seconds(runs.words(runs.map(value), ""), 3) * 1e3
 
 
-def in_vain_rows(runs):
+def in_vain_rows(runs: Folder) -> Iterator[Any]:
     """Rules that seek in vain, over lists and, within the same bounds, over straw2 buckets."""
     for name, kind in (("", "list"), (", straw2", "straw2")):
-        for row, value, goal in (("one group that 200 and 200 tries seek in vain", in_vain(kind), 300),
-                                 ("the same for positions, in an erasure pool", in_vain(kind, is_coded=True), 300),
-                                 ("256 groups that seek hosts where there is one", one_host(kind), 50)):
+        for row, value, goal in (
+            ("one group that 200 and 200 tries seek in vain", in_vain(kind), 300),
+            ("the same for positions, in an erasure pool", in_vain(kind, is_coded=True), 300),
+            ("256 groups that seek hosts where there is one", one_host(kind), 50),
+        ):
             yield goal_row(row + name, lambda: opened(runs, value), "ms", goal)
 
 
-def cluster_rows(runs):
-    """Stock clusters of a thousand disks: opened in 15 and 23 ms where they were first measured, and before anybody waits for it."""
+def cluster_rows(runs: Folder) -> Iterator[Any]:
+    """Stock clusters of a thousand disks: opened in 15 and 23 ms where they were first measured, and before anybody
+    waits for it."""
     disks = [596_108] * 10 + [457_847] * 2
-    for name, value in (("1,008 OSDs in 7 racks of 6 hosts of 24 equal disks, 2,049 groups",
-                         stock(7, 6, [1_072_883] * 24, [(1, 3, 0), (1024, 3, 1), (1024, 6, 2)])),
-                        ("960 OSDs in 8 racks of 10 hosts of 12 disks of two sizes, 1,793 groups",
-                         stock(8, 10, disks, [(1, 3, 0), (256, 3, 1), (1024, 8, 2), (512, 3, 1)]))):
+    for name, value in (
+        (
+            "1,008 OSDs in 7 racks of 6 hosts of 24 equal disks, 2,049 groups",
+            stock(7, 6, [1_072_883] * 24, [(1, 3, 0), (1024, 3, 1), (1024, 6, 2)]),
+        ),
+        (
+            "960 OSDs in 8 racks of 10 hosts of 12 disks of two sizes, 1,793 groups",
+            stock(8, 10, disks, [(1, 3, 0), (256, 3, 1), (1024, 8, 2), (512, 3, 1)]),
+        ),
+    ):
         yield goal_row(f"opening {name}, straw2", lambda: opened(runs, value), "ms", 100)
 
 
-def exceptions(runs):
+def exceptions(runs: Folder) -> Iterator[Any]:
     """Changes of one exception beside as many as there may be, to the same beside none."""
-    none, full, lacking = (runs.map(value) for value in (flat("uniform", GROUPS, POOLS), paired(POOLS), paired(POOLS, [MIDDLE])))
-    for name, change, many, count in (("a pair of a group", a_pair, full, CHANGES), ("a key that comes or goes", a_key, lacking, MOVING)):
+    none, full, lacking = (
+        runs.map(value) for value in (flat("uniform", GROUPS, POOLS), paired(POOLS), paired(POOLS, [MIDDLE]))
+    )
+    for name, change, many, count in (
+        ("a pair of a group", a_pair, full, CHANGES),
+        ("a key that comes or goes", a_key, lacking, MOVING),
+    ):
         alone = found(change, runs, none, CHANGES)
         goal = 2 * alone if change is a_pair and not isinstance(alone, str) else None
         yield [f"{name}, no other having one", alone, "µs"]
         yield goal_row(f"{name}, 131,071 others having one", lambda: change(runs, many, count), "µs", goal)
 
 
-def memory(runs):
+def memory(runs: Folder) -> Iterator[Any]:
     """What is held beside what it is for."""
     yield goal_row("a change kept in the journal (one OSD down)", lambda: kept(runs), "bytes", 700)
     value = paired(POOLS, explicit=True)
     text, stated = len(json.dumps(value, separators=(",", ":"))), runs.map(value)
-    yield goal_row("a map with 262,144 exceptions, to its text", lambda: greatest(runs.words(stated, "")) / text, "times", 8)
-    yield goal_row("its `dump` while it is made, to the dump's text", lambda: beyond(runs, stated, "dump\n"), "times", 2.5)
+    yield goal_row(
+        "a map with 262,144 exceptions, to its text", lambda: greatest(runs.words(stated, "")) / text, "times", 8
+    )
+    yield goal_row(
+        "its `dump` while it is made, to the dump's text", lambda: beyond(runs, stated, "dump\n"), "times", 2.5
+    )
     few = runs.map(flat("uniform", GROUPS))
-    yield goal_row("answers of a session, to their text", lambda: beyond(runs, few, "groups 1\n" * ASKED, "epoch\n" * ASKED), "times", 1.2)
+    yield goal_row(
+        "answers of a session, to their text",
+        lambda: beyond(runs, few, "groups 1\n" * ASKED, "epoch\n" * ASKED),
+        "times",
+        1.2,
+    )
 
 
-def rows(runs):
+def rows(runs: Folder) -> Iterator[Any]:
     """All rows, one after another."""
     for part in (plans, stuck_rows, in_vain_rows, cluster_rows, exceptions, memory):
         yield from part(runs)
 
 
-def main():
+def main() -> None:
     path = program(__doc__)
     heading(f"Lawful input that is not ordinary (a run may take {LIMIT} seconds)")
     in_folder(path, lambda runs: table(GOALS, rows(runs)))

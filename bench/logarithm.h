@@ -1,5 +1,5 @@
 /* The two tables of the logarithm by which straw2 buckets pick, as Ceph's crush_ln_table.h has them: `__RH_LH_tbl`, whose entries are a
-   reciprocal and a logarithm in turn, and `__LL_tbl`. tests/logarithm.json has them for Python; tests/run.py compares the two. */
+   reciprocal and a logarithm in turn, and `__LL_tbl`. tests/logarithm.json has them for Python; tests/model_placements.py compares the two. */
 #include <stdint.h>
 
 static const int64_t rh_lh[2 * 129] = {

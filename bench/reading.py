@@ -3,45 +3,54 @@
 
     reading.py PROGRAM
 
-Each map is refused for its epoch (12) once all of it has been read, so that nothing is made of it: the most bytes that the program had in memory are
-the text, what was read of it, and the two or three million of the program itself. It is no part of the gate.
+Each map is refused for its epoch (12) once all of it has been read, so that nothing is made of it: the most bytes
+that the program had in memory are the text, what was read of it, and the two or three million of the program itself.
+It is no part of the gate.
 """
 
 import json
+from collections.abc import Iterator
+from typing import Any
 
-from running import found, greatest, heading, in_folder, judged, program, table
+from running import Folder, found, greatest, heading, in_folder, judged, program, table
 
 GOAL = 12
 GROUPS = [f"{pool}.{number:x}" for pool in range(1, 33) for number in range(4096)]
 
 
-def stated(part=""):
+def stated(part: str = "") -> Any:
     """A map that no map may be: its epoch is 0."""
     return '{"buckets":[],"epoch":0,"max_osd":1,"osds":[],"pools":[],"rules":[],"version":1' + part + "}"
 
 
-def listed(entries):
+def listed(entries: Any) -> Any:
     return json.dumps(entries, separators=(",", ":"))
 
 
-def exceptions(places):
+def exceptions(places: Any) -> str:
     """Explicit sets and pairs of so many places, for each of 131,072 groups."""
-    sets = [[group, [(at + place) % 1024 for place in range(places)]] for at, group in enumerate(GROUPS)]
+    sets: Any = [[group, [(at + place) % 1024 for place in range(places)]] for at, group in enumerate(GROUPS)]
     pairs = [[group, [[osd, 1023 - osd] for osd in some]] for group, some in sets]
     return f',"pg_upmap":{listed(sets)},"pg_upmap_items":{listed(pairs)}'
 
 
-def texts():
+def texts() -> Iterator[Any]:
     """What is read, and the map's text."""
     yield "262,144 exceptions of 3 places", stated(exceptions(3))
     yield "262,144 exceptions of 10 places", stated(exceptions(10))
-    yield "131,072 sets of 33 numbers", stated(f',"pg_upmap":{listed([[group, [at % 1024] * 33] for at, group in enumerate(GROUPS)])}')
-    yield "one set of 10,000,000 numbers of one digit", stated(',"pg_upmap":[["1.0",[' + ",".join("1" * 10_000_000) + "]]]")
-    yield "1,000,000 OSDs", stated().replace('"osds":[]', '"osds":' + listed([{"exists": True, "id": at, "up": True, "weight": 65536}
-                                                                          for at in range(1_000_000)]))
+    yield "131,072 sets of 33 numbers", stated(
+        f',"pg_upmap":{listed([[group, [at % 1024] * 33] for at, group in enumerate(GROUPS)])}'
+    )
+    yield "one set of 10,000,000 numbers of one digit", stated(
+        ',"pg_upmap":[["1.0",[' + ",".join("1" * 10_000_000) + "]]]"
+    )
+    yield "1,000,000 OSDs", stated().replace(
+        '"osds":[]',
+        '"osds":' + listed([{"exists": True, "id": at, "up": True, "weight": 65536} for at in range(1_000_000)]),
+    )
 
 
-def rows(runs):
+def rows(runs: Folder) -> Iterator[Any]:
     """How long each text is, what it takes, and how many times its length that is."""
     for about, text in texts():
         took = found(greatest, runs.words(runs.file(text), ""))
@@ -49,10 +58,12 @@ def rows(runs):
         yield [about, len(text) / 1e6, took if isinstance(took, str) else took / 1e6, to_text, *judged(to_text, GOAL)]
 
 
-def main():
+def main() -> None:
     path = program(__doc__)
     heading("Memory of reading a map")
-    in_folder(path, lambda runs: table(["map", "its text, MB", "the most at once, MB", "to the text", "goal", ""], rows(runs)))
+    in_folder(
+        path, lambda runs: table(["map", "its text, MB", "the most at once, MB", "to the text", "goal", ""], rows(runs))
+    )
 
 
 if __name__ == "__main__":

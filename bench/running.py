@@ -1,7 +1,8 @@
-"""How the benches run the program and measure: times, instructions, peak memory; and how they print what they found, and keep it.
+"""How the benches run the program and measure: times, instructions, peak memory; and how they print what they found,
+and keep it.
 
-Every run has a limit of time. What cannot be measured is a row too, which says why: `past 60 s`, `no valgrind`, `no cc`. A goal stands
-beside what it is for, with `met` or `missed`.
+Every run has a limit of time. What cannot be measured is a row too, which says why: `past 60 s`, `no valgrind`, `no
+cc`. A goal stands beside what it is for, with `met` or `missed`.
 """
 
 import datetime
@@ -16,6 +17,8 @@ import sys
 import tempfile
 import threading
 import time
+from collections.abc import Callable, Sequence
+from typing import Any
 
 import paste
 from machine import processor
@@ -33,10 +36,10 @@ class Absent(Exception):
 class Folder:
     """The files of some runs of the program."""
 
-    def __init__(self, program, folder):
-        self.program, self.folder, self.count, self.stock = os.path.abspath(program), folder, 0, set()
+    def __init__(self, program: Any, folder: Any) -> None:
+        self.program, self.folder, self.count, self.stock = os.path.abspath(program), folder, 0, set[str]()
 
-    def file(self, text):
+    def file(self, text: Any) -> Any:
         """A new file with a text."""
         self.count += 1
         path = os.path.join(self.folder, f"file-{self.count}")
@@ -44,23 +47,23 @@ class Folder:
             out.write(text)
         return path
 
-    def value(self, value):
+    def value(self, value: Any) -> Any:
         """A new file with a value as JSON."""
         return self.file(json.dumps(value, separators=(",", ":")))
 
-    def map(self, stated):
+    def map(self, stated: Any) -> Any:
         """A file with a map."""
         path = self.value(stated)
         if any(bucket["kind"] == "straw2" for bucket in stated["buckets"]):
             self.stock.add(path)
         return path
 
-    def words(self, stated, *scripts):
+    def words(self, stated: Any, *scripts: Any) -> Any:
         """The words of a run over a map, by its file, with some scripts' texts and room for all changes."""
         taken = ["--stock"] if stated in self.stock else []
         return [self.program, *taken, "--journal", "65536", stated] + [self.file(script) for script in scripts]
 
-    def compiled(self, source, name):
+    def compiled(self, source: Any, name: str) -> Any:
         """The program of a C source, by its path, at the compiler's usual speed."""
         if shutil.which("cc") is None:
             raise Absent("no cc")
@@ -69,21 +72,22 @@ class Folder:
         return made
 
 
-def program(usage):
-    """The path of the program, which is the first word of the command line; without one the run ends, and says how it is used."""
+def program(usage: str) -> Any:
+    """The path of the program, which is the first word of the command line; without one the run ends, and says how
+    it is used."""
     if len(sys.argv) < 2 or sys.argv[1].startswith("-"):
         sys.exit(usage.strip())
     return program_at(sys.argv[1])
 
 
-def program_at(path):
+def program_at(path: Any) -> Any:
     """The path of a program; where there is none, the run ends."""
     if not os.access(path, os.X_OK) or os.path.isdir(path):
         sys.exit(f"{path} is no program: `make run` proves and builds crates/osdmapd/out/osdmapd")
     return path
 
 
-def in_folder(program, work):
+def in_folder(program: Any, work: Callable[..., Any]) -> Any:
     """What some work answers that is given a folder for runs of a program."""
     with tempfile.TemporaryDirectory() as folder:
         return work(Folder(program, folder))
@@ -91,7 +95,8 @@ def in_folder(program, work):
 
 # Limits, medians and goals
 
-def found(measure, *given):
+
+def found(measure: Callable[..., Any], *given: Any) -> Any:
     """What some work measures; or why it cannot, in words that stand in its place."""
     try:
         return measure(*given)
@@ -105,23 +110,24 @@ def found(measure, *given):
         return f"failed: {fault.strerror}"
 
 
-def several(measure, runs=5, of=min):
+def several(measure: Callable[..., Any], runs: int = 5, of: Any = min) -> Any:
     """The best of some runs of a measure, or their median."""
     return of([measure() for _ in range(runs)])
 
 
-def median(measure, runs=5):
+def median(measure: Callable[..., Any], runs: int = 5) -> Any:
     """The median of some runs of a measure."""
     return several(measure, runs, statistics.median)
 
 
-def ratio(one, other):
+def ratio(one: Any, other: Any) -> Any:
     """One measure to another; where one of them is none, why not."""
     return next((why for why in (one, other) if isinstance(why, str)), None) or one / other
 
 
-def judged(value, goal, at_least=False):
-    """A goal beside what was found, which may be several values, and whether all of them meet it. A run past its limit misses it."""
+def judged(value: Any, goal: Any, at_least: bool = False) -> list[Any]:
+    """A goal beside what was found, which may be several values, and whether all of them meet it. A run past its
+    limit misses it."""
     if goal is None:
         return ["", ""]
     values = value if isinstance(value, list) else [value]
@@ -134,14 +140,16 @@ def judged(value, goal, at_least=False):
 
 # Runs
 
-def output(words):
+
+def output(words: Any) -> Any:
     """What a run puts out, by lines, without the heading of its one session."""
     return subprocess.run(words, stdout=subprocess.PIPE, text=True, check=True, timeout=LIMIT).stdout.splitlines()[1:]
 
 
-def once(words, source=subprocess.DEVNULL):
-    """The time of one run, with its input from somewhere. A timer ends a run that is past its limit: where Python itself waits with a
-    limit, it looks for the end at ever longer intervals, up to 50 ms, and these would be measured."""
+def once(words: Any, source: Any = subprocess.DEVNULL) -> Any:
+    """The time of one run, with its input from somewhere. A timer ends a run that is past its limit: where Python
+    itself waits with a limit, it looks for the end at ever longer intervals, up to 50 ms, and these would be
+    measured."""
     begin = time.perf_counter()
     with subprocess.Popen(words, stdin=source, stdout=subprocess.DEVNULL) as run:
         late = threading.Timer(LIMIT, run.kill)
@@ -156,27 +164,40 @@ def once(words, source=subprocess.DEVNULL):
     return spent
 
 
-def seconds(words, runs=5):
+def seconds(words: Any, runs: int = 5) -> Any:
     """The time of a run, the best of some."""
     return several(lambda: once(words), runs)
 
 
-def instructions(words, inside=None):
-    """The instructions of a run; where a pattern is given, those of the functions of such names and of all that they call."""
+def instructions(words: Any, inside: Any = None) -> Any:
+    """The instructions of a run; where a pattern is given, those of the functions of such names and of all that they
+    call."""
     if not HAS_VALGRIND:
         raise Absent("no valgrind")
     inside = [f"--toggle-collect={inside}"] if inside else []
-    done = subprocess.run(["valgrind", "--tool=callgrind", "--callgrind-out-file=/dev/null"] + inside + words,
-                          stdout=subprocess.DEVNULL, stderr=subprocess.PIPE, text=True, check=True, timeout=COUNTED_LIMIT)
-    return int(re.search(r"Collected : (\d+)", done.stderr).group(1))
+    done = subprocess.run(
+        ["valgrind", "--tool=callgrind", "--callgrind-out-file=/dev/null"] + inside + words,
+        stdout=subprocess.DEVNULL,
+        stderr=subprocess.PIPE,
+        text=True,
+        check=True,
+        timeout=COUNTED_LIMIT,
+    )
+    return int(re.findall(r"Collected : (\d+)", done.stderr)[0])
 
 
-def watched(words):
-    """What a run puts out, and the most bytes that it had in memory at once. It must put out more than a pipe holds: the program writes
-    when all is done, and is looked at while it waits for its reader."""
+def piped(words: Any) -> Any:
+    """A program that is started with its standard input and output as pipes."""
+    return subprocess.Popen(words, stdin=subprocess.PIPE, stdout=subprocess.PIPE)
+
+
+def watched(words: Any) -> tuple[Any, Any]:
+    """What a run puts out, and the most bytes that it had in memory at once. It must put out more than a pipe holds:
+    the program writes when all is done, and is looked at while it waits for its reader."""
     with subprocess.Popen(words, stdin=subprocess.DEVNULL, stdout=subprocess.PIPE) as run:
         late = threading.Timer(LIMIT, run.kill)
         late.start()
+        assert run.stdout
         begin = run.stdout.read(1)
         with open(f"/proc/{run.pid}/status", encoding="utf-8") as text:
             most = re.search(r"^VmHWM:\s+(\d+) kB", text.read(), re.M)
@@ -189,36 +210,52 @@ def watched(words):
     return said.decode(), int(most.group(1)) * 1024
 
 
-def peak(words):
+def peak(words: Any) -> Any:
     """The most bytes that a run had in memory at once, by `watched`."""
     return watched(words)[1]
 
 
-ASKED = "import resource, subprocess, sys; subprocess.run(sys.argv[1:], stdout=subprocess.DEVNULL, stderr=subprocess.DEVNULL); " \
-        "print(resource.getrusage(resource.RUSAGE_CHILDREN).ru_maxrss)"
+ASKED = (
+    "import resource, subprocess, sys; "
+    "subprocess.run(sys.argv[1:], stdout=subprocess.DEVNULL, stderr=subprocess.DEVNULL); "
+    "print(resource.getrusage(resource.RUSAGE_CHILDREN).ru_maxrss)"
+)
 
 
-def greatest(words):
-    """The most bytes that a run had in memory at once, however it ends, of more than ten million. A small process asks, since the system
-    counts with a run what its parent held."""
-    return int(subprocess.run([sys.executable, "-c", ASKED] + words, stdout=subprocess.PIPE, check=True, timeout=LIMIT).stdout) * 1024
+def greatest(words: Any) -> Any:
+    """The most bytes that a run had in memory at once, however it ends, of more than ten million. A small process
+    asks, since the system counts with a run what its parent held."""
+    return (
+        int(
+            subprocess.run(
+                [sys.executable, "-c", ASKED] + words, stdout=subprocess.PIPE, check=True, timeout=LIMIT
+            ).stdout
+        )
+        * 1024
+    )
 
 
-def held(words):
+def held(words: Any) -> Any:
     """The most bytes that a run had asked for at once."""
     if not HAS_VALGRIND:
         raise Absent("no valgrind")
-    done = subprocess.run(["valgrind", "--tool=dhat", "--dhat-out-file=/dev/null"] + words, stdout=subprocess.DEVNULL, stderr=subprocess.PIPE,
-                          text=True, check=True, timeout=COUNTED_LIMIT)
-    return int(re.search(r"At t-gmax:\s+([\d,]+) bytes", done.stderr).group(1).replace(",", ""))
+    done = subprocess.run(
+        ["valgrind", "--tool=dhat", "--dhat-out-file=/dev/null"] + words,
+        stdout=subprocess.DEVNULL,
+        stderr=subprocess.PIPE,
+        text=True,
+        check=True,
+        timeout=COUNTED_LIMIT,
+    )
+    return int(re.findall(r"At t-gmax:\s+([\d,]+) bytes", done.stderr)[0].replace(",", ""))
 
 
 # Tables
 
-BEGUN = {}
+BEGUN: dict[str, Any] = {}
 
 
-def heading(text):
+def heading(text: Any) -> None:
     """The heading of a table, with the machine, and the time and the load at which it was begun."""
     where = f"{os.cpu_count()} cores, {processor()}"
     measured = f"Measured {datetime.datetime.now():%Y-%m-%d %H:%M}, {where}, load {os.getloadavg()[0]:.1f}."
@@ -226,18 +263,19 @@ def heading(text):
     print(f"\n### {text}\n\n{measured}\n", flush=True)
 
 
-def told(cell):
+def told(cell: Any) -> Any:
     """A cell as text: of a number more digits where it is small."""
     if isinstance(cell, str):
         return cell
     return f"{cell:,}" if isinstance(cell, int) else f"{cell:,.{2 if abs(cell) < 100 else 0}f}"
 
 
-def table(columns, rows):
-    """Prints a table, each row as soon as it is known; what a row has no cells for stays empty. A whole table is kept."""
+def table(columns: Sequence[Any], rows: Any) -> None:
+    """Prints a table, each row as soon as it is known; what a row has no cells for stays empty. A whole table is
+    kept."""
     lines = []
 
-    def put(line):
+    def put(line: Any) -> None:
         print(line, flush=True)
         lines.append(f"{line}\n")
 
@@ -248,7 +286,7 @@ def table(columns, rows):
     paste.keep(BEGUN["heading"], f"{BEGUN['measured']}\n\n{''.join(lines)}")
 
 
-def row(name, measure, *given):
+def row(name: str, measure: Callable[..., Any], *given: Any) -> list[Any]:
     """A row: what it is, and the cells that some work measures, or why it cannot."""
     cells = found(measure, *given)
     return [name, *(cells if isinstance(cells, list) else [cells])]
@@ -257,7 +295,7 @@ def row(name, measure, *given):
 GOALS = ["what", "it takes", "", "goal", ""]
 
 
-def goal_row(name, measure, unit, goal, at_least=False):
+def goal_row(name: str, measure: Callable[..., Any], unit: str, goal: Any, at_least: bool = False) -> list[Any]:
     """A row of a table of `GOALS`."""
     value = found(measure)
     return [name, value, unit, *judged(value, goal, at_least)]

@@ -1,18 +1,24 @@
 #!/usr/bin/env python3
-"""What single things cost in instructions, which other work on the machine does not change: opening a group, lines, changes.
+"""What single things cost in instructions, which other work on the machine does not change: opening a group, lines,
+changes.
 
     steps.py PROGRAM
 
-Needs valgrind; without it each row says so. Each is the difference of two runs that differ only in how often it is done; a change is
-the difference of a line that is accepted and the same line refused as stale. It is no part of the gate.
+Needs valgrind; without it each row says so. Each is the difference of two runs that differ only in how often it is
+done; a change is the difference of a line that is accepted and the same line refused as stale. It is no part of the
+gate.
 """
 
 import sys
+from collections.abc import Iterator
+from typing import Any
 
 from maps import flat, levels, paired
-from running import heading, in_folder, instructions, output, program, row, table
+from running import Folder, heading, in_folder, instructions, output, program, row, table
 
 EPOCH, STALE = 100_000, 900_000
+# One bucket, and three levels.
+SHAPES: tuple[Any, ...] = (flat, levels)
 FEW, MANY, POOLS = 1_024, 4_096, 32
 STATES = ['"down":[5]', '"up":[5]']
 # The group in the middle of all groups of 32 pools: its pair replaced by another, and its pair there and not there.
@@ -21,17 +27,17 @@ REPLACED = [f'"new_items":[["{MIDDLE}",[[{osd},63]]]]' for osd in (61, 60)]
 COMES_AND_GOES = [REPLACED[0], f'"old_items":["{MIDDLE}"]']
 
 
-def a_line(runs, stated, line, few=200, many=1_200):
+def a_line(runs: Folder, stated: Any, line: Any, few: Any = 200, many: Any = 1_200) -> Any:
     """The instructions of one line."""
     return (instructions(runs.words(stated, line * many)) - instructions(runs.words(stated, line * few))) / (many - few)
 
 
-def changes(parts, count, first):
+def changes(parts: Any, count: Any, first: Any) -> Any:
     """Lines of changes, by the parts in turn."""
     return "".join(f'change {{"base":{first + at},{parts[at % len(parts)]}}}\n' for at in range(count))
 
 
-def a_change(runs, stated, parts, count=60):
+def a_change(runs: Folder, stated: Any, parts: Any, count: Any = 60) -> Any:
     """The instructions of a change beyond the same line refused."""
     good = runs.words(stated, changes(parts, count, EPOCH))
     last = output(good)[-1]
@@ -40,34 +46,48 @@ def a_change(runs, stated, parts, count=60):
     return (instructions(good) - instructions(runs.words(stated, changes(parts, count, STALE)))) / count
 
 
-def pairs(runs, stated):
+def pairs(runs: Folder, stated: Any) -> list[Any]:
     """Two lists of one pair each for the first group."""
     places = [int(osd) for osd in output(runs.words(stated, "up 1.0\n"))[0].split()[3].strip("[]").split(",")]
     others = [osd for osd in range(64) if osd not in places][:2]
     return [f'"new_items":[["1.0",[[{places[0]},{osd}]]]]' for osd in others]
 
 
-def single_rows(runs):
+def single_rows(runs: Folder) -> Iterator[Any]:
     """Each thing with what it costs over one uniform bucket of 64 OSDs, and over 1,024 OSDs in three levels."""
-    small, large, tiny = ([runs.map(shape("uniform", groups)) for shape in (flat, levels)] for groups in (FEW, MANY, 32))
-    yield row("opening a group", lambda: [(instructions(runs.words(many, "")) - instructions(runs.words(few, ""))) / (MANY - FEW)
-                                          for few, many in zip(small, large)])
-    for name, line in (("`up`", "up 1.7f\n"), ("`epoch`", "epoch\n"), ("`count`", "count 7\n"), ("`groups`", "groups 7\n")):
+    small, large, tiny = ([runs.map(shape("uniform", groups)) for shape in SHAPES] for groups in (FEW, MANY, 32))
+    yield row(
+        "opening a group",
+        lambda: [
+            (instructions(runs.words(many, "")) - instructions(runs.words(few, ""))) / (MANY - FEW)
+            for few, many in zip(small, large)
+        ],
+    )
+    for name, line in (
+        ("`up`", "up 1.7f\n"),
+        ("`epoch`", "epoch\n"),
+        ("`count`", "count 7\n"),
+        ("`groups`", "groups 7\n"),
+    ):
         yield row(f"a line {name}", lambda: [a_line(runs, stated, line) for stated in large])
     yield row("one OSD down or up", lambda: [a_change(runs, stated, STATES) for stated in large])
     yield row("one pair of a group", lambda: [a_change(runs, stated, pairs(runs, stated)) for stated in large])
-    yield row("the same in a pool of 32 groups", lambda: [a_change(runs, stated, pairs(runs, stated)) for stated in tiny])
+    yield row(
+        "the same in a pool of 32 groups", lambda: [a_change(runs, stated, pairs(runs, stated)) for stated in tiny]
+    )
 
 
-def list_rows(runs):
+def list_rows(runs: Folder) -> Iterator[Any]:
     """What a change of one pair costs beside no other exceptions, and beside the most that there may be."""
     none = runs.map(flat("uniform", MANY, POOLS))
     full, lacking = (runs.map(paired(POOLS, without)) for without in ([], [MIDDLE]))
     yield row("a pair that replaces another", lambda: [a_change(runs, stated, REPLACED) for stated in (none, full)])
-    yield row("a key that comes or goes", lambda: [a_change(runs, stated, COMES_AND_GOES) for stated in (none, lacking)])
+    yield row(
+        "a key that comes or goes", lambda: [a_change(runs, stated, COMES_AND_GOES) for stated in (none, lacking)]
+    )
 
 
-def main():
+def main() -> None:
     path = program(__doc__)
     heading("Single things, in instructions")
     in_folder(path, lambda runs: table(["what", "64 OSDs in one bucket", "1,024 OSDs in 3 levels"], single_rows(runs)))
