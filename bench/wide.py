@@ -21,7 +21,7 @@ from running import Folder, found, heading, in_folder, judged, peak, program, se
 from tables import LINES, TALK, accepted, pairs
 from tools import said, spent, words
 
-SIZE, DISK = 3, 1_072_883
+SIZE, DISK = 3, 1_000_000
 # The racks, the hosts in a rack, the OSDs in a host, the pools, and the groups of a pool.
 CLUSTERS = ((7, 6, 24, 1, 65_536), (7, 6, 24, 32, 8_192), (16, 16, 16, 1, 65_536), (16, 16, 16, 16, 65_536))
 # The most groups over which the tools are measured.
