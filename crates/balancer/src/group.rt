@@ -41,6 +41,28 @@ fn short_of<T: Blank>(entries: &[T]) -> Short<T>
     short
 }
 
+/// Some places, an OSD in four bytes.
+fn places_of(places: &[Option<u16>]) -> Short<Option<u32>>
+    requires { length places.now ≤ 20 }
+    ensures { result ≡ places.now }
+{
+    let mut short = Short::new();
+    for place in places {
+        short.push(long_place(*place));
+    }
+    short
+}
+
+/// A place, in four bytes.
+fn long_place(place: Option<u16>) -> Option<u32>
+    ensures { result ≡ place }
+{
+    match place {
+        Some(osd) => Some(u32::from(osd)),
+        None => None,
+    }
+}
+
 /// The pairs of a group.
 fn pairs_in(map: &OsdMap, pg: Pg) -> Short<Pair>
     ensures { result ≡ pairs_in map.now.map pg }
@@ -82,7 +104,7 @@ fn mapped(placing: &Placing, number: u32, work: &mut Work) -> Result<Short<Optio
     ensures run { RunsOnce work.old work.new result }
 {
     let set = placing.mapped(number, work)?;
-    Ok(short_of(set.places()))
+    Ok(places_of(set.places()))
 }
 
 /// What is kept of a group of a pool, by one run of the pool's rule; or `Memory` (30).

@@ -135,3 +135,13 @@ impl Blank for Option<u32> {
         None
     }
 }
+
+impl Blank for Option<u16> {
+    ghost use Rattle.std.specs.Prelude.{None};
+
+    ghost blank = { None };
+
+    fn blank() -> Option<u16> {
+        None
+    }
+}

@@ -1,8 +1,9 @@
 //! The set of a group: the OSDs that store it, by their places.
 
-ghost use Rattle.std.specs.Prelude.{◌≡◌, Some, position};
+ghost use Rattle.std.specs.Prelude.{◌≡◌, ◌<◌, Some, position, IfSome};
 ghost use Rattle.std.specs.Fmt.{DisplaysOnOk};
 ghost use Rattle.std.specs.List.{list_any};
+ghost use Rattle.buckets.specs.Limits.{max_devices};
 ghost use Rattle.maptypes.specs.Sets.{is_of, primary_of};
 ghost use Rattle.maptypes.specs.SetText.{place_text, list_text};
 
@@ -13,10 +14,10 @@ use std::alloc::AllocError;
 use std::fmt;
 use std::marker::Model;
 
-/// The set of a group: at most 20 places, in order, each with an OSD or with none.
+/// The set of a group: at most 20 places, in order, each with an OSD, in two bytes, or with none.
 #[derive(Copy, Debug, PartialEq, Eq)]
 pub struct UpSet {
-    places: Short<Option<u32>>,
+    places: Short<Option<u16>>,
 }
 
 impl Model for UpSet {
@@ -41,36 +42,58 @@ impl Clone for UpSet {
     }
 }
 
+/// Whether a place has an OSD.
+fn is_of(place: Option<u16>, osd: u32) -> bool
+    ensures { result ≡ is_of osd place }
+{
+    match place {
+        Some(own) => u32::from(own) == osd,
+        None => false,
+    }
+}
+
 /// Whether some places have an OSD.
-fn has_osd(places: &[Option<u32>], osd: u32) -> bool
+fn has_osd(places: &[Option<u16>], osd: u32) -> bool
     ensures { result ≡ list_any (is_of osd) places.now }
 {
-    places.iter().any(|place| *place == Some(osd))
+    places.iter().any(|place| is_of(*place, osd))
 }
 
 /// The place where an OSD first stands.
-fn place_of(places: &[Option<u32>], osd: u32) -> Option<usize>
+fn place_of(places: &[Option<u16>], osd: u32) -> Option<usize>
     ensures { result ≡ position (is_of osd) places.now }
 {
-    places.iter().position(|place| *place == Some(osd))
+    places.iter().position(|place| is_of(*place, osd))
 }
 
 /// The first OSD of some places.
-fn first_osd(places: &[Option<u32>]) -> Option<u32>
+fn first_osd(places: &[Option<u16>]) -> Option<u32>
     ensures { result ≡ primary_of places.now }
 {
     for place in places {
         if let Some(osd) = place {
-            return Some(*osd);
+            return Some(u32::from(*osd));
         }
     }
     None
 }
 
+/// A place, in two bytes.
+fn short_place(place: Option<u32>) -> Option<u16>
+    requires { IfSome place (λ osd. osd < max_devices) }
+    ensures { result ≡ place }
+{
+    match place {
+        Some(osd) => Some(osd as u16),
+        None => None,
+    }
+}
+
 impl UpSet {
     ghost use Rattle.maptypes.specs.Sets.{primary_of, replaced, is_of, kept_in};
-    ghost use Rattle.std.specs.Prelude.{◌≡◌, ◌≤◌, ◌<◌, [], ◌∷◌, ◌++◌, length, map, Some};
+    ghost use Rattle.std.specs.Prelude.{◌≡◌, ◌≤◌, ◌<◌, [], ◌∷◌, ◌++◌, length, map, Some, IfSome, All};
     ghost use Rattle.std.specs.List.{list_any};
+    ghost use Rattle.buckets.specs.Limits.{max_devices};
 
     /// The set without a place.
     pub fn new() -> Self
@@ -82,7 +105,7 @@ impl UpSet {
     }
 
     /// The places, in order.
-    pub fn places(&self) -> &[Option<u32>]
+    pub fn places(&self) -> &[Option<u16>]
         ensures places { result.now ≡ self.now }
         ensures few { length self.now ≤ 20 }
     {
@@ -98,15 +121,17 @@ impl UpSet {
 
     /// One more place.
     pub fn push(&mut self, place: Option<u32>)
-        requires { length self.old < 20 }
+        requires room { length self.old < 20 }
+        requires small { IfSome place (λ osd. osd < max_devices) }
         ensures { self.new ≡ self.old ++ place ∷ [] }
     {
-        self.places.push(place);
+        self.places.push(short_place(place));
     }
 
     /// The set of some OSDs, in order.
     pub fn of(osds: &[u32]) -> UpSet
-        requires { length osds.now ≤ 20 }
+        requires few { length osds.now ≤ 20 }
+        requires small { All (λ osd. osd < max_devices) osds.now }
         ensures { result ≡ map (λ osd. Some osd) osds.now }
     {
         let mut set = UpSet::new();
@@ -125,16 +150,18 @@ impl UpSet {
 
     /// One OSD goes to another where it first stands.
     pub fn replace(&mut self, pair: Pair)
+        requires { pair.to < max_devices }
         ensures { self.new ≡ replaced pair self.old }
     {
         if let Some(place) = place_of(self.places(), pair.from) {
-            self.places.set(place, Some(pair.to));
+            self.places.set(place, Some(pair.to as u16));
         }
     }
 
     /// One more place, in the way of a kind: copies leave out a place without an OSD, coded parts keep it.
     pub fn add(&mut self, kind: RuleKind, place: Option<u32>)
-        requires { length self.old < 20 }
+        requires room { length self.old < 20 }
+        requires small { IfSome place (λ osd. osd < max_devices) }
         ensures { self.new ≡ self.old ++ kept_in kind place }
     {
         match kind {
@@ -145,7 +172,7 @@ impl UpSet {
 }
 
 /// Writes a place: its OSD, or `none`.
-fn write_place<W: fmt::Write>(f: &mut fmt::Formatter<W>, place: Option<u32>) -> fmt::Result
+fn write_place<W: fmt::Write>(f: &mut fmt::Formatter<W>, place: Option<u16>) -> fmt::Result
     ensures { DisplaysOnOk W.write_str_gives f.old result (Some (place_text place)) f.new }
 {
     match place {
@@ -155,7 +182,7 @@ fn write_place<W: fmt::Write>(f: &mut fmt::Formatter<W>, place: Option<u32>) -> 
 }
 
 /// Writes places, with commas between them.
-fn write_places<W: fmt::Write>(f: &mut fmt::Formatter<W>, places: &[Option<u32>]) -> fmt::Result
+fn write_places<W: fmt::Write>(f: &mut fmt::Formatter<W>, places: &[Option<u16>]) -> fmt::Result
     ensures { DisplaysOnOk W.write_str_gives f.old result (Some (list_text place_text places.now)) f.new }
 {
     let [first, others @ ..] = places else {

@@ -104,7 +104,8 @@ impl Placing<'_> {
 }
 
 impl OsdMap {
-    ghost use Rattle.std.specs.Prelude.{◌≡◌, ◌≤◌, ◌<◌, true, length, List, Option, Some, None, map, IfOk, IfSome, MatchResult, option_and_then};
+    ghost use Rattle.std.specs.Prelude.{◌≡◌, ◌≤◌, ◌<◌, true, false, length, List, Option, Some, None, map, IfOk, IfSome, All, MatchResult, option_and_then};
+    ghost use Rattle.buckets.specs.Limits.{max_devices};
     ghost use Rattle.std.specs.Option.{option_copied};
     ghost use Rattle.refusal.specs.Outcomes.{Gives};
     ghost use Rattle.std.specs.List.{list_any, fold};
@@ -113,20 +114,28 @@ impl OsdMap {
     ghost use Rattle.maptypes.specs.Sets.{kept};
     ghost use Rattle.osdmap.specs.Placement.{group_fault, existing, upward, placed, raw_set, mapped_with, mapped_set, up_set, IsPlacedBy, RunsOnce};
 
-    /// The OSD of a device, where it exists.
-    fn existing(&self, device: i32) -> Option<u32>
-        ensures { result ≡ existing self.now.map device }
+    /// The OSD of a device, where there is one that exists.
+    fn existing(&self, device: Option<i32>) -> Option<u32>
+        ensures value { result ≡ option_and_then (existing self.now.map) device }
+        ensures small { IfSome result (λ osd. osd < max_devices) }
     {
-        let osd = u32::try_from(device).ok()?;
+        self.holds_together();
+        let osd = u32::try_from(device?).ok()?;
         if self.exists(osd) { Some(osd) } else { None }
     }
 
-    /// An OSD, where it is up.
-    fn upward(&self, osd: u32) -> Option<u32>
-        ensures { result ≡ upward self.now.map osd }
+    /// The OSD of a place, where there is one that is up.
+    fn upward(&self, place: Option<u16>) -> Option<u32>
+        ensures value { result ≡ option_and_then (upward self.now.map) place }
+        ensures small { IfSome result (λ osd. osd < max_devices) }
     {
-        let presence = self.presences.get(osd as usize)?;
-        if presence.up { Some(osd) } else { None }
+        let osd = place?;
+        let presence = self.presences.get(usize::from(osd))?;
+        if presence.up {
+            Some(u32::from(osd))
+        } else {
+            None
+        }
     }
 
     /// The pool of a group that is there: else `UnknownPool` (23), `UnknownGroup` (25).
@@ -178,7 +187,7 @@ impl OsdMap {
     {
         let mut set = UpSet::new();
         for device in devices {
-            set.add(pool.kind(), device.and_then(|device| self.existing(device)));
+            set.add(pool.kind(), self.existing(*device));
         }
         set
     }
@@ -188,22 +197,24 @@ impl OsdMap {
         ensures { result ≡ kept pool.now.kind (map (option_and_then (upward self.now.map)) osds.now) }
     {
         let mut set = UpSet::new();
-        for osd in osds.places() {
-            set.add(pool.kind(), osd.and_then(|osd| self.upward(osd)));
+        for place in osds.places() {
+            set.add(pool.kind(), self.upward(*place));
         }
         set
     }
 
     /// Whether an OSD is out for good.
     fn is_weightless(&self, osd: u32) -> bool
-        ensures { result ≡ is_weightless self.now.map.weights osd }
+        ensures value { result ≡ is_weightless self.now.map.weights osd }
+        ensures small { result ≡ false → osd < max_devices }
     {
         self.weights.get(osd as usize).copied().unwrap_or(0) == 0
     }
 
     /// Whether one of some OSDs is out for good.
     fn has_weightless(&self, osds: &[u32]) -> bool
-        ensures { result ≡ list_any (is_weightless self.now.map.weights) osds.now }
+        ensures value { result ≡ list_any (is_weightless self.now.map.weights) osds.now }
+        ensures small { result ≡ false → All (λ osd. osd < max_devices) osds.now }
     {
         osds.iter().any(|osd| self.is_weightless(*osd))
     }

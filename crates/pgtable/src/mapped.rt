@@ -14,26 +14,14 @@ use osdmap::{OsdMap, Placing};
 use refusal::Memory;
 use std::alloc::Global;
 
-/// A place of a set, in two bytes.
-fn stored_place(place: Option<u32>) -> Option<u16>
-    requires { IfSome place (λ osd. osd < max_devices) }
-    ensures value { result ≡ place }
-    ensures small { IfSome result (λ osd. osd < max_devices) }
-{
-    match place {
-        Some(osd) => Some(osd as u16),
-        None => None,
-    }
-}
-
-/// A set, in two bytes a place.
+/// A set, as a table stores it.
 pub(crate) fn stored(set: &UpSet) -> OsdSet
     requires { All (λ place. IfSome place (λ osd. osd < max_devices)) set.now }
     ensures { result ≡ set.now }
 {
     let mut stored = OsdSet::new();
     for place in set.places() {
-        stored.push(stored_place(*place));
+        stored.push(*place);
     }
     stored
 }

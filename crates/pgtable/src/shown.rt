@@ -1,6 +1,7 @@
 //! Stored sets as callers see them.
 
-ghost use Rattle.std.specs.Prelude.{◌≡◌, ◌≤◌, length, map, option_and_then};
+ghost use Rattle.std.specs.Prelude.{◌≡◌, ◌≤◌, ◌<◌, length, map, option_and_then, IfSome};
+ghost use Rattle.buckets.specs.Limits.{max_devices};
 ghost use Rattle.crush.specs.Limits.{max_size};
 ghost use Rattle.grouptable.specs.Sets.{place_stored};
 ghost use Rattle.maptypes.specs.Sets.{kept};
@@ -12,7 +13,9 @@ use maptypes::UpSet;
 
 /// The OSD of a place, where there is one that is up.
 fn shown_place(place: Option<u16>, up: &[bool]) -> Option<u32>
-    ensures { result ≡ option_and_then (upward_in up.now) place }
+    requires { IfSome place (λ osd. osd < max_devices) }
+    ensures value { result ≡ option_and_then (upward_in up.now) place }
+    ensures small { IfSome result (λ osd. osd < max_devices) }
 {
     let osd = place?;
     if up.get(usize::from(osd)).copied().unwrap_or(false) {

@@ -106,17 +106,27 @@ fn push_osd(text: &mut String, osd: Option<u32>, word: &str) -> Result<(), Alloc
     }
 }
 
+/// The OSD of a place in decimal, or `none`.
+fn push_place(text: &mut String, place: Option<u16>) -> Result<(), AllocError>
+    ensures { OnOk result (string_bytes text.new ≡ string_bytes text.old ++ place_text place) }
+{
+    match place {
+        Some(osd) => push_number(text, u64::from(osd)),
+        None => text.push_str("none"),
+    }
+}
+
 /// The places with commas between them.
-fn push_places(text: &mut String, places: &[Option<u32>]) -> Result<(), AllocError>
+fn push_places(text: &mut String, places: &[Option<u16>]) -> Result<(), AllocError>
     ensures { OnOk result (string_bytes text.new ≡ string_bytes text.old ++ list_text place_text places.now) }
 {
     let [first, others @ ..] = places else {
         return Ok(());
     };
-    push_osd(text, *first, "none")?;
+    push_place(text, *first)?;
     for place in others {
         text.push_str(",")?;
-        push_osd(text, *place, "none")?;
+        push_place(text, *place)?;
     }
     Ok(())
 }
