@@ -104,6 +104,8 @@ LISTS = {
     "A refusal": {"Refusal": "refusal/src/refused.rt"},
 }
 NOT_LOOKED_FOR = {"Memory"}
+# What the page of a crate has.
+PARTS_OF_PAGES = ["Parts", "A caller", "Proved", "Tested", "Not promised"]
 DIGITS = "one two three four five six seven eight nine ten".split()
 RESULTS = TOP / "bench" / "results"
 NUMBERS = {word: str(number) for number, word in enumerate(DIGITS, 1)}
@@ -119,7 +121,28 @@ def text(*names: str) -> str:
 def pages() -> list[pathlib.Path]:
     """Each page by its path."""
     below = [TOP / folder / "README.md" for folder in ("examples", "tools", "crates", "tests", "bench")]
-    return [*sorted(TOP.glob("*.md")), *below, *sorted((TOP / "docs").glob("*.md")), *sorted(RESULTS.glob("*.md"))]
+    docs = [*sorted((TOP / "docs").glob("*.md")), *sorted(RESULTS.glob("*.md"))]
+    return [*sorted(TOP.glob("*.md")), *below, *pages_of_crates(), *docs]
+
+
+def pages_of_crates() -> list[pathlib.Path]:
+    """The pages of crates that callers meet."""
+    return sorted((TOP / "crates").glob("*/README.md"))
+
+
+def part_of(page: pathlib.Path, heading: str) -> str:
+    """What stands below a heading of a page, up to the next one."""
+    return found_in(rf"^## {heading}\n\n(.*?)\n*(?=^## |\Z)", page.read_text("utf-8"), re.MULTILINE | re.DOTALL)
+
+
+def names_in(shown: str) -> set[str]:
+    """The names between backticks in a page, but for those of files."""
+    return set(re.findall(r"\w\w+", re.sub(r"\S+\.\w+", " ", " ".join(re.findall("`([^`\n]+)`", shown)))))
+
+
+def stripped(code: str) -> str:
+    """Code without the blanks before and behind its lines."""
+    return "\n".join(line.strip() for line in code.splitlines())
 
 
 def flat(page: pathlib.Path) -> str:
@@ -396,6 +419,55 @@ class Pages(Case):
                     }
                     self.assertEqual(set().union(*found.values()), names)
                     self.assertFalse(unlisted, f"have names of {kind} and are not listed for {heading}")
+
+    def test_pages_of_crates(self) -> None:
+        """Each crate that docs/LIBRARY.md names has a page with the parts of such pages, and crates/README.md leads to each
+        of them"""
+        there = [page.parent.name for page in pages_of_crates()]
+        named = found_in(r"Its line in `crates\.txt` names `([\w ]+)`", flat(TOP / "docs" / "LIBRARY.md")).split()
+        self.assertLessEqual(set(named), set(there))
+        self.assertEqual(sorted(re.findall(r"\]\((\w+)/README\.md\)", text("crates", "README.md"))), there)
+        for name in there:
+            with self.subTest(crate=name):
+                headings = re.findall("^## (.*)$", text("crates", name, "README.md"), re.MULTILINE)
+                self.assertEqual(headings, PARTS_OF_PAGES)
+
+    def test_callers_of_crates(self) -> None:
+        """The code of a caller that the page of a crate shows stands in the file that it names before it"""
+        for page in pages_of_crates():
+            with self.subTest(crate=page.parent.name):
+                caller = part_of(page, "A caller")
+                about, code = caller.split("\n\n    ", 1)
+                file = found_in(r"`([\w/]+\.rt)`", about)
+                self.assertIn(stripped(code), stripped(text("crates", *file.split("/"))))
+
+    def test_names_of_crates(self) -> None:
+        """A name in the page of a crate is one of its sources, is declared in others, or is that of a crate, a test or an
+        edit; and what is said to be proved is a clause, if it is not declared"""
+        texts, tests = sources(), {path.stem for path in (TOP / "tests").iterdir()}
+        known = declared()[1] | OTHER_NAMES | tests | set(re.findall(r"\w+", text("crates.txt")))
+        for page in pages_of_crates():
+            with self.subTest(crate=page.parent.name):
+                own = "\n".join(source for path, source in texts.items() if page.parent in path.parents)
+                edits = {path.stem for path in page.parent.glob("must-fail/*.edit")}
+                unknown = names_in(page.read_text("utf-8")) - known - edits - set(re.findall(r"\w+", own))
+                self.assertFalse(unknown)
+                proved = {name for name in names_in(part_of(page, "Proved")) if name.islower()}
+                self.assertFalse(proved - known - set(re.findall(r"(?:ensures\*?|ghost) (\w+)\b", own)))
+
+    def test_edits_of_crates(self) -> None:
+        """The page of a crate counts its edits that must not prove, or names them"""
+        for page in pages_of_crates():
+            with self.subTest(crate=page.parent.name):
+                edits = {path.stem for path in page.parent.glob("must-fail/*.edit")}
+                tested = " ".join(part_of(page, "Tested").split())
+                said = re.findall(r"(\w+) edits? ([^.;]*?)(?:;[^.;]*)?must not prove", tested)
+                self.assertEqual(len(said), 1 if edits else 0)
+                for count, names in said:
+                    if count == "The":
+                        self.assertEqual(set(re.findall(r"`(\w+)`", names)), edits)
+                    else:
+                        self.assertEqual(NUMBERS[count.lower()], str(len(edits)))
 
     def test_items(self) -> None:
         """A bare name between backticks in the pages on the code is declared in the sources, a crate, a wrong body or a
