@@ -94,8 +94,8 @@ FALSE_IN_COMMENTS = [
 ]
 # What a command line has of itself.
 OF_PARSERS = {"--help", "--version"}
-# The lists of places in CONTRIBUTING.md; of each the enums whose variants are looked for, or the struct whose fields are,
-# and where it is declared. Out of memory is not looked for: it stands wherever memory is taken.
+# The lists of places in CONTRIBUTING.md: of each the enums whose variants are looked for, or the struct whose fields
+# are, and where that is declared. Out of memory is not looked for: it stands wherever a call allocates.
 COMMAND, REPLY = "session/src/command.rt", "session/src/reply.rt"
 LISTS = {
     "A kind of bucket": {"BucketKind": "buckets/src/bucket.rt"},
@@ -211,8 +211,8 @@ def declared() -> tuple[set[str], set[str]]:
 
 
 def listed(heading: str) -> set[pathlib.Path]:
-    """The files that a list of CONTRIBUTING.md names. A bare name in a crate's brackets is a file of src/ with the files
-    below it, and one in other brackets a file of Python."""
+    """The files that a list of CONTRIBUTING.md names. A bare name in a crate's brackets is a file of src/ with the
+    files below it, and one in other brackets a file of Python."""
     lines = found_in(rf"^### {heading}\n(.*?)(?=^##)", text("CONTRIBUTING.md"), re.MULTILINE | re.DOTALL)
     files: set[pathlib.Path] = set()
     for owner, names in re.findall(r"`([\w/]+)` \(([^)]*)\)", " ".join(lines.split())):
@@ -228,8 +228,8 @@ def listed(heading: str) -> set[pathlib.Path]:
 
 
 def looked_for(kind: str, declaration: str) -> set[str]:
-    """The variants of an enum, but for those that are not looked for; or the fields of a struct that have an underscore, so
-    that they are no words of other things."""
+    """The variants of an enum, but for those that are not looked for; or the fields of a struct that have an
+    underscore, so that they are no words of other things."""
     body = found_in(
         rf"^pub(?:\(crate\))? (?:enum|struct) {kind}(?:<'a>)? {{\n(.*?)^}}", declaration, re.MULTILINE | re.DOTALL
     )
@@ -237,8 +237,8 @@ def looked_for(kind: str, declaration: str) -> set[str]:
 
 
 def named_in(source: str, kind: str, names: set[str]) -> set[str]:
-    """Which of the names a source has: a variant by its path or in an import; fields as words, of which one alone does not
-    count, since a source of one part has no place for others."""
+    """Which of the names a source has: a variant by its path or in an import; fields as words, of which one alone does
+    not count, since a source of one part has no place for others."""
     if not any(name[0].isupper() for name in names):
         fields = names.intersection(re.findall(r"\w+", source))
         return fields if len(fields) > 1 else set()
@@ -397,8 +397,9 @@ class Pages(Case):
         self.assertFalse(said)
 
     def test_lists_of_places(self) -> None:
-        """Each file that a list of CONTRIBUTING.md names is there, and each file of a crate that has a kind of bucket, a
-        question, a part of a change or a refusal is in the list of its kind; but for the folders of functions"""
+        """Each file that a list of CONTRIBUTING.md names is there, and each file of a crate that has a kind of bucket,
+        a line of a script, a part of a change or a refusal is in the list of its kind; but for the folders of
+        functions"""
         texts = {
             path: source
             for path, source in sources().items()
@@ -421,8 +422,8 @@ class Pages(Case):
                     self.assertFalse(unlisted, f"have names of {kind} and are not listed for {heading}")
 
     def test_pages_of_crates(self) -> None:
-        """Each crate that docs/LIBRARY.md names has a page with the parts of such pages, and crates/README.md leads to each
-        of them"""
+        """Each crate that docs/LIBRARY.md names has a page with the parts of such pages, and crates/README.md leads to
+        each of them"""
         there = [page.parent.name for page in pages_of_crates()]
         named = found_in(r"Its line in `crates\.txt` names `([\w ]+)`", flat(TOP / "docs" / "LIBRARY.md")).split()
         self.assertLessEqual(set(named), set(there))
@@ -442,8 +443,8 @@ class Pages(Case):
                 self.assertIn(stripped(code), stripped(text("crates", *file.split("/"))))
 
     def test_names_of_crates(self) -> None:
-        """A name in the page of a crate is one of its sources, is declared in others, or is that of a crate, a test or an
-        edit; and what is said to be proved is a clause, if it is not declared"""
+        """A name in the page of a crate is one of its sources, is declared in others, or is that of a crate, a test or
+        an edit; and what is said to be proved is a clause, if it is not declared"""
         texts, tests = sources(), {path.stem for path in (TOP / "tests").iterdir()}
         known = declared()[1] | OTHER_NAMES | tests | set(re.findall(r"\w+", text("crates.txt")))
         for page in pages_of_crates():
