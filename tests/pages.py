@@ -194,6 +194,22 @@ def sources() -> dict[pathlib.Path, str]:
     }
 
 
+def sources_of_things() -> dict[pathlib.Path, str]:
+    """The sources but for tests and the folders of functions, which have any kind of thing and are no places of one."""
+    texts = sources()
+    tests = {
+        (path.parent if path.stem in ("lib", "main") else path.with_suffix("")) / name
+        for path, source in texts.items()
+        for name in re.findall(r"#\[cfg\(test\)\]\s*mod (\w+);", source)
+    }
+    return {
+        path: re.split(r"#\[cfg\(test\)\]\s*mod \w+ {", source)[0]
+        for path, source in texts.items()
+        if not tests & {path.with_suffix(""), *path.parents}
+        and ("proofs" not in path.parts or path.parent.name == "proofs")
+    }
+
+
 def declared() -> tuple[set[str], set[str]]:
     """The functions of the sources; and with them all else that they declare: types, modules, definitions."""
     texts = sources()
@@ -398,13 +414,9 @@ class Pages(Case):
 
     def test_lists_of_places(self) -> None:
         """Each file that a list of CONTRIBUTING.md names is there, and each file of a crate that has a kind of bucket,
-        a line of a script, a part of a change or a refusal is in the list of its kind; but for the folders of
+        a line of a script, a part of a change or a refusal is in the list of its kind; but for tests and the folders of
         functions"""
-        texts = {
-            path: source
-            for path, source in sources().items()
-            if "proofs" not in path.parts or path.parent.name == "proofs"
-        }
+        texts = sources_of_things()
         for heading, kinds in LISTS.items():
             places = listed(heading)
             missing = {str(path.relative_to(TOP)) for path in places if not path.exists()}
