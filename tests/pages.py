@@ -19,6 +19,7 @@ OPTIONS_OF_OTHERS = {
     "--only",
     "--strict",
     "--table",
+    "--test",
     "--tool",
     "--test-map-pgs",
     "--upmap",
@@ -93,6 +94,18 @@ FALSE_IN_COMMENTS = [
 ]
 # What a command line has of itself.
 OF_PARSERS = {"--help", "--version"}
+# The lists of places in CONTRIBUTING.md: of each the enums whose variants are looked for, or the struct whose fields
+# are, and where that is declared. Out of memory is not looked for: it stands wherever a call allocates.
+COMMAND, REPLY = "session/src/command.rt", "session/src/reply.rt"
+LISTS = {
+    "A kind of bucket": {"BucketKind": "buckets/src/bucket.rt"},
+    "A line of a script": {"Question": COMMAND, "Command": COMMAND, "Task": COMMAND, "Reply": REPLY},
+    "A part of a change": {"ChangeParts": "maptypes/src/change.rt"},
+    "A refusal": {"Refusal": "refusal/src/refused.rt"},
+}
+NOT_LOOKED_FOR = {"Memory"}
+# What the page of a crate has.
+PARTS_OF_PAGES = ["Parts", "A caller", "Proved", "Tested", "Not promised"]
 DIGITS = "one two three four five six seven eight nine ten".split()
 RESULTS = TOP / "bench" / "results"
 NUMBERS = {word: str(number) for number, word in enumerate(DIGITS, 1)}
@@ -108,7 +121,28 @@ def text(*names: str) -> str:
 def pages() -> list[pathlib.Path]:
     """Each page by its path."""
     below = [TOP / folder / "README.md" for folder in ("examples", "tools", "crates", "tests", "bench")]
-    return [*sorted(TOP.glob("*.md")), *below, *sorted((TOP / "docs").glob("*.md")), *sorted(RESULTS.glob("*.md"))]
+    docs = [*sorted((TOP / "docs").glob("*.md")), *sorted(RESULTS.glob("*.md"))]
+    return [*sorted(TOP.glob("*.md")), *below, *pages_of_crates(), *docs]
+
+
+def pages_of_crates() -> list[pathlib.Path]:
+    """The pages of crates that callers meet."""
+    return sorted((TOP / "crates").glob("*/README.md"))
+
+
+def part_of(page: pathlib.Path, heading: str) -> str:
+    """What stands below a heading of a page, up to the next one."""
+    return found_in(rf"^## {heading}\n\n(.*?)\n*(?=^## |\Z)", page.read_text("utf-8"), re.MULTILINE | re.DOTALL)
+
+
+def names_in(shown: str) -> set[str]:
+    """The names between backticks in a page, but for those of files."""
+    return set(re.findall(r"\w\w+", re.sub(r"\S+\.\w+", " ", " ".join(re.findall("`([^`\n]+)`", shown)))))
+
+
+def stripped(code: str) -> str:
+    """Code without the blanks before and behind its lines."""
+    return "\n".join(line.strip() for line in code.splitlines())
 
 
 def flat(page: pathlib.Path) -> str:
@@ -150,25 +184,83 @@ def figures(page: str) -> set[tuple[str, str]]:
     return {(NUMBERS.get(one, one), UNITS.get(unit, unit)) for low, high, unit in found for one in (low, high) if one}
 
 
-def declared() -> tuple[set[str], set[str]]:
-    """The functions of the sources; and with them all else that they declare: types, modules, definitions."""
-    sources = {
+def sources() -> dict[pathlib.Path, str]:
+    """Each file of code, definitions and proofs, with its text."""
+    return {
         path: path.read_text("utf-8")
         for end in ("rt", "antt")
         for path in (TOP / "crates").rglob(f"*.{end}")
-        if "out" not in path.parts
+        if "out" not in path.relative_to(TOP).parts
     }
-    code = "\n".join(text for path, text in sources.items() if path.suffix == ".rt")
+
+
+def sources_of_things() -> dict[pathlib.Path, str]:
+    """The sources but for tests and the folders of functions, which have any kind of thing and are no places of one."""
+    texts = sources()
+    tests = {
+        (path.parent if path.stem in ("lib", "main") else path.with_suffix("")) / name
+        for path, source in texts.items()
+        for name in re.findall(r"#\[cfg\(test\)\]\s*mod (\w+);", source)
+    }
+    return {
+        path: re.split(r"#\[cfg\(test\)\]\s*mod \w+ {", source)[0]
+        for path, source in texts.items()
+        if not tests & {path.with_suffix(""), *path.parents}
+        and ("proofs" not in path.parts or path.parent.name == "proofs")
+    }
+
+
+def declared() -> tuple[set[str], set[str]]:
+    """The functions of the sources; and with them all else that they declare: types, modules, definitions."""
+    texts = sources()
+    code = "\n".join(text for path, text in texts.items() if path.suffix == ".rt")
     calls = set(re.findall(r"\bfn (\w+)", code))
     items = calls.union(
-        re.findall(r"\b(?:struct|enum|trait|const|type|mod) (\w+)", code), (path.stem for path in sources)
+        re.findall(r"\b(?:struct|enum|trait|const|type|mod) (\w+)", code), (path.stem for path in texts)
     )
     items |= set(
         re.findall(
-            r"^(?:abbrev |unfoldable )?(?:pub )?(?:record |data )?(\w+)", "\n".join(sources.values()), re.MULTILINE
+            r"^(?:abbrev |unfoldable )?(?:pub )?(?:record |data )?(\w+)", "\n".join(texts.values()), re.MULTILINE
         )
     )
     return calls, items
+
+
+def listed(heading: str) -> set[pathlib.Path]:
+    """The files that a list of CONTRIBUTING.md names. A bare name in a crate's brackets is a file of src/ with the
+    files below it, and one in other brackets a file of Python."""
+    lines = found_in(rf"^### {heading}\n(.*?)(?=^##)", text("CONTRIBUTING.md"), re.MULTILINE | re.DOTALL)
+    files: set[pathlib.Path] = set()
+    for owner, names in re.findall(r"`([\w/]+)` \(([^)]*)\)", " ".join(lines.split())):
+        for name in re.findall("`([^`]+)`", names):
+            crate = TOP / "crates" / owner
+            if "." in name:
+                files.add((crate if crate.exists() else TOP / owner) / name)
+            elif crate.exists():
+                files |= {crate / "src" / f"{name}.rt", *(crate / "src" / name).rglob("*.rt")}
+            else:
+                files.add(TOP / owner / f"{name}.py")
+    return files
+
+
+def looked_for(kind: str, declaration: str) -> set[str]:
+    """The variants of an enum, but for those that are not looked for; or the fields of a struct that have an
+    underscore, so that they are no words of other things."""
+    body = found_in(
+        rf"^pub(?:\(crate\))? (?:enum|struct) {kind}(?:<'a>)? {{\n(.*?)^}}", declaration, re.MULTILINE | re.DOTALL
+    )
+    return set(re.findall(r"^    (?:pub (?=\w+_\w+:)|(?=[A-Z]))(\w+)", body, re.MULTILINE)) - NOT_LOOKED_FOR
+
+
+def named_in(source: str, kind: str, names: set[str]) -> set[str]:
+    """Which of the names a source has: a variant by its path or in an import; fields as words, of which one alone does
+    not count, since a source of one part has no place for others."""
+    if not any(name[0].isupper() for name in names):
+        fields = names.intersection(re.findall(r"\w+", source))
+        return fields if len(fields) > 1 else set()
+    imports = re.findall(rf"\b{kind}\.TheVariants(?:\.{{([^}}]*)}}| as )", source)
+    found = re.findall(rf"\b{kind}::(\w+)", source) + re.findall(r"(?:^|,)\s*(\w+)", "\n".join(imports), re.MULTILINE)
+    return names if "" in imports else names.intersection(found)
 
 
 class Pages(Case):
@@ -319,6 +411,76 @@ class Pages(Case):
         )
         self.assertGreater(len(paths), 100, said)
         self.assertFalse(said)
+
+    def test_lists_of_places(self) -> None:
+        """Each file that a list of CONTRIBUTING.md names is there, and each file of a crate that has a kind of bucket,
+        a line of a script, a part of a change or a refusal is in the list of its kind; but for tests and the folders of
+        functions"""
+        texts = sources_of_things()
+        for heading, kinds in LISTS.items():
+            places = listed(heading)
+            missing = {str(path.relative_to(TOP)) for path in places if not path.exists()}
+            self.assertFalse(missing, f"are listed for {heading} and not there")
+            for kind, declaration in kinds.items():
+                with self.subTest(list=heading, kind=kind):
+                    names = looked_for(kind, text("crates", declaration))
+                    found = {path: named_in(source, kind, names) for path, source in texts.items()}
+                    unlisted = {
+                        (str(path.relative_to(TOP)), *sorted(has))
+                        for path, has in found.items()
+                        if has and path not in places
+                    }
+                    self.assertEqual(set().union(*found.values()), names)
+                    self.assertFalse(unlisted, f"have names of {kind} and are not listed for {heading}")
+
+    def test_pages_of_crates(self) -> None:
+        """Each crate that docs/LIBRARY.md names has a page with the parts of such pages, and crates/README.md leads to
+        each of them"""
+        there = [page.parent.name for page in pages_of_crates()]
+        named = found_in(r"Its line in `crates\.txt` names `([\w ]+)`", flat(TOP / "docs" / "LIBRARY.md")).split()
+        self.assertLessEqual(set(named), set(there))
+        self.assertEqual(sorted(re.findall(r"\]\((\w+)/README\.md\)", text("crates", "README.md"))), there)
+        for name in there:
+            with self.subTest(crate=name):
+                headings = re.findall("^## (.*)$", text("crates", name, "README.md"), re.MULTILINE)
+                self.assertEqual(headings, PARTS_OF_PAGES)
+
+    def test_callers_of_crates(self) -> None:
+        """The code of a caller that the page of a crate shows stands in the file that it names before it"""
+        for page in pages_of_crates():
+            with self.subTest(crate=page.parent.name):
+                caller = part_of(page, "A caller")
+                about, code = caller.split("\n\n    ", 1)
+                file = found_in(r"`([\w/]+\.rt)`", about)
+                self.assertIn(stripped(code), stripped(text("crates", *file.split("/"))))
+
+    def test_names_of_crates(self) -> None:
+        """A name in the page of a crate is one of its sources, is declared in others, or is that of a crate, a test or
+        an edit; and what is said to be proved is a clause, if it is not declared"""
+        texts, tests = sources(), {path.stem for path in (TOP / "tests").iterdir()}
+        known = declared()[1] | OTHER_NAMES | tests | set(re.findall(r"\w+", text("crates.txt")))
+        for page in pages_of_crates():
+            with self.subTest(crate=page.parent.name):
+                own = "\n".join(source for path, source in texts.items() if page.parent in path.parents)
+                edits = {path.stem for path in page.parent.glob("must-fail/*.edit")}
+                unknown = names_in(page.read_text("utf-8")) - known - edits - set(re.findall(r"\w+", own))
+                self.assertFalse(unknown)
+                proved = {name for name in names_in(part_of(page, "Proved")) if name.islower()}
+                self.assertFalse(proved - known - set(re.findall(r"(?:ensures\*?|ghost) (\w+)\b", own)))
+
+    def test_edits_of_crates(self) -> None:
+        """The page of a crate counts its edits that must not prove, or names them"""
+        for page in pages_of_crates():
+            with self.subTest(crate=page.parent.name):
+                edits = {path.stem for path in page.parent.glob("must-fail/*.edit")}
+                tested = " ".join(part_of(page, "Tested").split())
+                said = re.findall(r"(\w+) edits? ([^.;]*?)(?:;[^.;]*)?must not prove", tested)
+                self.assertEqual(len(said), 1 if edits else 0)
+                for count, names in said:
+                    if count == "The":
+                        self.assertEqual(set(re.findall(r"`(\w+)`", names)), edits)
+                    else:
+                        self.assertEqual(NUMBERS[count.lower()], str(len(edits)))
 
     def test_items(self) -> None:
         """A bare name between backticks in the pages on the code is declared in the sources, a crate, a wrong body or a
