@@ -54,8 +54,8 @@ pub record LeftFacts : Type 0 where
   pub text : List ℕ
   pub told : Bool
 
--- what is left of the session of a part: the text of a script, which has no file that can fail; of a live session, whose
--- answers are out, no text
+-- what is left of the session of a part: the text of a script, which has no file that can fail; of a live session no
+-- text, as its answers are out
 abbrev pub IsLeftOf : ClusterMap → ℕ → Profile → Bool → ℕ → Part → LeftFacts → List Step → Type 0
 IsLeftOf first journal profile alone number (Script script) left seen =
     IsSessionText first journal profile alone number script.items left.text seen × (left.told ≡ false)
