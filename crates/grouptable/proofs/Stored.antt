@@ -1,49 +1,40 @@
 -- Sets stored side by side: one more, another in the place of one, and what stands in a place.
 use Rattle.std.proofs.Common.{◌≡◌, ℕ, zero, suc, ◌+◌, ◌-◌, ◌*◌, ◌<◌, ◌≤◌, Bool, true, false, cond, not, nat_lt, ◌&&◌, Some, None, List, [], ◌∷◌, ◌++◌, map, length, get_or, take, drop, set, replicate, refl, ap, sym, ◌∙◌, add-one, arith, drop-drop}
 use mathlib.Core.Bool.{false≢true}
-use Rattle.std.specs.List.{list_all, before_first, position, position_or_len}
-use Rattle.std.specs.Option.{unwrap_or}
-use Rattle.std.proofs.lemmas.Bool.{ltb-false}
+use Rattle.std.specs.List.{list_all, suffix_len}
 use Rattle.std.proofs.lemmas.Nat.{mul-le}
-use Rattle.std.proofs.lemmas.List.Sums.{prefix_len-le-length, take_while-cons}
-use Rattle.std.proofs.lemmas.List.Folds.{list_all-append}
-use Rattle.std.proofs.lemmas.List.{length-append, length-drop, length-map, length-take-le, take-append-drop, take_at, drop_at, take-append-le, drop-append-le, drop-take, take-take, take_all, length-set, take_more_set, drop-set-lt, drop-replicate, take-replicate}
+use Rattle.std.proofs.lemmas.List.Sums.{suffix_len_is}
+use Rattle.std.proofs.lemmas.List.Folds.{list_all-append, list_all_at}
+use Rattle.std.proofs.lemmas.List.{get_or-take, get_or-drop, get_or-replicate, length-append, length-drop, length-map, length-take-le, take-append-drop, take_at, drop_at, take-append-le, drop-append-le, drop-take, take-take, take_all, length-set, take_more_set, drop-set-lt, drop-replicate, take-replicate}
 use Rattle.maptypes.specs.Sets.{Places}
 use Rattle.grouptable.specs.Sets.{is_end, place_stored, set_stored, set_of}
 use Rattle.grouptable.specs.Stored.{IsFilled, AreSideBySide, sets_stored, written}
 
--- the first end, or the end of all where there is none
-at_end : (row : List ℕ) (b : Bool) → nat_lt (position_or_len is_end row) (length row) ≡ b → unwrap_or (cond b (Some (position_or_len is_end row)) None) (length row) ≡ position_or_len is_end row
-at_end row true e = refl
-at_end row false e = omega (arith, prefix_len-le-length (λ n. not (is_end n)) row, ltb-false _ _ e)
+-- a number below the length of a filled set is no end
+filled_by : (b : Bool) (xs : List ℕ) (i d : ℕ) → is_end (get_or xs i d) ≡ b → i < length xs → list_all (λ n. not (is_end n)) xs ≡ true → is_end (get_or xs i d) ≡ false
+filled_by true xs i d e inside all = absurd (false≢true (sym (list_all_at (λ n. not (is_end n)) xs i d inside (ap not e)) ∙ all))
+filled_by false xs i d e inside all = e
 
-pub first_end : (row : List ℕ) → unwrap_or (position is_end row) (length row) ≡ position_or_len is_end row
-first_end row = at_end row (nat_lt (position_or_len is_end row) (length row)) refl
+-- so it is of every such number
+filled_at : (xs : List ℕ) (i d : ℕ) → i < length xs → list_all (λ n. not (is_end n)) xs ≡ true → is_end (get_or xs i d) ≡ false
+filled_at xs i d inside all = filled_by (is_end (get_or xs i d)) xs i d refl inside all
 
--- numbers without an end, and ends behind them, are a set of the former
-before_ends_at : (b : Bool) (x : ℕ) (xs : List ℕ) (n : ℕ) → is_end x ≡ b → (not b && list_all (λ y. not (is_end y)) xs) ≡ true → (list_all (λ y. not (is_end y)) xs ≡ true → before_first is_end (xs ++ replicate n 65534) ≡ xs) → before_first is_end (x ∷ xs ++ replicate n 65534) ≡ x ∷ xs
-before_ends_at true x xs n e h more = absurd (false≢true h)
-before_ends_at false x xs n e h more =
-    take_while-cons (λ y. not (is_end y)) x (xs ++ replicate n 65534)
-    ∙ ap (λ (c : Bool). cond (not c) (x ∷ before_first is_end (xs ++ replicate n 65534)) []) e
-    ∙ ap (λ ys. x ∷ ys) (more h)
-
-before_ends : (xs : List ℕ) (n : ℕ) → list_all (λ x. not (is_end x)) xs ≡ true → before_first is_end (xs ++ replicate n 65534) ≡ xs
-before_ends [] zero h = refl
-before_ends [] (suc n) h = refl
-before_ends (x ∷ xs) n h = before_ends_at (is_end x) x xs n refl h (before_ends xs n)
+-- behind a filled set each place is an end
+end_at : (len : ℕ) (places : List ℕ) (width k d : ℕ) → IsFilled len places → len ≤ k → k < width → width ≤ 20 → is_end (get_or (take width places) k d) ≡ true
+end_at len places width k d is past inside few =
+    let behind : get_or places k d ≡ 65534 =
+    ap (λ n. get_or places n d) (omega (arith, past)) ∙ sym (get_or-drop len places (k - len) d) ∙ ap (λ xs. get_or xs (k - len) d) is.behind ∙ get_or-replicate (20 - len) (k - len) 65534 d (omega (arith, past, inside, few)) in
+    ap is_end (get_or-take width places k d inside ∙ behind)
 
 -- the row of a set has its places, and ends behind them
-pub row_is : (len : ℕ) (places : List ℕ) (width : ℕ) → IsFilled len places → len ≤ width → width ≤ 20 → before_first is_end (take width places) ≡ take len places
+pub row_is : (len : ℕ) (places : List ℕ) (width : ℕ) → IsFilled len places → len ≤ width → width ≤ 20 → take (length (take width places) - suffix_len is_end (take width places)) (take width places) ≡ take len places
 row_is len places width is fits few =
-    let front : take len (take width places) ≡ take len places = take-take len width places fits in
-    let rest : drop len (take width places) ≡ take (width - len) (drop len places) =
-    ap (λ n. drop len (take n places)) (omega (arith, fits)) ∙ drop-take len (width - len) places in
-    let ends : take (width - len) (drop len places) ≡ replicate (width - len) 65534 =
-    ap (take (width - len)) is.behind ∙ take-replicate (width - len) (20 - len) 65534 (omega (arith, few)) in
-    let all : take width places ≡ take len places ++ replicate (width - len) 65534 =
-    sym (take-append-drop len (take width places)) ∙ rw (front, rest, ends) refl in
-    rw all (before_ends (take len places) (width - len) is.filled)
+    let long : length (take width places) ≡ width = length-take-le width places (omega (arith, is.all, few)) in
+    let last : 0 < len → is_end (get_or (take width places) (len - 1) 0) ≡ false =
+    (λ some. ap is_end (get_or-take width places (len - 1) 0 (omega (arith, some, fits)) ∙ sym (get_or-take len places (len - 1) 0 (omega (arith, some)))) ∙ filled_at (take len places) (len - 1) 0 (omega (arith, some, length-take-le len places (omega (arith, is.all, is.few)))) is.filled) in
+    let ends : suffix_len is_end (take width places) ≡ length (take width places) - len =
+    suffix_len_is is_end (take width places) len 0 (omega (arith, long, fits)) (λ k past inside. end_at len places width k 0 is past (omega (arith, inside, long)) few) last in
+    ap (λ n. take n (take width places)) (omega (arith, ends, long, fits)) ∙ take-take len width places fits
 
 -- a set with one more place
 pub push_filled : (len : ℕ) (places : List ℕ) (x : ℕ) → IsFilled len places → len < 20 → is_end x ≡ false → IsFilled (len + 1) (set places len x)
@@ -91,6 +82,7 @@ set_more width (suc n) places row all wide =
     ∙ ap (λ ps. set_stored (take width places) ∷ sets_stored width (suc n) ps) (drop-append-le width places row long)
     ∙ ap (λ ss. set_stored (take width places) ∷ ss) (set_more width n (drop width places) row rest wide)
 
+-- the same where they are counted up
 pub set_pushed : (width n : ℕ) (places row : List ℕ) → length places ≡ n * width → length row ≡ width → sets_stored width (n + 1) (places ++ row) ≡ sets_stored width n places ++ set_stored row ∷ []
 set_pushed width n places row all wide = rw add-one (set_more width n places row all wide)
 
@@ -100,6 +92,7 @@ first_left width m row places long fits =
     take-append-le width (take (width + m) places) _ (omega (arith, length-take-le (width + m) places (omega (arith, long, fits))))
     ∙ take-take width (width + m) places (omega arith)
 
+-- and the others are written as by themselves
 others_written : (width m : ℕ) (row places : List ℕ) → width ≤ length places → m ≤ length places - width → drop width (written (width + m) row places) ≡ written m row (drop width places)
 others_written width m row places long fits =
     drop-append-le width (take (width + m) places) _ (omega (arith, length-take-le (width + m) places (omega (arith, long, fits))))

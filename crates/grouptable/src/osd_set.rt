@@ -1,7 +1,7 @@
 //! A set of at most 20 places, two bytes each.
 
-ghost use Rattle.std.specs.Prelude.{◌≡◌, ◌<◌, ◌≤◌, ◌++◌, [], ◌∷◌, false, None, length, position, slice_index_or, IfSome, ◌==◌, map};
-ghost use Rattle.std.specs.List.{list_any, position_or_len};
+ghost use Rattle.std.specs.Prelude.{◌≡◌, ◌<◌, ◌≤◌, ◌++◌, [], ◌∷◌, false, None, ◌+◌, length, slice_index_or, IfSome, ◌==◌, map};
+ghost use Rattle.std.specs.List.{list_any, suffix_len};
 ghost use Rattle.crush.specs.Limits.{max_size};
 ghost use Rattle.buckets.specs.Limits.{max_devices};
 ghost use Rattle.grouptable.specs.Sets.{is_end, place_stored, set_stored, stands_at};
@@ -129,25 +129,18 @@ pub(crate) fn holds(places: &[u16], osd: u16) -> bool
     has_number(places, osd)
 }
 
-/// Where the first end is, if there is one.
-fn end_in(row: &[u16]) -> Option<usize>
-    ensures { result ≡ position is_end row.now }
-{
-    row.iter().position(|place| *place == END)
-}
-
-/// How many places of a row stand before its first end.
+/// How many places of a row stand before the ends behind them.
 fn filled_len(row: &[u16]) -> usize
-    ensures value { result ≡ position_or_len is_end row.now }
-    ensures within { result ≤ length row.now }
+    ensures { result + suffix_len is_end row.now ≡ length row.now }
 {
-    match end_in(row) {
-        Some(len) => len,
-        None => row.len(),
+    let mut len = row.len();
+    while len > 0 && row[len - 1] == END {
+        len -= 1;
     }
+    len
 }
 
-/// The places of a row before its first end.
+/// The places of a row before the ends behind them.
 pub(crate) fn filled(row: &[u16]) -> &[u16]
     ensures value { map place_stored result.now ≡ set_stored row.now }
     ensures few { length result.now ≤ length row.now }

@@ -48,6 +48,7 @@ replaced_long pair (place ∷ places) = by_test (is_of pair.from place) (replace
     by_test true long = refl
     by_test false long = ap suc long
 
+-- also where it acts only under conditions
 pair_long : (weights : List ℕ) (places : List (Option ℕ)) (pair : Pair) → length (with_pair weights places pair) ≡ length places
 unfolding with_pair
 pair_long weights places pair = by_test (list_any (is_of pair.to) places || is_weightless weights pair.to)
@@ -56,10 +57,12 @@ pair_long weights places pair = by_test (list_any (is_of pair.to) places || is_w
     by_test true = refl
     by_test false = replaced_long pair places
 
+-- so do some pairs
 pairs_long : (weights : List ℕ) (pairs : List Pair) (places : List (Option ℕ)) → length (fold (with_pair weights) places pairs) ≡ length places
 pairs_long weights [] places = refl
 pairs_long weights (pair ∷ pairs) places = pairs_long weights pairs (with_pair weights places pair) ∙ pair_long weights places pair
 
+-- and those of a group
 items_long : (weights : List ℕ) (items : Option (List Pair)) (places : List (Option ℕ)) → length (with_items weights places items) ≡ length places
 items_long weights None places = refl
 items_long weights (Some pairs) places = pairs_long weights pairs places

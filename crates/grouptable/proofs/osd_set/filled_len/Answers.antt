@@ -1,9 +1,10 @@
-use Rattle.std.proofs.Common.{◌≡◌, length, ap, sym, ◌∙◌}
-use Rattle.std.specs.Option.{unwrap_or}
-use Rattle.grouptable.proofs.Stored.{first_end}
+use Rattle.std.proofs.Common.{arith, rules}
+use Rattle.std.proofs.lemmas.List.{take_all}
+use Rattle.std.proofs.lemmas.List.Sums.{suffix_len-take_yes, suffix_len-take_no}
 use Rattle.grouptable.proofs.osd_set.filled_len.Goals as goal
 
-pub returns-in-None-clause-value : goal.returns-in-None-clause-value
-returns-in-None-clause-value c =
-    let row = c.args.row.now in
-    ap (λ end. unwrap_or end (length row)) (sym c.in-None.is ∙ c.end_in.ensures) ∙ first_end row
+pub loop-len-init : goal.loop-len-init
+loop-len-init c = search (rules, take_all)
+
+pub loop-len-preserved : goal.loop-len-preserved
+loop-len-preserved c = grind (arith, suffix_len-take_yes)
