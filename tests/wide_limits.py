@@ -404,8 +404,8 @@ class WideLimits(Case):
         self.answers(value, lines, wanted)
 
     def test_every_maximum(self) -> None:
-        """As many groups, exceptions and buckets as there may be, all at once: read, asked, changed in each exception,
-        written and read back."""
+        """As many groups, exceptions and buckets as there may be, all at once: read, asked also by a follower, changed
+        in each exception and in a state, written and read back."""
         value = full_map()
         asked = list(zip(value["pg_upmap"], value["pg_upmap_items"]))[::3_989]
         sets = [(name, placed(explicit, pairs)) for (name, explicit), (_, pairs) in asked]
@@ -414,9 +414,20 @@ class WideLimits(Case):
         buckets = sorted(value["buckets"], key=lambda own: -int(own["id"]))
         after = value | {"epoch": 2, "pg_upmap": parts["new_upmap"], "pg_upmap_items": [], "buckets": buckets}
         dump = "dump " + json.dumps(after, separators=(",", ":"), sort_keys=True)
-        lines = [f"up {name}" for name, _ in sets] + ["change " + written(parts), "count 5", "count 6", "dump"]
-        wanted = [f"up 1 {name} [{','.join(map(str, places))}] {places[0]}" for name, places in sets]
-        wanted += [f"ok 2 evals {TOTAL}", f"count 2 5 {TOTAL}", "count 2 6 0", dump]
+        lines = [f"{word} {name}" for name, _ in sets for word in ("up", "fup")]
+        lines += ["change " + written(parts), "count 5", "count 6", "dump", "follow", f"fup {names[-1]}"]
+        lines += ["change " + written({"base": 2, "down": [5]}), "count 5", f"up {names[-1]}"]
+        found = [(name, f"[{','.join(map(str, places))}] {places[0]}") for name, places in sets]
+        wanted = [f"{word} 1 {name} {places}" for name, places in found for word in ("up", "fup")]
+        wanted += [
+            f"ok 2 evals {TOTAL}",
+            f"count 2 5 {TOTAL}",
+            "count 2 6 0",
+            dump,
+            "follow 2",
+            f"fup 2 {names[-1]} [5] 5",
+        ]
+        wanted += ["ok 3 evals 0", "count 3 5 0", f"up 3 {names[-1]} [] -1"]
         self.answers(value, lines, wanted)
         self.answers(after, ["count 5", "dump"], [f"count 2 5 {TOTAL}", dump])
 
