@@ -35,9 +35,7 @@ WIDE = {
     "030-many-osds": ("OSDs", 3000, ["pools-1,2.json"]),
 }
 # What keeps the other clusters out: the beginning of each line.
-OUTSIDE = {
-    "013-removed": [f"osd.{osd} stands below default, but the OSD dump does not list it" for osd in (3, 15)],
-}
+OUTSIDE = {"013-removed": [f"osd.{osd} stands below default, but the OSD dump does not list it" for osd in (3, 15)]}
 
 
 class StockClusters(StockCase):
