@@ -92,6 +92,9 @@ class ToolErrors(ToolCase):
         for path, kind in ((osd, "an OSD"), (crush, "a CRUSH")):
             with self.subTest(kind=kind):
                 self.is_told(self.tools.run("check", path), 1, f"{path}: this is {kind} dump: use import", kind)
+                told = f"{path}: this is {kind} dump, and no map: most commands take both dumps, and import makes a map"
+                for words in (["df"], ["net"], ["plan"], ["shell"], ["whatif", "--out", "3"], ["explain", "1.0"]):
+                    self.is_told(self.tools.run(words[0], path, *words[1:], stdin=""), 1, told, words)
         for files in ([osd], [osd, crush, osd]):
             with self.subTest():
                 self.is_told(self.tools.run("diff", *files), 2, "diff takes two maps, or the two dumps of each", files)

@@ -203,3 +203,8 @@ def is_crush_dump(value: object) -> bool:
 def is_osd_dump(value: object) -> bool:
     """Whether a value is what `ceph osd dump -f json` prints, and no map: a map has buckets too."""
     return isinstance(value, dict) and {"max_osd", "osds", "pools"} <= value.keys() and "buckets" not in value
+
+
+def dump_name(value: object) -> str | None:
+    """Which dump a value is, in words; None where it is none."""
+    return "an OSD dump" if is_osd_dump(value) else "a CRUSH dump" if is_crush_dump(value) else None
