@@ -205,6 +205,11 @@ def is_osd_dump(value: object) -> bool:
     return isinstance(value, dict) and {"max_osd", "osds", "pools"} <= value.keys() and "buckets" not in value
 
 
+def is_map(value: object) -> bool:
+    """Whether a value is a map, as `import` writes it, and no dump: no dump has both buckets and OSDs."""
+    return isinstance(value, dict) and {"buckets", "osds", "pools", "rules"} <= value.keys()
+
+
 def dump_name(value: object) -> str | None:
     """Which dump a value is, in words; None where it is none."""
     return "an OSD dump" if is_osd_dump(value) else "a CRUSH dump" if is_crush_dump(value) else None

@@ -94,7 +94,7 @@ def options_of(arguments: Arguments) -> PlanOptions:
     if own.json and (own.batch is not None or own.undo):
         raise Misuse("--json tells the plan and its undoing at once: --batch and --undo do not go with it")
     if own.deviation is not None and own.deviation < LEAST and not own.alone:
-        raise Misuse(f"--deviation {own.deviation}: 0.5 is the whole plan; less goes with --alone")
+        raise Misuse(f"--deviation {float(own.deviation):g}: 0.5 is the whole plan; less goes with --alone")
     if own.alone and own.max is not None and own.max > MOST_MOVES:
         raise Misuse(f"--max {own.max}: with --alone at most {MOST_MOVES} moves a pool")
     return PlanOptions(
