@@ -10,6 +10,7 @@ the processors themselves or must be alone. The status is 1 where a run has fail
 """
 
 import argparse
+import compileall
 import dataclasses
 import os
 import pathlib
@@ -197,6 +198,8 @@ def main() -> int:
     if unknown:
         parser.error(f"there is no table or module {', '.join(sorted(unknown))}")
     tests = chosen((test for test in found if not options.table or group_of(test.id()) in options.table), options.only)
+    # Else each command of the tools would compile them anew.
+    compileall.compile_dir(TOP / "tools" / "rekhuso", quiet=2)
     with Shown() as shown:
         summary = Summary((test.id() for test, _ in tests), options.show, shown)
         run_all(tests, summary, shown)

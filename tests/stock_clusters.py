@@ -6,6 +6,7 @@ import xml.etree.ElementTree
 
 from rekhuso import Monitor
 
+from tests.cases import TOP
 from tests.clusters import NOBODY, STOCK, ceph_set, commands, copied, with_commands
 from tests.tool_cases import SECONDS, StockCase
 
@@ -195,6 +196,11 @@ class StockClusters(StockCase):
         for name in STOCK.keys() - OUTSIDE.keys():
             if name < "020":
                 self.assertStarts(self.output("import", *self.dumps(name), "--check"), "the cluster comes in")
+
+    def test_count_of_the_page(self) -> None:
+        """docs/CEPH.md says how many of the stock clusters come in."""
+        told = f"\n{len(STOCK) - len(OUTSIDE)} of the {len(STOCK)} stock clusters in `tests/`"
+        self.assertIn(told, (TOP / "docs" / "CEPH.md").read_text())
 
     def test_some_pools(self) -> None:
         """Of a cluster beyond a limit the pools that a map holds come in by --pools, and of one within it some pools

@@ -70,9 +70,9 @@ class StockLimits(DumpCase):
         self.assertEqual((status, error.splitlines()), (int(bool(refusal)), wanted), (refusal, places, error[:600]))
         self.assertTrue(refusal or f"{files[-1]}: lawful" in output, output[:300])
 
-    def test_limits_of_stock_maps(self) -> None:
-        """A map with straw2 buckets is lawful at each of its limits, and past it `check` tells the place, as the
-        program refuses it."""
+    def test_groups_of_stock_maps(self) -> None:
+        """A map with straw2 buckets is lawful with as many groups as a pool and all pools may have, and past these
+        `check` tells the place, as the program refuses it."""
         for groups, place in (
             ([65536], ""),
             ([65537], "pools[0].pg_num: 65,537, at most 65,536"),
@@ -91,6 +91,9 @@ class StockLimits(DumpCase):
                 )
                 self.assertEqual(status, int(bool(place)), (groups[:5], error[:600]))
                 self.assertEqual(sorted(error.splitlines()), sorted(told), (groups[:5], error[:600]))
+
+    def test_lists_of_stock_maps(self) -> None:
+        """So it is with the items of a bucket, with buckets, pools and rules."""
         for items, place in ((4096, ""), (4097, "buckets[0].items: 4,097 entries, at most 4,096")):
             with self.subTest(items=items):
                 own = [straws([*range(4096), -2][:items]), straws([0], -2, level=1)][: 2 if place else 1]
@@ -111,16 +114,21 @@ class StockLimits(DumpCase):
                 for items, place in ((64, ""), (65, "buckets[1].items: 65 entries, at most 64")):
                     own = [straws([-2]), straws(range(items), -2, kind, 1)]
                     self.is_checked(limits_map([8], own, 65), None, place and LIMIT, *[place][: bool(place)])
-        for key, entry in (("pg_upmap", [0]), ("pg_upmap_items", [[0, 1]])):
-            with self.subTest(key=key):
-                entries = [[group, entry] for group in groups_of(16, 1048576)]
-                self.is_checked(limits_map(ALL, devices=2) | {key: entries}, None, "")
-                self.is_checked(
-                    limits_map(ALL, devices=2) | {key: entries + entries[:1]},
-                    None,
-                    LIMIT,
-                    f"{key}: 1,048,577 entries, at most 1,048,576",
-                )
+
+    def exceptions_are_checked(self, key: str, entry: Json) -> None:
+        """Asks that all groups may have an exception, and one more is refused."""
+        entries, value = [[group, entry] for group in groups_of(16, 1048576)], limits_map(ALL, devices=2)
+        self.is_checked(value | {key: entries}, None, "")
+        told = f"{key}: 1,048,577 entries, at most 1,048,576"
+        self.is_checked(value | {key: entries + entries[:1]}, None, LIMIT, told)
+
+    def test_explicit_sets_of_stock_maps(self) -> None:
+        """So it is with explicit sets."""
+        self.exceptions_are_checked("pg_upmap", [0])
+
+    def test_pairs_of_stock_maps(self) -> None:
+        """So it is with pairs."""
+        self.exceptions_are_checked("pg_upmap_items", [[0, 1]])
 
     def test_limits_of_plain_maps(self) -> None:
         """A map without straw2 buckets has the limits that it had."""
@@ -150,13 +158,16 @@ class StockLimits(DumpCase):
         )
         self.is_checked(full, {"base": 1, "new_crush": crush}, LIMIT, "new_crush.rules: 33 entries, at most 32")
 
-    def test_limits_of_stock_changes(self) -> None:
-        """The groups of all pools after a change, its lists and its buckets have the limits of the map, with the
-        program's refusals."""
-        value, full = limits_map([65536] * 15 + [65534, 1]), limits_map(ALL)
+    def are_checked(self, cases: Iterable[tuple[Json, Json, str, str]]) -> None:
+        """Asks that `check` tells each change to a map as lawful, or the program's refusal and the place alone."""
+        for own, parts, refusal, place in cases:
+            with self.subTest(place=place):
+                self.is_checked(own, {"base": 1} | parts, refusal, *[place][: bool(place)])
+
+    def test_pools_of_stock_changes(self) -> None:
+        """The pools after a change, and the groups of all, have the limits of the map, with the program's refusals."""
+        value, many = limits_map([65536] * 15 + [65534, 1]), limits_map([1] * 255)
         total = "1,048,577 groups in all pools after the change, at most 1,048,576"
-        lists = groups_of(16, 1048576)
-        crush, many = {"rules": value["rules"]}, limits_map([1] * 255)
         cases: list[tuple[Json, Json, str, str]] = [
             (many, {"new_pools": [new_pool(256, 1)]}, "", ""),
             (
@@ -166,13 +177,6 @@ class StockLimits(DumpCase):
                 "new_pools: 257 pools after the change, at most 256",
             ),
             (many, {"old_pools": [1], "new_pools": [new_pool(256, 1), new_pool(257, 1)]}, "", ""),
-            (many, {"new_crush": {"buckets": many["buckets"], "rules": same_rules(256)}}, "", ""),
-            (
-                many,
-                {"new_crush": {"buckets": many["buckets"], "rules": same_rules(257)}},
-                LIMIT,
-                "new_crush.rules: 257 entries, at most 256",
-            ),
             (value, {"new_pools": [new_pool(18, 1)]}, "", ""),
             (value, {"new_pools": [new_pool(18, 2)]}, POOL, f"new_pools: {total}"),
             (value, {"grow_pool": [[17, 2, 2]]}, "", ""),
@@ -187,27 +191,41 @@ class StockLimits(DumpCase):
                 LIMIT,
                 "new_pools[0].pg_num: 65,537, at most 65,536",
             ),
+        ]
+        self.are_checked(cases)
+
+    def test_lists_of_stock_changes(self) -> None:
+        """The lists of a change have the limits of the map, with the program's refusals."""
+        full, lists, many = limits_map(ALL), groups_of(16, 1048576), limits_map([1] * 255)
+        few = limits_map([8], devices=1024)
+        crush = {"rules": few["rules"]}
+        cases: list[tuple[Json, Json, str, str]] = [
+            (many, {"new_crush": {"buckets": many["buckets"], "rules": same_rules(256)}}, "", ""),
+            (
+                many,
+                {"new_crush": {"buckets": many["buckets"], "rules": same_rules(257)}},
+                LIMIT,
+                "new_crush.rules: 257 entries, at most 256",
+            ),
             (full, {"old_upmap": lists}, "", ""),
             (full, {"old_items": lists + ["1.0"]}, LIMIT, "old_items: 1,048,577 entries, at most 1,048,576"),
             (full, {"new_upmap": [[group, [0]] for group in lists]}, "", ""),
             (full, {"down": [0] * 1048577}, LIMIT, "down: 1,048,577 entries, at most 1,048,576"),
-            (limits_map([8], devices=1024), {"new_crush": crush | {"buckets": chains(4096, 1024)}}, "", ""),
+            (few, {"new_crush": crush | {"buckets": chains(4096, 1024)}}, "", ""),
             (
-                value,
+                few,
                 {"new_crush": crush | {"buckets": chains(4097, 1024)}},
                 LIMIT,
                 "new_crush.buckets: 4,097 entries, at most 4,096",
             ),
             (
-                value,
+                few,
                 {"new_crush": crush | {"buckets": [straws([0] * 4097)]}},
                 LIMIT,
                 "new_crush.buckets[0].items: 4,097 entries, at most 4,096",
             ),
         ]
-        for own, parts, refusal, place in cases:
-            with self.subTest(place=place):
-                self.is_checked(own, {"base": 1} | parts, refusal, *[place][: bool(place)])
+        self.are_checked(cases)
 
     def test_limits_of_import(self) -> None:
         """A stock cluster past a wide limit stays out with the number and what to do; without straw2 buckets, past a

@@ -92,6 +92,13 @@ class ToolErrors(ToolCase):
         for path, kind in ((osd, "an OSD"), (crush, "a CRUSH")):
             with self.subTest(kind=kind):
                 self.is_told(self.tools.run("check", path), 1, f"{path}: this is {kind} dump: use import", kind)
+                told = f"{path}: this is {kind} dump, and no map: most commands take both dumps, and import makes a map"
+                for words in (["df"], ["net"], ["plan"], ["shell"], ["whatif", "--out", "3"], ["explain", "1.0"]):
+                    self.is_told(self.tools.run(words[0], path, *words[1:], stdin=""), 1, told, words)
+        for files in ([EXAMPLE, crush], [osd, EXAMPLE]):
+            with self.subTest(files=files):
+                told = f"{EXAMPLE}: this is a map, and no dump: give both dumps, or one map alone"
+                self.is_told(self.tools.run("df", *files), 1, told, files)
         for files in ([osd], [osd, crush, osd]):
             with self.subTest():
                 self.is_told(self.tools.run("diff", *files), 2, "diff takes two maps, or the two dumps of each", files)
@@ -174,6 +181,8 @@ class ToolErrors(ToolCase):
         ):
             with self.subTest(words=words):
                 self.is_told(self.tools.run(*over_example(words)), 2, "error: ", words)
+        told = "--deviation 0.2: 0.5 is the whole plan; less goes with --alone"
+        self.is_told(self.tools.run("plan", EXAMPLE, "--deviation", "0.2"), 2, told, told)
         for word in ("²", "--3", "osd.", "-", "1_0", "99"):
             with self.subTest(word=word):
                 self.is_told(self.tools.run("whatif", EXAMPLE, f"--out={word}"), 1, f"{word}: no OSD of the map", word)

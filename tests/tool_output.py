@@ -185,18 +185,24 @@ class ToolOutput(ToolCase):
         self.assertLessEqual(abs(sum(roots) - told["summary"]["share"]), 0.005 * (len(roots) + 1))
         self.assertLess(page.index("<svg"), page.index('<table class="sums">'))
         self.assertLess(page.index('<table class="sums">'), page.index("<h2>OSDs</h2>"))
-        columns = ("TYPE NAME", "PGS", "SHARE", "DEVIATION", "VAR", "STATUS")
+        columns = ("NAME", "PGS", "SHARE", "DEVIATION", "VAR", "STATUS")
         self.assertIn("".join(f"<th>{name}</th>" for name in columns), sums)
         self.assertIn("prefers-color-scheme:dark", page)
         self.assertFalse(re.search('<rect[^>]*width="100%"[^>]*fill=', page))
 
     def test_plans_that_are_refused(self) -> None:
         """A pool that the balancer refuses is told where plans are asked for, and is not passed over in silence."""
-        path, _, value, _ = self.with_names("002-built")
+        path, names, value, known = self.with_names("002-built")
         rule = value["rules"][0]
-        twice = dict(value, rules=[dict(rule, steps=rule["steps"] * 2)])
-        told = self.output("whatif", self.tools.put("twice", twice), "--out", "0", "--balance")
-        self.assertIn("pool 1 is not balanced: 29 BalanceRule\n", told)
+        twice = self.tools.put("twice", dict(value, rules=[dict(rule, steps=rule["steps"] * 2)]))
+        why = "its rule takes OSDs in several steps, of which the balancer plans none (29 BalanceRule)"
+        told = self.output("whatif", twice, "--out", "0", "--balance")
+        self.assertIn(f"\npool 1 is not balanced: {why}\n", told)
+        told = self.output("whatif", twice, "--out", "0", "--balance", "--names", names)
+        wanted = f"pool 1 ({known['pools']['1']}) is not balanced: {why}"
+        self.assertIn(f"\n{wanted}\n", told)
+        for line in self.output("whatif", twice, "--each", "host", "--balance", "--names", names).splitlines():
+            self.assertTrue(line.endswith(f"; {wanted}"), line)
         found = self.json("whatif", "twice", "--out", "0", "--balance")
         self.assertEqual(found["unbalanced"], [[1, "29 BalanceRule"]])
         self.assertTrue(

@@ -203,3 +203,13 @@ def is_crush_dump(value: object) -> bool:
 def is_osd_dump(value: object) -> bool:
     """Whether a value is what `ceph osd dump -f json` prints, and no map: a map has buckets too."""
     return isinstance(value, dict) and {"max_osd", "osds", "pools"} <= value.keys() and "buckets" not in value
+
+
+def is_map(value: object) -> bool:
+    """Whether a value is a map, as `import` writes it, and no dump: no dump has both buckets and OSDs."""
+    return isinstance(value, dict) and {"buckets", "osds", "pools", "rules"} <= value.keys()
+
+
+def dump_name(value: object) -> str | None:
+    """Which dump a value is, in words; None where it is none."""
+    return "an OSD dump" if is_osd_dump(value) else "a CRUSH dump" if is_crush_dump(value) else None

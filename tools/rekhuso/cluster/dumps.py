@@ -17,6 +17,7 @@ from .dump_forms import (
     TREE,
     fitting,
     is_crush_dump,
+    is_map,
     is_kind,
     is_osd_dump,
     misfits,
@@ -108,12 +109,15 @@ def objects_of(paths: list[str]) -> list[JsonObject]:
 
 def both_dumps(osd_dump: str, crush_dump: str, tree: str | None = None) -> tuple[Cluster, list[Misfit]]:
     """The cluster of two dumps, or of three, as far as these are of their forms, and each place that is not; a fault
-    that tells of each file that is no JSON object, or that the two are swapped.
+    that tells of each file that is no JSON object, of each that is a map, or that the two are swapped.
     """
     doing("reading dumps")
     files: list[tuple[str, DumpForm]] = [(osd_dump, OSD_DUMP), (crush_dump, CRUSH_DUMP)]
     files += [] if tree is None else [(tree, TREE)]
     values = objects_of([path for path, _ in files])
+    maps = [path for (path, _), value in zip(files, values) if is_map(value)]
+    if maps:
+        raise Fault(*(f"{path}: this is a map, and no dump: give both dumps, or one map alone" for path in maps))
     if is_crush_dump(values[0]) and is_osd_dump(values[1]):
         raise Fault(
             f"the dumps are swapped: {osd_dump} is the CRUSH dump, and {crush_dump} the OSD dump, which comes first"

@@ -20,6 +20,12 @@ def named(names: Names, kind: str, number: int) -> str:
     return name
 
 
+def pool_words(names: Names, number: int) -> str:
+    """A pool by its number, with the name that it has beside it."""
+    name = names.get("pools", {}).get(str(number))
+    return f"pool {number}" if name is None else f"pool {number} ({name})"
+
+
 def with_names(text: str, names: Names) -> str:
     """A text in which buckets, pools, rules and OSDs are told by their names, as far as they have some."""
 

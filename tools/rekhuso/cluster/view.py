@@ -11,12 +11,12 @@ from ..files import json_of, text_of
 from ..program.answers import Up
 from ..program.map_forms import list_of, number_between, object_of, one_of, tuple_of
 from ..program.maps import Bucket, Map, Pool, altered, groups_of
-from ..program.questions import map_in, map_with_sets
 from .affinity import affinities_of, all_with_affinity
 from .cluster import Cluster
 from .conversion import bucket_of, monitor_of
 from .dump_forms import is_crush_dump
 from .imports import ImportedCluster, imported
+from .map_files import map_in, map_with_sets
 from .names import Names, names_in
 from .shares import Shares
 from .sources import Source

@@ -12,7 +12,7 @@ import re
 from dataclasses import asdict, dataclass, replace
 from typing import Any
 
-from ..cluster.dump_forms import is_crush_dump, is_osd_dump
+from ..cluster.dump_forms import dump_name
 from ..cluster.names import Names, names_in, with_names
 from ..faults import Fault, Refused
 from ..files import text_of
@@ -80,8 +80,9 @@ def check_map(path: str, program: Program, names: Names) -> str:
         answers_of(program, text, ["epoch"])
     except Refused as refused:
         value = json_or_none(text)
-        if is_osd_dump(value) or is_crush_dump(value):
-            raise Fault(f"{path}: this is {'an OSD' if is_osd_dump(value) else 'a CRUSH'} dump: use import") from None
+        dump = dump_name(value)
+        if dump is not None:
+            raise Fault(f"{path}: this is {dump}: use import") from None
         places = [] if refused.name == "BadJson" else map_defects(value, has_straw2(text))
         raise Unlawful(path, REFUSAL_NUMBERS[refused.name], refused.name, value, places, names) from None
     return text

@@ -11,6 +11,7 @@ from ..cluster.conversion import monitor_of
 from ..cluster.difference import change_of, moved_parts
 from ..cluster.flows import flows
 from ..cluster.imports import imported
+from ..cluster.map_files import map_with_sets
 from ..cluster.names import Names, names_in, with_names
 from ..cluster.sources import Source
 from ..faults import Refused
@@ -18,7 +19,7 @@ from ..output.flow_words import pair_lines
 from ..output.json_forms import put_json
 from ..program.answers import Up
 from ..program.maps import Change, Map, groups_of, has_straw2, written
-from ..program.questions import map_with_sets, raw_answers
+from ..program.questions import raw_answers
 from ..words import counted
 from .arguments import Arguments, Commands, Files, add_json, add_names, set_work, source_of
 

@@ -13,11 +13,10 @@ import json
 from dataclasses import dataclass
 
 from ..cluster.difference import change_of, exception_commands
-from ..files import text_of
+from ..cluster.map_files import map_monitor
 from ..output.json_forms import put_json
 from ..plans.pairs import settled
 from ..program.maps import Map, Program, written
-from ..program.monitor import Monitor
 from .arguments import Arguments, Commands, add_json, set_work
 
 
@@ -39,8 +38,8 @@ def options_of(arguments: Arguments) -> NetOptions:
 
 def work(options: NetOptions) -> None:
     """Tells the change, or the commands."""
-    text = text_of(options.path)
-    with Monitor(text, options.program) as monitor:
+    text, monitor = map_monitor(options.path, options.program)
+    with monitor:
         value: Map = json.loads(text)
         new = settled(monitor, value)
     change, _ = change_of(value, new)

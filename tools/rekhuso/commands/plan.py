@@ -25,13 +25,13 @@ from fractions import Fraction
 from ..cluster.conversion import monitor_of
 from ..cluster.imports import imported
 from ..cluster.judge import judge_of_cluster, judge_of_map
+from ..cluster.map_files import map_monitor
 from ..cluster.names import Names, names_in, pools_named
 from ..cluster.outage import check_outage
 from ..cluster.pool_data import Data, data_in
 from ..cluster.sources import Source
 from ..cluster.view import NO_PLAN, has_other_weights, tree_in
 from ..faults import Fault, Misuse
-from ..files import text_of
 from ..output.json_forms import put_json
 from ..output.plan_scripts import Script, part_file, put_batches
 from ..output.plan_words import plan_lines, refusal_words
@@ -40,7 +40,6 @@ from ..plans.plan import ALL, Outcome, Wish, outage_in, planned
 from ..plans.rounds import Live, MOST_MOVES
 from ..plans.steps import steps_by_pool
 from ..program.maps import Map, Pool, altered
-from ..program.monitor import Monitor
 from ..progress import doing
 from .arguments import Arguments, Commands, add_files, add_json, set_work, source_of
 
@@ -95,7 +94,7 @@ def options_of(arguments: Arguments) -> PlanOptions:
     if own.json and (own.batch is not None or own.undo):
         raise Misuse("--json tells the plan and its undoing at once: --batch and --undo do not go with it")
     if own.deviation is not None and own.deviation < LEAST and not own.alone:
-        raise Misuse(f"--deviation {own.deviation}: 0.5 is the whole plan; less goes with --alone")
+        raise Misuse(f"--deviation {float(own.deviation):g}: 0.5 is the whole plan; less goes with --alone")
     if own.alone and own.max is not None and own.max > MOST_MOVES:
         raise Misuse(f"--max {own.max}: with --alone at most {MOST_MOVES} moves a pool")
     return PlanOptions(
@@ -139,8 +138,9 @@ def plan_of_map(options: PlanOptions, data: Data | None) -> ToldPlan:
     source = options.source
     if source.tree is not None or source.pools is not None:
         raise Misuse("--tree and --pools go with two dumps alone")
-    names, text = names_in(source.names), text_of(source.paths[0])
-    with Monitor(text, source.program, stock=True) as monitor:
+    names = names_in(source.names)
+    text, monitor = map_monitor(source.paths[0], source.program, stock=True)
+    with monitor:
         value: Map = json.loads(text)
         if has_other_weights(value, tree_in(source.names)):
             raise Fault(NO_PLAN)

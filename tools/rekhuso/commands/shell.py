@@ -18,10 +18,10 @@ from dataclasses import dataclass
 
 from ..cluster.conversion import monitor_of
 from ..cluster.imports import imported
+from ..cluster.map_files import map_monitor
 from ..cluster.names import Names, named, names_in
 from ..cluster.sources import Source
 from ..faults import Misuse
-from ..files import text_of
 from ..program.answers import up_of
 from ..program.monitor import Monitor
 from .arguments import Arguments, Commands, add_files, set_work, source_of
@@ -251,7 +251,8 @@ def live_map(source: Source) -> LiveMap:
         names = names_in(source.names) if source.names else found.cluster.all_names()
         return LiveMap(monitor_of(found.maps[0], source.program), names)
     source.check_map()
-    return LiveMap(Monitor(text_of(source.paths[0]), source.program), names_in(source.names))
+    _, monitor = map_monitor(source.paths[0], source.program)
+    return LiveMap(monitor, names_in(source.names))
 
 
 def work(options: ShellOptions) -> None:

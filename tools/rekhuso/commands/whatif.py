@@ -19,7 +19,7 @@ from ..cluster.view import ClusterView, view_of
 from ..faults import Fault, Misuse
 from ..files import put
 from ..output.flow_picture import flow_picture
-from ..output.flow_words import flow_lines, fullest_words, move_words
+from ..output.flow_words import flow_lines, fullest_words, move_words, unbalanced_words
 from ..output.json_forms import put_json
 from ..plans.question import Balance, Question, accepted
 from ..program.maps import Change, Map, altered
@@ -69,7 +69,7 @@ def drill(question: Question, word: str, is_json: bool) -> None:
         rows.append({"id": bucket["id"], "name": name, **found})
         if not is_json:
             low = len(found["below_min_size"])
-            unbalanced = "".join(f"; pool {pool} is not balanced: {why}" for pool, why in found["unbalanced"])
+            unbalanced = "".join(f"; {words}" for words in unbalanced_words(found, names))
             print(
                 f"{name}: {move_words(found['groups'], found['places'])}; {fullest_words(found)}; "
                 f"{counted(len(found['short']), 'group')} short, {len(found['short_anew'])} of them anew, "
@@ -177,7 +177,7 @@ def work(options: WhatifOptions) -> None:
     if options.is_json:
         put_json("whatif", view.tree["epoch"], **found)
     else:
-        print("\n".join(flow_lines(found, str(question.outage or ""))))
+        print("\n".join(flow_lines(found, view.names, str(question.outage or ""))))
 
 
 def add_to(commands: Commands) -> None:

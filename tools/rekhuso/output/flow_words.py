@@ -2,9 +2,10 @@
 
 from __future__ import annotations
 
-from ..cluster.names import Names, named
+from ..cluster.names import Names, named, pool_words
 from ..words import counted, some
 from .json_forms import FlowParts
+from .plan_words import why_words
 
 
 def fullest_words(found: FlowParts) -> str:
@@ -57,9 +58,13 @@ def pair_lines(flows: list[list[int]], names: Names, most: int = 20) -> list[str
     return found
 
 
-def flow_lines(found: FlowParts, outage: str) -> list[str]:
+def unbalanced_words(found: FlowParts, names: Names) -> list[str]:
+    """The pools that could not be balanced, each with why."""
+    return [f"{pool_words(names, pool)} is not balanced: {why_words(why)}" for pool, why in found["unbalanced"]]
+
+
+def flow_lines(found: FlowParts, names: Names, outage: str) -> list[str]:
     """What moves, as text."""
     told = ([outage] if outage else []) + [f"{move_words(found['groups'], found['places'])}; {fullest_words(found)}"]
     told += pair_lines(found["flows"], {})
-    told += [f"pool {pool} is not balanced: {why}" for pool, why in found["unbalanced"]]
-    return told + found["notes"] + short_words(found)
+    return told + unbalanced_words(found, names) + found["notes"] + short_words(found)

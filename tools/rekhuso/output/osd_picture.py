@@ -16,6 +16,8 @@ STYLE = (
     ".g{fill:#181818}}"
 )
 CELL, GAP, ROW, LABEL, ACROSS, TALL = 18, 2, 22, 90, 32, 640
+# What the legend takes from left to right.
+LEGEND = 370
 
 
 def colour(groups: int, wanted: float) -> str:
@@ -99,15 +101,15 @@ def osd_picture(maps: list[Shares], names: Names, titles: list[str]) -> str:
         own, right, tall = drawn(shares, names, left)
         parts += [f'<text x="{left}" y="16" class="r">{html.escape(title)}</text>'] + own
         left, height = right, max(height, tall)
-    width = max(left, 660)
+    width = max(left, LEGEND)
     legend = "".join(
         f'<rect x="{8 + at * 24}" y="{height + 8}" width="24" height="10" fill="{colour(round(ratio * 100), 100)}"/>'
         for at, ratio in enumerate((0, 0.5, 1, 1.5, 2))
     )
     return (
-        f'<svg xmlns="http://www.w3.org/2000/svg" width="{width}" height="{height + 40}" viewBox="0 0 {width} '
-        f'{height + 40}">'
+        f'<svg xmlns="http://www.w3.org/2000/svg" width="{width}" height="{height + 46}" viewBox="0 0 {width} '
+        f'{height + 46}">'
         f'<style>{STYLE}</style><rect width="100%" height="100%" class="g"/>{"".join(parts)}{legend}'
-        f'<text x="136" y="{height + 17}">no groups .. the share .. twice as many; in a square its groups; cross: out;'
-        f" bar: down</text></svg>\n"
+        f'<text x="136" y="{height + 17}">no groups .. the share .. twice as many</text>'
+        f'<text x="8" y="{height + 34}">in a square its groups; cross: out; bar: down</text></svg>\n'
     )

@@ -27,10 +27,11 @@ table{border-collapse:collapse;width:100%;display:block;overflow-x:auto}
 td,th{padding:.2rem .6rem;text-align:right;border-bottom:1px solid #8884}
 th{text-align:right;white-space:nowrap}.sorts th{cursor:pointer}
 td:first-child,th:first-child{text-align:left;white-space:pre;position:sticky;left:0;background:Canvas}
-@media (max-width:40rem){td,th{padding:.2rem .3rem}body{padding:0 .4rem;font-size:13px}}
 pre,figure{overflow-x:auto;margin:0}h2{margin-top:2rem}.pair{display:grid;grid-template-columns:minmax(0,1fr);gap:1rem}
 .tree{max-height:48rem;overflow-y:auto}
-@media (min-width:75rem){.pair{grid-template-columns:minmax(0,1fr) minmax(0,1fr)}}"""
+@media (max-width:40rem){body{padding:0 .4rem;font-size:12px}h1{font-size:1.5em}td,th{padding:.2rem}
+th{font-size:10px}}
+@media (min-width:75rem){.pair{grid-template-columns:minmax(0,1fr) auto}}"""
 SCRIPT = """document.querySelectorAll('.sorts th').forEach(h=>h.addEventListener('click',()=>{
 const t=h.closest('table'),b=t.tBodies[0],
 k=[...h.parentNode.children].indexOf(h),d=h.dataset.d=h.dataset.d==='1'?'-1':'1',
@@ -133,13 +134,13 @@ def page(whole: ClusterView, sets: dict[str, Up], program: Program, title: str) 
         '<h2>Where the groups are</h2><div class="pair"><figure>',
         osd_picture([shares], names, [title]),
         '</figure><div class="tree">',
-        table(["TYPE NAME", *PAGE_COLUMNS], tree_rows(shares, names), "sums"),
+        table(["NAME", *PAGE_COLUMNS], tree_rows(shares, names), "sums"),
         "</div></div><h2>OSDs</h2>",
         table(["OSD", *PAGE_COLUMNS], osd_rows(shares, names)),
         "<h2>Pools</h2>",
         table(["POOL", "PGS", "SIZE", "RULE", "PLACES", "SHORT"], pool_rows(shares, names)),
         "<h2>Exceptions</h2>",
-        table(["group", "without", "with", ""], excepted) if excepted else "<p>None.</p>",
+        table(["GROUP", "WITHOUT", "WITH", ""], excepted) if excepted else "<p>None.</p>",
         "<h2>The plan</h2>",
         plan_part(whole, program),
     ]

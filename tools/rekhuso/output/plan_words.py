@@ -16,9 +16,14 @@ BLOCKS = "29 "
 OF_BLOCKS = "its rule takes OSDs in several steps, of which the balancer plans none"
 
 
-def refusal_words(refusal: str) -> str:
+def why_words(refusal: str) -> str:
     """Why a pool gets no plan."""
-    return f"no plan: {OF_BLOCKS} ({refusal})" if refusal.startswith(BLOCKS) else f"no plan: {refusal}"
+    return f"{OF_BLOCKS} ({refusal})" if refusal.startswith(BLOCKS) else refusal
+
+
+def refusal_words(refusal: str) -> str:
+    """That a pool gets no plan, and why."""
+    return f"no plan: {why_words(refusal)}"
 
 
 def left_words(left: list[str], why: str) -> str:

@@ -203,20 +203,41 @@ def silent(_: str) -> None:
     """Tells nobody how far a plan is."""
 
 
-def planned(lives: list[Live], wish: Wish, tell: Callable[[str], None] = silent) -> Outcome:
-    """Plans pools of a cluster, and tells how far it is meanwhile."""
-    wanted = wanted_of(lives, wish)
-    made = alone_steps(lives, wanted, wish) if wish.is_alone else cluster_steps(lives, wanted, wish, tell)
-    measures = Measures(lives, wish.data)
+def made_steps(lives: list[Live], wanted: list[int], wish: Wish, tell: Callable[[str], None]) -> PlannedSteps:
+    """Plans pools as they are asked for, and tells how far it is meanwhile."""
+    return alone_steps(lives, wanted, wish) if wish.is_alone else cluster_steps(lives, wanted, wish, tell)
+
+
+def kept_steps(measures: Measures, made: PlannedSteps, wish: Wish) -> list[PlanStep]:
+    """The steps as the groups are numbered; for the sake of the cluster without those that leave it less even."""
     steps = sorted(made.steps, key=lambda step: group_key(step.group))
-    kept = steps if wish.is_alone else mended(measures.gauges(), steps)
-    parts, taken_out = step_parts(measures, kept, wish), sorted(
-        {step.group for step in steps} - {step.group for step in kept}, key=group_key
-    )
+    return steps if wish.is_alone else mended(measures.gauges(), steps)
+
+
+def without(steps: list[PlanStep], kept: list[PlanStep]) -> list[str]:
+    """The groups whose steps are not kept."""
+    return sorted({step.group for step in steps} - {step.group for step in kept}, key=group_key)
+
+
+def outcome_of(
+    measures: Measures, wanted: list[int], made: PlannedSteps, parts: list[list[PlanStep]], taken_out: list[str]
+) -> Outcome:
+    """What plans are, with what is told of the pools that were planned and of the cluster, before and after the parts
+    of what is kept.
+    """
     of_pool = steps_by_pool([step for part in parts for step in part])
     after = {number: counts_after(own, of_pool.get(number, [])) for number, own in measures.counts.items()}
     pools = [pool_parts(measures, number, made, after[number], of_pool.get(number, [])) for number in wanted]
     return Outcome(parts, taken_out, pools, measures.told(measures.counts), measures.told(after), measures.largest())
+
+
+def planned(lives: list[Live], wish: Wish, tell: Callable[[str], None] = silent) -> Outcome:
+    """Plans pools of a cluster, and tells how far it is meanwhile."""
+    wanted = wanted_of(lives, wish)
+    made = made_steps(lives, wanted, wish, tell)
+    measures = Measures(lives, wish.data)
+    kept = kept_steps(measures, made, wish)
+    return outcome_of(measures, wanted, made, step_parts(measures, kept, wish), without(made.steps, kept))
 
 
 def pool_parts(

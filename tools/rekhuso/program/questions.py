@@ -2,11 +2,8 @@
 
 from __future__ import annotations
 
-import json
-
-from ..files import text_of
 from .answers import Up
-from .maps import Map, Program, groups_of
+from .maps import Map, Program
 from .monitor import Monitor
 
 
@@ -26,19 +23,3 @@ def up_sets(program: Program, value: Map | str, groups: list[str]) -> dict[str, 
     """The up set of each group of a map."""
     with Monitor(value, program) as monitor:
         return monitor.ups(groups)
-
-
-def map_in(path: str, program: Program) -> Map:
-    """The map in a file, once the program has found it lawful."""
-    text = text_of(path)
-    with Monitor(text, program):
-        value: Map = json.loads(text)
-        return value
-
-
-def map_with_sets(path: str, program: Program) -> tuple[Map, dict[str, Up]]:
-    """The map in a file and the up set of each of its groups, by one session; `Refused` where it is not lawful."""
-    text = text_of(path)
-    with Monitor(text, program) as monitor:
-        value: Map = json.loads(text)
-        return value, monitor.ups(groups_of(value))
