@@ -2,18 +2,10 @@
 
 from typing import Any
 
+import ceph
+
 TYPES = dict(enumerate("osd host chassis rack row pdu pod room datacenter zone region root".split()))
-TUNABLES = {
-    "choose_local_tries": 0,
-    "choose_local_fallback_tries": 0,
-    "choose_total_tries": 50,
-    "chooseleaf_descend_once": 1,
-    "chooseleaf_vary_r": 1,
-    "chooseleaf_stable": 1,
-    "straw_calc_version": 1,
-    "allowed_bucket_algs": 54,
-    "profile": "jewel",
-}
+TUNABLES: dict[str, Any] = {**ceph.TUNABLES, "allowed_bucket_algs": 54, "profile": "jewel"}
 ADDRESSES = ("public", "cluster", "heartbeat_back", "heartbeat_front")
 KINDS = {"replicated": 1, "erasure": 3}
 

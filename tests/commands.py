@@ -5,13 +5,12 @@ What keeps a cluster out of the maps is written beside it by hand.
 
 import itertools
 import json
-import random
 import xml.etree.ElementTree
 
 from rekhuso import Monitor
 
 from tests.cases import EXAMPLES, TOP
-from tests.clusters import CLUSTERS, Json, ceph_set, commands, copied, raised, with_commands
+from tests.clusters import CLUSTERS, Json, ceph_set, commands, copied, with_commands
 from tests.tool_cases import ToolCase
 
 
@@ -90,32 +89,6 @@ class Commands(ToolCase):
                 moves = int(error.split(" moves of ")[0].split(" ")[-1])
                 self.assertGreater(len(commands(output)), 0)
                 self.assertLessEqual(len(commands(output)), moves)
-
-    def test_net(self) -> None:
-        """After rounds of failing, returning and balancing `net` keeps every set, and leaves no pair over another."""
-        rng, value = random.Random(7), self.tools.map("001-built")
-        for _ in range(12):
-            osd, base = rng.randrange(48), value["epoch"]
-            lines = [f'change {{"base":{base},"weight":[[{osd},0]]}}', "balance 1 1024", "dump"]
-            value = json.loads(self.tools.answers(value, lines)[-1].removeprefix("dump "))
-            lines = [f'change {{"base":{value["epoch"]},"weight":[[{osd},65536]]}}', "balance 1 1024", "dump"]
-            value = json.loads(self.tools.answers(value, lines)[-1].removeprefix("dump "))
-        for words, made in ((("net",), None), (("net", "--ceph"), with_commands)):
-            with self.subTest(words=words):
-                status, output, error = self.tools.run(*words, self.tools.put("many", value))
-                self.assertEqual(status, 0, error)
-                if made:
-                    after = made(value, output.splitlines())
-                else:
-                    after = json.loads(self.tools.answers(value, [output.strip(), "dump"])[-1].removeprefix("dump "))
-                self.assertEqual(self.tools.sets(raised(after)), self.tools.sets(raised(value)))
-                self.assertGreater(len(after["pg_upmap_items"]), 0)
-                for group, pairs in after["pg_upmap_items"]:
-                    self.assertFalse({pair[0] for pair in pairs} & {pair[1] for pair in pairs}, (group, pairs))
-                self.assertLess(
-                    sum(len(pairs) for _, pairs in after["pg_upmap_items"]),
-                    sum(len(pairs) for _, pairs in value["pg_upmap_items"]),
-                )
 
     def test_many_sets(self) -> None:
         """Many sets that are read at once are those that are read one by one, also where places are empty, where all
