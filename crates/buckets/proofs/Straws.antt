@@ -6,7 +6,7 @@ use Rattle.std.proofs.Math.Nat.{div-le_self}
 use Rattle.buckets.specs.declared.pick.straw2.Longest.{Longest}
 use Rattle.buckets.specs.Logarithm.{crush_ln}
 use Rattle.buckets.specs.Straw2.{shortfall, least_place}
-use Rattle.buckets.specs.Straws.{longer}
+use Rattle.buckets.specs.Straws.{longer_straw}
 
 -- no straw falls shorter than one that weighs nothing
 pub shortfall_small : (weight hash : ℕ) → shortfall weight hash ≤ 2 ^ 63
@@ -141,7 +141,7 @@ least_is f zero = record {
 least_is f (suc n) = least_more f n (least_place f n) (least_within f n) (least_is f n)
 
 -- the longest of one more
-pub longer_next : (short : ℕ → ℕ) (n m s : ℕ) (l k : Longest) → m ≡ n + 1 → s ≡ short n → s ≤ 2 ^ 63 → k ≡ longer l n s → IsLongest short n l → IsLongest short m k
+pub longer_next : (short : ℕ → ℕ) (n m s : ℕ) (l k : Longest) → m ≡ n + 1 → s ≡ short n → s ≤ 2 ^ 63 → k ≡ longer_straw l n s → IsLongest short n l → IsLongest short m k
 longer_next short n m s l k next is low e so_far = elim (cases_lt s l.short) [
   | inl less ↦ (let won : nat_lt s l.short ≡ true = grind (arith, nat_tests) in
       let new : k ≡ record { place = n; short = s } = e ∙ ap (λ b. cond b (record { place = n; short = s }) l) won in
@@ -152,7 +152,7 @@ longer_next short n m s l k next is low e so_far = elim (cases_lt s l.short) [
 ]
 
 -- a straw that was there before changes nothing
-pub longer_again : (short : ℕ → ℕ) (n place s : ℕ) (l k : Longest) → place < n → s ≡ short place → k ≡ longer l place s → IsLongest short n l → IsLongest short n k
+pub longer_again : (short : ℕ → ℕ) (n place s : ℕ) (l k : Longest) → place < n → s ≡ short place → k ≡ longer_straw l place s → IsLongest short n l → IsLongest short n k
 longer_again short n place s l k there is e so_far =
     let best : l.short ≡ short (least_place short n) = so_far.some (omega arith) ∙ ap short so_far.place in
     let more = (least_is short n).least place there in
@@ -161,10 +161,10 @@ longer_again short n place s l k there is e so_far =
     rw same so_far
 
 -- the straws of the first places, one more of them or the last one again
-pub longer_within : (short : ℕ → ℕ) (len n m place s : ℕ) (l k : Longest) → 0 < len → m ≡ n + 1 → place ≡ min n (len - 1) → s ≡ short place → s ≤ 2 ^ 63 → k ≡ longer l place s → IsLongest short (min n len) l → IsLongest short (min m len) k
+pub longer_within : (short : ℕ → ℕ) (len n m place s : ℕ) (l k : Longest) → 0 < len → m ≡ n + 1 → place ≡ min n (len - 1) → s ≡ short place → s ≤ 2 ^ 63 → k ≡ longer_straw l place s → IsLongest short (min n len) l → IsLongest short (min m len) k
 longer_within short len n m place s l k some next here is low e so_far = elim (cases_lt n len) [
   | inl more ↦ (let same : place ≡ min n len = omega arith in
-      longer_next short (min n len) (min m len) s l k (omega arith) (is ∙ ap short same) low (e ∙ ap (λ p. longer l p s) same) so_far)
+      longer_next short (min n len) (min m len) s l k (omega arith) (is ∙ ap short same) low (e ∙ ap (λ p. longer_straw l p s) same) so_far)
   | inr all ↦ (let same : min m len ≡ min n len = omega arith in
       rw same (longer_again short (min n len) place s l k (omega arith) is e so_far))
 ]

@@ -8,7 +8,7 @@ use Rattle.std.proofs.lemmas.List.Folds.{list_all-append, list_all_at}
 use Rattle.std.proofs.lemmas.List.{get_or-take, get_or-drop, get_or-replicate, length-append, length-drop, length-map, length-take-le, take-append-drop, take_at, drop_at, take-append-le, drop-append-le, drop-take, take-take, take_all, length-set, take_more_set, drop-set-lt, drop-replicate, take-replicate}
 use Rattle.maptypes.specs.Sets.{Places}
 use Rattle.grouptable.specs.Sets.{is_end, place_stored, set_stored, set_of}
-use Rattle.grouptable.specs.Stored.{IsFilled, AreSideBySide, sets_stored, written}
+use Rattle.grouptable.specs.Stored.{IsPadded, AreSideBySide, sets_stored, overwritten}
 
 -- a number below the length of a filled set is no end
 filled_by : (b : Bool) (xs : List ℕ) (i d : ℕ) → is_end (get_or xs i d) ≡ b → i < length xs → list_all (λ n. not (is_end n)) xs ≡ true → is_end (get_or xs i d) ≡ false
@@ -20,14 +20,14 @@ filled_at : (xs : List ℕ) (i d : ℕ) → i < length xs → list_all (λ n. no
 filled_at xs i d inside all = filled_by (is_end (get_or xs i d)) xs i d refl inside all
 
 -- behind a filled set each place is an end
-end_at : (len : ℕ) (places : List ℕ) (width k d : ℕ) → IsFilled len places → len ≤ k → k < width → width ≤ 20 → is_end (get_or (take width places) k d) ≡ true
+end_at : (len : ℕ) (places : List ℕ) (width k d : ℕ) → IsPadded len places → len ≤ k → k < width → width ≤ 20 → is_end (get_or (take width places) k d) ≡ true
 end_at len places width k d is past inside few =
     let behind : get_or places k d ≡ 65534 =
     ap (λ n. get_or places n d) (omega (arith, past)) ∙ sym (get_or-drop len places (k - len) d) ∙ ap (λ xs. get_or xs (k - len) d) is.behind ∙ get_or-replicate (20 - len) (k - len) 65534 d (omega (arith, past, inside, few)) in
     ap is_end (get_or-take width places k d inside ∙ behind)
 
 -- the row of a set has its places, and ends behind them
-pub row_is : (len : ℕ) (places : List ℕ) (width : ℕ) → IsFilled len places → len ≤ width → width ≤ 20 → take (length (take width places) - suffix_len is_end (take width places)) (take width places) ≡ take len places
+pub row_is : (len : ℕ) (places : List ℕ) (width : ℕ) → IsPadded len places → len ≤ width → width ≤ 20 → take (length (take width places) - suffix_len is_end (take width places)) (take width places) ≡ take len places
 row_is len places width is fits few =
     let long : length (take width places) ≡ width = length-take-le width places (omega (arith, is.all, few)) in
     let last : 0 < len → is_end (get_or (take width places) (len - 1) 0) ≡ false =
@@ -37,7 +37,7 @@ row_is len places width is fits few =
     ap (λ n. take n (take width places)) (omega (arith, ends, long, fits)) ∙ take-take len width places fits
 
 -- a set with one more place
-pub push_filled : (len : ℕ) (places : List ℕ) (x : ℕ) → IsFilled len places → len < 20 → is_end x ≡ false → IsFilled (len + 1) (set places len x)
+pub push_filled : (len : ℕ) (places : List ℕ) (x : ℕ) → IsPadded len places → len < 20 → is_end x ≡ false → IsPadded (len + 1) (set places len x)
 push_filled len places x is room none = record {
   few = omega (arith, room);
   all = length-set places len x ∙ is.all;
@@ -87,25 +87,25 @@ pub set_pushed : (width n : ℕ) (places row : List ℕ) → length places ≡ n
 set_pushed width n places row all wide = rw add-one (set_more width n places row all wide)
 
 -- what is written behind the first numbers leaves them, and is written among the others
-first_left : (width m : ℕ) (row places : List ℕ) → width ≤ length places → m ≤ length places - width → take width (written (width + m) row places) ≡ take width places
+first_left : (width m : ℕ) (row places : List ℕ) → width ≤ length places → m ≤ length places - width → take width (overwritten (width + m) row places) ≡ take width places
 first_left width m row places long fits =
     take-append-le width (take (width + m) places) _ (omega (arith, length-take-le (width + m) places (omega (arith, long, fits))))
     ∙ take-take width (width + m) places (omega arith)
 
 -- and the others are written as by themselves
-others_written : (width m : ℕ) (row places : List ℕ) → width ≤ length places → m ≤ length places - width → drop width (written (width + m) row places) ≡ written m row (drop width places)
+others_written : (width m : ℕ) (row places : List ℕ) → width ≤ length places → m ≤ length places - width → drop width (overwritten (width + m) row places) ≡ overwritten m row (drop width places)
 others_written width m row places long fits =
     drop-append-le width (take (width + m) places) _ (omega (arith, length-take-le (width + m) places (omega (arith, long, fits))))
     ∙ ap (λ front. front ++ (row ++ drop (width + m + length row) places)) (drop-take width m places)
     ∙ ap (λ back. take m (drop width places) ++ (row ++ back)) (ap (λ n. drop n places) (omega arith) ∙ sym (drop-drop (m + length row) width places))
 
 -- so many numbers stay
-pub length_written : (at : ℕ) (row numbers : List ℕ) → at + length row ≤ length numbers → length (written at row numbers) ≡ length numbers
+pub length_written : (at : ℕ) (row numbers : List ℕ) → at + length row ≤ length numbers → length (overwritten at row numbers) ≡ length numbers
 length_written at row numbers fits =
     omega (arith, length-append (take at numbers) (row ++ drop (at + length row) numbers), length-append row (drop (at + length row) numbers), length-take-le at numbers (omega (arith, fits)), length-drop (at + length row) numbers, fits)
 
 -- another set in the place of one
-pub set_put : (width n : ℕ) (places row : List ℕ) (k : ℕ) → length places ≡ n * width → length row ≡ width → k < n → sets_stored width n (written (k * width) row places) ≡ set (sets_stored width n places) k (set_stored row)
+pub set_put : (width n : ℕ) (places row : List ℕ) (k : ℕ) → length places ≡ n * width → length row ≡ width → k < n → sets_stored width n (overwritten (k * width) row places) ≡ set (sets_stored width n places) k (set_stored row)
 set_put width zero places row k all wide below = absurd (omega arith)
 set_put width (suc n) places row zero all wide below =
     let none : 0 * width ≡ 0 = omega arith in
@@ -122,13 +122,13 @@ set_put width (suc n) places row (suc k) all wide below =
     let rest : length (drop width places) ≡ n * width = length-drop width places ∙ omega (arith, all, far) in
     let fits : k * width ≤ length places - width = omega (arith, all, far, within) in
     rw farther (
-    ap (λ ps. set_stored ps ∷ sets_stored width n (drop width (written (width + k * width) row places))) (first_left width (k * width) row places long fits)
+    ap (λ ps. set_stored ps ∷ sets_stored width n (drop width (overwritten (width + k * width) row places))) (first_left width (k * width) row places long fits)
     ∙ ap (λ ps. set_stored (take width places) ∷ sets_stored width n ps) (others_written width (k * width) row places long fits)
     ∙ ap (λ ss. set_stored (take width places) ∷ ss) (set_put width n (drop width places) row k rest wide (omega arith))
     )
 
 -- a set is as long as it says
-pub filled_len : (len : ℕ) (places : List ℕ) → IsFilled len places → length (map place_stored (take len places)) ≡ len
+pub filled_len : (len : ℕ) (places : List ℕ) → IsPadded len places → length (map place_stored (take len places)) ≡ len
 filled_len len places is = length-map (take len places) place_stored ∙ length-take-le len places (omega (arith, is.few, is.all))
 
 -- the numbers of a group's set are there
@@ -141,5 +141,5 @@ pub set_there : (width n : ℕ) (places : List ℕ) (k : ℕ) → k < length (se
 set_there width n places k below = sym (set_number width n places k [] (omega (arith, below, sets_count width n places)))
 
 -- another set in its place
-pub set_replaced : (width n : ℕ) (places row : List ℕ) (k : ℕ) → AreSideBySide width n places → length row ≡ width → k < length (sets_stored width n places) → sets_stored width n (written (k * width) row places) ≡ set (sets_stored width n places) k (set_stored row)
+pub set_replaced : (width n : ℕ) (places row : List ℕ) (k : ℕ) → AreSideBySide width n places → length row ≡ width → k < length (sets_stored width n places) → sets_stored width n (overwritten (k * width) row places) ≡ set (sets_stored width n places) k (set_stored row)
 set_replaced width n places row k is wide below = set_put width n places row k is.all wide (omega (arith, below, sets_count width n places))

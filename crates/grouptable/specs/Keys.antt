@@ -7,9 +7,9 @@ AllKeys P [] = Unit {0}
 AllKeys P (x ∷ xs) = P x × AllKeys P xs
 
 -- each number is below all later ones
-abbrev pub IsRising : List ℕ → Type 0
-IsRising [] = Unit {0}
-IsRising (x ∷ xs) = AllKeys (λ y. x < y) xs × IsRising xs
+abbrev pub AreRisingKeys : List ℕ → Type 0
+AreRisingKeys [] = Unit {0}
+AreRisingKeys (x ∷ xs) = AllKeys (λ y. x < y) xs × AreRisingKeys xs
 
 -- the numbers with x in its place, unless it is there
 abbrev pub with_key : ℕ → List ℕ → List ℕ

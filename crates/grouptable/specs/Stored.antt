@@ -6,8 +6,8 @@ use Rattle.mapparts.specs.Limits.{max_groups}
 use Rattle.maptypes.specs.Sets.{Places}
 use Rattle.grouptable.specs.Sets.{is_end, set_stored}
 
--- the first `len` of the places of a set are filled, and behind them each place is an end
-pub record IsFilled (len : ℕ) (places : List ℕ) : Type 0 where
+-- the first `len` of the places of a set are filled, and it is padded with ends
+pub record IsPadded (len : ℕ) (places : List ℕ) : Type 0 where
   pub few : len ≤ max_size
   pub all : length places ≡ max_size
   pub filled : list_all (λ n. not (is_end n)) (take len places) ≡ true
@@ -19,8 +19,8 @@ sets_stored width zero places = []
 sets_stored width (suc n) places = set_stored (take width places) ∷ sets_stored width n (drop width places)
 
 -- numbers with others in the place of some, from one on
-abbrev pub written : ℕ → List ℕ → List ℕ → List ℕ
-written at row numbers = take at numbers ++ (row ++ drop (at + length row) numbers)
+abbrev pub overwritten : ℕ → List ℕ → List ℕ → List ℕ
+overwritten at row numbers = take at numbers ++ (row ++ drop (at + length row) numbers)
 
 -- there are as many numbers as the sets need, and no more sets than groups of a pool
 pub record AreSideBySide (width count : ℕ) (places : List ℕ) : Type 0 where

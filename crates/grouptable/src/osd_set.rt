@@ -32,14 +32,14 @@ pub struct OsdSet {
 impl Model for OsdSet {
     ghost use Rattle.std.specs.Prelude.{map, take};
     ghost use Rattle.grouptable.specs.Sets.{place_stored};
-    ghost use Rattle.grouptable.specs.Stored.{IsFilled};
+    ghost use Rattle.grouptable.specs.Stored.{IsPadded};
     ghost use Rattle.maptypes.specs.Sets.{Places};
 
     ghost Value = { Places };
 
     ghost view = { λ s. map place_stored (take s.len s.places) };
 
-    ghost invariant = { λ s. IsFilled s.len s.places };
+    ghost invariant = { λ s. IsPadded s.len s.places };
 }
 
 impl OsdSet {

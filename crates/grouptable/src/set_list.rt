@@ -4,7 +4,7 @@ ghost use Rattle.std.specs.Prelude.{◌≡◌, ◌<◌, ◌≤◌, ◌++◌, [],
 ghost use Rattle.crush.specs.Limits.{max_size};
 ghost use Rattle.mapparts.specs.Limits.{max_groups};
 ghost use Rattle.grouptable.specs.Sets.{place_stored, set_of};
-ghost use Rattle.grouptable.specs.Stored.{written};
+ghost use Rattle.grouptable.specs.Stored.{overwritten};
 
 use crate::osd_set::{OsdSet, filled};
 use refusal::Memory;
@@ -106,7 +106,7 @@ fn part(numbers: &[u16], at: usize, count: usize) -> &[u16]
 /// Other numbers in the place of some, from one on.
 fn write(numbers: &mut Vec<u16>, at: usize, row: &[u16])
     requires { at + length row.now ≤ length numbers.old.items }
-    ensures { numbers.new.items ≡ written at row.now numbers.old.items }
+    ensures { numbers.new.items ≡ overwritten at row.now numbers.old.items }
 {
     numbers[at..at + row.len()].copy_from_slice(row);
 }

@@ -6,10 +6,9 @@ ghost use Rattle.mapparts.specs.Limits.{max_entries};
 ghost use Rattle.mapparts.specs.Parts.{pg_fits, exception_fits, exceptions_fit};
 
 use crate::limits::{MAX_ENTRIES, MAX_PLACES, MAX_POOL_ID};
-use crate::numbers::{has_between, is_osd_id};
+use crate::numbers::{has_between, is_osd_id, osd_is_plain};
 use crate::parts::{ExceptionPart, PairPart};
 use crate::pg_parts::PgParts;
-use crate::plain::osd_is_plain;
 
 /// An entry of an exception as a text states it.
 pub trait EntryPart: Copy + Drop {

@@ -10,6 +10,8 @@ pub const MAX_VERSION: i128 = 2;
 pub const MAX_FIRST_EPOCH: i128 = 2_147_483_648;
 /// The greatest `max_osd`.
 pub const MAX_OSDS: i128 = buckets::limits::MAX_DEVICES as i128;
+/// The greatest `max_osd` of a plain cluster.
+pub const MAX_PLAIN_OSDS: i128 = buckets::limits::PLAIN_DEVICES as i128;
 /// The lowest id of a bucket.
 pub const LOWEST_BUCKET: i128 = buckets::limits::LOWEST_BUCKET as i128;
 /// The greatest type of a bucket or a step.

@@ -3,9 +3,10 @@
 ghost use Rattle.std.specs.Prelude.{◌≡◌, length, ◌≤◌, IsTrue, ℤ, pos, negsuc, nat_abs, true, ◌<◌, ◌≤ℤ◌};
 ghost use Rattle.buckets.specs.Buckets.{is_bucket_id};
 ghost use Rattle.mapparts.specs.Parts.{is_between, has_between, is_osd_id};
+ghost use Rattle.mapparts.specs.Plain.{osd_is_plain};
 ghost use Rattle.buckets.specs.Limits.{max_devices};
 
-use crate::limits::{LOWEST_BUCKET, MAX_OSDS};
+use crate::limits::{LOWEST_BUCKET, MAX_OSDS, MAX_PLAIN_OSDS};
 
 /// Whether a number is among `low` to `high`.
 #[tactic(auto, unfolding(crate::specs::Parts::is_between))]
@@ -32,6 +33,13 @@ pub fn is_osd_id(number: i128) -> bool
     ensures device { result ≡ true → nat_abs number < max_devices }
 {
     is_between(0, MAX_OSDS - 1, number)
+}
+
+/// Whether a number is no OSD, or one that a plain cluster may have.
+pub fn osd_is_plain(number: i128) -> bool
+    ensures { result ≡ osd_is_plain number }
+{
+    number < MAX_PLAIN_OSDS
 }
 
 /// Whether a list has `low` to `high` entries.

@@ -7,16 +7,14 @@ ghost use Rattle.mapparts.specs.Parts.{has_between};
 ghost use Rattle.mapparts.specs.Plain.{osd_is_plain, pool_is_plain, growth_is_plain, bucket_is_plain, buckets_are_plain, step_is_plain, rules_are_plain, crush_is_plain, exception_is_plain, exceptions_are_plain, map_is_plain, plain_entries};
 
 use crate::exceptions::EntryPart;
-use crate::numbers::has_between;
+use crate::limits::MAX_PLAIN_OSDS;
+use crate::numbers::{has_between, osd_is_plain};
 use crate::parts::{
     BucketPart, CrushParts, ExceptionPart, GrowPart, ItemPart, MapParts, OsdPart, PoolPart,
     RulePart, StepPart,
 };
-use buckets::limits::PLAIN_DEVICES;
 use crush::limits::PLAIN_BUCKETS;
 
-/// How many OSDs a plain cluster has at most.
-const PLAIN_OSDS: i128 = PLAIN_DEVICES as i128;
 /// How many places a pool of a plain cluster has at most, and so how many entries an exception.
 pub const PLAIN_SIZE: usize = 10;
 /// The greatest count of a choose step of a plain cluster.
@@ -32,13 +30,6 @@ pub const PLAIN_RULES: usize = 32;
 pub const PLAIN_POOLS: usize = 32;
 /// How many exceptions of one kind a plain cluster has at most, and how many entries a list of a change of one.
 pub const PLAIN_ENTRIES: usize = 131_072;
-
-/// Whether a number is no OSD, or one that a plain cluster may have.
-pub fn osd_is_plain(number: i128) -> bool
-    ensures { result ≡ osd_is_plain number }
-{
-    number < PLAIN_OSDS
-}
 
 /// Whether each of some numbers is.
 pub fn osds_are_plain(numbers: &[i128]) -> bool
@@ -194,7 +185,7 @@ pub fn exceptions_are_plain<P: EntryPart>(exceptions: &[ExceptionPart<P>]) -> bo
 pub fn map_is_plain(parts: &MapParts) -> bool
     ensures { result ≡ map_is_plain parts.now }
 {
-    parts.max_osd <= PLAIN_OSDS
+    parts.max_osd <= MAX_PLAIN_OSDS
         && buckets_are_plain(&parts.buckets)
         && rules_are_plain(&parts.rules)
         && has_between(0, PLAIN_POOLS, &parts.pools)

@@ -1,7 +1,7 @@
 -- The number and the name of each refusal.
 use Rattle.std.specs.Prelude.{ℕ, List, codes}
 use Rattle.refusal.specs.declared.refused.Refusal.{Refusal}
-use Rattle.refusal.specs.declared.refused.Refusal.TheVariants.{BadJson, BadField, BadLimit, BadForest, BadRule, BadPool, BadOsd, BadException, StaleEpoch, UnknownOsd, BadWeight, UnknownPool, PoolExists, UnknownGroup, BadNewException, DuplicatePart, JournalFull, BalanceRule, Memory, SeatSpent, NotSealed, BadCommand, AwaitSpent}
+use Rattle.refusal.specs.declared.refused.Refusal.TheVariants.{BadJson, BadField, BadLimit, BadForest, BadRule, BadPool, BadOsd, BadException, StaleEpoch, UnknownOsd, BadWeight, UnknownPool, PoolExists, UnknownGroup, BadNewException, DuplicatePart, JournalFull, BalanceRule, Memory, SeatSpent, NotSealed, BadCommand, AwaitSpent, NotStored}
 
 -- the number
 abbrev pub number_of : Refusal → ℕ
@@ -28,6 +28,7 @@ number_of SeatSpent = 31
 number_of NotSealed = 32
 number_of BadCommand = 33
 number_of AwaitSpent = 34
+number_of NotStored = 35
 
 -- the name, as the bytes of its text; the two for exceptions share one
 abbrev pub name_of : Refusal → List ℕ
@@ -54,3 +55,4 @@ name_of SeatSpent = codes "SeatSpent"
 name_of NotSealed = codes "NotSealed"
 name_of BadCommand = codes "BadCommand"
 name_of AwaitSpent = codes "AwaitSpent"
+name_of NotStored = codes "NotStored"

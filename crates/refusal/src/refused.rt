@@ -61,12 +61,14 @@ pub enum Refusal {
     BadCommand,
     /// 34: the epoch was not there in a million looks.
     AwaitSpent,
+    /// 35: the store did not take the change, or has failed before.
+    NotStored,
 }
 
 impl Refusal {
     ghost use Rattle.refusal.specs.Refusals.{number_of, name_of};
 
-    /// The number: 10 to 17 in a text or a map, 20 to 34 in a change, a question or a line.
+    /// The number: 10 to 17 in a text or a map, 20 to 35 in a change, a question or a line.
     pub fn number(&self) -> u8
         ensures { result ≡ number_of self.now }
     {
@@ -94,6 +96,7 @@ impl Refusal {
             Refusal::NotSealed => 32,
             Refusal::BadCommand => 33,
             Refusal::AwaitSpent => 34,
+            Refusal::NotStored => 35,
         }
     }
 
@@ -124,6 +127,7 @@ impl Refusal {
             Refusal::NotSealed => "NotSealed",
             Refusal::BadCommand => "BadCommand",
             Refusal::AwaitSpent => "AwaitSpent",
+            Refusal::NotStored => "NotStored",
         }
     }
 }

@@ -3,7 +3,7 @@ use Rattle.std.specs.Prelude.{ℕ, List, [], ◌∷◌, ◌++◌, codes, Option,
 use Rattle.std.specs.Fmt.{decimal}
 use Rattle.maptypes.specs.declared.pg.Pg.{Pg}
 use Rattle.refusal.specs.declared.refused.Refusal.{Refusal}
-use Rattle.refusal.specs.declared.refused.Refusal.TheVariants.{BadJson, BadField, BadLimit, BadForest, BadRule, BadPool, BadOsd, BadException, StaleEpoch, UnknownOsd, BadWeight, UnknownPool, PoolExists, UnknownGroup, BadNewException, DuplicatePart, JournalFull, BalanceRule, Memory, SeatSpent, NotSealed, BadCommand, AwaitSpent}
+use Rattle.refusal.specs.declared.refused.Refusal.TheVariants.{BadJson, BadField, BadLimit, BadForest, BadRule, BadPool, BadOsd, BadException, StaleEpoch, UnknownOsd, BadWeight, UnknownPool, PoolExists, UnknownGroup, BadNewException, DuplicatePart, JournalFull, BalanceRule, Memory, SeatSpent, NotSealed, BadCommand, AwaitSpent, NotStored}
 use Rattle.refusal.specs.Refusals.{number_of, name_of}
 use Rattle.maptypes.specs.GroupText.{group_text}
 use Rattle.maptypes.specs.Sets.{primary_of}
@@ -76,6 +76,7 @@ detail_of SeatSpent = []
 detail_of NotSealed = []
 detail_of BadCommand = []
 detail_of AwaitSpent = []
+detail_of NotStored = []
 
 -- `err NUMBER NAME`
 unfoldable pub refusal_text : Refusal → List ℕ

@@ -26,13 +26,13 @@ pub(crate) struct Longest {
 impl Longest {
     ghost use Rattle.std.specs.Prelude.{◌≡◌, ◌^◌, ◌≤◌};
     ghost use Rattle.buckets.specs.Straw2.{shortfall};
-    ghost use Rattle.buckets.specs.Straws.{longer};
+    ghost use Rattle.buckets.specs.Straws.{longer_straw};
 
     /// The longest one with the straw of an item more. It divides only where that straw is longer.
     #[tactic(auto, using(crate::proofs::Logarithms::crush_ln_small), unfolding(crate::specs::Straw2::shortfall))]
     fn with(self, place: usize, weight: u32, hash: u32) -> Longest
         requires { self.short ≤ 2 ^ 63 }
-        ensures { result ≡ longer self place (shortfall weight hash) }
+        ensures { result ≡ longer_straw self place (shortfall weight hash) }
     {
         let short = (1 << 48) - crush_ln(hash % DRAWS);
         if u128::from(short) < u128::from(self.short) * u128::from(weight) {

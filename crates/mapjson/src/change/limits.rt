@@ -9,10 +9,10 @@ ghost use Rattle.mapjson.specs.ChangeTexts.{is_pool_id, reweight_fits, entries_f
 
 use mapparts::fits::crush_fits;
 use mapparts::limits::{MAX_ENTRIES, MAX_POOL_ID};
-use mapparts::numbers::{has_between, is_between, is_osd_id};
+use mapparts::numbers::{has_between, is_between, is_osd_id, osd_is_plain};
 use mapparts::plain::{
-    crush_is_plain, exceptions_are_plain, growths_are_plain, is_plain_list, osd_is_plain,
-    osds_are_plain, pools_are_plain,
+    crush_is_plain, exceptions_are_plain, growths_are_plain, is_plain_list, osds_are_plain,
+    pools_are_plain,
 };
 use mapparts::pools::{all_growths_fit, all_pools_fit};
 use mapparts::{CrushParts, GrowPart, PgParts, PoolPart, exceptions_fit, pg_fits};

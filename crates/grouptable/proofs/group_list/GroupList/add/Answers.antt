@@ -1,5 +1,5 @@
 use Rattle.std.proofs.Common.{sym, ◌∙◌, subst}
-use Rattle.grouptable.specs.Keys.{IsRising}
+use Rattle.grouptable.specs.Keys.{AreRisingKeys}
 use Rattle.grouptable.proofs.Order.{rising_with_key}
 use Rattle.grouptable.proofs.Searches.{found_with, absent_with}
 use Rattle.grouptable.proofs.group_list.GroupList.add.Goals as goal
@@ -8,7 +8,7 @@ pub returns-in_ok-insert : goal.returns-in_ok-insert
 returns-in_ok-insert c = rw (← c.self.view_is) (c.in_ok-insert.ensures.items ∙ absent_with _ c.args.group _ c.self.invariant (rw c.deref.ensures.value at c.in-Err.ensures.position))
 
 pub invariant_of-self : goal.invariant_of-self
-invariant_of-self c = subst IsRising (sym (returns-in_ok-insert c)) (rising_with_key c.args.group c.args.self.now (subst IsRising c.self.view_is c.self.invariant))
+invariant_of-self c = subst AreRisingKeys (sym (returns-in_ok-insert c)) (rising_with_key c.args.group c.args.self.now (subst AreRisingKeys c.self.view_is c.self.invariant))
 
 pub returns-in_default : goal.returns-in_default
 returns-in_default c = rw (← c.self.view_is) (found_with _ c.args.group _ c.self.invariant (rw c.deref.ensures.value at c.in_default.ensures.position))
