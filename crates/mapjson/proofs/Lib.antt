@@ -9,3 +9,4 @@ pub mod ReadableMaps
 pub mod ChangeFits
 pub mod Versions
 pub mod Carrying
+pub mod Refusing

@@ -13,13 +13,14 @@ use Rattle.epochlog.specs.Epochs.{Begins}
 use Rattle.sealed.proofs.Beginnings.{begins_itself, begins_on}
 use Rattle.balancer.specs.Shares.{has_one_block, Aim}
 use Rattle.balancer.specs.Plans.{plan_fault, plan_fault_of, plan_change}
+use Rattle.state.specs.declared.balancing.Balance.{Balance}
 use Rattle.state.specs.States.{StateFacts, next_step, commit_fault, fault_in, IsRefusedBy}
 use Rattle.state.specs.Balances.{after_planning, moves_in, IsUnbalanced, Balances as TakesPlan}
 use Rattle.monitor.specs.Balances.{AnswersBalance, IsEven, IsUnplanned, AddsPlan}
-use Rattle.monitor.proofs.Histories.{IsLed, commit_unspent}
+use Rattle.monitor.proofs.Histories.{IsLed, refused_unspent}
 
 -- balancing after a history that goes on from this one is balancing from here too
-pub balances_from : (first : ClusterMap) (most : ℕ) (begun before now : List Step) (pool : ℕ) (cs : Aim) (limit : ℕ) (r : Result (ℕ × ℕ) Refusal)
+pub balances_from : (first : ClusterMap) (most : ℕ) (begun before now : List Step) (pool : ℕ) (cs : Aim) (limit : ℕ) (r : Result Balance Refusal)
     → Begins begun before → AnswersBalance first most before now pool cs limit r → AnswersBalance first most begun now pool cs limit r
 balances_from first most begun before now pool cs limit (Ok ok) goes done = (
   record { begins = begins_on begun before now goes done.0.begins; lawful = done.0.lawful },
@@ -73,7 +74,7 @@ module _ (old : StateFacts) (pool : ℕ) (cs : Aim) (limit : ℕ) (led : IsLed o
   )
 
   -- what balancing a state answers is answered by its journal
-  pub balanced_by : (new : StateFacts) (r : Result (ℕ × ℕ) Refusal) → IsLed new → TakesPlan old new pool cs limit r
+  pub balanced_by : (new : StateFacts) (r : Result Balance Refusal) → IsLed new → TakesPlan old new pool cs limit r
       → AnswersBalance old.first (length old.pass.row.cells) old.pass.history new.pass.history pool cs limit r
   balanced_by new (Ok ok) leads done = elim done.0.2 [
     | inl stays ↦
@@ -82,7 +83,7 @@ module _ (old : StateFacts) (pool : ℕ) (cs : Aim) (limit : ℕ) (led : IsLed o
             begins = subst (λ (k : StateFacts). Begins old.pass.history k.pass.history) same (begins_itself old.pass.history);
             lawful = subst (λ (k : StateFacts). IsLawful old.first k.pass.history) same led.lawful;
           },
-          inr (subst (λ (k : StateFacts). IsEven old.first k.pass.history pool cs limit ok.0 ok.1) same (record {
+          inr (subst (λ (k : StateFacts). IsEven old.first k.pass.history pool cs limit ok.epoch ok.moves) same (record {
             sound = sym sound_there ∙ done.0.0;
             epoch = stays.1 ∙ led.epoch;
             none = done.0.1 ∙ stays.0;
@@ -90,10 +91,10 @@ module _ (old : StateFacts) (pool : ℕ) (cs : Aim) (limit : ℕ) (led : IsLed o
           })),
         )
     | inr moved ↦
-        let more : new.pass.history ≡ old.pass.history ++ next_step old.map change ∷ [] = ap (λ (k : StateFacts). k.pass.history) moved.3 in
-        let first : new.first ≡ old.first = ap (λ (k : StateFacts). k.first) moved.3 in
-        let step : next_step old.map change ≡ record { epoch = ok.0; change = plan_change there pool cs limit } =
-        λ i. record { epoch = sym moved.2 i; change = ap (λ m. plan_change m pool cs limit) led.map i } in (
+        let more : new.pass.history ≡ old.pass.history ++ next_step old.map change ∷ [] = ap (λ (k : StateFacts). k.pass.history) moved.4 in
+        let first : new.first ≡ old.first = ap (λ (k : StateFacts). k.first) moved.4 in
+        let step : next_step old.map change ≡ record { epoch = ok.epoch; change = plan_change there pool cs limit } =
+        λ i. record { epoch = sym moved.3 i; change = ap (λ m. plan_change m pool cs limit) led.map i } in (
           record {
             begins = (next_step old.map change ∷ [], sym more);
             lawful = subst (λ m. IsLawful m new.pass.history) first leads.lawful;
@@ -102,7 +103,7 @@ module _ (old : StateFacts) (pool : ℕ) (cs : Aim) (limit : ℕ) (led : IsLed o
             found = old.pass.history;
             goes_on = begins_itself old.pass.history;
             ends = more ∙ ap (λ s. old.pass.history ++ s ∷ []) step;
-            next = moved.2 ∙ ap (λ n. n + 1) led.epoch;
+            next = moved.3 ∙ ap (λ n. n + 1) led.epoch;
             sound = sym sound_there ∙ done.0.0;
             some = λ none. moved.0 (sym done.0.1 ∙ none);
             counted = done.0.1 ∙ moves_there;
@@ -111,7 +112,7 @@ module _ (old : StateFacts) (pool : ℕ) (cs : Aim) (limit : ℕ) (led : IsLed o
         )
   ]
   balanced_by new (Err e) leads done =
-      let same : record old { runs = new.runs } ≡ new = sym done.1 in (
+      let same : record old { runs = new.runs; has_failed = new.has_failed } ≡ new = sym done.1.same in (
         record {
           begins = subst (λ (k : StateFacts). Begins old.pass.history k.pass.history) same (begins_itself old.pass.history);
           lawful = subst (λ (k : StateFacts). IsLawful old.first k.pass.history) same led.lawful;
@@ -120,20 +121,20 @@ module _ (old : StateFacts) (pool : ℕ) (cs : Aim) (limit : ℕ) (led : IsLed o
       )
 
   -- and adds its incremental alone
-  pub adds_plan : (new : StateFacts) (r : Result (ℕ × ℕ) Refusal) → TakesPlan old new pool cs limit r
+  pub adds_plan : (new : StateFacts) (r : Result Balance Refusal) → TakesPlan old new pool cs limit r
       → AddsPlan old.first old.pass.history new.pass.history pool cs limit r
   adds_plan new (Ok ok) done = elim done.0.2 [
     | inl stays ↦ inl (done.0.1 ∙ stays.0, ap (λ (k : StateFacts). k.pass.history) stays.2)
     | inr moved ↦
-        let more : new.pass.history ≡ old.pass.history ++ next_step old.map change ∷ [] = ap (λ (k : StateFacts). k.pass.history) moved.3 in
-        let step : next_step old.map change ≡ record { epoch = ok.0; change = plan_change there pool cs limit } =
-        λ i. record { epoch = sym moved.2 i; change = ap (λ m. plan_change m pool cs limit) led.map i } in
+        let more : new.pass.history ≡ old.pass.history ++ next_step old.map change ∷ [] = ap (λ (k : StateFacts). k.pass.history) moved.4 in
+        let step : next_step old.map change ≡ record { epoch = ok.epoch; change = plan_change there pool cs limit } =
+        λ i. record { epoch = sym moved.3 i; change = ap (λ m. plan_change m pool cs limit) led.map i } in
         inr (λ none. moved.0 (sym done.0.1 ∙ none), more ∙ ap (λ s. old.pass.history ++ s ∷ []) step)
   ]
-  adds_plan new (Err e) done = ap (λ (k : StateFacts). k.pass.history) done.1
+  adds_plan new (Err e) done = ap (λ (k : StateFacts). k.pass.history) done.1.same
 
 -- where nothing was found beyond what was seen, it is added to that
-pub plans_from : (first : ClusterMap) (begun before now : List Step) (pool : ℕ) (cs : Aim) (limit : ℕ) (r : Result (ℕ × ℕ) Refusal)
+pub plans_from : (first : ClusterMap) (begun before now : List Step) (pool : ℕ) (cs : Aim) (limit : ℕ) (r : Result Balance Refusal)
     → before ≡ begun → AddsPlan first before now pool cs limit r → AddsPlan first begun now pool cs limit r
 plans_from first begun before now pool cs limit r same done = subst (λ h. AddsPlan first h now pool cs limit r) same done
 
@@ -150,20 +151,13 @@ plan_unspent m None e = absurd (let same : Some UnknownPool ≡ Some SeatSpent =
 plan_unspent m (Some p) e = rule_unspent (has_one_block (steps_of m p)) e
 
 -- why there is no answer of a state is never that
-pub never_spent : (old new : StateFacts) (pool : ℕ) (cs : Aim) (limit : ℕ) (r : Result (ℕ × ℕ) Refusal) → TakesPlan old new pool cs limit r → IfErr r (λ e. e ≢ SeatSpent)
+pub never_spent : (old new : StateFacts) (pool : ℕ) (cs : Aim) (limit : ℕ) (r : Result Balance Refusal) → TakesPlan old new pool cs limit r → IfErr r (λ e. e ≢ SeatSpent)
 never_spent old new pool cs limit (Ok ok) done = tt
 never_spent old new pool cs limit (Err e) done = by_cause done.0
   where
-    by_refusal : IsRefusedBy (fault_in old old.map.epoch (plan_change old.map pool cs limit)) e → e ≢ SeatSpent
-    by_refusal (inl none) is = elim none.1 [
-      | inl memory ↦ absurd (let wrong : OutOfMemory ≡ SeatSpent = sym memory ∙ is in cc)
-      | inr unsealed ↦ absurd (let wrong : NotSealed ≡ SeatSpent = sym unsealed ∙ is in cc)
-    ]
-    by_refusal (inr fault) is = commit_unspent old.map (length old.pass.history) (length old.pass.row.cells) old.map.epoch (plan_change old.map pool cs limit) (fault ∙ ap Some is)
-
     by_cause : IsUnbalanced old pool cs limit e → e ≢ SeatSpent
     by_cause (inl fault) is = plan_unspent old.map (pool_at old.map.pools pool) (fault ∙ ap Some is)
     by_cause (inr why) is = elim why.1 [
       | inl memory ↦ absurd (let wrong : OutOfMemory ≡ SeatSpent = sym memory ∙ is in cc)
-      | inr refused ↦ by_refusal refused.1 is
+      | inr refused ↦ refused_unspent old.map (length old.pass.history) (length old.pass.row.cells) old.map.epoch (plan_change old.map pool cs limit) e refused.1 is
     ]

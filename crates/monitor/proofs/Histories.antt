@@ -1,16 +1,19 @@
 -- Histories: what goes on from them, and what is answered by them.
-use Rattle.std.proofs.Common.{◌≡◌, ◌≢◌, ◌∙◌, Bool, true, false, not, if◌then◌else◌, nat_lt, ◌==◌, IfErr, sym, ap, subst, ℕ, ◌+◌, List, [], ◌∷◌, ◌++◌, length, Option, Some, None, Result, Ok, Err, inl, inr}
+use Rattle.std.proofs.Common.{◌≡◌, ◌≢◌, ◌∙◌, IfErr, arith, sym, ap, subst, ℕ, ◌+◌, List, [], ◌∷◌, ◌++◌, length, Option, Some, None, Result, Ok, Err, inl, inr}
 use Rattle.refusal.specs.declared.refused.Refusal.{Refusal}
-use Rattle.refusal.specs.declared.refused.Refusal.TheVariants.{StaleEpoch, UnknownOsd, BadWeight, UnknownPool, PoolExists, BadForest, BadPool, UnknownGroup, BadNewException, DuplicatePart, JournalFull, Memory as OutOfMemory, SeatSpent, NotSealed}
+use Rattle.refusal.specs.Refusals.{number_of}
+use Rattle.refusal.specs.declared.refused.Refusal.TheVariants.{Memory as OutOfMemory, SeatSpent, NotSealed, NotStored}
 use Rattle.maptypes.specs.declared.change.ChangeParts.{ChangeParts}
 use Rattle.maptypes.specs.Incrementals.{Step}
 use Rattle.osdmap.specs.Maps.{ClusterMap}
 use Rattle.osdmap.specs.Evals.{evals_of}
-use Rattle.osdmap.specs.Changes.{IsLawful, after, epoch_after, change_fault, names_osds, weighs_rightly, names_pools, brings_new, brings_forest, brings_rightly, names_groups, excepts_soundly, names_once}
+use Rattle.osdmap.specs.Changes.{IsLawful, after, epoch_after, change_fault}
 use Rattle.epochlog.specs.Epochs.{Begins}
 use Rattle.sealed.proofs.Beginnings.{begins_itself, begins_on}
+use Rattle.state.specs.declared.state.Commit.{Commit}
 use Rattle.state.specs.States.{StateFacts, ran, committed, next_step, commit_fault, fault_in, unless, IsRefusedBy, Commits as TakesCommit}
 use Rattle.state.proofs.Journals.{accepted}
+use Rattle.state.proofs.Refusing.{commit_early}
 use Rattle.monitor.specs.Histories.{AnswersCommit, AddsChange}
 
 -- a history of nothing is lawful
@@ -20,7 +23,7 @@ lawful_none first = tt
 
 -- a commit to a map after a history that goes on from this one is also one from here
 pub commits_from : (first : ClusterMap) (most : ℕ) (begun before now : List Step) (base : ℕ) (change : ChangeParts)
-    (r : Result (ℕ × ℕ) Refusal) → Begins begun before → AnswersCommit first most before now base change r → AnswersCommit first most begun now base change r
+    (r : Result Commit Refusal) → Begins begun before → AnswersCommit first most before now base change r → AnswersCommit first most begun now base change r
 commits_from first most begun before now base change (Ok ok) goes done = (
   record { begins = begins_on begun before now goes done.0.begins; lawful = done.0.lawful },
   record {
@@ -49,18 +52,18 @@ pub fault_is : (k : StateFacts) (base : ℕ) (change : ChangeParts) → k.map �
 fault_is k base change map = ap (λ m. commit_fault m (length k.pass.history) (length k.pass.row.cells) base change) map
 
 -- a commit to a state is one to the map after its journal
-pub committed_by : (old new : StateFacts) (base : ℕ) (change : ChangeParts) (r : Result (ℕ × ℕ) Refusal) → IsLed old
+pub committed_by : (old new : StateFacts) (base : ℕ) (change : ChangeParts) (r : Result Commit Refusal) → IsLed old
     → IsLed new → TakesCommit old new base change r
     → AnswersCommit old.first (length old.pass.row.cells) old.pass.history new.pass.history base change r
 committed_by old new base change (Ok ok) led leads done =
     let fine = accepted old base change done.0.0 in
-    let is : new ≡ ran ok.1 (committed old change) = done.0.1.0 in
+    let is : new ≡ ran ok.evals (committed old change) = done.0.1.1 in
     let more : new.pass.history ≡ old.pass.history ++ next_step old.map change ∷ [] =
     ap (λ (k : StateFacts). k.pass.history) is in
     let first : new.first ≡ old.first = ap (λ (k : StateFacts). k.first) is in
-    let next : ok.0 ≡ base + 1 = done.0.1.1 in
-    let epoch : old.map.epoch + 1 ≡ ok.0 = ap (λ n. n + 1) (sym fine.current) ∙ sym next in
-    let step : next_step old.map change ≡ record { epoch = ok.0; change = change } =
+    let next : ok.epoch ≡ base + 1 = done.0.1.2 in
+    let epoch : old.map.epoch + 1 ≡ ok.epoch = ap (λ n. n + 1) (sym fine.current) ∙ sym next in
+    let step : next_step old.map change ≡ record { epoch = ok.epoch; change = change } =
     ap (λ (n : ℕ). record { epoch = n; change = change }) epoch in
     let map : new.map ≡ after old.first new.pass.history =
     leads.map ∙ ap (λ m. after m new.pass.history) first in (
@@ -74,12 +77,12 @@ committed_by old new base change (Ok ok) led leads done =
         ends = more ∙ ap (λ s. old.pass.history ++ s ∷ []) step;
         based = fine.current ∙ led.epoch;
         next = next;
-        counted = done.0.1.2 ∙ ap (λ m. evals_of m change) map;
+        counted = done.0.1.3 ∙ ap (λ m. evals_of m change) map;
         accepted = sym (fault_is old base change led.map) ∙ done.0.0;
       },
     )
 committed_by old new base change (Err e) led leads done =
-    let same : record old { runs = new.runs } ≡ new = sym done.1 in
+    let same : record old { runs = new.runs; has_failed = new.has_failed } ≡ new = sym done.1.same in
     let most = length old.pass.row.cells in
     let fault : fault_in old base change
     ≡ commit_fault (after old.first new.pass.history) (length new.pass.history) most base change =
@@ -93,70 +96,39 @@ committed_by old new base change (Err e) led leads done =
     )
 
 -- and adds its incremental alone
-pub adds_change : (old new : StateFacts) (base : ℕ) (change : ChangeParts) (r : Result (ℕ × ℕ) Refusal)
+pub adds_change : (old new : StateFacts) (base : ℕ) (change : ChangeParts) (r : Result Commit Refusal)
     → TakesCommit old new base change r → AddsChange old.pass.history new.pass.history change r
 adds_change old new base change (Ok ok) done =
     let fine = accepted old base change done.0.0 in
     let more : new.pass.history ≡ old.pass.history ++ next_step old.map change ∷ [] =
-    ap (λ (k : StateFacts). k.pass.history) done.0.1.0 in
-    let next : ok.0 ≡ base + 1 = done.0.1.1 in
-    let epoch : old.map.epoch + 1 ≡ ok.0 = ap (λ n. n + 1) (sym fine.current) ∙ sym next in
-    let step : next_step old.map change ≡ record { epoch = ok.0; change = change } =
+    ap (λ (k : StateFacts). k.pass.history) done.0.1.1 in
+    let next : ok.epoch ≡ base + 1 = done.0.1.2 in
+    let epoch : old.map.epoch + 1 ≡ ok.epoch = ap (λ n. n + 1) (sym fine.current) ∙ sym next in
+    let step : next_step old.map change ≡ record { epoch = ok.epoch; change = change } =
     ap (λ (n : ℕ). record { epoch = n; change = change }) epoch in
     more ∙ ap (λ s. old.pass.history ++ s ∷ []) step
-adds_change old new base change (Err e) done = ap (λ (k : StateFacts). k.pass.history) done.1
+adds_change old new base change (Err e) done = ap (λ (k : StateFacts). k.pass.history) done.1.same
 
 -- where nothing was found beyond what was seen, it is added to that
-pub adds_from : (begun before now : List Step) (change : ChangeParts) (r : Result (ℕ × ℕ) Refusal) → before ≡ begun
+pub adds_from : (begun before now : List Step) (change : ChangeParts) (r : Result Commit Refusal) → before ≡ begun
     → AddsChange before now change r → AddsChange begun now change r
 adds_from begun before now change r same done = subst (λ h. AddsChange h now change r) same done
 
 -- ---- no change is refused for a seat's draws
 
--- a test with a refusal of its own, before others
-not_spent : (b : Bool) (r : Refusal) (rest : Option Refusal) → r ≢ SeatSpent → rest ≢ Some SeatSpent
-    → (if not b then Some r else rest) ≢ Some SeatSpent
-not_spent true r rest other below e = below e
-not_spent false r rest other below e = other (let same : Some r ≡ Some SeatSpent = e in cc)
-
--- what refuses a change
-change_unspent : (m : ClusterMap) (change : ChangeParts) → change_fault m change ≢ Some SeatSpent
-change_unspent m change =
-    not_spent (names_osds m change) UnknownOsd _ (λ e. absurd (cc e))
-    (not_spent (weighs_rightly change) BadWeight _ (λ e. absurd (cc e))
-    (not_spent (names_pools m change) UnknownPool _ (λ e. absurd (cc e))
-    (not_spent (brings_new m change) PoolExists _ (λ e. absurd (cc e))
-    (not_spent (brings_forest m change) BadForest _ (λ e. absurd (cc e))
-    (not_spent (brings_rightly m change) BadPool _ (λ e. absurd (cc e))
-    (not_spent (names_groups m change) UnknownGroup _ (λ e. absurd (cc e))
-    (not_spent (excepts_soundly m change) BadNewException _ (λ e. absurd (cc e))
-    (not_spent (names_once change) DuplicatePart None (λ e. absurd (cc e)) (λ e. absurd (cc e))))))))))
-
--- or that the journal is full
-full_unspent : (fault : Option Refusal) (room : Bool) → fault ≢ Some SeatSpent
-    → unless fault (if room then None else Some JournalFull) ≢ Some SeatSpent
-full_unspent (Some r) room fine e = fine e
-full_unspent None true fine e = absurd (cc e)
-full_unspent None false fine e = absurd (let same : Some JournalFull ≡ Some SeatSpent = e in cc)
-
--- the fault of a commit
-pub commit_unspent : (m : ClusterMap) (done most base : ℕ) (change : ChangeParts)
-    → commit_fault m done most base change ≢ Some SeatSpent
-unfolding commit_fault
-commit_unspent m done most base change =
-    not_spent (base == m.epoch) (StaleEpoch m.epoch) _ (λ e. absurd (cc e))
-    (full_unspent (change_fault m change) (nat_lt done most) (change_unspent m change))
-
 -- why a commit is refused is never that
-pub unspent : (old new : StateFacts) (base : ℕ) (change : ChangeParts) (r : Result (ℕ × ℕ) Refusal)
+pub refused_unspent : (m : ClusterMap) (done most base : ℕ) (change : ChangeParts) (e : Refusal) → IsRefusedBy (commit_fault m done most base change) e → e ≢ SeatSpent
+refused_unspent m done most base change e (inl none) is = elim none.1 [
+  | inl memory ↦ absurd (let wrong : OutOfMemory ≡ SeatSpent = sym memory ∙ is in cc)
+  | inr other ↦ elim other [
+    | inl unstored ↦ absurd (let wrong : NotStored ≡ SeatSpent = sym unstored ∙ is in cc)
+    | inr unsealed ↦ absurd (let wrong : NotSealed ≡ SeatSpent = sym unsealed ∙ is in cc)
+  ]
+]
+refused_unspent m done most base change e (inr fault) is = absurd (omega (arith, commit_early m done most base change e fault, ap number_of is))
+
+-- and so of a state's commit
+pub unspent : (old new : StateFacts) (base : ℕ) (change : ChangeParts) (r : Result Commit Refusal)
     → TakesCommit old new base change r → IfErr r (λ e. e ≢ SeatSpent)
 unspent old new base change (Ok ok) done = tt
-unspent old new base change (Err e) done = by_cause done.0
-  where
-    by_cause : IsRefusedBy (fault_in old base change) e → e ≢ SeatSpent
-    by_cause (inl none) is = elim none.1 [
-      | inl memory ↦ absurd (let wrong : OutOfMemory ≡ SeatSpent = sym memory ∙ is in cc)
-      | inr unsealed ↦ absurd (let wrong : NotSealed ≡ SeatSpent = sym unsealed ∙ is in cc)
-    ]
-    by_cause (inr fault) is =
-        commit_unspent old.map (length old.pass.history) (length old.pass.row.cells) base change (fault ∙ ap Some is)
+unspent old new base change (Err e) done = refused_unspent old.map (length old.pass.history) (length old.pass.row.cells) base change e done.0

@@ -8,6 +8,7 @@ use Rattle.osdmap.specs.Changes.{after, epoch_after}
 use Rattle.epochlog.specs.Epochs.{Begins}
 use Rattle.balancer.specs.Shares.{Aim}
 use Rattle.balancer.specs.Plans.{plan_fault, plan_change}
+use Rattle.state.specs.declared.balancing.Balance.{Balance}
 use Rattle.state.specs.States.{commit_fault, IsRefusedBy}
 use Rattle.state.specs.Balances.{moves_in}
 use Rattle.monitor.specs.Histories.{GoesOn}
@@ -47,12 +48,12 @@ IsUnplanned first most now pool aim limit e =
 
 -- what balancing answers: that the plan is committed, or that no move is good; or why there is no answer at the history
 -- now, or that its seat has made its draws
-abbrev pub AnswersBalance : ClusterMap → ℕ → List Step → List Step → ℕ → Aim → ℕ → Result (ℕ × ℕ) Refusal → Type 0
+abbrev pub AnswersBalance : ClusterMap → ℕ → List Step → List Step → ℕ → Aim → ℕ → Result Balance Refusal → Type 0
 AnswersBalance first most before now pool aim limit r =
     GoesOn first before now
     × MatchResult r
-    (λ ok. IsPlanned first most before now pool aim limit ok.0 ok.1
-    ⊎ IsEven first now pool aim limit ok.0 ok.1)
+    (λ ok. IsPlanned first most before now pool aim limit ok.epoch ok.moves
+    ⊎ IsEven first now pool aim limit ok.epoch ok.moves)
     (λ e. (e ≡ SeatSpent) ⊎ IsUnplanned first most now pool aim limit e)
 
 -- a history is longer by the incremental of a plan's change where moves were told, and by nothing else
@@ -62,6 +63,6 @@ AddsMoves first before now pool aim limit number moves =
     ⊎ ((moves ≢ 0)
     × (now ≡ before ++ record { epoch = number; change = plan_change (after first before) pool aim limit } ∷ []))
 
-abbrev pub AddsPlan : ClusterMap → List Step → List Step → ℕ → Aim → ℕ → Result (ℕ × ℕ) Refusal → Type 0
+abbrev pub AddsPlan : ClusterMap → List Step → List Step → ℕ → Aim → ℕ → Result Balance Refusal → Type 0
 AddsPlan first before now pool aim limit r =
-    MatchResult r (λ ok. AddsMoves first before now pool aim limit ok.0 ok.1) (λ e. now ≡ before)
+    MatchResult r (λ ok. AddsMoves first before now pool aim limit ok.epoch ok.moves) (λ e. now ≡ before)

@@ -9,6 +9,7 @@ use Rattle.osdmap.specs.Maps.{ClusterMap}
 use Rattle.osdmap.specs.Evals.{evals_of}
 use Rattle.osdmap.specs.Changes.{after, IsLawful, epoch_after}
 use Rattle.epochlog.specs.Epochs.{Begins}
+use Rattle.state.specs.declared.state.Commit.{Commit}
 use Rattle.state.specs.States.{commit_fault, IsRefusedBy}
 use Rattle.mapjson.specs.Written.{written}
 
@@ -45,13 +46,13 @@ pub record IsCommitted (first : ClusterMap) (most : ℕ) (before now : List Step
 
 -- what a commit answers: that the change is committed; or the fault at the history now, or where there is none that
 -- memory was short or another sealed the epoch; or that its seat has made its draws
-abbrev pub AnswersCommit : ClusterMap → ℕ → List Step → List Step → ℕ → ChangeParts → Result (ℕ × ℕ) Refusal → Type 0
+abbrev pub AnswersCommit : ClusterMap → ℕ → List Step → List Step → ℕ → ChangeParts → Result Commit Refusal → Type 0
 AnswersCommit first most before now base change r =
     GoesOn first before now
-    × MatchResult r (λ ok. IsCommitted first most before now base change ok.0 ok.1)
+    × MatchResult r (λ ok. IsCommitted first most before now base change ok.epoch ok.evals)
     (λ e. (e ≡ SeatSpent) ⊎ IsRefusedBy (commit_fault (after first now) (length now) most base change) e)
 
 -- a history is longer by the incremental of a change that was accepted, and by nothing else
-abbrev pub AddsChange : List Step → List Step → ChangeParts → Result (ℕ × ℕ) Refusal → Type 0
+abbrev pub AddsChange : List Step → List Step → ChangeParts → Result Commit Refusal → Type 0
 AddsChange before now change r =
-    MatchResult r (λ ok. now ≡ before ++ record { epoch = ok.0; change = change } ∷ []) (λ e. now ≡ before)
+    MatchResult r (λ ok. now ≡ before ++ record { epoch = ok.epoch; change = change } ∷ []) (λ e. now ≡ before)

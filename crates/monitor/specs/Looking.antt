@@ -7,12 +7,12 @@ use Rattle.monitor.specs.declared.look.Look.{Look}
 use Rattle.monitor.specs.Members.{Monitored, Shares}
 
 -- the first map of the state that it lends
-abbrev pub first_of_look : Look → ClusterMap
+abbrev pub first_of_look : {K : Type 0} → Look K → ClusterMap
 first_of_look look = (first_of_read look.guard).state.value.first
 
 -- the look shares this monitor's lock; its pass is of the monitor's row, with a history that is lawful from the first
 -- map
-pub record IsLookOf (monitor : Monitored) (look : Look) : Type 0 where
+pub record IsLookOf {K : Type 0} (monitor : Monitored) (look : Look K) : Type 0 where
   pub guard : Shares monitor look.guard
   pub row : look.pass.row ≡ monitor.row
   pub lawful : IsLawful monitor.first look.pass.history

@@ -83,17 +83,17 @@ StaysAlone monitor before now = monitor.alone ≡ true → now ≡ before
 -- ---- who holds the lock
 
 -- the state that a guard lends: while it lends none, the one that the lock was made with
-abbrev pub lent : ReadGuard Locked → StateFacts
+abbrev pub lent : {K : Type 0} → ReadGuard (Locked K) → StateFacts
 lent guard =
     unwrap_or (option_and_then (option_map (λ kept. kept.value.state.value)) guard.claim.value)
     (first_of_read guard).state.value
 
 -- the guard shares this monitor's lock
-pub record Shares (monitor : Monitored) (guard : ReadGuard Locked) : Type 0 where
+pub record Shares {K : Type 0} (monitor : Monitored) (guard : ReadGuard (Locked K)) : Type 0 where
   pub place : IsAt monitor.words guard.turn.place
   pub first : IsStateOf monitor (first_of_read guard).state.value
 
 -- the guard has this monitor's lock alone
-pub record Holds (monitor : Monitored) (guard : WriteGuard Locked) : Type 0 where
+pub record Holds {K : Type 0} (monitor : Monitored) (guard : WriteGuard (Locked K)) : Type 0 where
   pub place : IsAt monitor.words guard.turn.place
   pub first : IsStateOf monitor (first_of_write guard).state.value

@@ -1,10 +1,12 @@
 -- What a monitor is opened with.
 use Rattle.std.specs.Prelude.{◌≡◌, ◌==◌, ℕ, ◌&&◌, ◌^◌, Bool, nat_le, List, length, All}
 use Rattle.mapparts.specs.declared.profile.Profile.{Profile}
+use Rattle.mapparts.specs.declared.profile.Profile.TheVariants.{Plain}
 use Rattle.osdmap.specs.Maps.{ClusterMap}
 use Rattle.epochlog.specs.Epochs.{is_within_limits}
 use Rattle.state.specs.States.{opened}
 use Rattle.monitor.specs.declared.member.Member.{Member}
+use Rattle.monitor.specs.declared.open.Limits.{Limits}
 use Rattle.monitor.specs.Members.{Monitored, IsNewMemberOf, draws_of}
 
 -- the greatest number of seats
@@ -21,6 +23,10 @@ can_open epoch journal seats draws =
     is_within_limits epoch journal
     && (nat_le 1 seats && nat_le seats max_seats && (nat_le 1 draws && nat_le draws max_draws))
 
+-- a first epoch and limits
+abbrev pub can_open_with : ℕ → Limits → Bool
+can_open_with epoch limits = can_open epoch limits.journal limits.seats limits.draws
+
 -- a monitor with this first map and a journal of such a capacity, whose lock was made with the state at its beginning:
 -- the first map is the present one, and the journal is empty; the texts of its changes are read by this profile;
 -- and so many members, each with so many draws, who have seen nothing; and the monitor knows whether there is one
@@ -35,3 +41,8 @@ pub record IsOpening (map : ClusterMap) (journal seats draws : ℕ) (read_by : P
   pub count : length members ≡ seats
   pub each : All (IsNewMemberOf monitor) members
   pub alone : monitor.alone ≡ (seats == 1)
+
+-- a monitor of plain maps with this first map and these limits
+abbrev pub IsOpeningWith : ClusterMap → Limits → Monitored → List Member → Type 0
+IsOpeningWith map limits monitor members =
+    IsOpening map limits.journal limits.seats limits.draws Plain monitor members

@@ -7,7 +7,7 @@ use Rattle.monitor.specs.Members.{Monitored, Shares, lent}
 
 -- the hold is one of this monitor's lock, for this member: it has seen just what the lent state has, a history that is
 -- lawful from the first map
-pub record IsSharing (monitor : Monitored) (shared : Shared) (member : Member) : Type 0 where
+pub record IsSharing {K : Type 0} (monitor : Monitored) (shared : Shared K) (member : Member) : Type 0 where
   pub guard : Shares monitor shared.guard
   pub seen : (lent shared.guard).pass ≡ member.pass
   pub row : member.pass.row ≡ monitor.row

@@ -4,17 +4,18 @@ use crate::locked::{balance, commit};
 use crate::member::Member;
 use crate::monitor::Monitor;
 use balancer::Request;
+use keeping::Keeps;
 use mapjson::write_map;
 use maptypes::{Change, Pg, UpSet};
 use refusal::Refusal;
-use state::State;
+use state::{Balance, Commit, State};
 use std::alloc::Global;
 use std::sync::Wait;
 
-impl Monitor {
+impl<K: Keeps + Drop> Monitor<K> {
     ghost use Rattle.std.specs.Prelude.{◌≡◌, true, length, Err, IfOk, IfErr};
     ghost use Rattle.std.specs.Str.{IsUtf8};
-    ghost use Rattle.refusal.specs.declared.refused.Refusal.TheVariants.{SeatSpent};
+    ghost use Rattle.refusal.specs.declared.refused.Refusal.TheVariants.{SeatSpent, NotStored};
     ghost use Rattle.balancer.specs.Requests.{asked_aim};
     ghost use Rattle.state.specs.Answers.{FindsUp, FindsCount, FindsGroups};
     ghost use Rattle.monitor.specs.Histories.{Looks, FindsEpoch, FindsText, AnswersCommit, AddsChange};
@@ -155,26 +156,28 @@ impl Monitor {
     /// `SeatSpent` (31) once the member's seat has made its draws, and only then; else `StaleEpoch` (20) with the
     /// present epoch where `base` is another; else what [`osdmap::OsdMap::check`] refuses (21, 22, 23, 24, 13, 15, 25,
     /// 26, 27); else `JournalFull` (28) where the journal has its capacity; else `Memory` (30) where there is no memory
-    /// for it, or `NotSealed` (32) where another sealed the epoch.
+    /// for it, `NotStored` (35) where the store does not take it or has failed before, or `NotSealed` (32) where another
+    /// sealed the epoch.
     pub fn commit<R: Wait>(
         &self,
         rt: &R,
         member: &mut Member,
         base: u64,
         change: Change,
-    ) -> Result<(u64, usize), Refusal>
+    ) -> Result<Commit, Refusal>
         requires { IsMemberOf self.now member.old }
         ensures member { IsMemberOf self.now member.new }
         ensures commits { AnswersCommit self.now.first (length self.now.row.cells)
             member.old.pass.history member.new.pass.history base change result }
         ensures spent { IfErr result (λ e. e ≡ SeatSpent → IsSpent self.now member.new) }
         ensures refused { IsSpent self.now member.old → result ≡ Err SeatSpent }
+        ensures stored { IfErr result (λ e. e ≡ NotStored → K.may_fail) }
         ensures once { DrawsOnce self.now member.old member.new }
         ensures alone { self.now.alone ≡ true →
             AddsChange member.old.pass.history member.new.pass.history change result }
     {
         let mut guard = self.hold(rt, member)?;
-        let state: &mut State = &mut guard.value_mut().state;
+        let state: &mut State<K> = &mut guard.value_mut().state;
         let answer = commit(state, &self.row, &mut member.pass, base, change);
         self.put_back(guard, member);
         answer
@@ -188,14 +191,14 @@ impl Monitor {
     ///
     /// `SeatSpent` (31) once the member's seat has made its draws, and only then; else `UnknownPool` (23) where there
     /// is no such pool; else `BalanceRule` (29) where the pool's rule has more than one block; else `Memory` (30) where
-    /// there is no memory for it, or where a move is good `JournalFull` (28) or `NotSealed` (32) as for
-    /// [`Monitor::commit`].
+    /// there is no memory for it, or where a move is good `JournalFull` (28), `NotStored` (35) or `NotSealed` (32) as
+    /// for [`Monitor::commit`].
     pub fn balance<R: Wait>(
         &self,
         rt: &R,
         member: &mut Member,
         request: Request<'_>,
-    ) -> Result<(u64, usize), Refusal>
+    ) -> Result<Balance, Refusal>
         requires { IsMemberOf self.now member.old }
         ensures member { IsMemberOf self.now member.new }
         ensures balances { AnswersBalance self.now.first
@@ -203,13 +206,14 @@ impl Monitor {
             request.entry.pool (asked_aim request.entry) request.entry.limit result }
         ensures spent { IfErr result (λ e. e ≡ SeatSpent → IsSpent self.now member.new) }
         ensures refused { IsSpent self.now member.old → result ≡ Err SeatSpent }
+        ensures stored { IfErr result (λ e. e ≡ NotStored → K.may_fail) }
         ensures once { DrawsOnce self.now member.old member.new }
         ensures alone { self.now.alone ≡ true →
             AddsPlan self.now.first member.old.pass.history member.new.pass.history
             request.entry.pool (asked_aim request.entry) request.entry.limit result }
     {
         let mut held = self.hold(rt, member)?;
-        let state: &mut State = &mut held.value_mut().state;
+        let state: &mut State<K> = &mut held.value_mut().state;
         let answer = balance(state, &self.row, &mut member.pass, request);
         self.put_back(held, member);
         answer

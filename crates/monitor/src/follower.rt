@@ -8,6 +8,7 @@ use crate::member::Member;
 use crate::monitor::Monitor;
 use crush::Work;
 use epochlog::{Pass, Row};
+use keeping::Keeps;
 use mapjson::write_map;
 use maptypes::{Incremental, Pg, UpSet};
 use osdmap::OsdMap;
@@ -86,7 +87,7 @@ impl Follower {
     /// # Errors
     ///
     /// `Memory` (30) where there is no memory for it.
-    pub fn new(alloc: Global, monitor: &Monitor) -> Result<Follower, Memory>
+    pub fn new<K: Keeps + Drop>(alloc: Global, monitor: &Monitor<K>) -> Result<Follower, Memory>
         ensures { IfOk result (λ follower.
             Follows monitor.now follower × (follower.history ≡ []) × (follower.map ≡ monitor.now.first)) }
     {
@@ -148,7 +149,11 @@ impl Follower {
     /// # Errors
     ///
     /// `Memory` (30) where there is no memory for it. The follower then stands at an epoch that it has fully applied.
-    pub fn catch_up(&mut self, alloc: Global, monitor: &Monitor) -> Result<u64, Memory>
+    pub fn catch_up<K: Keeps + Drop>(
+        &mut self,
+        alloc: Global,
+        monitor: &Monitor<K>,
+    ) -> Result<u64, Memory>
         requires { Follows monitor.now self.old }
         ensures goes_on { GoesOnFrom self.old self.new }
         ensures epoch { IfOk result (λ epoch. epoch ≡ epoch_after self.new.first self.new.history) }

@@ -21,8 +21,10 @@ mod turns;
 
 pub use balancer::Request;
 pub use follower::Follower;
+pub use keeping::{Keeps, Nothing};
 pub use look::Look;
 pub use member::Member;
 pub use monitor::Monitor;
+pub use open::Limits;
 pub use shared::Shared;
-pub use state::State;
+pub use state::{Balance, Commit, State};

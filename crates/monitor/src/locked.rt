@@ -1,7 +1,7 @@
 //! What lies under the lock of a monitor.
 
 ghost use Rattle.std.specs.Prelude.{◌≡◌, ◌≢◌, ◌≤◌, IfErr, length, nat_lt};
-ghost use Rattle.refusal.specs.declared.refused.Refusal.TheVariants.{SeatSpent};
+ghost use Rattle.refusal.specs.declared.refused.Refusal.TheVariants.{SeatSpent, NotStored};
 ghost use Rattle.osdmap.specs.Changes.{IsLawful, after};
 ghost use Rattle.epochlog.specs.Epochs.{Begins};
 ghost use Rattle.balancer.specs.Requests.{asked_aim};
@@ -10,20 +10,21 @@ ghost use Rattle.monitor.specs.Balances.{AnswersBalance, AddsPlan};
 
 use balancer::Request;
 use epochlog::{Pass, Row};
+use keeping::Keeps;
 use maptypes::Change;
 use refusal::Refusal;
-use state::State;
+use state::{Balance, Commit, State};
 use std::sync::Wait;
 use ticketlock::Fact;
 
 /// A state under the lock. Each that is lent or put back has the first map of the one that the lock was made with, and
 /// a pass of the same row; what else holds of it holds of every state.
 #[derive(Drop)]
-pub(crate) struct Locked {
-    pub(crate) state: Box<State>,
+pub(crate) struct Locked<K: Keeps + Drop> {
+    pub(crate) state: Box<State<K>>,
 }
 
-impl Fact for Locked {
+impl<K: Keeps + Drop> Fact for Locked<K> {
     ghost use Rattle.std.specs.Prelude.{◌≡◌};
 
     ghost fact = { λ made now.
@@ -32,7 +33,7 @@ impl Fact for Locked {
 }
 
 /// Whether a pass has seen more than a state.
-pub(crate) fn is_behind(state: &State, pass: &Pass) -> bool
+pub(crate) fn is_behind<K: Keeps + Drop>(state: &State<K>, pass: &Pass) -> bool
     requires { state.now.pass.row ≡ pass.now.row }
     ensures { result ≡ nat_lt (length state.now.pass.history) (length pass.now.history) }
 {
@@ -40,7 +41,7 @@ pub(crate) fn is_behind(state: &State, pass: &Pass) -> bool
 }
 
 /// A pass that has seen no more than a state sees all that it has.
-pub(crate) fn see(pass: &mut Pass, state: &State)
+pub(crate) fn see<K: Keeps + Drop>(pass: &mut Pass, state: &State<K>)
     requires row { pass.old.row ≡ state.now.pass.row }
     requires seen { length pass.old.history ≤ length state.now.pass.history }
     ensures pass { pass.new ≡ state.now.pass }
@@ -53,7 +54,7 @@ pub(crate) fn see(pass: &mut Pass, state: &State)
 }
 
 /// Returns where a state that is not behind a pass has seen no more than it, and else never.
-pub(crate) fn wait_until_same<R: Wait>(rt: &R, state: &State, pass: &Pass)
+pub(crate) fn wait_until_same<R: Wait, K: Keeps + Drop>(rt: &R, state: &State<K>, pass: &Pass)
     requires row { state.now.pass.row ≡ pass.now.row }
     ensures { length pass.now.history ≡ length state.now.pass.history }
 {
@@ -66,19 +67,20 @@ pub(crate) fn wait_until_same<R: Wait>(rt: &R, state: &State, pass: &Pass)
 }
 
 /// Commits a change to a state, by one who has seen all that it has.
-pub(crate) fn commit(
-    state: &mut State,
+pub(crate) fn commit<K: Keeps + Drop>(
+    state: &mut State<K>,
     row: &Row,
     pass: &mut Pass,
     base: u64,
     change: Change,
-) -> Result<(u64, usize), Refusal>
+) -> Result<Commit, Refusal>
     requires row { state.old.pass.row ≡ row.now }
     requires pass { pass.old ≡ state.old.pass }
     ensures commits { AnswersCommit state.old.first (length row.now.cells)
         pass.old.history pass.new.history base change result }
     ensures own { AddsChange pass.old.history pass.new.history change result }
     ensures unspent { IfErr result (λ e. e ≢ SeatSpent) }
+    ensures stored { IfErr result (λ e. e ≡ NotStored → K.may_fail) }
     ensures pass { pass.new ≡ state.new.pass }
     ensures first { state.new.first ≡ state.old.first }
     ensures row { state.new.pass.row ≡ row.now }
@@ -91,12 +93,12 @@ pub(crate) fn commit(
 
 /// Plans and commits the moves that are asked for, which balance a pool of a state, by one who has seen all that it
 /// has.
-pub(crate) fn balance(
-    state: &mut State,
+pub(crate) fn balance<K: Keeps + Drop>(
+    state: &mut State<K>,
     row: &Row,
     pass: &mut Pass,
     request: Request<'_>,
-) -> Result<(u64, usize), Refusal>
+) -> Result<Balance, Refusal>
     requires row { state.old.pass.row ≡ row.now }
     requires pass { pass.old ≡ state.old.pass }
     ensures balances { AnswersBalance state.old.first (length row.now.cells) pass.old.history pass.new.history
@@ -104,6 +106,7 @@ pub(crate) fn balance(
     ensures own { AddsPlan state.old.first pass.old.history pass.new.history
         request.entry.pool (asked_aim request.entry) request.entry.limit result }
     ensures unspent { IfErr result (λ e. e ≢ SeatSpent) }
+    ensures stored { IfErr result (λ e. e ≡ NotStored → K.may_fail) }
     ensures pass { pass.new ≡ state.new.pass }
     ensures first { state.new.first ≡ state.old.first }
     ensures row { state.new.pass.row ≡ row.now }

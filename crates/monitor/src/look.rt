@@ -9,19 +9,20 @@ use crate::monitor::Monitor;
 use crate::shared::Shared;
 use crate::turns::state_of;
 use epochlog::Pass;
+use keeping::{Keeps, Nothing};
 use state::State;
 use std::sync::Wait;
 use ticketlock::ReadGuard;
 
 /// A member that shares the lock, and looks at the state as long as it likes: nobody commits meanwhile. It must be
 /// spent, by [`Look::leave`], and stays in its thread.
-pub struct Look<'a> {
-    pub(crate) guard: ReadGuard<'a, Locked>,
+pub struct Look<'a, K: Keeps + Drop = Nothing> {
+    pub(crate) guard: ReadGuard<'a, Locked<K>>,
     pub(crate) pass: Pass,
     pub ghost seen: { (lent guard).pass ≡ pass },
 }
 
-impl Monitor {
+impl<K: Keeps + Drop> Monitor<K> {
     ghost use Rattle.std.specs.Prelude.{◌≡◌, [], ◌+◌, IfOk, IfErr, OnOk};
     ghost use Rattle.monitor.specs.Histories.{GoesOn};
     ghost use Rattle.monitor.specs.Members.{IsMemberOf, IsSpent, StaysAlone, draws_made};
@@ -32,7 +33,7 @@ impl Monitor {
     /// # Errors
     ///
     /// The member (31, `SeatSpent`), once its seat has made its draws and only then. What it has seen is as it was.
-    pub fn look<R: Wait>(&self, rt: &R, member: Member) -> Result<Look<'_>, Member>
+    pub fn look<R: Wait>(&self, rt: &R, member: Member) -> Result<Look<'_, K>, Member>
         requires { IsMemberOf self.now member }
         ensures ok { IfOk result (λ look.
             IsLookOf self.now look × GoesOn self.now.first member.pass.history look.pass.history) }
@@ -55,13 +56,13 @@ impl Monitor {
     }
 }
 
-impl<'a> Look<'a> {
+impl<'a, K: Keeps + Drop> Look<'a, K> {
     ghost use Rattle.std.specs.Prelude.{◌≡◌};
     ghost use Rattle.monitor.specs.Members.{Monitored, IsMemberOf, draws_made};
     ghost use Rattle.monitor.specs.Looking.{IsLookOf, first_of_look};
 
     /// The state, the same at each call: its first map is the monitor's, and it has seen what the member has.
-    pub fn state(&self) -> &State
+    pub fn state(&self) -> &State<K>
         ensures first { result.now.first ≡ first_of_look self.now }
         ensures pass { result.now.pass ≡ self.now.pass }
     {

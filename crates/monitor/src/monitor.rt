@@ -4,18 +4,22 @@ ghost use Rattle.std.specs.Prelude.{◌≡◌};
 
 use crate::locked::Locked;
 use epochlog::{Pass, Row};
+use keeping::{Keeps, Nothing};
 use mapparts::Profile;
 use osdmap::OsdMap;
 use refusal::Memory;
 use std::alloc::Global;
 use std::marker::Model;
-use ticketlock::Lock;
+use ticketlock::{Fact, Lock};
 
 /// A monitor: a state that its members share by a lock, and beside the lock the row of sealed epochs, the first map and
 /// by which profile the texts of its changes are read. Many threads may use it.
 #[derive(Drop)]
-pub struct Monitor {
-    pub(crate) lock: Lock<Locked>,
+pub struct Monitor<K: Keeps + Drop = Nothing>
+where
+    Locked<K>: Fact,
+{
+    pub(crate) lock: Lock<Locked<K>>,
     pub(crate) row: Row,
     pub(crate) first: OsdMap,
     pub(crate) profile: Profile,
@@ -23,7 +27,7 @@ pub struct Monitor {
     pub(crate) alone: bool,
 }
 
-impl Monitor {
+impl<K: Keeps + Drop> Monitor<K> {
     ghost use Rattle.std.specs.Prelude.{◌≡◌, ◌+◌, ◌<◌, ◌≤◌, [], length, true, false, IfOk};
     ghost use Rattle.monitor.specs.Members.{IsPassOf};
 
@@ -71,7 +75,10 @@ impl Monitor {
     }
 }
 
-impl Model for Monitor {
+impl<K: Keeps + Drop> Model for Monitor<K>
+where
+    Locked<K>: Fact,
+{
     ghost use Rattle.ticketlock.specs.Callers.{first_of};
     ghost use Rattle.monitor.specs.Members.{Monitored, IsOpened, monitored};
 

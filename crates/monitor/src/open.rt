@@ -4,13 +4,14 @@ ghost use Rattle.std.specs.Prelude.{◌≡◌, true, length, All, IfOk};
 ghost use Rattle.epochlog.specs.Epochs.{is_within_limits};
 ghost use Rattle.ticketlock.specs.Callers.{IsNewOf, first_of, limit_of};
 ghost use Rattle.ticketlock.specs.Errors.{IsWithin};
-ghost use Rattle.monitor.specs.Opening.{can_open};
+ghost use Rattle.monitor.specs.Opening.{can_open, can_open_with};
 
 use crate::locked::Locked;
 use crate::member::Member;
 use crate::monitor::Monitor;
 use crush::Work;
 use epochlog::{MAX_CAPACITY, MAX_FIRST_EPOCH, Row};
+use keeping::{Keeps, Nothing};
 use mapparts::Profile;
 use osdmap::OsdMap;
 use refusal::{Memory, Refusal};
@@ -19,14 +20,25 @@ use std::alloc::Global;
 use ticketlock::limits::{MAX_DRAWS, MAX_SEATS};
 use ticketlock::{Lock, LockError, Seat};
 
+/// How much a monitor has room for.
+#[derive(Clone, Copy, Debug, PartialEq, Eq)]
+pub struct Limits {
+    /// How many changes its journal takes: 1 to 65,536.
+    pub journal: u32,
+    /// How many members it has: 1 to 1,024.
+    pub seats: u32,
+    /// How often each of them may draw at the lock: 1 to 2^40.
+    pub draws: u64,
+}
+
 /// Whether each of these is within its limits.
-fn can_open(epoch: u64, journal: u32, seats: u32, draws: u64) -> bool
-    ensures { result ≡ can_open epoch journal seats draws }
+fn can_open(epoch: u64, limits: Limits) -> bool
+    ensures { result ≡ can_open_with epoch limits }
 {
     (1..=MAX_FIRST_EPOCH).contains(&epoch)
-        && (1..=MAX_CAPACITY).contains(&journal)
-        && (1..=MAX_SEATS).contains(&seats)
-        && (1..=MAX_DRAWS).contains(&draws)
+        && (1..=MAX_CAPACITY).contains(&limits.journal)
+        && (1..=MAX_SEATS).contains(&limits.seats)
+        && (1..=MAX_DRAWS).contains(&limits.draws)
 }
 
 /// A row of epochs after this one, where both numbers are within their limits; or `Memory` (30).
@@ -42,12 +54,12 @@ fn row_after(alloc: Global, epoch: u64, journal: u32) -> Result<Row, Memory>
 }
 
 /// A state under a lock, and the seats, where both numbers are within their limits; or `Memory` (30).
-fn locked(
+fn lock_state<K: Keeps + Drop>(
     alloc: Global,
-    state: State,
+    state: State<K>,
     seats: u32,
     draws: u64,
-) -> Result<(Lock<Locked>, Vec<Seat>), Memory>
+) -> Result<(Lock<Locked<K>>, Vec<Seat>), Memory>
     requires { IsWithin seats draws }
     ensures seats { IfOk result (λ r. (length r.1.items ≡ seats) × All (IsNewOf r.0) r.1.items) }
     ensures lock { IfOk result (λ r. ((first_of r.0).state.value ≡ state) × (limit_of r.0 ≡ draws)) }
@@ -60,12 +72,13 @@ fn locked(
     }
 }
 
-impl Monitor {
-    ghost use Rattle.std.specs.Prelude.{◌≡◌, true, length, All, IfOk};
+impl<K: Keeps + Drop> Monitor<K> {
+    ghost use Rattle.std.specs.Prelude.{◌≡◌, [], true, length, All, IfOk};
     ghost use Rattle.refusal.specs.declared.refused.Refusal.TheVariants.{BadLimit};
     ghost use Rattle.refusal.specs.Outcomes.{refused_unless, Gives};
     ghost use Rattle.ticketlock.specs.Callers.{IsNewAt};
-    ghost use Rattle.monitor.specs.Opening.{can_open, max_draws, IsOpening};
+    ghost use Rattle.state.specs.States.{journal};
+    ghost use Rattle.monitor.specs.Opening.{can_open_with, IsOpeningWith};
     ghost use Rattle.monitor.specs.Members.{IsNewMemberOf};
 
     /// A member with this seat, who has seen nothing.
@@ -95,36 +108,63 @@ impl Monitor {
     }
 
     /// The monitor with these limits, which hold, and its members.
-    fn opened(
+    fn open_within(
         alloc: Global,
         map: OsdMap,
-        journal: u32,
-        seats: u32,
-        draws: u64,
-    ) -> Result<(Monitor, Vec<Member>), Memory>
-        requires { can_open map.map.epoch journal seats draws ≡ true }
-        ensures { IfOk result (λ r. IsOpening map.map journal seats draws Profile.Plain r.0 r.1.items) }
+        limits: Limits,
+        store: K,
+    ) -> Result<(Monitor<K>, Vec<Member>), Memory>
+        requires limits { can_open_with map.map.epoch limits ≡ true }
+        requires held { K.holds store (journal map.map []) }
+        ensures { IfOk result (λ r. IsOpeningWith map.map limits r.0 r.1.items) }
     {
-        let alone = seats == 1;
-        let row = row_after(alloc, map.epoch(), journal)?;
+        let row = row_after(alloc, map.epoch(), limits.journal)?;
         let first = map.copy(alloc)?;
         let work = Work::new(alloc, map.forest())?;
-        let state = State::new(alloc, map, &row, work)?;
-        let (lock, seats) = locked(alloc, state, seats, draws)?;
+        let state = State::new(alloc, map, &row, work, store)?;
+        let (lock, seats) = lock_state(alloc, state, limits.seats, limits.draws)?;
         let monitor = Monitor {
             lock,
             row,
             first,
             profile: Profile::Plain,
-            alone,
+            alone: limits.seats == 1,
         };
         let members = monitor.members(alloc, seats)?;
         Ok((monitor, members))
     }
 
-    /// A monitor that begins with this map, whose journal has room for so many changes, and its members, each with a
-    /// seat of so many draws: each call of a member that takes the lock spends a draw, and a second only where the lent
-    /// state has not seen what the member has. The members have seen nothing.
+    /// A monitor that begins with this map, with this room and what keeps its journal, which holds the map and no change
+    /// yet; and its members. Each call of a member that takes the lock spends a draw of its seat, and a second only
+    /// where the lent state has not seen what the member has. The members have seen nothing.
+    ///
+    /// # Errors
+    ///
+    /// `BadLimit` (12) exactly where the map's epoch is not 1 to 2,147,483,648, or one of the limits is not within its
+    /// own; else `Memory` (30) where there is no memory for it.
+    pub fn open_stored(
+        alloc: Global,
+        map: OsdMap,
+        limits: Limits,
+        store: K,
+    ) -> Result<(Monitor<K>, Vec<Member>), Refusal>
+        requires { K.holds store (journal map.map []) }
+        ensures { Gives result (refused_unless (can_open_with map.map.epoch limits) BadLimit)
+            (λ r. IsOpeningWith map.map limits r.0 r.1.items) }
+    {
+        if !can_open(map.epoch(), limits) {
+            return Err(Refusal::BadLimit);
+        }
+        Ok(Monitor::open_within(alloc, map, limits, store)?)
+    }
+}
+
+impl Monitor<Nothing> {
+    ghost use Rattle.refusal.specs.declared.refused.Refusal.TheVariants.{BadLimit};
+    ghost use Rattle.refusal.specs.Outcomes.{refused_unless, Gives};
+    ghost use Rattle.monitor.specs.Opening.{can_open, max_draws, IsOpening};
+
+    /// A monitor as [`Monitor::open_stored`] opens it, which keeps its journal in memory alone.
     ///
     /// # Errors
     ///
@@ -136,14 +176,16 @@ impl Monitor {
         journal: u32,
         seats: u32,
         draws: u64,
-    ) -> Result<(Monitor, Vec<Member>), Refusal>
+    ) -> Result<(Monitor<Nothing>, Vec<Member>), Refusal>
         ensures { Gives result (refused_unless (can_open map.map.epoch journal seats draws) BadLimit)
             (λ r. IsOpening map.map journal seats draws Profile.Plain r.0 r.1.items) }
     {
-        if !can_open(map.epoch(), journal, seats, draws) {
-            return Err(Refusal::BadLimit);
-        }
-        Ok(Monitor::opened(alloc, map, journal, seats, draws)?)
+        let limits = Limits {
+            journal,
+            seats,
+            draws,
+        };
+        Monitor::open_stored(alloc, map, limits, Nothing)
     }
 
     /// A monitor as [`Monitor::open_limited`] opens it, each seat with the most draws, which are 2^40.
@@ -156,7 +198,7 @@ impl Monitor {
         map: OsdMap,
         journal: u32,
         seats: u32,
-    ) -> Result<(Monitor, Vec<Member>), Refusal>
+    ) -> Result<(Monitor<Nothing>, Vec<Member>), Refusal>
         ensures { Gives result (refused_unless (can_open map.map.epoch journal seats max_draws) BadLimit)
             (λ r. IsOpening map.map journal seats max_draws Profile.Plain r.0 r.1.items) }
     {

@@ -10,24 +10,25 @@ use crate::member::Member;
 use crate::monitor::Monitor;
 use crate::shared::Shared;
 use epochlog::Pass;
+use keeping::Keeps;
 use refusal::Refusal;
 use state::State;
 use std::sync::Wait;
 use ticketlock::{ReadGuard, WriteGuard};
 
 /// The state that a guard lends.
-pub(crate) fn state_of<'g>(guard: &'g ReadGuard<'_, Locked>) -> &'g State
+pub(crate) fn state_of<'g, K: Keeps + Drop>(guard: &'g ReadGuard<'_, Locked<K>>) -> &'g State<K>
     ensures lends { result.now ≡ lent guard.now }
     ensures first { result.now.first ≡ (first_of_read guard.now).state.value.first }
     ensures row { result.now.pass.row ≡ (first_of_read guard.now).state.value.pass.row }
     ensures map { result.now.map ≡ after result.now.first result.now.pass.history }
 {
-    let state: &State = &guard.value().state;
+    let state: &State<K> = &guard.value().state;
     let _ = state.map();
     state
 }
 
-impl Monitor {
+impl<K: Keeps + Drop> Monitor<K> {
     ghost use Rattle.std.specs.Prelude.{◌≡◌, ◌≤◌, ◌+◌, ◌-◌, [], true, length, IfOk, IfErr, IsSomeAnd, OnOk, OnErr};
     ghost use Rattle.osdmap.specs.Changes.{after, IsLawful};
     ghost use Rattle.refusal.specs.declared.refused.Refusal.TheVariants.{SeatSpent};
@@ -37,7 +38,7 @@ impl Monitor {
 
     /// Returns only where a member that has none beside it finds no more than it has seen: nobody else can have made
     /// more, so it does not wait.
-    fn stay_alone<R: Wait>(&self, rt: &R, state: &State, pass: &Pass)
+    fn stay_alone<R: Wait>(&self, rt: &R, state: &State<K>, pass: &Pass)
         requires row { state.now.pass.row ≡ pass.now.row }
         ensures { self.now.alone ≡ true → length pass.now.history ≡ length state.now.pass.history }
     {
@@ -54,7 +55,7 @@ impl Monitor {
     ///
     /// `SeatSpent` (31), once the member's seat has made its draws and only then. The member then has its seat, and
     /// what it has seen is as it was.
-    pub fn share<R: Wait>(&self, rt: &R, member: &mut Member) -> Result<Shared<'_>, Refusal>
+    pub fn share<R: Wait>(&self, rt: &R, member: &mut Member) -> Result<Shared<'_, K>, Refusal>
         requires { IsMemberOf self.now member.old }
         ensures goes_on { GoesOn self.now.first member.old.pass.history member.new.pass.history }
         ensures shares { IfOk result (λ shared. IsSharing self.now shared member.new) }
@@ -94,7 +95,7 @@ impl Monitor {
         &self,
         rt: &R,
         member: &mut Member,
-    ) -> Result<WriteGuard<'_, Locked>, Refusal>
+    ) -> Result<WriteGuard<'_, Locked<K>>, Refusal>
         requires { IsMemberOf self.now member.old }
         ensures row { member.new.pass.row ≡ self.now.row }
         ensures goes_on { GoesOn self.now.first member.old.pass.history member.new.pass.history }
@@ -115,7 +116,7 @@ impl Monitor {
         for _ in rt.forever() {
             match self.lock.wait_write(rt, seat) {
                 Ok(guard) => {
-                    let state: &State = &guard.value().state;
+                    let state: &State<K> = &guard.value().state;
                     if !is_behind(state, &member.pass) {
                         self.stay_alone(rt, state, &member.pass);
                         see(&mut member.pass, state);
@@ -133,7 +134,7 @@ impl Monitor {
     }
 
     /// The state that a member shares, the same at each call: it has seen just what the member has.
-    pub fn shown<'g>(&self, shared: &'g Shared<'_>, member: &Member) -> &'g State
+    pub fn shown<'g>(&self, shared: &'g Shared<'_, K>, member: &Member) -> &'g State<K>
         requires { IsSharing self.now shared.now member.now }
         ensures map { result.now.map ≡ after self.now.first member.now.pass.history }
     {
@@ -141,7 +142,7 @@ impl Monitor {
     }
 
     /// Ends a shared hold: the member has its seat again, and has seen what it saw.
-    pub fn give_back(&self, shared: Shared<'_>, member: &mut Member)
+    pub fn give_back(&self, shared: Shared<'_, K>, member: &mut Member)
         requires { IsSharing self.now shared member.old }
         ensures member { IsMemberOf self.now member.new }
         ensures pass { member.new.pass ≡ member.old.pass }
@@ -163,7 +164,7 @@ impl Monitor {
     }
 
     /// A member that had the lock alone has its seat again.
-    pub(crate) fn put_back(&self, guard: WriteGuard<'_, Locked>, member: &mut Member)
+    pub(crate) fn put_back(&self, guard: WriteGuard<'_, Locked<K>>, member: &mut Member)
         requires holds { Holds self.now guard }
         requires state { IsStateOf self.now guard.value.state.value }
         requires row { member.old.pass.row ≡ self.now.row }

@@ -1,10 +1,12 @@
 -- A commit that nothing refuses, from the seal on.
-use Rattle.std.proofs.Common.{◌≡◌, ◌∙◌, ap, ℕ, ◌+◌, ◌-◌, ◌^◌, ◌<◌, ◌≤◌, [], ◌∷◌, ◌++◌, length, arith, Some, slice_get}
+use Rattle.std.proofs.Common.{◌≡◌, ◌∙◌, ap, sym, ℕ, ◌+◌, ◌-◌, ◌^◌, ◌<◌, ◌≤◌, [], ◌∷◌, ◌++◌, length, arith, Some, slice_get}
 use Rattle.maptypes.specs.declared.change.ChangeParts.{ChangeParts}
 use Rattle.maptypes.specs.Incrementals.{Step}
+use Rattle.osdmap.specs.Maps.{ClusterMap}
 use Rattle.epochlog.specs.Epochs.{Seen, longer, epoch_of}
 use Rattle.pgtable.specs.Tables.{TableFacts}
-use Rattle.state.specs.States.{StateFacts, IsKept, max_epoch, next_step, longer_by}
+use Rattle.keeping.specs.Journals.{with_step}
+use Rattle.state.specs.States.{StateFacts, journal, IsKept, max_epoch, next_step, longer_by}
 use Rattle.state.proofs.Journals.{IsAccepted, step_is, joined_is, shown_is, last_epoch-snoc, epoch-kept}
 
 -- an epoch that a journal has room after is far from the end of 64 bits
@@ -32,3 +34,9 @@ sealed k t base change step pass joined kept ok is more row join =
       seen = ap epoch_of all ∙ last_epoch-snoc k.pass.row.first k.pass.history step ∙ ap (λ (s : Step). s.epoch) is;
       shown = λ found at. shown_is k.pass step found joined _ all place at ∙ next;
     }
+
+-- a journal that is kept with the incremental is that of the pass that has joined it
+pub journal_kept : (first : ClusterMap) (pass joined : Seen) (step next : Step) → step ≡ next → joined ≡ longer_by pass next
+    → with_step (journal first pass.history) step ≡ journal first joined.history
+journal_kept first pass joined step next is join =
+    ap (λ s. with_step (journal first pass.history) s) is ∙ ap (λ (s : Seen). journal first s.history) (sym join)

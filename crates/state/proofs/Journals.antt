@@ -1,5 +1,5 @@
 -- Journals: what one more change does to a lawful one, and to what a pass has seen.
-use Rattle.std.proofs.Common.{◌≡◌, ◌∙◌, sym, ap, ℕ, zero, suc, ◌+◌, ◌<◌, List, [], ◌∷◌, ◌++◌, length, refl, arith, None, Some, subst, true, false, not, nat_lt, ◌==◌, if◌then◌else◌, length-append, slice_get}
+use Rattle.std.proofs.Common.{◌≡◌, Bool, ◌∙◌, sym, ap, ℕ, zero, suc, ◌+◌, ◌<◌, List, [], ◌∷◌, ◌++◌, length, refl, arith, None, Some, subst, true, false, not, nat_lt, ◌==◌, if◌then◌else◌, length-append, slice_get}
 use Rattle.maptypes.specs.declared.change.ChangeParts.{ChangeParts}
 use Rattle.osdmap.specs.Maps.{ClusterMap}
 use Rattle.maptypes.specs.Incrementals.{Step}
@@ -72,14 +72,14 @@ pub IsKept-opened : (m : ClusterMap) (row : Line) (t : TableFacts) (runs : ℕ) 
 unfolding IsLawful
 IsKept-opened m row t runs begins table = record { lawful = tt; begins = begins; map = refl; table = table }
 
--- the fact of a state does not look at its runs
-pub IsKept-ran : (k : StateFacts) (t : TableFacts) (runs : ℕ) → IsKept k t → IsKept (record k { runs = runs }) t
-IsKept-ran k t runs kept = record { lawful = kept.lawful; begins = kept.begins; map = kept.map; table = kept.table }
+-- the fact of a state looks neither at its runs nor at whether its store has failed
+pub IsKept-ran : (k : StateFacts) (t : TableFacts) (runs : ℕ) (failed : Bool) → IsKept k t → IsKept (record k { runs = runs; has_failed = failed }) t
+IsKept-ran k t runs failed kept = record { lawful = kept.lawful; begins = kept.begins; map = kept.map; table = kept.table }
 
 -- the fact of a state is kept by a commit that nothing refuses
-pub IsKept-committed : (k : StateFacts) (t t2 : TableFacts) (change : ChangeParts) (runs : ℕ) → IsKept k t → change_fault k.map change ≡ None
-    → IsTableOf t2 (apply k.map (next_step k.map change)) → IsKept (record (committed k change) { runs = runs }) t2
-IsKept-committed k t t2 change runs kept accepted table = record {
+pub IsKept-committed : (k : StateFacts) (t t2 : TableFacts) (change : ChangeParts) (runs : ℕ) (failed : Bool) → IsKept k t → change_fault k.map change ≡ None
+    → IsTableOf t2 (apply k.map (next_step k.map change)) → IsKept (record (committed k change) { runs = runs; has_failed = failed }) t2
+IsKept-committed k t t2 change runs failed kept accepted table = record {
   lawful = IsLawful-snoc k.first k.pass.history (next_step k.map change) kept.lawful (ap (λ (m : ClusterMap). m.epoch + 1) kept.map)
       (subst (λ (m : ClusterMap). change_fault m change ≡ None) kept.map accepted);
   begins = kept.begins;
@@ -130,6 +130,6 @@ pub step_is : (k : StateFacts) (base : ℕ) (change : ChangeParts) (step : Step)
     → step ≡ next_step k.map change
 step_is k base change step current is = rw current at is
 
--- a state with another pass and map, and other runs
-abbrev pub with_parts : StateFacts → Seen → ClusterMap → ℕ → StateFacts
-with_parts k pass m runs = record k { pass = pass; map = m; runs = runs }
+-- a state with another pass and map, and other runs, whose store has failed or not
+abbrev pub with_parts : StateFacts → Seen → ClusterMap → ℕ → Bool → StateFacts
+with_parts k pass m runs failed = record k { pass = pass; map = m; runs = runs; has_failed = failed }

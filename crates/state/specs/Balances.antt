@@ -1,12 +1,13 @@
 -- Balancing: a plan and its commit, at one epoch.
-use Rattle.std.specs.Prelude.{◌≡◌, ◌≢◌, ◌⊎◌, ℕ, ◌+◌, None, Some, length, Result, OnErr, MatchResult}
+use Rattle.std.specs.Prelude.{◌≡◌, ◌≢◌, ◌⊎◌, ℕ, ◌+◌, None, Some, length, false, Result, IfErr, MatchResult}
 use Rattle.refusal.specs.declared.refused.Refusal.{Refusal}
 use Rattle.refusal.specs.declared.refused.Refusal.TheVariants.{Memory as OutOfMemory}
 use Rattle.osdmap.specs.Maps.{ClusterMap}
 use Rattle.osdmap.specs.Evals.{evals_of}
 use Rattle.balancer.specs.Shares.{Aim}
 use Rattle.balancer.specs.Plans.{plan_fault, plan_change, plan_moves, pool_groups}
-use Rattle.state.specs.States.{StateFacts, fault_in, ran, committed, IsUnchanged, IsRefusedBy}
+use Rattle.state.specs.declared.balancing.Balance.{Balance}
+use Rattle.state.specs.States.{StateFacts, fault_in, ran, committed, IsUnchangedBy, IsRefusedBy}
 
 -- how many moves the greedy plan has
 abbrev pub moves_in : ClusterMap → ℕ → Aim → ℕ → ℕ
@@ -23,7 +24,7 @@ IsBalanced old new pool aim limit epoch =
     ((moves_in old.map pool aim limit ≡ 0) × (epoch ≡ old.map.epoch) × (new ≡ after_planning pool old))
     ⊎ ((moves_in old.map pool aim limit ≢ 0)
     × (fault_in old old.map.epoch (plan_change old.map pool aim limit) ≡ None)
-    × (epoch ≡ old.map.epoch + 1)
+    × (old.has_failed ≡ false) × (epoch ≡ old.map.epoch + 1)
     × (new ≡ ran (evals_of new.map (plan_change old.map pool aim limit))
     (committed (after_planning pool old) (plan_change old.map pool aim limit))))
 
@@ -37,11 +38,11 @@ IsUnbalanced old pool aim limit e =
     ⊎ ((moves_in old.map pool aim limit ≢ 0)
     × IsRefusedBy (fault_in old old.map.epoch (plan_change old.map pool aim limit)) e)))
 
--- what balancing answers and leaves: the epoch then and the moves; or why there is no answer, and then nothing is
--- changed but the count of runs
-abbrev pub Balances : StateFacts → StateFacts → ℕ → Aim → ℕ → Result (ℕ × ℕ) Refusal → Type 0
+-- what balancing answers and leaves: the epoch then and the moves; or why there is no answer, and then all is as before
+-- but for runs and a store that failed
+abbrev pub Balances : StateFacts → StateFacts → ℕ → Aim → ℕ → Result Balance Refusal → Type 0
 Balances old new pool aim limit r =
-    MatchResult r (λ ok. (plan_fault old.map pool ≡ None) × (ok.1 ≡ moves_in old.map pool aim limit)
-    × IsBalanced old new pool aim limit ok.0)
+    MatchResult r (λ ok. (plan_fault old.map pool ≡ None) × (ok.moves ≡ moves_in old.map pool aim limit)
+    × IsBalanced old new pool aim limit ok.epoch)
     (IsUnbalanced old pool aim limit)
-    × OnErr r (IsUnchanged old new)
+    × IfErr r (λ e. IsUnchangedBy e old new)

@@ -1,11 +1,12 @@
 //! What is asked of a state.
 
 use crate::state::State;
+use keeping::Keeps;
 use maptypes::{Pg, UpSet};
 use refusal::Refusal;
 use std::alloc::Global;
 
-impl State {
+impl<K: Keeps + Drop> State<K> {
     ghost use Rattle.std.specs.Prelude.{◌≡◌, Some, None};
     ghost use Rattle.std.specs.Result.{result_err};
     ghost use Rattle.osdmap.specs.Placement.{group_fault};

@@ -3,10 +3,21 @@
 use crate::state::State;
 use balancer::{Request, plan};
 use epochlog::{Pass, Row};
+use keeping::Keeps;
 use refusal::Refusal;
 
-impl State {
-    ghost use Rattle.std.specs.Prelude.{◌≡◌};
+/// What balancing did.
+#[derive(Clone, Copy, Debug, PartialEq, Eq)]
+pub struct Balance {
+    /// The epoch then.
+    pub epoch: u64,
+    /// How many moves the plan has.
+    pub moves: usize,
+}
+
+impl<K: Keeps + Drop> State<K> {
+    ghost use Rattle.std.specs.Prelude.{◌≡◌, IfErr};
+    ghost use Rattle.refusal.specs.declared.refused.Refusal.TheVariants.{NotStored};
     ghost use Rattle.balancer.specs.Requests.{asked_aim};
     ghost use Rattle.state.specs.Balances.{Balances};
 
@@ -17,26 +28,31 @@ impl State {
     /// # Errors
     ///
     /// `UnknownPool` (23) where there is no such pool; else `BalanceRule` (29) where the pool's rule has more than one
-    /// block; else `Memory` (30) where there is no memory for it, or where a move is good `JournalFull` (28) or
-    /// `NotSealed` (32) as in `commit`. After an error all is as before, but that rules may have run and be counted.
+    /// block; else `Memory` (30) where there is no memory for it, or where a move is good `JournalFull` (28),
+    /// `NotStored` (35) or `NotSealed` (32) as in `commit`. After an error all is as before, but for what `commit` may
+    /// leave.
     pub fn balance(
         &mut self,
         row: &Row,
         pass: &mut Pass,
         request: Request<'_>,
-    ) -> Result<(u64, usize), Refusal>
+    ) -> Result<Balance, Refusal>
         requires row { self.old.pass.row ≡ row.now }
         requires pass { pass.old ≡ self.old.pass }
         ensures balances { Balances self.old self.new
             request.entry.pool (asked_aim request.entry) request.entry.limit result }
+        ensures stored { IfErr result (λ e. e ≡ NotStored → K.may_fail) }
         ensures pass { pass.new ≡ self.new.pass }
     {
         let (change, moves) = plan(self.alloc, &self.map, &self.table, request, &mut self.work)?;
         let current = self.map.epoch();
         if moves == 0 {
-            return Ok((current, 0));
+            return Ok(Balance {
+                epoch: current,
+                moves,
+            });
         }
-        let (epoch, _) = self.commit(row, pass, current, change)?;
-        Ok((epoch, moves))
+        let epoch = self.commit(row, pass, current, change)?.epoch;
+        Ok(Balance { epoch, moves })
     }
 }

@@ -10,4 +10,6 @@ mod answers;
 mod balancing;
 mod state;
 
-pub use state::State;
+pub use balancing::Balance;
+pub use keeping::{Keeps, Nothing};
+pub use state::{Commit, State};

@@ -1,4 +1,5 @@
-//! The state of a monitor: the first map, what its pass has seen of the row of epochs, the present map and its table.
+//! The state of a monitor: the first map, what its pass has seen of the row of epochs, the present map and its table,
+//! and what keeps its journal.
 
 ghost use Rattle.std.specs.Prelude.{◌≡◌, ◌+◌, ◌^◌, ◌<◌, IfOk, None};
 ghost use Rattle.osdmap.specs.Changes.{change_fault, apply};
@@ -9,6 +10,7 @@ ghost use Rattle.state.specs.States.{IsReady};
 
 use crush::Work;
 use epochlog::{Pass, Row};
+use keeping::{Keeper, Keeps, Nothing};
 use maptypes::{Change, Incremental};
 use osdmap::OsdMap;
 use pgtable::{Patch, PgTable};
@@ -16,31 +18,44 @@ use refusal::{Memory, Refusal};
 use std::alloc::Global;
 use std::marker::Model;
 
-/// The state of a monitor, where it takes memory, and the work that it lends to all that runs rules.
+/// What a commit made.
+#[derive(Clone, Copy, Debug, PartialEq, Eq)]
+pub struct Commit {
+    /// The new epoch.
+    pub epoch: u64,
+    /// For how many groups a rule was run.
+    pub evals: usize,
+}
+
+/// The state of a monitor, where it takes memory, the work that it lends to all that runs rules, and the keeper of its
+/// journal.
 #[derive(Drop)]
-pub struct State {
+pub struct State<K: Keeps + Drop = Nothing> {
     pub(crate) alloc: Global,
     pub(crate) first: OsdMap,
     pub(crate) pass: Pass,
     pub(crate) map: OsdMap,
     pub(crate) table: PgTable,
     pub(crate) work: Work,
+    pub(crate) keeper: Keeper<K>,
 }
 
-impl Model for State {
-    ghost use Rattle.state.specs.States.{StateFacts, IsKept};
+impl<K: Keeps + Drop> Model for State<K> {
+    ghost use Rattle.keeping.specs.Stores.{IsKeptBy};
+    ghost use Rattle.state.specs.States.{StateFacts, IsKept, facts, journal};
 
     ghost Value = { StateFacts };
 
-    ghost view = { λ s. record { first = s.first.map; pass = s.pass; map = s.map.map; runs = s.work.runs } };
+    ghost view = { λ s. facts s.first.map s.pass s.map.map s.work.runs s.keeper.has_failed };
 
     ghost invariant = { λ s.
-        IsKept (record { first = s.first.map; pass = s.pass; map = s.map.map; runs = s.work.runs }) s.table };
+        IsKept (facts s.first.map s.pass s.map.map s.work.runs s.keeper.has_failed) s.table
+        × IsKeptBy K.holds K.may_leave K.may_fail s.keeper (journal s.first.map s.pass.history) };
 }
 
 /// All that a commit needs memory for: room in the map, the patch of its table, for which `work` counts a rule run for
 /// each evaluation, and the incremental of the next epoch in a box.
-fn prepared(
+fn prepare(
     alloc: Global,
     map: &mut OsdMap,
     table: &PgTable,
@@ -61,7 +76,7 @@ fn prepared(
 }
 
 /// Makes the map and its table those after an incremental, for which all is ready. It takes no memory and cannot fail.
-fn make(map: &mut OsdMap, table: &mut PgTable, step: &Incremental, patch: Patch)
+fn apply_step(map: &mut OsdMap, table: &mut PgTable, step: &Incremental, patch: Patch)
     requires next { step.now.epoch ≡ map.old.map.epoch + 1 }
     requires lawful { change_fault map.old.map step.now.change ≡ None }
     requires room { HasRoomFor step.now.change map.old }
@@ -73,23 +88,32 @@ fn make(map: &mut OsdMap, table: &mut PgTable, step: &Incremental, patch: Patch)
     table.install(patch);
 }
 
-impl State {
-    ghost use Rattle.std.specs.Prelude.{◌≡◌, ◌≤◌, not, nat_lt, length, IfOk, OnOk};
+impl<K: Keeps + Drop> State<K> {
+    ghost use Rattle.std.specs.Prelude.{◌≡◌, ◌≢◌, ◌≤◌, [], not, nat_lt, length, false, IfOk, IfErr, OnOk};
     ghost use Rattle.std.specs.Result.{result_err};
     ghost use Rattle.osdmap.specs.Changes.{epoch_after, after, IsLawful};
     ghost use Rattle.pgtable.specs.Tables.{IsTableOf};
-    ghost use Rattle.state.specs.States.{opened, max_epoch, Commits, fault_in};
+    ghost use Rattle.refusal.specs.declared.refused.Refusal.TheVariants.{NotStored};
+    ghost use Rattle.keeping.specs.Journals.{Journal, HasAll};
+    ghost use Rattle.state.specs.States.{journal, opened, max_epoch, Commits, fault_in};
 
     /// The state at its beginning: no change yet. It is for a row whose first epoch is the map's. From here on, `work`
     /// counts all runs of rules of the state: one for each group now, then one for each evaluation of a change, and one
-    /// for each group of a pool that is balanced.
+    /// for each group of a pool that is balanced. The store holds the map and no change yet.
     ///
     /// # Errors
     ///
     /// `Memory` (30) where there is no memory for it.
-    pub fn new(alloc: Global, map: OsdMap, row: &Row, work: Work) -> Result<State, Memory>
+    pub fn new(
+        alloc: Global,
+        map: OsdMap,
+        row: &Row,
+        work: Work,
+        store: K,
+    ) -> Result<State<K>, Memory>
         requires row { row.now.first ≡ map.map.epoch }
         requires fresh { work.runs ≡ 0 }
+        requires held { K.holds store (journal map.map []) }
         ensures { IfOk result (λ s. s ≡ opened map.map row.now) }
     {
         let first = map.copy(alloc)?;
@@ -103,6 +127,7 @@ impl State {
             map,
             table,
             work,
+            keeper: Keeper::new(store),
         })
     }
 
@@ -132,56 +157,71 @@ impl State {
         &self.pass
     }
 
-    /// Applies a change to the present map, whose epoch `base` must be, and seals it in the row: the new epoch, and the
-    /// number of groups whose rules it ran, which are those whose placement it can alter. `pass` is one of the caller
-    /// that has seen what the state has; it sees the change too. All memory is taken before the seal; after it nothing
-    /// can fail.
+    /// What keeps the journal. After a crash all accepted changes are left, and at most one more; and exactly these,
+    /// unless the store has failed.
+    pub fn store(&self) -> &K
+        ensures held { self.now.has_failed ≡ false → K.holds result.now (journal self.now.first self.now.pass.history) }
+        ensures left { (left : Journal) → K.may_leave result.now left
+            → HasAll (journal self.now.first self.now.pass.history) left }
+    {
+        self.keeper.store()
+    }
+
+    /// Applies a change to the present map, whose epoch `base` must be, keeps it in the store and seals it in the row:
+    /// the new epoch, and the number of groups whose rules it ran, which are those whose placement it can alter. `pass`
+    /// is one of the caller that has seen what the state has; it sees the change too. All memory is taken before the
+    /// change is kept, and it is kept before anybody can see it; after the seal nothing can fail.
     ///
     /// # Errors
     ///
     /// `StaleEpoch` (20) with the present epoch where `base` is another; else what [`OsdMap::check`] refuses (21, 22,
     /// 23, 24, 13, 15, 25, 26, 27); else `JournalFull` (28) where the journal has its capacity; else `Memory` (30)
-    /// where there is no memory for it, or `NotSealed` (32) where another sealed the epoch. After an error all is as
-    /// before, but that rules may have run and be counted.
+    /// where there is no memory for it, `NotStored` (35) where the store does not take it or has failed before, or
+    /// `NotSealed` (32) where another sealed the epoch. After an error all is as before, but that rules may have run and
+    /// be counted, and that after 35 or 32 the store may count as failed: then nothing more is accepted.
     pub fn commit(
         &mut self,
         row: &Row,
         pass: &mut Pass,
         base: u64,
         change: Change,
-    ) -> Result<(u64, usize), Refusal>
+    ) -> Result<Commit, Refusal>
         requires row { self.old.pass.row ≡ row.now }
         requires pass { pass.old ≡ self.old.pass }
         ensures commits { Commits self.old self.new base change result }
+        ensures stored { IfErr result (λ e. e ≡ NotStored → K.may_fail) }
         ensures pass { pass.new ≡ self.new.pass }
     {
         self.accepts(row, base, &change)?;
-        let (patch, step) = prepared(
+        let (patch, step) = prepare(
             self.alloc,
             &mut self.map,
             &self.table,
             &mut self.work,
             change,
         )?;
+        self.keeper.keep(&step)?;
         let Ok(epoch) = row.seal(pass, step) else {
+            self.keeper.forget();
             return Err(Refusal::NotSealed);
         };
         self.pass.join(pass);
         let evals = patch.evals();
-        make(
+        apply_step(
             &mut self.map,
             &mut self.table,
             row.at(&self.pass, epoch),
             patch,
         );
-        Ok((epoch, evals))
+        Ok(Commit { epoch, evals })
     }
 
     /// Whether a commit of a change to the map of the epoch `base` is refused, memory and the seal aside.
-    #[tactic(auto, unfolding(crate::specs::States::commit_fault))]
+    #[tactic(auto, unfolding(crate::specs::States::commit_fault), using(crate::proofs::Refusing::change_not_stored))]
     fn accepts(&self, row: &Row, base: u64, change: &Change) -> Result<(), Refusal>
         requires { self.now.pass.row ≡ row.now }
         ensures fault { result_err result ≡ fault_in self.now base change.now }
+        ensures other { IfErr result (λ e. e ≢ NotStored) }
         ensures early { OnOk result (self.now.map.epoch ≤ max_epoch) }
     {
         let current = self.map.epoch();

@@ -57,6 +57,7 @@ fn groups(alloc: Global, stated: &[PgParts]) -> Result<Vec<Pg>, AllocError>
 
 /// Pools whose numbers are within the limits: `BadPool` (15) where one of them has more groups for placement than
 /// groups.
+#[tactic(auto, using(crate::proofs::Refusing::refused_with_one))]
 fn pools(alloc: Global, stated: &[PoolPart]) -> Result<Vec<Pool>, Refusal>
     requires { list_all pool_fits stated.now ≡ true }
     ensures { Makes result (refused_unless (list_all has_enough_groups stated.now) BadPool)
@@ -71,6 +72,7 @@ fn pools(alloc: Global, stated: &[PoolPart]) -> Result<Vec<Pool>, Refusal>
 
 /// Growths whose numbers are within their limits: `BadPool` (15) where one of them has more groups for placement than
 /// groups.
+#[tactic(auto, using(crate::proofs::Refusing::refused_with_one))]
 fn growths(alloc: Global, stated: &[GrowPart]) -> Result<Vec<Grow>, Refusal>
     requires { list_all growth_fits stated.now ≡ true }
     ensures { Makes result (refused_unless (list_all grows_evenly stated.now) BadPool)

@@ -3,7 +3,7 @@ use Rattle.monitor.proofs.Balancing.{balanced_by, adds_plan, never_spent}
 use Rattle.monitor.proofs.locked.balance.Goals as goal
 
 pub returns-clause-balances : goal.returns-clause-balances
-returns-clause-balances c =
+returns-clause-balances g c =
     let old = c.args.state.now in
     let new = c.balance-answer.new.self in
     let was = c.map.ensures in
@@ -14,7 +14,7 @@ returns-clause-balances c =
     rw (c.balance-answer.ensures.pass, c.requires.pass, ← c.requires.row) done
 
 pub returns-clause-own : goal.returns-clause-own
-returns-clause-own c =
+returns-clause-own g c =
     let was = c.map.ensures in
     let done = adds_plan c.args.state.now c.args.request.pool (asked_aim c.args.request) c.args.request.limit
     (record { map = was.after; lawful = was.lawful; epoch = was.epoch }) c.balance-answer.new.self c.balance-answer.result
@@ -22,5 +22,5 @@ returns-clause-own c =
     rw (c.balance-answer.ensures.pass, c.requires.pass) done
 
 pub returns-clause-unspent : goal.returns-clause-unspent
-returns-clause-unspent c =
+returns-clause-unspent g c =
     never_spent c.args.state.now c.balance-answer.new.self c.args.request.pool (asked_aim c.args.request) c.args.request.limit c.balance-answer.result c.balance-answer.ensures.balances

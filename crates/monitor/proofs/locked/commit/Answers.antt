@@ -2,7 +2,7 @@ use Rattle.monitor.proofs.Histories.{committed_by, adds_change, unspent}
 use Rattle.monitor.proofs.locked.commit.Goals as goal
 
 pub returns-clause-commits : goal.returns-clause-commits
-returns-clause-commits c =
+returns-clause-commits g c =
     let old = c.args.state.now in
     let new = c.commit-answer.new.self in
     let was = c.map.ensures in
@@ -14,11 +14,11 @@ returns-clause-commits c =
     rw (c.commit-answer.ensures.pass, c.requires.pass, ← c.requires.row) done
 
 pub returns-clause-own : goal.returns-clause-own
-returns-clause-own c =
+returns-clause-own g c =
     let done = adds_change c.args.state.now c.commit-answer.new.self c.args.base c.args.change c.commit-answer.result
     c.commit-answer.ensures.commits in
     rw (c.commit-answer.ensures.pass, c.requires.pass) done
 
 pub returns-clause-unspent : goal.returns-clause-unspent
-returns-clause-unspent c =
+returns-clause-unspent g c =
     unspent c.args.state.now c.commit-answer.new.self c.args.base c.args.change c.commit-answer.result c.commit-answer.ensures.commits

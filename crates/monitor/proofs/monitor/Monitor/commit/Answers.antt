@@ -10,7 +10,7 @@ returns-clause-commits g c =
     let first = c.deref_mut-state.result.now.first in
     let rows : c.self.inside.row ≡ c.args.self.now.row = ap (λ (m : Monitored). m.row) c.self.view_is in
     let firsts : first ≡ c.args.self.now.first =
-    ap (λ (k : StateFacts). k.first) c.deref_mut-state.ensures.value ∙ ap (λ (l : Locked). l.state.value.first) c.value_mut.ensures.value ∙ c.in_ok-guard.ensures.holds.1 in
+    ap (λ (k : StateFacts). k.first) c.deref_mut-state.ensures.value ∙ ap (λ (l : Locked g.row.K.Denot). l.state.value.first) c.value_mut.ensures.value ∙ c.in_ok-guard.ensures.holds.1 in
     let done = commits_from first (length c.self.inside.row.cells) c.args.member.now.pass.history
     c.hold.new.member.pass.history c.commit-answer.new.pass.history c.args.base c.args.change c.commit-answer.result
     c.hold.ensures.goes_on.begins c.commit-answer.ensures.commits in

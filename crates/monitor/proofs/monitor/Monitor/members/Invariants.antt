@@ -4,4 +4,4 @@ use Rattle.monitor.specs.Members.{IsNewMemberOf}
 use Rattle.monitor.proofs.monitor.Monitor.members.Given as goal
 
 abbrev pub invariant-loop-seat : goal.invariant-loop-seat
-invariant-loop-seat l = (length l.members.items ≡ length l.yielded) × All (IsNewMemberOf l.self) l.members.items
+invariant-loop-seat g l = (length l.members.items ≡ length l.yielded) × All (IsNewMemberOf l.self) l.members.items

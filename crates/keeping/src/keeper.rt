@@ -1,0 +1,72 @@
+//! A store that is asked nothing more once it has failed.
+
+use crate::keeps::Keeps;
+use maptypes::Incremental;
+use refusal::Refusal;
+
+/// A store, and whether it has failed. Nobody knows what a store holds after that, so it is asked nothing more.
+#[derive(Drop)]
+pub struct Keeper<K: Keeps + Drop> {
+    pub(crate) store: K,
+    pub(crate) has_failed: bool,
+}
+
+impl<K: Keeps + Drop> Keeper<K> {
+    ghost use Rattle.std.specs.Prelude.{◌≡◌, true, false, IfErr, OnOk, OnErr};
+    ghost use Rattle.refusal.specs.declared.refused.Refusal.TheVariants.{NotStored};
+    ghost use Rattle.maptypes.specs.Incrementals.{Step};
+    ghost use Rattle.keeping.specs.Journals.{Journal, with_step};
+    ghost use Rattle.keeping.specs.Stores.{IsKeptBy};
+
+    /// The keeper of a store that has not failed.
+    #[tactic(auto, using(crate::proofs::Keeping::kept_first))]
+    pub fn new(store: K) -> Keeper<K>
+        ensures value { result ≡ record { store = store; has_failed = false } }
+        ensures kept { (j : Journal) → K.holds store j → IsKeptBy K.holds K.may_leave K.may_fail result j }
+    {
+        Keeper {
+            store,
+            has_failed: false,
+        }
+    }
+
+    /// The store.
+    pub fn store(&self) -> &K
+        ensures { result.now ≡ self.now.store }
+    {
+        &self.store
+    }
+
+    /// Keeps an incremental behind those that are kept.
+    ///
+    /// # Errors
+    ///
+    /// `NotStored` (35) where the store does not take it, or has failed before. A crash may then still leave it.
+    pub fn keep(&mut self, step: &Incremental) -> Result<(), Refusal>
+        ensures kept { OnOk result ((self.old.has_failed ≡ false) × (self.new.has_failed ≡ false)
+            × ((j : Journal) → IsKeptBy K.holds K.may_leave K.may_fail self.old j
+            → IsKeptBy K.holds K.may_leave K.may_fail self.new (with_step j step.now))) }
+        ensures failed { IfErr result (λ e. (e ≡ NotStored) × (self.new.has_failed ≡ true)
+            × ((j : Journal) → IsKeptBy K.holds K.may_leave K.may_fail self.old j
+            → IsKeptBy K.holds K.may_leave K.may_fail self.new j)) }
+    {
+        if self.has_failed {
+            return Err(Refusal::NotStored);
+        }
+        if self.store.keep(step).is_err() {
+            self.has_failed = true;
+            return Err(Refusal::NotStored);
+        }
+        Ok(())
+    }
+
+    /// Takes note that the last incremental that was kept is not in the journal: a store that holds it counts as failed.
+    pub fn forget(&mut self)
+        ensures { (j : Journal) (step : Step) → IsKeptBy K.holds K.may_leave K.may_fail self.old (with_step j step)
+            → (self.old.has_failed ≡ false) → IsKeptBy K.holds K.may_leave K.may_fail self.new j }
+    {
+        if !self.store.forgets() {
+            self.has_failed = true;
+        }
+    }
+}

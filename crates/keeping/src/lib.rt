@@ -1,0 +1,17 @@
+//! What keeps the journal of a monitor, so that no accepted change is lost in a crash.
+//!
+//! - `keeps`: what a store owes
+//! - `nothing`: the store of a monitor that keeps its journal in memory alone
+//! - `keeper`: a store that is asked nothing more once it has failed
+//! - `tests`: a store that fails, by an example
+#![tactic(auto)]
+
+mod keeper;
+mod keeps;
+mod nothing;
+#[cfg(test)]
+mod tests;
+
+pub use keeper::Keeper;
+pub use keeps::{Keeps, NotKept};
+pub use nothing::Nothing;

@@ -1,0 +1,75 @@
+//! A store that fails, by an example.
+
+use crate::{Keeper, Keeps, NotKept};
+use keylist::Entries;
+use mapparts::Profile;
+use maptypes::{Change, ChangeParts, Incremental};
+use std::alloc::Global;
+use std::test::Fail;
+
+// Takes one incremental, and counts how often it is asked for that. Nothing is known of what it holds.
+#[derive(Drop)]
+struct Narrow {
+    asked: u8,
+}
+
+impl Keeps for Narrow {
+    ghost use Rattle.std.specs.Prelude.{⊤};
+
+    ghost holds = { λ _ _. ⊤ };
+
+    ghost may_leave = { λ _ _. ⊥ };
+
+    ghost may_fail = { ⊤ };
+
+    ghost settled = { λ _ _ _ _ may. absurd may };
+
+    fn keep(&mut self, _step: &Incremental) -> Result<(), NotKept> {
+        self.asked = self.asked.saturating_add(1);
+        if self.asked == 1 {
+            Ok(())
+        } else {
+            Err(NotKept)
+        }
+    }
+
+    fn forgets(&self) -> bool {
+        false
+    }
+}
+
+// The incremental of an epoch, whose change is empty.
+fn incremental(alloc: Global, epoch: u64) -> Option<Incremental> {
+    let change = Change::new(ChangeParts {
+        profile: Profile::Plain,
+        old_pools: Entries::new(Vec::new(alloc)),
+        new_crush: None,
+        new_pools: Entries::new(Vec::new(alloc)),
+        grow_pool: Entries::new(Vec::new(alloc)),
+        down: Entries::new(Vec::new(alloc)),
+        up: Entries::new(Vec::new(alloc)),
+        weight: Entries::new(Vec::new(alloc)),
+        old_upmap: Entries::new(Vec::new(alloc)),
+        old_items: Entries::new(Vec::new(alloc)),
+        new_upmap: Entries::new(Vec::new(alloc)),
+        new_items: Entries::new(Vec::new(alloc)),
+    })
+    .ok()?;
+    Some(Incremental::new(epoch, change))
+}
+
+#[test]
+fn a_failed_store_is_asked_nothing_more(rt: HostRuntime) {
+    let mut keeper = Keeper::new(Narrow { asked: 0 });
+    let mut answers = [0; 4];
+    if let Some(step) = incremental(rt.alloc(), 2) {
+        for answer in &mut answers {
+            *answer = keeper
+                .keep(&step)
+                .err()
+                .map_or(1, |refused| refused.number());
+        }
+    }
+    assert_eq!(rt; answers, [1, 35, 35, 35]);
+    assert_eq!(rt; keeper.store().asked, 2);
+}
