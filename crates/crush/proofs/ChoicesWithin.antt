@@ -18,10 +18,9 @@ use Rattle.crush.specs.World.{World, is_out}
 use Rattle.crush.specs.Descent.{item_below, leaf_below}
 use Rattle.crush.specs.Firstn.{numbers_from, is_free, attempt_with, attempt_at, attempt_of, is_failed, replica_of, with_attempt, after_replica, firstn}
 use Rattle.crush.specs.Indep.{replica_number, replica_numbers, holds_item, is_open, position_with, position_at, position_of, after_turn, after_round, indep}
-use Rattle.crush_laws.proofs.FirstnSegments.{attempt_by, chosen_by, first_of}
-use Rattle.crush_laws.proofs.Folds.{fold_keeps}
-use Rattle.crush_laws.proofs.IndepPositions.{position_by, filled_by}
-use Rattle.crush_laws.proofs.DescentsWithin.{other, IsDevice, HasIn, AreAlike, descent_same, descent_in, descent_device, leaf_same, leaf_in}
+use Rattle.crush.proofs.Folds.{fold_keeps}
+use Rattle.crush.proofs.ItemTries.{attempt_by, chosen_by, first_of, position_by, filled_by}
+use Rattle.crush.proofs.DescentsWithin.{other, IsDevice, HasIn, AreAlike, descent_same, descent_in, descent_device, leaf_same, leaf_in}
 
 -- whether a device is out matters only where type 0 is wanted
 barred_same : (R : ℤ → Type 0) (w : World) (vs : List ℕ) (level : ℕ) (item : ℤ) → AreAlike R w vs → R item → (level ≡ 0 → IsDevice item) → (eqb level 0 && is_out w item) ≡ (eqb level 0 && is_out (other w vs) item)

@@ -1,7 +1,7 @@
 -- two lists of reweights that agree on the devices of a set place alike within it: the run of a rule
 use Rattle.std.proofs.Common.{◌≡◌, ℕ, ◌-◌, ℤ, List, [], ◌∷◌, ◌++◌, length, map, min, Option, Some, None, ap, refl, ◌∙◌, arith}
 use Rattle.std.specs.List.{All, fold}
-use Rattle.std.proofs.lemmas.List.Elements.{All-head, All-tail, All-cons, All-append, All-take, All-map, All-weaker}
+use Rattle.std.proofs.lemmas.List.Elements.{All-head, All-tail, All-cons, All-append, All-map, All-weaker}
 use Rattle.buckets.specs.declared.bucket.Bucket.{Bucket}
 use Rattle.crush.specs.declared.choose.Choice.{Choice}
 use Rattle.crush.specs.declared.choose.Position.{Position}
@@ -17,8 +17,8 @@ use Rattle.crush.specs.World.{World}
 use Rattle.crush.specs.Firstn.{firstn}
 use Rattle.crush.specs.Indep.{indep, leaf_at}
 use Rattle.crush.specs.Run.{segment_by, segment_of, after_bucket, after_entry, choosing_of, Progress, no_progress, after_step, run_of}
-use Rattle.crush_laws.proofs.DescentsWithin.{other, HasIn, AreAlike}
-use Rattle.crush_laws.proofs.ChoicesWithin.{other_step, LeadsIn, leads_in, firstn_same, firstn_in, HoldsIn, indep_same, indep_in}
+use Rattle.crush.proofs.DescentsWithin.{other, HasIn, AreAlike}
+use Rattle.crush.proofs.ChoicesWithin.{other_step, LeadsIn, leads_in, firstn_same, firstn_in, HoldsIn, indep_same, indep_in}
 
 -- an entry that names nothing outside the set
 abbrev pub IsIn : (ℤ → Type 0) → Option ℤ → Type 0
@@ -87,7 +87,7 @@ working_in R k vs size found (entry ∷ working) s all holds =
     working_in R k vs size (after_entry k size found entry) working s (All-tail (IsIn R) entry working all) (entry_in R k vs size found entry s (All-head (IsIn R) entry working all) holds)
 
 -- an empty working list
-nothing : (R : ℤ → Type 0) → All (IsIn R) []
+pub nothing : (R : ℤ → Type 0) → All (IsIn R) []
 nothing R k d within = absurd (omega arith)
 
 -- what the steps have come to
@@ -104,7 +104,7 @@ step_same R w vs size p (Chooses c) s all = ap (λ ys. progress_of p.tries ys p.
 step_same R w vs size p Emit s all = refl
 
 -- and it works on nothing outside the set
-step_in : (R : ℤ → Type 0) (w : World) (vs : List ℕ) (size : ℕ) (p : Progress) (step : Step) → AreAlike R w vs → TakesIn R step → All (IsIn R) p.working → All (IsIn R) (after_step w size p step).working
+pub step_in : (R : ℤ → Type 0) (w : World) (vs : List ℕ) (size : ℕ) (p : Progress) (step : Step) → AreAlike R w vs → TakesIn R step → All (IsIn R) p.working → All (IsIn R) (after_step w size p step).working
 unfolding after_step
 step_in R w vs size p (SetChooseTries n) s takes all = all
 step_in R w vs size p (SetChooseleafTries n) s takes all = all
@@ -124,24 +124,3 @@ steps_same R w vs size p (step ∷ steps) s takes all =
 pub run_same : (R : ℤ → Type 0) (w : World) (vs : List ℕ) (steps : List Step) (size : ℕ) → AreAlike R w vs → All (TakesIn R) steps → run_of w steps size ≡ run_of (other w vs) steps size
 unfolding run_of
 run_same R w vs steps size s takes = ap (λ p. p.emitted) (steps_same R w vs size no_progress steps s takes (nothing R))
-
--- a step emits nothing outside the set
-emitted_in : (R : ℤ → Type 0) (w : World) (size : ℕ) (p : Progress) (step : Step) → All (IsIn R) p.working → All (IsIn R) p.emitted → All (IsIn R) (after_step w size p step).emitted
-unfolding after_step
-emitted_in R w size p (SetChooseTries n) all out = out
-emitted_in R w size p (SetChooseleafTries n) all out = out
-emitted_in R w size p (Take id) all out = out
-emitted_in R w size p (Chooses c) all out = out
-emitted_in R w size p Emit all out = All-take (IsIn R) size (p.emitted ++ p.working) (All-append (IsIn R) p.emitted p.working out all)
-
--- nor do the steps one after another
-steps_in : (R : ℤ → Type 0) (w : World) (vs : List ℕ) (size : ℕ) (p : Progress) (steps : List Step) → AreAlike R w vs → All (TakesIn R) steps → All (IsIn R) p.working → All (IsIn R) p.emitted → All (IsIn R) (fold (after_step w size) p steps).emitted
-steps_in R w vs size p [] s takes all out = out
-steps_in R w vs size p (step ∷ steps) s takes all out =
-    let next = step_in R w vs size p step s (All-head (TakesIn R) step steps takes) all in
-    steps_in R w vs size (after_step w size p step) steps s (All-tail (TakesIn R) step steps takes) next (emitted_in R w size p step all out)
-
--- and places nothing outside the set
-pub run_in : (R : ℤ → Type 0) (w : World) (vs : List ℕ) (steps : List Step) (size : ℕ) → AreAlike R w vs → All (TakesIn R) steps → All (IsIn R) (run_of w steps size)
-unfolding run_of
-run_in R w vs steps size s takes = steps_in R w vs size no_progress steps s takes (nothing R) (nothing R)

@@ -1,24 +1,18 @@
 -- a placement stays within a set of items that holds, with each bucket, all items of that bucket; and of two lists of
 -- reweights that agree on its devices it does not tell one from the other
-use Rattle.std.proofs.Common.{◌≡◌, ℕ, zero, suc, ◌<◌, ℤ, pos, Bool, true, false, cond, eqb, List, [], ◌∷◌, length, get_or, Option, Some, None, ap, refl, ◌∙◌, subst, arith}
+use Rattle.std.proofs.Common.{◌≡◌, ℕ, zero, suc, ◌<◌, ℤ, pos, Bool, true, false, cond, eqb, List, [], ◌∷◌, length, get_or, Option, Some, None, ap, refl, ◌∙◌, subst}
 use Rattle.std.proofs.lemmas.Bool.{eqb-true}
 use Rattle.std.specs.List.{find, filter_map, cons_option}
 use Rattle.std.specs.Option.{option_and_then, option_map}
 use Rattle.buckets.specs.declared.bucket.Item.{Item}
 use Rattle.buckets.specs.declared.bucket.Bucket.{Bucket}
-use Rattle.buckets.specs.declared.bucket.BucketKind.{BucketKind}
-use Rattle.buckets.specs.declared.bucket.BucketKind.TheVariants.{Uniform, List as InList, Tree as InTree, Straw2}
 use Rattle.crush.specs.declared.choose.Picked.{Picked}
 use Rattle.crush.specs.Forest.{bucket_at, level_of}
-use Rattle.buckets.specs.Items.{word, item_at}
 use Rattle.buckets.specs.Buckets.{IsPickable}
-use Rattle.buckets.specs.Pick.{place_by, place_picked, pick_of}
+use Rattle.buckets.specs.Pick.{place_picked, pick_of}
 use Rattle.crush.specs.World.{World, world_of, is_out}
 use Rattle.crush.specs.Descent.{descent, item_below, device_below, leaf_below}
-use Rattle.buckets.specs.Straw2.{shortfall_at}
-use Rattle.buckets.proofs.UniformDraws.{uniform_place_below}
-use Rattle.buckets.proofs.Straws.{least_below}
-use Rattle.crush_laws.proofs.Picks.{list_picks_greatest_winner, tree_picks_weight}
+use Rattle.crush.proofs.PlacesPicked.{within_by}
 
 -- the same with other reweights
 abbrev pub other : World → List ℕ → World
@@ -39,21 +33,6 @@ pub record HasIn (R : ℤ → Type 0) (buckets : List Bucket) (b : Bucket) : Typ
 pub record AreAlike (R : ℤ → Type 0) (w : World) (vs : List ℕ) : Type 0 where
   pub below : (id : ℤ) (b : Bucket) → R id → bucket_at w.buckets id ≡ Some b → HasIn R w.buckets b
   pub alike : (d : ℤ) → R d → IsDevice d → is_out w d ≡ is_out (other w vs) d
-
--- a place that weighs something has an item
-weighs_within : (items : List Item) (place : ℕ) → 0 < (item_at items place).weight → place < length items
-weighs_within [] zero some = absurd (omega arith)
-weighs_within [] (suc place) some = absurd (omega arith)
-weighs_within (i ∷ items) zero some = omega arith
-weighs_within (i ∷ items) (suc place) some = omega (arith, weighs_within items place some)
-
--- a pick is one of the places
-pub within_by : (k : BucketKind) (b : Bucket) (x r : ℕ) → b.kind ≡ k → IsPickable b → place_by k b x r < length b.items
-unfolding place_by
-within_by Uniform b x r e p = uniform_place_below x (word b.id) (length b.items) r p.some
-within_by InList b x r e p = subst (λ k. place_by k b x r < length b.items) e (list_picks_greatest_winner b x r e p).within
-within_by InTree b x r e p = subst (λ k. place_by k b x r < length b.items) e (weighs_within b.items _ (tree_picks_weight b x r e p))
-within_by Straw2 b x r e p = least_below (shortfall_at x r b.items) (length b.items) p.some
 
 -- what a bucket picks is one of its items
 picked_in : (R : ℤ → Type 0) (buckets : List Bucket) (b : Bucket) (x r : ℕ) → HasIn R buckets b → R (pick_of b x r)
