@@ -10,7 +10,7 @@ use Rattle.maptypes.specs.Pools.{PoolFacts}
 use Rattle.osdmap.specs.Maps.{ClusterMap}
 use Rattle.maptypes.specs.Sets.{is_of, stands}
 use Rattle.osdmap.specs.Placement.{group_of, steps_of, mapped_set, up_set}
-use Rattle.placement_laws.proofs.Standing.{up_are_mapped_and_up}
+use Rattle.osdmap.proofs.StandingUp.{up_are_mapped_and_up}
 use Rattle.balancer.specs.declared.moves.Move.{Move}
 use Rattle.balancer.specs.Shares.{is_candidate, least_gap, deviation, Aim}
 use Rattle.balancer.specs.Moves.{pairs_in, last_level, levels_of, are_beside, has_way, has_own_domain, does_replace, stands_on, has_room, is_allowed}

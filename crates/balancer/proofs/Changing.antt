@@ -22,8 +22,8 @@ use Rattle.maptypes.specs.declared.change.ChangeParts.{ChangeParts}
 use Rattle.maptypes.specs.declared.exception.Exception.{Exception}
 use Rattle.maptypes.specs.declared.exception.Pair.{Pair}
 use Rattle.maptypes.specs.declared.pg.Pg.{Pg}
-use Rattle.maptypes.specs.Exceptions.{place_of, key_of, has_pool_of, has_group, sides, are_pairs, all_named, is_sound, is_exception, stays, exceptions_after}
-use Rattle.maptypes.specs.Growth.{grown}
+use Rattle.maptypes.specs.Exceptions.{pg_key, key_of, has_pool_of, has_group, sides, are_pairs, all_named, is_sound, is_exception, stays, exceptions_after}
+use Rattle.maptypes.specs.Growth.{with_growths}
 use Rattle.mapparts.specs.Limits.{max_pools, max_total_groups}
 use Rattle.maptypes.specs.Pools.{PoolFacts, total_groups}
 use Rattle.osdmap.specs.Maps.{ClusterMap, osd_exists, has_rule, HoldsTogether}
@@ -63,8 +63,8 @@ module _ (m : ClusterMap) (items : List (Exception Pair)) where
   there_same = kept_same
 
   after_same : pools_after m change ≡ m.pools
-  unfolding pools_after grown
-  after_same = ap (map (grown [])) there_same ∙ map_fixed (grown []) m.pools (λ k d inside. refl)
+  unfolding pools_after with_growths
+  after_same = ap (map (with_growths [])) there_same ∙ map_fixed (with_growths []) m.pools (λ k d inside. refl)
 
   abbrev IsSoundAll : Type 0
   IsSoundAll = list_all (is_exception sides are_pairs m.pools (osd_exists m)) items ≡ true
@@ -166,7 +166,7 @@ module _ (m : ClusterMap) (items : List (Exception Pair)) where
 -- ---- the pairs of a plan
 
 -- the groups of a pool rise by number
-range_rises : (p : PoolFacts) (n : ℕ) → IsRising (λ i. place_of (group_of p i)) (range_with_len 0 n)
+range_rises : (p : PoolFacts) (n : ℕ) → IsRising (λ i. pg_key (group_of p i)) (range_with_len 0 n)
 range_rises p n = λ i j d below inside.
     let long = length-range_with_len 0 n in
     let first = get_or-range_with_len 0 n i d (omega arith) in
@@ -195,7 +195,7 @@ module _ (m : ClusterMap) (p : PoolFacts) (cs : Aim) (moves : List Move) (reache
   pub items_rise : IsRising key_of (moved_items m p moves)
   unfolding moved_items
   items_rise = λ i j d below inside.
-      let rises = rising-filter (λ n. place_of (group_of p n)) (is_moved moves) (range_with_len 0 p.pg_num) (range_rises p p.pg_num) in
+      let rises = rising-filter (λ n. pg_key (group_of p n)) (is_moved moves) (range_with_len 0 p.pg_num) (range_rises p p.pg_num) in
       let long = length-map numbers (items_at now p) in
       let order = rises i j 0 below (omega arith) in
       let first = ap key_of (get_or-map (items_at now p) numbers i 0 d (omega arith)) in
@@ -205,30 +205,30 @@ module _ (m : ClusterMap) (p : PoolFacts) (cs : Aim) (moves : List Move) (reache
   -- ---- the map after its change
 
   -- pairs of other groups stay
-  others_stay : (n : ClusterMap) (vs : List Move) (k : ℕ) → ((i : ℕ) (d : Move) → i < length vs → place_of (group_of p (get_or vs i d).group) ≢ k)
+  others_stay : (n : ClusterMap) (vs : List Move) (k : ℕ) → ((i : ℕ) (d : Move) → i < length vs → pg_key (group_of p (get_or vs i d).group) ≢ k)
       → entry_at key_of (after_moves n p vs).items k ≡ entry_at key_of n.items k
   unfolding moved
   others_stay n [] k other = refl
   others_stay n (v ∷ vs) k other =
       others_stay (moved n p v) vs k (λ i d inside. other (suc i) d (omega arith))
-      ∙ entry-put key_of n.items (lengthened n p v) k ∙ rw (ne_eqb (place_of (group_of p v.group)) k (other 0 v (omega arith))) refl
+      ∙ entry-put key_of n.items (lengthened n p v) k ∙ rw (ne_eqb (pg_key (group_of p v.group)) k (other 0 v (omega arith))) refl
 
-  entry_found : (k : ℕ) (o : Option ℕ) → find (λ n. eqb (place_of (group_of p n)) k) numbers ≡ o
+  entry_found : (k : ℕ) (o : Option ℕ) → find (λ n. eqb (pg_key (group_of p n)) k) numbers ≡ o
       → option_or (option_map (items_at now p) o) (entry_at key_of m.items k) ≡ entry_at key_of now.items k
   entry_found k (Some n) found =
-      let at = find-place (λ i. eqb (place_of (group_of p i)) k) numbers n found in
+      let at = find-place (λ i. eqb (pg_key (group_of p i)) k) numbers n found in
       let is : is_moved moves n ≡ true = rw at.2 at (filter_passes (is_moved moves) (range_with_len 0 p.pg_num) at.0 n at.1) in
-      let place : place_of (group_of p n) ≡ k = eqb-true (place_of (group_of p n)) k at.3 in
+      let place : pg_key (group_of p n) ≡ k = eqb-true (pg_key (group_of p n)) k at.3 in
       sym (ap (entry_at key_of now.items) (sym place) ∙ reached.named n is)
   entry_found k None found = sym (others_stay m moves k other)
     where
-      other : (i : ℕ) (d : Move) → i < length moves → place_of (group_of p (get_or moves i d).group) ≢ k
+      other : (i : ℕ) (d : Move) → i < length moves → pg_key (group_of p (get_or moves i d).group) ≢ k
       other i d inside e =
           let g = (get_or moves i d).group in
           let is : is_moved moves g ≡ true = list_any_at (λ (v : Move). eqb v.group g) moves i d inside (eq-eqb g g refl) in
           let there = contains_filter (is_moved moves) (range_with_len 0 p.pg_num) g (contains_range p.pg_num g (reached.there i d inside)) is in
-          let fails = none_passes (λ n. eqb (place_of (group_of p n)) k) numbers there.0 g found there.1 there.2 in
-          absurd (false≢true (sym fails ∙ eq-eqb (place_of (group_of p g)) k e))
+          let fails = none_passes (λ n. eqb (pg_key (group_of p n)) k) numbers there.0 g found there.1 there.2 in
+          absurd (false≢true (sym fails ∙ eq-eqb (pg_key (group_of p g)) k e))
 
   items_after : HoldsTogether m → fold (put key_of) m.items (moved_items m p moves) ≡ now.items
   unfolding moved_items
@@ -238,7 +238,7 @@ module _ (m : ClusterMap) (p : PoolFacts) (cs : Aim) (moves : List Move) (reache
       each k =
           entry-puts key_of m.items (moved_items m p moves) k
           ∙ ap (λ o. option_or o (entry_at key_of m.items k)) (entry-reverse key_of (moved_items m p moves) k items_rise ∙ find_map (λ (e : Exception Pair). eqb (key_of e) k) (items_at (after_moves m p moves) p) numbers)
-          ∙ entry_found k (find (λ n. eqb (place_of (group_of p n)) k) numbers) refl
+          ∙ entry_found k (find (λ n. eqb (pg_key (group_of p n)) k) numbers) refl
 
   pub next_is : HoldsTogether m → changed_map m (change_of (moved_items m p moves)) ≡ record now { epoch = m.epoch + 1 }
   next_is holds =

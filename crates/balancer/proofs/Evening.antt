@@ -14,7 +14,7 @@ use Rattle.keylist.specs.Keys.{entry_at}
 use Rattle.keylist.proofs.KeyedMaps.{entry-put}
 use Rattle.maptypes.specs.declared.exception.Exception.{Exception}
 use Rattle.maptypes.specs.declared.exception.Pair.{Pair}
-use Rattle.maptypes.specs.Exceptions.{place_of, key_of}
+use Rattle.maptypes.specs.Exceptions.{pg_key, key_of}
 use Rattle.maptypes.specs.Pools.{PoolFacts}
 use Rattle.osdmap.specs.Maps.{ClusterMap, pool_at, HoldsTogether}
 use Rattle.osdmap.specs.Placement.{group_of}
@@ -173,21 +173,21 @@ module _ (m : ClusterMap) (p : PoolFacts) (cs : Aim) (moves : List Move) (v : Mo
   there_now : pool_at now.pools p.id ≡ Some p
   there_now = pool_now m p moves there
 
-  items_now : (n : ℕ) → v.group ≡ n → entry_at key_of (moved now p v).items (place_of (group_of p n)) ≡ Some (items_at (moved now p v) p n)
+  items_now : (n : ℕ) → v.group ≡ n → entry_at key_of (moved now p v).items (pg_key (group_of p n)) ≡ Some (items_at (moved now p v) p n)
   unfolding moved
   items_now n here =
-      let same : eqb (key_of (lengthened now p v)) (place_of (group_of p n)) ≡ true = eq-eqb (place_of (group_of p v.group)) (place_of (group_of p n)) (ap (λ k. place_of (group_of p k)) here) in
+      let same : eqb (key_of (lengthened now p v)) (pg_key (group_of p n)) ≡ true = eq-eqb (pg_key (group_of p v.group)) (pg_key (group_of p n)) (ap (λ k. pg_key (group_of p k)) here) in
       let entries : pairs_in now (group_of p v.group) ++ pair_of_move v ∷ [] ≡ pairs_in (moved now p v) (group_of p v.group) = sym (ap (λ (o : Option (List Pair)). unwrap_or o []) (said_moved now p v)) in
-      entry-put key_of now.items (lengthened now p v) (place_of (group_of p n)) ∙ rw same (ap (λ (e : Exception Pair). Some e) (λ i. record { pg = group_of p v.group; entries = entries i }) ∙ ap (λ k. Some (items_at (moved now p v) p k)) here)
+      entry-put key_of now.items (lengthened now p v) (pg_key (group_of p n)) ∙ rw same (ap (λ (e : Exception Pair). Some e) (λ i. record { pg = group_of p v.group; entries = entries i }) ∙ ap (λ k. Some (items_at (moved now p v) p k)) here)
 
-  items_still : (n : ℕ) → n ≢ v.group → is_moved moves n ≡ true → entry_at key_of (moved now p v).items (place_of (group_of p n)) ≡ Some (items_at (moved now p v) p n)
+  items_still : (n : ℕ) → n ≢ v.group → is_moved moves n ≡ true → entry_at key_of (moved now p v).items (pg_key (group_of p n)) ≡ Some (items_at (moved now p v) p n)
   unfolding moved
   items_still n other was =
-      let apart : eqb (key_of (lengthened now p v)) (place_of (group_of p n)) ≡ false = ne_eqb (place_of (group_of p v.group)) (place_of (group_of p n)) (λ e. other (omega (arith, e))) in
+      let apart : eqb (key_of (lengthened now p v)) (pg_key (group_of p n)) ≡ false = ne_eqb (pg_key (group_of p v.group)) (pg_key (group_of p n)) (λ e. other (omega (arith, e))) in
       let entries : pairs_in now (group_of p n) ≡ pairs_in (moved now p v) (group_of p n) = sym (ap (λ (o : Option (List Pair)). unwrap_or o []) (said_others now p v n other)) in
-      entry-put key_of now.items (lengthened now p v) (place_of (group_of p n)) ∙ rw apart (reached.named n was ∙ ap (λ (e : Exception Pair). Some e) (λ i. record { pg = group_of p n; entries = entries i }))
+      entry-put key_of now.items (lengthened now p v) (pg_key (group_of p n)) ∙ rw apart (reached.named n was ∙ ap (λ (e : Exception Pair). Some e) (λ i. record { pg = group_of p n; entries = entries i }))
 
-  named_more : (n : ℕ) → is_moved (moves ++ v ∷ []) n ≡ true → entry_at key_of (moved now p v).items (place_of (group_of p n)) ≡ Some (items_at (moved now p v) p n)
+  named_more : (n : ℕ) → is_moved (moves ++ v ∷ []) n ≡ true → entry_at key_of (moved now p v).items (pg_key (group_of p n)) ≡ Some (items_at (moved now p v) p n)
   named_more n is = elim (cases_Bool (eqb v.group n)) [
     | inl here ↦ items_now n (eqb-true v.group n here)
     | inr apart ↦
@@ -203,7 +203,7 @@ module _ (m : ClusterMap) (p : PoolFacts) (cs : Aim) (moves : List Move) (v : Mo
   reached_more enough = record {
     holds = subst HoldsTogether (sym after_more) (holds_moved now p cs v good reached.holds there_now);
     there = All-push (λ (w : Move). w.group < p.pg_num) moves v reached.there good.there;
-    named = subst (λ (n : ClusterMap). (k : ℕ) → is_moved (moves ++ v ∷ []) k ≡ true → entry_at key_of n.items (place_of (group_of p k)) ≡ Some (items_at n p k)) (sym after_more) named_more;
+    named = subst (λ (n : ClusterMap). (k : ℕ) → is_moved (moves ++ v ∷ []) k ≡ true → entry_at key_of n.items (pg_key (group_of p k)) ≡ Some (items_at n p k)) (sym after_more) named_more;
     evens = subst (λ (n : ClusterMap). unevenness n p cs + least_gain m p cs * length (moves ++ v ∷ []) ≤ unevenness m p cs) (sym after_more) evens_more;
   }
     where

@@ -11,12 +11,12 @@ use Rattle.keylist.proofs.KeyedMaps.{entry-put}
 use Rattle.maptypes.specs.declared.exception.Exception.{Exception}
 use Rattle.maptypes.specs.declared.exception.Pair.{Pair}
 use Rattle.maptypes.specs.declared.pg.Pg.{Pg}
-use Rattle.maptypes.specs.Exceptions.{place_of, key_of, said_of}
+use Rattle.maptypes.specs.Exceptions.{pg_key, key_of, said_of}
 use Rattle.maptypes.specs.Pools.{PoolFacts}
 use Rattle.osdmap.specs.Maps.{ClusterMap}
-use Rattle.osdmap.specs.Mapped.{is_weightless, with_pair, with_items, mapped}
-use Rattle.maptypes.specs.Sets.{replaced, is_of, stands}
-use Rattle.osdmap.specs.Placement.{group_of, placed, raw_set, mapped_set}
+use Rattle.osdmap.specs.Mapped.{is_weightless, with_pair, with_items, with_exceptions}
+use Rattle.maptypes.specs.Sets.{replace, is_of, stands}
+use Rattle.osdmap.specs.Placement.{group_of, placed_devices, raw_set, mapped_set}
 use Rattle.balancer.specs.declared.moves.Move.{Move}
 use Rattle.balancer.specs.Moves.{pair_of_move, pairs_in, lengthened, moved, is_same_set, does_replace}
 use Rattle.balancer.specs.Boards.{is_fixed}
@@ -24,21 +24,21 @@ use Rattle.balancer.specs.Boards.{is_fixed}
 -- ---- what is said of a group after a move
 
 -- what is said of a group once an exception is put in
-said_put : (items : List (Exception Pair)) (e : Exception Pair) (g : Pg) → said_of (put key_of items e) g ≡ option_map (λ x. x.entries) (cond (eqb (key_of e) (place_of g)) (Some e) (entry_at key_of items (place_of g)))
-said_put items e g = ap (option_map (λ x. x.entries)) (entry-put key_of items e (place_of g))
+said_put : (items : List (Exception Pair)) (e : Exception Pair) (g : Pg) → said_of (put key_of items e) g ≡ option_map (λ x. x.entries) (cond (eqb (key_of e) (pg_key g)) (Some e) (entry_at key_of items (pg_key g)))
+said_put items e g = ap (option_map (λ x. x.entries)) (entry-put key_of items e (pg_key g))
 
 -- after a move its group has its pairs with this one behind
 pub said_moved : (m : ClusterMap) (p : PoolFacts) (v : Move) → said_of (moved m p v).items (group_of p v.group) ≡ Some (pairs_in m (group_of p v.group) ++ pair_of_move v ∷ [])
 unfolding moved
 said_moved m p v =
-    let same : eqb (place_of (group_of p v.group)) (place_of (group_of p v.group)) ≡ true = eq-eqb _ _ refl in
+    let same : eqb (pg_key (group_of p v.group)) (pg_key (group_of p v.group)) ≡ true = eq-eqb _ _ refl in
     said_put m.items (lengthened m p v) (group_of p v.group) ∙ rw same refl
 
 -- other groups have their pairs as before
 pub said_others : (m : ClusterMap) (p : PoolFacts) (v : Move) (n : ℕ) → n ≢ v.group → said_of (moved m p v).items (group_of p n) ≡ said_of m.items (group_of p n)
 unfolding moved
 said_others m p v n other =
-    let apart : eqb (place_of (group_of p v.group)) (place_of (group_of p n)) ≡ false = ne_eqb _ _ (λ e. other (omega (arith, e))) in
+    let apart : eqb (pg_key (group_of p v.group)) (pg_key (group_of p n)) ≡ false = ne_eqb _ _ (λ e. other (omega (arith, e))) in
     said_put m.items (lengthened m p v) (group_of p n) ∙ rw apart refl
 
 -- ---- mapped sets
@@ -55,8 +55,8 @@ items_longer weights places (Some pairs) pair = fold-append (with_pair weights) 
 
 -- one more pair acts on the set that was there, where the explicit set acts
 mapped_longer : (weights : List ℕ) (explicit : Option (List ℕ)) (items : Option (List Pair)) (raw : List (Option ℕ)) (pair : Pair)
-    → mapped weights explicit (Some (unwrap_or items [] ++ pair ∷ [])) raw ≡ (if is_void weights explicit then mapped weights explicit items raw else with_pair weights (mapped weights explicit items raw) pair)
-unfolding mapped
+    → with_exceptions weights explicit (Some (unwrap_or items [] ++ pair ∷ [])) raw ≡ (if is_void weights explicit then with_exceptions weights explicit items raw else with_pair weights (with_exceptions weights explicit items raw) pair)
+unfolding with_exceptions
 mapped_longer weights None items raw pair = items_longer weights raw items pair
 mapped_longer weights (Some osds) items raw pair = elim (cases_Bool (list_any (is_weightless weights) osds)) [
   | inl void ↦ rw void refl
@@ -66,15 +66,15 @@ mapped_longer weights (Some osds) items raw pair = elim (cases_Bool (list_any (i
 -- the mapped set of a group after a move of it
 pub mapped_moved : (m : ClusterMap) (p : PoolFacts) (v : Move)
     → mapped_set (moved m p v) p v.group ≡ (if is_fixed m (group_of p v.group) then mapped_set m p v.group else with_pair m.weights (mapped_set m p v.group) (pair_of_move v))
-unfolding mapped_set moved raw_set placed is_fixed
+unfolding mapped_set moved raw_set placed_devices is_fixed
 mapped_moved m p v =
-    ap (λ said. mapped m.weights (said_of m.explicit (group_of p v.group)) said (raw_set m p v.group)) (said_moved m p v)
+    ap (λ said. with_exceptions m.weights (said_of m.explicit (group_of p v.group)) said (raw_set m p v.group)) (said_moved m p v)
     ∙ mapped_longer m.weights (said_of m.explicit (group_of p v.group)) (said_of m.items (group_of p v.group)) (raw_set m p v.group) (pair_of_move v)
 
 -- that of another group is as before
 pub mapped_others : (m : ClusterMap) (p : PoolFacts) (v : Move) (n : ℕ) → n ≢ v.group → mapped_set (moved m p v) p n ≡ mapped_set m p n
-unfolding mapped_set moved raw_set placed
-mapped_others m p v n other = ap (λ said. mapped m.weights (said_of m.explicit (group_of p n)) said (raw_set m p n)) (said_others m p v n other)
+unfolding mapped_set moved raw_set placed_devices
+mapped_others m p v n other = ap (λ said. with_exceptions m.weights (said_of m.explicit (group_of p n)) said (raw_set m p n)) (said_others m p v n other)
 
 -- ---- what is replaced
 
@@ -107,8 +107,8 @@ is_same (place ∷ places) (other ∷ others) same = by_test (option_eq (λ a b.
     by_test false here rest more = cc
 
 -- where an OSD stands, another in its place makes another set
-replaced_differs : (pair : Pair) (set : List (Option ℕ)) → pair.from ≢ pair.to → list_any (is_of pair.from) set ≡ true → is_same_set set (replaced pair set) ≡ false
-unfolding replaced
+replaced_differs : (pair : Pair) (set : List (Option ℕ)) → pair.from ≢ pair.to → list_any (is_of pair.from) set ≡ true → is_same_set set (replace pair set) ≡ false
+unfolding replace
 replaced_differs pair [] apart there = cc
 replaced_differs pair (place ∷ places) apart there = by_test (is_of pair.from place) refl there (replaced_differs pair places apart)
   where
@@ -117,28 +117,28 @@ replaced_differs pair (place ∷ places) apart there = by_test (is_of pair.from 
     other_place (Some o) is = ne_eqb o pair.to (λ e. apart (sym (eqb-true o pair.from is) ∙ e))
 
     by_test : (b : Bool) → is_of pair.from place ≡ b → (b || list_any (is_of pair.from) places) ≡ true
-        → (list_any (is_of pair.from) places ≡ true → is_same_set places (replaced pair places) ≡ false) → is_same_set (place ∷ places) (if b then Some pair.to ∷ places else place ∷ replaced pair places) ≡ false
+        → (list_any (is_of pair.from) places ≡ true → is_same_set places (replace pair places) ≡ false) → is_same_set (place ∷ places) (if b then Some pair.to ∷ places else place ∷ replace pair places) ≡ false
     by_test true here there more = rw (other_place place here) refl
     by_test false here there more = rw (is_same_place place) (more there)
 
 -- what a pair does in place of a set, by two tests
 abbrev put_or_not : Bool → Bool → Pair → List (Option ℕ) → List (Option ℕ)
-put_or_not fixed there pair set = if fixed then set else (if there then set else replaced pair set)
+put_or_not fixed there pair set = if fixed then set else (if there then set else replace pair set)
 
 -- a pair turns a set into itself with one OSD replaced exactly where no OSD of an explicit set is out and the other is
 -- not in it
 tested : (fixed there : Bool) (pair : Pair) (set : List (Option ℕ)) → pair.from ≢ pair.to → list_any (is_of pair.from) set ≡ true
-    → is_same_set (put_or_not fixed there pair set) (replaced pair set) ≡ (not fixed && not there)
+    → is_same_set (put_or_not fixed there pair set) (replace pair set) ≡ (not fixed && not there)
 tested true there pair set apart on = replaced_differs pair set apart on
 tested false true pair set apart on = replaced_differs pair set apart on
-tested false false pair set apart on = is_same_as_itself (replaced pair set)
+tested false false pair set apart on = is_same_as_itself (replace pair set)
 
 -- whether a pair replaces: pairs act on the group, and the OSD that comes is not there
 pub replaces : (m : ClusterMap) (p : PoolFacts) (v : Move) → v.from ≢ v.to → is_weightless m.weights v.to ≡ false → list_any (is_of v.from) (mapped_set m p v.group) ≡ true
     → does_replace m p v ≡ (not (is_fixed m (group_of p v.group)) && not (stands v.to (mapped_set m p v.group)))
 unfolding does_replace with_pair
 replaces m p v apart weighs on =
-    ap (λ set. is_same_set set (replaced (pair_of_move v) (mapped_set m p v.group))) (mapped_moved m p v)
+    ap (λ set. is_same_set set (replace (pair_of_move v) (mapped_set m p v.group))) (mapped_moved m p v)
     ∙ rw (weighs, or_false (list_any (is_of v.to) (mapped_set m p v.group)))
     (tested (is_fixed m (group_of p v.group)) (stands v.to (mapped_set m p v.group)) (pair_of_move v) (mapped_set m p v.group) apart on)
   where

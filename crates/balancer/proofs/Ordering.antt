@@ -4,7 +4,7 @@ use Rattle.keylist.specs.Order.{IsRising, SortsBy}
 use Rattle.maptypes.specs.declared.change.ChangeParts.{ChangeParts}
 use Rattle.maptypes.specs.declared.exception.Exception.{Exception}
 use Rattle.maptypes.specs.declared.exception.Pair.{Pair}
-use Rattle.maptypes.specs.Exceptions.{place_of, key_of}
+use Rattle.maptypes.specs.Exceptions.{pg_key, key_of}
 use Rattle.maptypes.specs.Ordered.{IsOrdered}
 use Rattle.balancer.specs.Plans.{change_of}
 use Rattle.balancer.proofs.Rising.{sorted_same}
@@ -28,8 +28,8 @@ ordered_same items c rises ordered = λ i. record {
   down = sorts_none (λ osd. osd) c.down ordered.down i;
   up = sorts_none (λ osd. osd) c.up ordered.up i;
   weight = sorts_none (λ w. w.osd) c.weight ordered.weight i;
-  old_upmap = sorts_none place_of c.old_upmap ordered.old_upmap i;
-  old_items = sorts_none place_of c.old_items ordered.old_items i;
+  old_upmap = sorts_none pg_key c.old_upmap ordered.old_upmap i;
+  old_items = sorts_none pg_key c.old_items ordered.old_items i;
   new_upmap = sorts_none key_of c.new_upmap ordered.new_upmap i;
   new_items = sorted_same key_of items c.new_items rises ordered.new_items i;
 }

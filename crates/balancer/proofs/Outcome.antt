@@ -11,7 +11,7 @@ use Rattle.maptypes.specs.declared.exception.Pair.{Pair}
 use Rattle.maptypes.specs.Pools.{PoolFacts}
 use Rattle.std.proofs.lemmas.List.Elements.{filter_agree}
 use Rattle.osdmap.specs.Maps.{ClusterMap, pool_at, HoldsTogether}
-use Rattle.osdmap.specs.Placement.{placed, raw_set, mapped_set, up_set}
+use Rattle.osdmap.specs.Placement.{placed_devices, raw_set, mapped_set, up_set}
 use Rattle.balancer.specs.declared.moves.Move.{Move}
 use Rattle.balancer.specs.Shares.{is_candidate, weight_in_map, total_weight, places, above_share, deviation, unevenness, least_gap, Aim}
 use Rattle.balancer.specs.Moves.{moved, domain_of, are_beside, has_way, has_own_domain, does_replace, stands_on, has_room, is_allowed}
@@ -26,12 +26,12 @@ dated m e = record m { epoch = e }
 
 -- another epoch changes no unevenness
 uneven_dated : (m : ClusterMap) (p : PoolFacts) (cs : Aim) (e : ℕ) → unevenness (dated m e) p cs ≡ unevenness m p cs
-unfolding unevenness deviation above_share places total_weight weight_in_map is_candidate up_set mapped_set raw_set placed
+unfolding unevenness deviation above_share places total_weight weight_in_map is_candidate up_set mapped_set raw_set placed_devices
 uneven_dated m p cs e = refl
 
 -- nor whether a move is good
 good_dated : (m : ClusterMap) (p : PoolFacts) (cs : Aim) (e : ℕ) (v : Move) → is_good (dated m e) p cs v ≡ is_good m p cs v
-unfolding is_good least_gap is_allowed stands_on does_replace has_room are_beside has_own_domain has_way domain_of moved deviation above_share places total_weight weight_in_map is_candidate up_set mapped_set raw_set placed
+unfolding is_good least_gap is_allowed stands_on does_replace has_room are_beside has_own_domain has_way domain_of moved deviation above_share places total_weight weight_in_map is_candidate up_set mapped_set raw_set placed_devices
 good_dated m p cs e v = refl
 
 -- nor which moves are

@@ -13,7 +13,7 @@ use Rattle.keylist.proofs.KeyedOrder.{rising_head, rising_tail, rising-filter}
 use Rattle.maptypes.specs.declared.exception.Pair.{Pair}
 use Rattle.maptypes.specs.Pools.{PoolFacts}
 use Rattle.osdmap.specs.Maps.{ClusterMap, pool_at, osd_is_up, HoldsTogether}
-use Rattle.maptypes.specs.Sets.{replaced, is_of, stands}
+use Rattle.maptypes.specs.Sets.{replace, is_of, stands}
 use Rattle.osdmap.specs.Placement.{mapped_set}
 use Rattle.pgtable.specs.Index.{count_in}
 use Rattle.pgtable.specs.Tables.{sets_of}
@@ -36,8 +36,8 @@ is_of_same o None q is apart = refl
 is_of_same o (Some x) q is apart = ne_eqb x o (λ e. apart (sym e ∙ eqb-true x q is))
 
 -- replacing one OSD by another leaves where the others stand
-replaced_other : (pair : Pair) (xs : List (Option ℕ)) (o : ℕ) → o ≢ pair.from → o ≢ pair.to → list_any (is_of o) (replaced pair xs) ≡ list_any (is_of o) xs
-unfolding replaced
+replaced_other : (pair : Pair) (xs : List (Option ℕ)) (o : ℕ) → o ≢ pair.from → o ≢ pair.to → list_any (is_of o) (replace pair xs) ≡ list_any (is_of o) xs
+unfolding replace
 replaced_other pair [] o from to = refl
 replaced_other pair (x ∷ xs) o from to = elim (cases_Bool (is_of pair.from x)) [
   | inl here ↦ rw (here, is_of_same o x pair.from here from, ne_eqb pair.to o (λ e. to (sym e))) refl
@@ -45,8 +45,8 @@ replaced_other pair (x ∷ xs) o from to = elim (cases_Bool (is_of pair.from x))
 ]
 
 -- the one that comes stands there then
-pub replaced_to : (pair : Pair) (xs : List (Option ℕ)) → list_any (is_of pair.from) xs ≡ true → list_any (is_of pair.to) (replaced pair xs) ≡ true
-unfolding replaced
+pub replaced_to : (pair : Pair) (xs : List (Option ℕ)) → list_any (is_of pair.from) xs ≡ true → list_any (is_of pair.to) (replace pair xs) ≡ true
+unfolding replace
 replaced_to pair [] there = absurd (false≢true there)
 replaced_to pair (x ∷ xs) there = elim (cases_Bool (is_of pair.from x)) [
   | inl here ↦ rw (here, eq-eqb pair.to pair.to refl) refl
@@ -66,8 +66,8 @@ any_counted q (x ∷ xs) none = elim (cases_Bool (q x)) [
 ]
 
 -- the one that goes stands there no more, where it stood once
-replaced_from : (pair : Pair) (xs : List (Option ℕ)) → pair.from ≢ pair.to → count_by (is_of pair.from) xs ≡ 1 → list_any (is_of pair.from) (replaced pair xs) ≡ false
-unfolding replaced
+replaced_from : (pair : Pair) (xs : List (Option ℕ)) → pair.from ≢ pair.to → count_by (is_of pair.from) xs ≡ 1 → list_any (is_of pair.from) (replace pair xs) ≡ false
+unfolding replace
 replaced_from pair [] apart once = absurd (omega arith)
 replaced_from pair (x ∷ xs) apart once = elim (cases_Bool (is_of pair.from x)) [
   | inl here ↦
@@ -87,12 +87,12 @@ module _ (m : ClusterMap) (p : PoolFacts) (cs : Aim) (v : Move) (good : IsGood m
   old = mapped_set m p v.group
 
   abbrev new : List (Option ℕ)
-  new = replaced (pair_of_move v) old
+  new = replace (pair_of_move v) old
 
   sets_moved : sets_of (moved m p v) p ≡ set (sets_of m p) v.group new
   sets_moved = sym (fill_by_all (mapped_set (moved m p v) p) (set (sets_of m p) v.group new) p.pg_num [] (length-set (sets_of m p) v.group new ∙ length-map-range_with_len (mapped_set m p) 0 p.pg_num) each)
     where
-      each : (k : ℕ) → k < p.pg_num → get_or (set (sets_of m p) v.group (replaced (pair_of_move v) (mapped_set m p v.group))) k [] ≡ mapped_set (moved m p v) p k
+      each : (k : ℕ) → k < p.pg_num → get_or (set (sets_of m p) v.group (replace (pair_of_move v) (mapped_set m p v.group))) k [] ≡ mapped_set (moved m p v) p k
       each k below = elim (cases_Bool (eqb k v.group)) [
         | inl here ↦
             let same : k ≡ v.group = eqb-true k v.group here in

@@ -4,7 +4,7 @@ use Rattle.maptypes.specs.declared.exception.Exception.{Exception}
 use Rattle.maptypes.specs.declared.exception.Pair.{Pair}
 use Rattle.maptypes.specs.Pools.{PoolFacts}
 use Rattle.osdmap.specs.Maps.{ClusterMap}
-use Rattle.osdmap.specs.Placement.{placed, raw_set}
+use Rattle.osdmap.specs.Placement.{placed_devices, raw_set}
 use Rattle.balancer.specs.declared.group.Group.{Group}
 use Rattle.balancer.specs.declared.moves.Move.{Move}
 use Rattle.balancer.specs.Shares.{is_candidate, weight_in_map, total_weight}
@@ -44,7 +44,7 @@ module _ (m : ClusterMap) (its : List (Exception Pair)) where
   way_stays level from to set = refl
 
   pub raw_stays : (p : PoolFacts) (n : ℕ) → raw_set (with_pairs m its) p n ≡ raw_set m p n
-  unfolding raw_set placed
+  unfolding raw_set placed_devices
   raw_stays p n = refl
 
   pub goes_stays : (p : PoolFacts) (from to : ℕ) (g : Group) → may_go (with_pairs m its) p from to g ≡ may_go m p from to g

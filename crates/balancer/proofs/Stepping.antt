@@ -15,11 +15,11 @@ use Rattle.keylist.proofs.KeyedMaps.{rising-put, list_all-put}
 use Rattle.maptypes.specs.declared.exception.Exception.{Exception}
 use Rattle.maptypes.specs.declared.exception.Pair.{Pair}
 use Rattle.maptypes.specs.declared.pg.Pg.{Pg}
-use Rattle.maptypes.specs.Exceptions.{place_of, key_of, sides, are_pairs, is_exception, has_group, all_named, is_sound}
+use Rattle.maptypes.specs.Exceptions.{pg_key, key_of, sides, are_pairs, is_exception, has_group, all_named, is_sound}
 use Rattle.maptypes.specs.Pools.{PoolFacts}
 use Rattle.osdmap.specs.Maps.{ClusterMap, pool_at, osd_exists, HoldsTogether}
 use Rattle.osdmap.specs.Mapped.{with_pair}
-use Rattle.maptypes.specs.Sets.{replaced, is_of, stands}
+use Rattle.maptypes.specs.Sets.{replace, is_of, stands}
 use Rattle.osdmap.specs.Placement.{group_of, steps_of, mapped_set}
 use Rattle.osdmap.proofs.PlacementLemmas.{found_passes}
 use Rattle.balancer.specs.Shares.{Aim}
@@ -79,7 +79,7 @@ module _ (m : ClusterMap) (p : PoolFacts) (cs : Aim) (v : Move) (good : IsGood m
 
   -- ---- its set
 
-  pub mapped_gone : mapped_set (moved m p v) p v.group ≡ replaced (pair_of_move v) places
+  pub mapped_gone : mapped_set (moved m p v) p v.group ≡ replace (pair_of_move v) places
   unfolding with_pair
   mapped_gone = mapped_moved m p v ∙ rw (not_fixed, not_there, candidate_weighs m p v.to (good_candidates m p cs v good.good).1) refl
 
@@ -116,7 +116,7 @@ module _ (m : ClusterMap) (p : PoolFacts) (cs : Aim) (v : Move) (good : IsGood m
 
   -- ---- the map holds together
 
-  old_pairs : HoldsTogether m → (o : Option (Exception Pair)) → entry_at key_of m.items (place_of group) ≡ o
+  old_pairs : HoldsTogether m → (o : Option (Exception Pair)) → entry_at key_of m.items (pg_key group) ≡ o
       → (list_all (λ q. list_all (osd_exists m) (sides q)) (unwrap_or (option_map (λ e. e.entries) o) []) ≡ true) × (are_pairs (unwrap_or (option_map (λ e. e.entries) o) []) ≡ true)
   old_pairs holds None found = (refl, refl)
   old_pairs holds (Some e) found =
@@ -132,7 +132,7 @@ module _ (m : ClusterMap) (p : PoolFacts) (cs : Aim) (v : Move) (good : IsGood m
   pub lengthened_sound : HoldsTogether m → pool_at m.pools p.id ≡ Some p → is_exception sides are_pairs m.pools (osd_exists m) (lengthened m p v) ≡ true
   lengthened_sound holds there =
       let both = good_candidates m p cs v good.good in
-      let old = old_pairs holds (entry_at key_of m.items (place_of group)) refl in
+      let old = old_pairs holds (entry_at key_of m.items (pg_key group)) refl in
       let long = length_push (pairs_in m group) (pair_of_move v) in
       let few : nat_le (length (pairs_in m group ++ pair_of_move v ∷ [])) p.size ≡ true = let h = room_left in grind (arith, nat_tests) in
       let some : nat_lt 0 (length (pairs_in m group ++ pair_of_move v ∷ [])) ≡ true = grind (arith, nat_tests) in

@@ -6,11 +6,11 @@ use Rattle.std.specs.List.Sorted.{IsPermutation}
 use Rattle.std.specs.Option.{option_map_or}
 use Rattle.maptypes.specs.declared.pg.Pg.{Pg}
 use Rattle.keylist.specs.Keys.{entry_at}
-use Rattle.maptypes.specs.Exceptions.{place_of, key_of, said_of}
+use Rattle.maptypes.specs.Exceptions.{pg_key, key_of, said_of}
 use Rattle.maptypes.specs.Pools.{PoolFacts}
 use Rattle.osdmap.specs.Maps.{ClusterMap, HoldsTogether}
 use Rattle.osdmap.specs.Mapped.{is_weightless}
-use Rattle.maptypes.specs.Sets.{replaced, is_of, stands}
+use Rattle.maptypes.specs.Sets.{replace, is_of, stands}
 use Rattle.osdmap.specs.Placement.{group_of, steps_of, mapped_set}
 use Rattle.balancer.specs.declared.moves.Move.{Move}
 use Rattle.balancer.specs.declared.group.Group.{Group}
@@ -46,7 +46,7 @@ pub record IsBoardOf (m : ClusterMap) (p : PoolFacts) (aim : Aim) (gs : List Gro
 
 -- what is kept of a group after a move of it
 abbrev pub gone : Group → Move → Group
-gone g v = record g { places = replaced (pair_of_move v) g.places; pairs = g.pairs ++ pair_of_move v ∷ [] }
+gone g v = record g { places = replace (pair_of_move v) g.places; pairs = g.pairs ++ pair_of_move v ∷ [] }
 
 -- some groups after a move of one of them
 abbrev pub IsGone : List Group → Move → List Group → Type 0
@@ -88,7 +88,7 @@ pub record IsReached (m : ClusterMap) (p : PoolFacts) (aim : Aim) (moves : List 
   pub holds : HoldsTogether (after_moves m p moves)
   pub there : All (λ v. v.group < p.pg_num) moves
   pub named : (n : ℕ) → is_moved moves n ≡ true →
-      entry_at key_of (after_moves m p moves).items (place_of (group_of p n))
+      entry_at key_of (after_moves m p moves).items (pg_key (group_of p n))
       ≡ Some (items_at (after_moves m p moves) p n)
   pub evens :
       unevenness (after_moves m p moves) p aim + least_gain m p aim * length moves ≤ unevenness m p aim

@@ -15,7 +15,7 @@ use Rattle.maptypes.specs.declared.pg.Pg.{Pg}
 use Rattle.maptypes.specs.Exceptions.{key_of, said_of}
 use Rattle.maptypes.specs.Pools.{PoolFacts}
 use Rattle.osdmap.specs.Maps.{ClusterMap}
-use Rattle.maptypes.specs.Sets.{replaced, is_of, stands}
+use Rattle.maptypes.specs.Sets.{replace, is_of, stands}
 use Rattle.osdmap.specs.Placement.{group_of, steps_of, mapped_set, up_set}
 use Rattle.balancer.specs.declared.moves.Move.{Move}
 use Rattle.balancer.specs.Shares.{is_candidate}
@@ -110,7 +110,7 @@ is_same_set (place ∷ places) (other ∷ others) = option_eq (λ a b. a == b) p
 -- whether the pair makes of the mapped set of the group the same set with the one OSD in place of the other
 unfoldable pub does_replace : ClusterMap → PoolFacts → Move → Bool
 does_replace m p v =
-    is_same_set (mapped_set (moved m p v) p v.group) (replaced (pair_of_move v) (mapped_set m p v.group))
+    is_same_set (mapped_set (moved m p v) p v.group) (replace (pair_of_move v) (mapped_set m p v.group))
 
 -- whether the group stands on the OSD from which it goes: in its up set, and once in its mapped set
 unfoldable pub stands_on : ClusterMap → PoolFacts → Move → Bool

@@ -4,7 +4,7 @@ ghost use Rattle.std.specs.Prelude.{◌≡◌, ◌<◌, ◌≤◌, length, posit
 ghost use Rattle.std.specs.List.{list_any};
 ghost use Rattle.osdmap.specs.Maps.{pool_at};
 ghost use Rattle.osdmap.specs.Mapped.{is_weightless};
-ghost use Rattle.maptypes.specs.Sets.{replaced, is_of};
+ghost use Rattle.maptypes.specs.Sets.{replace, is_of};
 ghost use Rattle.osdmap.specs.Placement.{mapped_set, RunsOnce};
 ghost use Rattle.pgtable.specs.Tables.{RunsMore};
 ghost use Rattle.balancer.specs.Moves.{pairs_in};
@@ -103,7 +103,7 @@ fn mapped(placing: &Placing, number: u32, work: &mut Work) -> Result<Short<Optio
     ensures set { IfOk result (λ set. set ≡ mapped_set placing.now.map.now.map placing.now.pool number) }
     ensures run { RunsOnce work.old work.new result }
 {
-    let set = placing.mapped(number, work)?;
+    let set = placing.mapped_set(number, work)?;
     Ok(places_of(set.places()))
 }
 
@@ -154,7 +154,7 @@ fn place_of(places: &[Option<u32>], osd: u32) -> Option<usize>
 
 /// One OSD goes to another where it first stands.
 fn replace(places: &mut Short<Option<u32>>, pair: Pair)
-    ensures { places.new ≡ replaced pair places.old }
+    ensures { places.new ≡ replace pair places.old }
 {
     if let Some(place) = place_of(places.as_slice(), pair.from) {
         places.set(place, Some(pair.to));

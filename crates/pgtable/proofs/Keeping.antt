@@ -22,7 +22,7 @@ use Rattle.osdmap.specs.Maps.{ClusterMap, pool_at, HoldsTogether}
 use Rattle.osdmap.proofs.Fitting.{mapped_fits, pool_within}
 use Rattle.osdmap.specs.Evals.{is_touched, concerns, is_evaluated}
 use Rattle.osdmap.specs.Placement.{group_of, mapped_set}
-use Rattle.placement_laws.proofs.Others.{others_stay, pool_there}
+use Rattle.osdmap.proofs.OthersStay.{others_stay, pool_there}
 use Rattle.pgtable.specs.declared.pool_table.PoolTable.{PoolTable}
 use Rattle.pgtable.specs.Tables.{TableFacts, sets_of, pool_table, IsTableOf, pool_in}
 use Rattle.grouptable.specs.Tables.{IsPatchFor}
@@ -143,7 +143,7 @@ module _ (m after : ClusterMap) (c : ChangeParts) (p : PoolFacts) (leads : Leads
   pub stays_there : (k : ℕ) → k < p.pg_num → concerns after c (group_of p k) ≡ false → mapped_set m p k ≡ mapped_set after p k
   stays_there k inside quiet =
       let none : is_evaluated after c p k ≡ false = rw (touched, quiet) refl in
-      rw leads.is (others_stay m (record { epoch = m.epoch + 1; change = c }) p k leads.holds leads.lawful (rw leads.is at there) inside (rw leads.is at none)).mapped
+      rw leads.is (others_stay m (record { epoch = m.epoch + 1; change = c }) p k leads.holds leads.lawful (rw leads.is at there) inside (rw leads.is at none)).1
 
   pub sets_kept : changed (sets_of m p) (changes_of after c p) ≡ sets_of after p
   sets_kept =

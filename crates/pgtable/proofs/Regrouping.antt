@@ -20,18 +20,18 @@ use Rattle.maptypes.specs.declared.change.ChangeParts.{ChangeParts}
 use Rattle.maptypes.specs.declared.exception.Exception.{Exception}
 use Rattle.maptypes.specs.declared.exception.Pair.{Pair}
 use Rattle.maptypes.specs.declared.pg.Pg.{Pg}
-use Rattle.maptypes.specs.Exceptions.{place_of, key_of, said_of, stays, exceptions_after}
-use Rattle.maptypes.specs.Growth.{grown}
+use Rattle.maptypes.specs.Exceptions.{pg_key, key_of, said_of, stays, exceptions_after}
+use Rattle.maptypes.specs.Growth.{with_growths}
 use Rattle.maptypes.specs.Ordered.{IsChange}
 use Rattle.maptypes.specs.Pools.{PoolFacts}
 use Rattle.osdmap.specs.Maps.{ClusterMap, pool_at, has_rule, HoldsTogether}
 use Rattle.osdmap.specs.Changes.{change_fault, apply, pools_kept, pools_there, pools_after}
 use Rattle.osdmap.specs.Evals.{reaches_reweighted, is_touched, evals_of}
-use Rattle.osdmap.specs.Mapped.{mapped}
+use Rattle.osdmap.specs.Mapped.{with_exceptions}
 use Rattle.osdmap.specs.Placement.{group_of, raw_set, mapped_with, mapped_set, IsPlacedBy as IsPlaced}
 use Rattle.osdmap.proofs.PlacementLemmas.{found_passes}
 use Rattle.osdmap.proofs.Kept.{HoldsTogether-after}
-use Rattle.placement_laws.proofs.Others.{raw_stays}
+use Rattle.osdmap.proofs.OthersStay.{raw_stays}
 use Rattle.pgtable.specs.declared.pool_table.PoolTable.{PoolTable}
 use Rattle.pgtable.specs.Tables.{TableFacts, sets_of, pool_table, tables_of, IsTableOf}
 use Rattle.pgtable.specs.Patches.{changed_map, LeadsFrom, is_empty, leaves_pools, leaves_raw_sets, said_after, regrouped, FitGroups, RegroupsPool, RegroupsAll, concerned, changes_of, evals_in}
@@ -89,8 +89,8 @@ all_stay [] = refl
 all_stay (x ∷ xs) = ap (λ ys. x ∷ ys) (all_stay xs)
 
 -- none grows
-none_grown : (ps : List PoolFacts) → map (grown []) ps ≡ ps
-unfolding grown
+none_grown : (ps : List PoolFacts) → map (with_growths []) ps ≡ ps
+unfolding with_growths
 none_grown [] = refl
 none_grown (p ∷ ps) = ap (λ qs. p ∷ qs) (none_grown ps)
 
@@ -110,11 +110,11 @@ weights_stay m c s = rw s.weight refl
 said_then : {E : Type 0} (gone : List Pg) (new es : List (Exception E)) (g : Pg) → IsRising key_of new → said_of (exceptions_after [] gone new es) g ≡ said_after gone new (said_of es g) g
 unfolding exceptions_after
 said_then {E} gone new es g rises =
-    let k = place_of g in
+    let k = pg_key g in
     let puts = entry-puts key_of (filter (stays [] gone) es) new k in
     let last = entry-reverse key_of new k rises in
-    let left = entry-without key_of place_of gone es k in
-    ap (option_map (λ e. e.entries)) (puts ∙ rw (last, left) refl) ∙ by_cases (entry_at key_of new k) (has_key place_of gone k) (entry_at key_of es k)
+    let left = entry-without key_of pg_key gone es k in
+    ap (option_map (λ e. e.entries)) (puts ∙ rw (last, left) refl) ∙ by_cases (entry_at key_of new k) (has_key pg_key gone k) (entry_at key_of es k)
   where
     by_cases : (o : Option (Exception E)) (b : Bool) (q : Option (Exception E)) → option_map (λ e. e.entries) (option_or o (cond b None q)) ≡ option_or (option_map (λ e. e.entries) o) (cond b None (option_map (λ e. e.entries) q))
     by_cases None true q = refl
@@ -139,7 +139,7 @@ raw_stay m c p n s holds there =
 
 -- the same reweights, exceptions and raw set make the same mapped set
 all_same : (ws ws' : List ℕ) (explicit explicit' : Option (List ℕ)) (items items' : Option (List Pair)) (raw raw' : List (Option ℕ)) → ws ≡ ws' → explicit ≡ explicit' → items ≡ items' → raw ≡ raw'
-    → mapped ws explicit items raw ≡ mapped ws' explicit' items' raw'
+    → with_exceptions ws explicit items raw ≡ with_exceptions ws' explicit' items' raw'
 all_same ws ws' explicit explicit' items items' raw raw' e f g h = rw (e, f, g, h) refl
 
 -- the raw set under what the change makes of the group's exceptions is its mapped set after the change

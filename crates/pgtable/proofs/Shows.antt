@@ -18,9 +18,9 @@ use Rattle.grouptable.proofs.Steps.{filter_same}
 use Rattle.maptypes.specs.declared.pg.Pg.{Pg}
 use Rattle.maptypes.specs.Pools.{PoolFacts}
 use Rattle.osdmap.specs.Maps.{ClusterMap, pool_at, osd_is_up}
-use Rattle.maptypes.specs.Sets.{kept, stands}
-use Rattle.osdmap.specs.Placement.{group_of, upward, mapped_set, up_set}
-use Rattle.placement_laws.proofs.Standing.{up_are_mapped_and_up}
+use Rattle.maptypes.specs.Sets.{kept_places, stands}
+use Rattle.osdmap.specs.Placement.{group_of, up_osd, mapped_set, up_set}
+use Rattle.osdmap.proofs.StandingUp.{up_are_mapped_and_up}
 use Rattle.pgtable.specs.declared.pool_table.PoolTable.{PoolTable}
 use Rattle.pgtable.specs.Index.{up_at, groups_in, stands_in, index_of, count_in}
 use Rattle.pgtable.specs.Tables.{TableFacts, sets_of, pool_table, tables_of, ups_of, IsTableOf, upward_in, shown_set, shown_at, held_in, shown_groups, shown_in}
@@ -72,20 +72,20 @@ up_in m osd = elim (cases_lt osd (length m.presences)) [
 ]
 
 -- a place is dropped by its bit as by the map
-upward_same : (m : ClusterMap) (place : Option ℕ) → option_and_then (upward_in (ups_of m)) place ≡ option_and_then (upward m) place
+upward_same : (m : ClusterMap) (place : Option ℕ) → option_and_then (upward_in (ups_of m)) place ≡ option_and_then (up_osd m) place
 upward_same m None = refl
 upward_same m (Some osd) = rw (up_in m osd) refl
 
 -- ---- up sets
 
 -- a mapped set without those that are down, by the bits, is the up set
-set_shown : (m : ClusterMap) (p : PoolFacts) (n : ℕ) → kept p.kind (map (option_and_then (upward_in (ups_of m))) (mapped_set m p n)) ≡ up_set m p n
+set_shown : (m : ClusterMap) (p : PoolFacts) (n : ℕ) → kept_places p.kind (map (option_and_then (upward_in (ups_of m))) (mapped_set m p n)) ≡ up_set m p n
 unfolding up_set
-set_shown m p n = ap (kept p.kind) (map-agree (option_and_then (upward_in (ups_of m))) (option_and_then (upward m)) (upward_same m) (mapped_set m p n))
+set_shown m p n = ap (kept_places p.kind) (map-agree (option_and_then (upward_in (ups_of m))) (option_and_then (up_osd m)) (upward_same m) (mapped_set m p n))
 
 -- what a pool's table shows of a group is its up set
 of_pool : (m : ClusterMap) (up : List Bool) (p : PoolFacts) (n : ℕ) → up ≡ ups_of m
-    → option_map (λ set. kept p.kind (map (option_and_then (upward_in up)) set)) (slice_get (sets_of m p) n) ≡ (if nat_lt n p.pg_num then Some (up_set m p n) else None)
+    → option_map (λ set. kept_places p.kind (map (option_and_then (upward_in up)) set)) (slice_get (sets_of m p) n) ≡ (if nat_lt n p.pg_num then Some (up_set m p n) else None)
 of_pool m up p n is = rw (is, slice_get_in (mapped_set m p) p.pg_num n) (elim (cases_Bool (nat_lt n p.pg_num)) [
   | inl below ↦ rw (below, set_shown m p n) refl
   | inr past ↦ rw past refl

@@ -8,7 +8,7 @@ use Rattle.maptypes.specs.declared.pg.Pg.{Pg}
 use Rattle.maptypes.specs.declared.exception.Exception.{Exception}
 use Rattle.maptypes.specs.declared.change.ChangeParts.{ChangeParts}
 use Rattle.maptypes.specs.declared.change.Reweight.{Reweight}
-use Rattle.maptypes.specs.Exceptions.{place_of, key_of}
+use Rattle.maptypes.specs.Exceptions.{pg_key, key_of}
 use Rattle.maptypes.specs.Pools.{PoolFacts}
 use Rattle.osdmap.specs.Maps.{ClusterMap}
 use Rattle.osdmap.specs.Evals.{concerns}
@@ -20,7 +20,7 @@ excepted_groups es = map (λ e. e.pg) es
 
 -- two rising lists of groups made one
 abbrev pub merged : List Pg → List Pg → List Pg
-merged some others = fold (put place_of) some others
+merged some others = fold (put pg_key) some others
 
 -- the groups that a change names
 abbrev pub named_in : ChangeParts → List Pg
@@ -29,8 +29,8 @@ named_in c =
 
 -- what a change names is in ascending order, each once
 pub record NamedRise (c : ChangeParts) : Type 0 where
-  pub old_upmap : IsRising place_of c.old_upmap
-  pub old_items : IsRising place_of c.old_items
+  pub old_upmap : IsRising pg_key c.old_upmap
+  pub old_items : IsRising pg_key c.old_items
   pub new_upmap : IsRising key_of c.new_upmap
   pub new_items : IsRising key_of c.new_items
 
@@ -49,7 +49,7 @@ number_at q base n place =
 
 -- the number in a pool of a group that a change concerns
 abbrev pub concerned_number : ClusterMap → ChangeParts → PoolFacts → Pg → Option ℕ
-concerned_number m c p g = number_at (λ n. concerns m c (group_of p n)) (p.id * 2 ^ 32) p.pg_num (place_of g)
+concerned_number m c p g = number_at (λ n. concerns m c (group_of p n)) (p.id * 2 ^ 32) p.pg_num (pg_key g)
 
 -- the numbers of some groups
 abbrev pub numbers_in : ClusterMap → ChangeParts → PoolFacts → List Pg → List ℕ
@@ -57,5 +57,5 @@ numbers_in m c p groups = filter_map (concerned_number m c p) groups
 
 -- groups in ascending order, among which are all that a change concerns
 pub record IsCandidates (m : ClusterMap) (c : ChangeParts) (groups : List Pg) : Type 0 where
-  pub rising : IsRising place_of groups
-  pub all : (g : Pg) → concerns m c g ≡ true → has_key place_of groups (place_of g) ≡ true
+  pub rising : IsRising pg_key groups
+  pub all : (g : Pg) → concerns m c g ≡ true → has_key pg_key groups (pg_key g) ≡ true

@@ -4,7 +4,7 @@ use Rattle.std.specs.List.{find, flat_map, range_with_len}
 use Rattle.std.specs.Option.{option_map, option_map_or}
 use Rattle.crush.specs.Run.{Ran}
 use Rattle.grouptable.specs.Sets.{groups_of}
-use Rattle.maptypes.specs.Sets.{Places, kept}
+use Rattle.maptypes.specs.Sets.{Places, kept_places}
 use Rattle.maptypes.specs.declared.pg.Pg.{Pg}
 use Rattle.maptypes.specs.Pools.{PoolFacts}
 use Rattle.osdmap.specs.Maps.{ClusterMap, osd_is_up, HoldsTogether}
@@ -52,7 +52,7 @@ upward_in up osd = if slice_index_or up osd false then Some osd else None
 
 -- a set without the OSDs that are down, in the way of its pool's kind
 abbrev pub shown_set : TableFacts → PoolTable → Places → Places
-shown_set t q set = kept q.pool.kind (map (option_and_then (upward_in t.up)) set)
+shown_set t q set = kept_places q.pool.kind (map (option_and_then (upward_in t.up)) set)
 
 abbrev pub shown_at : TableFacts → Pg → Option Places
 shown_at t g = option_and_then (λ q. option_map (shown_set t q) (slice_get q.groups.sets g.number)) (pool_in t g.pool)

@@ -51,7 +51,7 @@ impl PoolSets for Placing<'_> {
 
     fn set(&self, number: u32, work: &mut Work) -> Result<OsdSet, Memory> {
         self.map.holds_together();
-        let set = self.mapped(number, work)?;
+        let set = self.mapped_set(number, work)?;
         Ok(stored(&set))
     }
 }

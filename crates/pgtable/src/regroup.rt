@@ -6,7 +6,7 @@ ghost use Rattle.std.specs.Option.{option_copied};
 ghost use Rattle.std.specs.List.Sorted.{IsNonDecreasingBy};
 ghost use Rattle.keylist.specs.Order.{IsRising};
 ghost use Rattle.crush.specs.Limits.{max_size};
-ghost use Rattle.maptypes.specs.Exceptions.{place_of, key_of};
+ghost use Rattle.maptypes.specs.Exceptions.{pg_key, key_of};
 ghost use Rattle.osdmap.specs.Maps.{pool_at};
 ghost use Rattle.pgtable.specs.Candidates.{IsCandidates};
 ghost use Rattle.pgtable.specs.Patches.{LeadsFrom, changed_map, leaves_raw_sets, said_after};
@@ -15,7 +15,7 @@ use crate::candidates::names_rise;
 use crate::mapped::{PoolSets, stored};
 use crush::Work;
 use grouptable::OsdSet;
-use keylist::{entry_of, has};
+use keylist::{Keyed, entry_of, has};
 use maptypes::{Blank, Change, Exception, Pg, Pool};
 use osdmap::OsdMap;
 use refusal::{Memory, Refusal};
@@ -39,15 +39,15 @@ fn said_after<'a, E: Blank>(
     said: Option<&'a [E]>,
     pg: Pg,
 ) -> Option<&'a [E]>
-    requires gone { IsNonDecreasingBy place_of gone.now }
+    requires gone { IsNonDecreasingBy pg_key gone.now }
     requires new { IsRising key_of new.now }
     requires few { IfSome said (λ entries. length entries.now ≤ max_size) }
     ensures value { option_copied result ≡ said_after gone.now new.now (option_copied said.entry) pg }
     ensures few { IfSome result (λ entries. length entries.now ≤ max_size) }
 {
-    match entry_of(new, pg.place()) {
+    match entry_of(new, pg.key()) {
         Some(exception) => Some(exception.entries.as_slice()),
-        None if has(gone, pg.place()) => None,
+        None if has(gone, pg.key()) => None,
         None => said,
     }
 }

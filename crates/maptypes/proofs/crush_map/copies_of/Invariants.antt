@@ -1,5 +1,5 @@
 use Rattle.std.proofs.Common.{◌≡◌, take}
-use Rattle.maptypes.proofs.crush_map.copied.Given as goal
+use Rattle.maptypes.proofs.crush_map.copies_of.Given as goal
 
 -- the rules so far
 abbrev pub invariant-loop-numbered : goal.invariant-loop-numbered

@@ -6,7 +6,7 @@ use Rattle.refusal.specs.Outcomes.{refused_unless}
 use Rattle.maptypes.specs.Values.{rule_of}
 use Rattle.maptypes.specs.CrushMaps.{is_lawful}
 use Rattle.maptypes.proofs.Judged.{refused, stops}
-use Rattle.maptypes.proofs.crush_map.rules_made.Goals as goal
+use Rattle.maptypes.proofs.crush_map.make_rules.Goals as goal
 
 pub returns-in_err-rule_of : goal.returns-in_err-rule_of
 returns-in_err-rule_of c =

@@ -1,7 +1,7 @@
 use Rattle.std.proofs.Common.{◌<◌, ◌/◌, sym, subst, arith}
 use Rattle.std.proofs.lemmas.Nat.{and_le_r}
 use Rattle.osdmap.proofs.Masks.{mask_half}
-use Rattle.osdmap.proofs.placement.stable_mod.Goals as goal
+use Rattle.osdmap.proofs.placing.stable_mod.Goals as goal
 
 pub returns-else-number-mask-clause-below : goal.returns-else-number-mask-clause-below
 returns-else-number-mask-clause-below c = λ some is.

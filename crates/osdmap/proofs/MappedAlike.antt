@@ -1,4 +1,4 @@
--- The reweights by which the exceptions of a group go.
+-- A mapped set goes by the raw set, the exceptions, and the reweights of the OSDs that these name.
 use Rattle.std.proofs.Common.{◌≡◌, ℕ, List, [], ◌∷◌, ◌++◌, Option, Some, None, unwrap_or, subst, refl}
 use Rattle.std.specs.Prelude.{map, slice_index}
 use Rattle.std.specs.List.{All, list_any, fold, flat_map}
@@ -6,11 +6,16 @@ use Rattle.std.proofs.lemmas.List.Elements.{All-nil, All-cons, All-head, All-tai
 use Rattle.std.proofs.lemmas.List.Concat.{flat_map-cons}
 use Rattle.maptypes.specs.declared.exception.Pair.{Pair}
 use Rattle.maptypes.specs.Exceptions.{said_of, sides}
-use Rattle.osdmap.specs.Mapped.{is_weightless, with_pair, with_items, mapped}
+use Rattle.osdmap.specs.Mapped.{is_weightless, with_pair, with_items, with_exceptions}
 use Rattle.osdmap.specs.Placement.{group_of, raw_set, mapped_set}
-use Rattle.placement_laws.specs.Mapping.{Agree, MappedReadsNamed, AlikeMapAlike}
+use Rattle.maptypes.specs.Pools.{PoolFacts}
+use Rattle.osdmap.specs.Maps.{ClusterMap}
 
--- what holds of all of two lists holds of all of each
+-- two lists of reweights agree on some OSDs
+abbrev pub Agree : List ℕ → List ℕ → List ℕ → Type 0
+Agree weights others osds = All (λ osd. slice_index weights osd ≡ slice_index others osd) osds
+
+-- what holds of all of two lists holds of all of the first
 all_before : {X : Type 0} (P : X → Type 0) (xs ys : List X) → All P (xs ++ ys) → All P xs
 all_before P [] ys all = All-nil P
 all_before P (x ∷ xs) ys all = All-cons P x xs (All-head P x (xs ++ ys) all) (all_before P xs ys (All-tail P x (xs ++ ys) all))
@@ -50,18 +55,22 @@ module _ (weights others : List ℕ) where
   items_alike None places agree = refl
   items_alike (Some pairs) places agree = pairs_alike pairs places agree
 
--- the law: a mapped set reads the reweights of the OSDs that the exceptions name alone
-pub mapped_reads_named : MappedReadsNamed
-unfolding mapped
+-- a mapped set reads the reweights of the OSDs that the exceptions name, and no others
+pub mapped_reads_named : (weights others : List ℕ) (explicit : Option (List ℕ)) (items : Option (List Pair)) (raw : List (Option ℕ)) → Agree weights others (unwrap_or explicit [] ++ flat_map sides (unwrap_or items []))
+    → with_exceptions weights explicit items raw ≡ with_exceptions others explicit items raw
+unfolding with_exceptions
 mapped_reads_named weights others None items raw agree = items_alike weights others items raw agree
 mapped_reads_named weights others (Some osds) items raw agree =
     let of_targets = all_before (λ o. slice_index weights o ≡ slice_index others o) osds (flat_map sides (unwrap_or items [])) agree in
     let of_sides = all_behind (λ o. slice_index weights o ≡ slice_index others o) osds (flat_map sides (unwrap_or items [])) agree in
     rw (any_weightless_alike weights others osds of_targets, items_alike weights others items (map (λ osd. Some osd) osds) of_sides)
 
--- the law: groups that are alike have the same mapped set
-pub alike_map_alike : AlikeMapAlike
+-- so group i of a pool of one map and of a pool of another have the same mapped set, where they have the same raw set, the
+-- same exceptions, and the same reweights of the OSDs that these name
+pub alike_map_alike : (m n : ClusterMap) (p q : PoolFacts) (i : ℕ) → raw_set m p i ≡ raw_set n q i → said_of m.explicit (group_of p i) ≡ said_of n.explicit (group_of q i)
+    → said_of m.items (group_of p i) ≡ said_of n.items (group_of q i) → Agree m.weights n.weights (unwrap_or (said_of m.explicit (group_of p i)) [] ++ flat_map sides (unwrap_or (said_of m.items (group_of p i)) []))
+    → mapped_set m p i ≡ mapped_set n q i
 unfolding mapped_set
-alike_map_alike m n p q i alike =
-    let by_weights = mapped_reads_named m.weights n.weights (said_of m.explicit (group_of p i)) (said_of m.items (group_of p i)) (raw_set m p i) alike.weights in
-    rw (← alike.raw, ← alike.explicit, ← alike.items) by_weights
+alike_map_alike m n p q i raw explicit items weights =
+    let by_weights = mapped_reads_named m.weights n.weights (said_of m.explicit (group_of p i)) (said_of m.items (group_of p i)) (raw_set m p i) weights in
+    rw (← raw, ← explicit, ← items) by_weights

@@ -7,9 +7,9 @@ use Rattle.std.proofs.lemmas.List.Concat.{flat_map-cons}
 use Rattle.crush.specs.declared.step.RuleKind.{RuleKind}
 use Rattle.crush.specs.declared.step.RuleKind.TheVariants.{Replicated, Erasure}
 use Rattle.osdmap.specs.Maps.{ClusterMap, osd_is_up}
-use Rattle.maptypes.specs.Sets.{is_of, stands, kept, kept_in}
-use Rattle.osdmap.specs.Placement.{upward, mapped_set, up_set}
-use Rattle.placement_laws.specs.Standing.{UpAreMappedAndUp}
+use Rattle.maptypes.specs.Sets.{is_of, stands, kept_places, kept_in}
+use Rattle.osdmap.specs.Placement.{up_osd, mapped_set, up_set}
+use Rattle.maptypes.specs.Pools.{PoolFacts}
 
 -- or with false is the first
 or_none : (a : Bool) → (a || false) ≡ a
@@ -36,7 +36,7 @@ kept_place osd Replicated (Some o) = or_none (eqb o osd)
 kept_place osd Erasure place = or_none (is_of osd place)
 
 -- a place keeps its OSD where that is up
-upward_place : (m : ClusterMap) (osd : ℕ) (place : Option ℕ) → is_of osd (option_and_then (upward m) place) ≡ (is_of osd place && osd_is_up m osd)
+upward_place : (m : ClusterMap) (osd : ℕ) (place : Option ℕ) → is_of osd (option_and_then (up_osd m) place) ≡ (is_of osd place && osd_is_up m osd)
 upward_place m osd None = refl
 upward_place m osd (Some o) = by_up (osd_is_up m o) refl
   where
@@ -51,15 +51,15 @@ upward_place m osd (Some o) = by_up (osd_is_up m o) refl
     ]
 
 -- an OSD stands in what is left of a list without those that are down exactly where it stands in the list and is up
-pub stands_up : (m : ClusterMap) (kind : RuleKind) (osd : ℕ) (places : List (Option ℕ)) → stands osd (kept kind (map (option_and_then (upward m)) places)) ≡ (stands osd places && osd_is_up m osd)
+pub stands_up : (m : ClusterMap) (kind : RuleKind) (osd : ℕ) (places : List (Option ℕ)) → stands osd (kept_places kind (map (option_and_then (up_osd m)) places)) ≡ (stands osd places && osd_is_up m osd)
 stands_up m kind osd [] = refl
 stands_up m kind osd (place ∷ places) =
-    let first = option_and_then (upward m) place in
-    let rest = map (option_and_then (upward m)) places in
-    let split = ap (stands osd) (flat_map-cons (kept_in kind) first rest) ∙ list_any-append (is_of osd) (kept_in kind first) (kept kind rest) in
+    let first = option_and_then (up_osd m) place in
+    let rest = map (option_and_then (up_osd m)) places in
+    let split = ap (stands osd) (flat_map-cons (kept_in kind) first rest) ∙ list_any-append (is_of osd) (kept_in kind first) (kept_places kind rest) in
     split ∙ rw (kept_place osd kind first, upward_place m osd place, stands_up m kind osd places) (spread (is_of osd place) (stands osd places) (osd_is_up m osd))
 
--- the law: an OSD stands in the up set exactly where it stands in the mapped set and is up
-pub up_are_mapped_and_up : UpAreMappedAndUp
+-- an OSD stands in the up set exactly where it stands in the mapped set and is up
+pub up_are_mapped_and_up : (m : ClusterMap) (p : PoolFacts) (n osd : ℕ) → stands osd (up_set m p n) ≡ (stands osd (mapped_set m p n) && osd_is_up m osd)
 unfolding up_set
 up_are_mapped_and_up m p n osd = stands_up m p.kind osd (mapped_set m p n)

@@ -12,13 +12,12 @@ use Rattle.maptypes.specs.declared.exception.Exception.{Exception}
 use Rattle.maptypes.specs.declared.exception.Pair.{Pair}
 use Rattle.maptypes.specs.declared.pg.Pg.{Pg}
 use Rattle.maptypes.specs.Pools.{PoolFacts}
-use Rattle.maptypes.specs.Exceptions.{place_of, key_of, said_of, is_exception, all_named, has_group, is_sound, target, sides, is_set, are_pairs}
+use Rattle.maptypes.specs.Exceptions.{pg_key, key_of, said_of, is_exception, all_named, has_group, is_sound, target, sides, is_set, are_pairs}
 use Rattle.osdmap.specs.Maps.{ClusterMap, osd_exists, HoldsTogether}
-use Rattle.osdmap.specs.Mapped.{is_weightless, with_pair, with_items, mapped}
-use Rattle.maptypes.specs.Sets.{replaced, is_of, kept, kept_in}
-use Rattle.osdmap.specs.Placement.{group_of, existing, placed, raw_set, mapped_set}
+use Rattle.osdmap.specs.Mapped.{is_weightless, with_pair, with_items, with_exceptions}
+use Rattle.maptypes.specs.Sets.{replace, is_of, kept_places, kept_in}
+use Rattle.osdmap.specs.Placement.{group_of, existing_osd, placed_devices, raw_set, mapped_set}
 use Rattle.osdmap.proofs.PlacementLemmas.{found_passes}
-use Rattle.placement_laws.specs.Standing.{MappedExist}
 
 -- ---- raw sets
 
@@ -30,7 +29,7 @@ module _ (m : ClusterMap) where
   there_if o true is = is
   there_if o false is = tt
 
-  existing_there : (x : Option ℤ) → IsThere (option_and_then (existing m) x)
+  existing_there : (x : Option ℤ) → IsThere (option_and_then (existing_osd m) x)
   existing_there None = tt
   existing_there (Some (pos o)) = there_if o (osd_exists m o) refl
   existing_there (Some (negsuc n)) = tt
@@ -40,36 +39,36 @@ module _ (m : ClusterMap) where
   kept_there Replicated (Some o) is = All-cons IsThere (Some o) [] is (All-nil IsThere)
   kept_there Erasure place is = All-cons IsThere place [] is (All-nil IsThere)
 
-  all_kept : (kind : RuleKind) (xs : List (Option ℤ)) → All IsThere (kept kind (map (option_and_then (existing m)) xs))
+  all_kept : (kind : RuleKind) (xs : List (Option ℤ)) → All IsThere (kept_places kind (map (option_and_then (existing_osd m)) xs))
   all_kept kind [] = All-nil IsThere
   all_kept kind (x ∷ xs) =
-      let first = option_and_then (existing m) x in
-      let rest = map (option_and_then (existing m)) xs in
-      subst (All IsThere) (sym (flat_map-cons (kept_in kind) first rest)) (All-append IsThere (kept_in kind first) (kept kind rest) (kept_there kind first (existing_there x)) (all_kept kind xs))
+      let first = option_and_then (existing_osd m) x in
+      let rest = map (option_and_then (existing_osd m)) xs in
+      subst (All IsThere) (sym (flat_map-cons (kept_in kind) first rest)) (All-append IsThere (kept_in kind first) (kept_places kind rest) (kept_there kind first (existing_there x)) (all_kept kind xs))
 
   raw_there : (p : PoolFacts) (n : ℕ) → All IsThere (raw_set m p n)
   unfolding raw_set
-  raw_there p n = all_kept p.kind (placed m p n)
+  raw_there p n = all_kept p.kind (placed_devices m p n)
 
   -- ---- exceptions
 
-  replaced_there : (pair : Pair) (places : List (Option ℕ)) → osd_exists m pair.to ≡ true → All IsThere places → All IsThere (replaced pair places)
-  unfolding replaced
+  replaced_there : (pair : Pair) (places : List (Option ℕ)) → osd_exists m pair.to ≡ true → All IsThere places → All IsThere (replace pair places)
+  unfolding replace
   replaced_there pair [] is all = all
   replaced_there pair (place ∷ places) is all =
       let here = All-head IsThere place places all in
       let rest = All-tail IsThere place places all in
       by_test (is_of pair.from place) here rest (replaced_there pair places is rest)
     where
-      by_test : (b : Bool) → IsThere place → All IsThere places → All IsThere (replaced pair places) → All IsThere (if b then Some pair.to ∷ places else place ∷ replaced pair places)
+      by_test : (b : Bool) → IsThere place → All IsThere places → All IsThere (replace pair places) → All IsThere (if b then Some pair.to ∷ places else place ∷ replace pair places)
       by_test true here rest later = All-cons IsThere (Some pair.to) places is rest
-      by_test false here rest later = All-cons IsThere place (replaced pair places) here later
+      by_test false here rest later = All-cons IsThere place (replace pair places) here later
 
   pair_there : (weights : List ℕ) (places : List (Option ℕ)) (pair : Pair) → osd_exists m pair.to ≡ true → All IsThere places → All IsThere (with_pair weights places pair)
   unfolding with_pair
   pair_there weights places pair is all = by_test _
     where
-      by_test : (b : Bool) → All IsThere (if b then places else replaced pair places)
+      by_test : (b : Bool) → All IsThere (if b then places else replace pair places)
       by_test true = all
       by_test false = replaced_there pair places is all
 
@@ -84,9 +83,9 @@ module _ (m : ClusterMap) where
   said_there : {E : Type 0} (names : E → List ℕ) (sound : List E → Bool) (es : List (Exception E)) (g : Pg) (entries : List E)
       → list_all (is_exception names sound m.pools (osd_exists m)) es ≡ true → said_of es g ≡ Some entries
       → list_all (λ entry. list_all (osd_exists m) (names entry)) entries ≡ true
-  said_there {E} names sound es g entries all said = by_entry (entry_at key_of es (place_of g)) refl
+  said_there {E} names sound es g entries all said = by_entry (entry_at key_of es (pg_key g)) refl
     where
-      by_entry : (e : Option (Exception E)) → entry_at key_of es (place_of g) ≡ e → list_all (λ entry. list_all (osd_exists m) (names entry)) entries ≡ true
+      by_entry : (e : Option (Exception E)) → entry_at key_of es (pg_key g) ≡ e → list_all (λ entry. list_all (osd_exists m) (names entry)) entries ≡ true
       by_entry None found = let wrong : None ≡ Some entries = rw found at said in absurd (cc)
       by_entry (Some e) found =
           let same : Some e.entries ≡ Some entries = rw found at said in
@@ -106,8 +105,8 @@ module _ (m : ClusterMap) where
   items_there g None places holds said all = all
   items_there g (Some pairs) places holds said all = pairs_there m.weights pairs places (said_there sides are_pairs m.items g pairs holds.items_sound said) all
 
-  mapped_there : (g : Pg) (explicit : Option (List ℕ)) (raw : List (Option ℕ)) → HoldsTogether m → said_of m.explicit g ≡ explicit → All IsThere raw → All IsThere (mapped m.weights explicit (said_of m.items g) raw)
-  unfolding mapped
+  mapped_there : (g : Pg) (explicit : Option (List ℕ)) (raw : List (Option ℕ)) → HoldsTogether m → said_of m.explicit g ≡ explicit → All IsThere raw → All IsThere (with_exceptions m.weights explicit (said_of m.items g) raw)
+  unfolding with_exceptions
   mapped_there g None raw holds said all = items_there g (said_of m.items g) raw holds refl all
   mapped_there g (Some osds) raw holds said all = by_test (list_any (is_weightless m.weights) osds)
     where
@@ -115,7 +114,7 @@ module _ (m : ClusterMap) where
       by_test true = all
       by_test false = items_there g (said_of m.items g) (map (λ osd. Some osd) osds) holds refl (targets_there osds (said_there target is_set m.explicit g osds holds.explicit_sound said))
 
--- the law: each OSD of a mapped set exists
-pub mapped_exist : MappedExist
+-- each OSD of a mapped set exists
+pub mapped_exist : (m : ClusterMap) (p : PoolFacts) (n : ℕ) → HoldsTogether m → All (λ place. IfSome place (λ osd. osd_exists m osd ≡ true)) (mapped_set m p n)
 unfolding mapped_set
 mapped_exist m p n holds = mapped_there m (group_of p n) (said_of m.explicit (group_of p n)) (raw_set m p n) holds refl (raw_there m p n)

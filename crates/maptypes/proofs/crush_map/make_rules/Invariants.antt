@@ -2,7 +2,7 @@ use Rattle.std.proofs.Common.{◌≡◌, map, take, true}
 use Rattle.std.specs.List.{list_all}
 use Rattle.maptypes.specs.Values.{rule_of}
 use Rattle.maptypes.specs.CrushMaps.{is_lawful}
-use Rattle.maptypes.proofs.crush_map.rules_made.Given as goal
+use Rattle.maptypes.proofs.crush_map.make_rules.Given as goal
 
 abbrev pub invariant-loop-part : goal.invariant-loop-part
 invariant-loop-part l = record {

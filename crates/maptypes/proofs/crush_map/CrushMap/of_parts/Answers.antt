@@ -1,7 +1,7 @@
 use Rattle.maptypes.specs.CrushMaps.{crush_fault, IsCrushOf}
 use Rattle.maptypes.proofs.Judged.{passed, stops}
 use Rattle.maptypes.proofs.CrushFits.{fault_rules, no_fault, is_crush_map}
-use Rattle.maptypes.proofs.crush_map.CrushMap.stated.Goals as goal
+use Rattle.maptypes.proofs.crush_map.CrushMap.of_parts.Goals as goal
 
 pub returns-in_err-rules : goal.returns-in_err-rules
 returns-in_err-rules c =

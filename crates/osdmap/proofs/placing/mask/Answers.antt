@@ -1,5 +1,5 @@
 use Rattle.osdmap.proofs.Masks.{mask_power}
-use Rattle.osdmap.proofs.placement.mask.Goals as goal
+use Rattle.osdmap.proofs.placing.mask.Goals as goal
 
 pub returns : goal.returns
 returns c =

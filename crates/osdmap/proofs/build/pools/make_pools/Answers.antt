@@ -6,7 +6,7 @@ use Rattle.refusal.specs.Outcomes.{refused_unless}
 use Rattle.maptypes.specs.Values.{pool_of}
 use Rattle.maptypes.proofs.Judged.{refused, stops}
 use Rattle.osdmap.specs.Stated.{pool_ok}
-use Rattle.osdmap.proofs.build.pools.pools_made.Goals as goal
+use Rattle.osdmap.proofs.build.pools.make_pools.Goals as goal
 
 pub returns-in_err-pool : goal.returns-in_err-pool
 returns-in_err-pool c =

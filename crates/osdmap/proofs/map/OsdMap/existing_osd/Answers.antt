@@ -2,7 +2,7 @@ use Rattle.std.proofs.Common.{◌≡◌, true, sym, arith}
 use Rattle.std.specs.Prelude.{nat_lt}
 use Rattle.std.proofs.lemmas.Bool.Decides.{nat_tests}
 use Rattle.osdmap.proofs.Named.{below_max}
-use Rattle.osdmap.proofs.map.OsdMap.existing.Goals as goal
+use Rattle.osdmap.proofs.map.OsdMap.existing_osd.Goals as goal
 
 pub returns-then-exists-clause-small : goal.returns-then-exists-clause-small
 returns-then-exists-clause-small c =

@@ -2,7 +2,7 @@ use Rattle.std.proofs.Common.{◌≡◌, map, take, true}
 use Rattle.std.specs.List.{list_all}
 use Rattle.maptypes.specs.Values.{pool_of}
 use Rattle.osdmap.specs.Stated.{pool_ok}
-use Rattle.osdmap.proofs.build.pools.pools_made.Given as goal
+use Rattle.osdmap.proofs.build.pools.make_pools.Given as goal
 
 abbrev pub invariant-loop-part : goal.invariant-loop-part
 invariant-loop-part l = record {
