@@ -8,7 +8,7 @@ use Rattle.maptypes.specs.Sets.{is_of, replace}
 abbrev pub is_weightless : List ℕ → ℕ → Bool
 is_weightless weights osd = slice_index weights osd == 0
 
--- a pair acts only where the OSD that it brings stands nowhere, and takes a share
+-- a pair acts only where the OSD that it brings stands nowhere, and is not out for good
 unfoldable pub with_pair : List ℕ → List (Option ℕ) → Pair → List (Option ℕ)
 with_pair weights places pair =
     if list_any (is_of pair.to) places || is_weightless weights pair.to then places else replace pair places

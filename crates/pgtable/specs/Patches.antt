@@ -23,7 +23,7 @@ use Rattle.pgtable.specs.declared.patch.NewTables.{NewTables}
 use Rattle.pgtable.specs.declared.patch.Brought.{Brought}
 use Rattle.pgtable.specs.declared.patch.Brought.TheVariants.{Groups, Pools}
 use Rattle.pgtable.specs.declared.patch.Patch.{Patch}
-use Rattle.pgtable.specs.Tables.{TableFacts, sets_of, pool_table, tables_of, IsTableOf}
+use Rattle.pgtable.specs.Tables.{TableFacts, pool_table, tables_of, IsTableOf}
 
 -- the map after a change, one epoch on
 abbrev pub changed_map : ClusterMap → ChangeParts → ClusterMap
