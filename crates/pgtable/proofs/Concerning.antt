@@ -29,9 +29,9 @@ use Rattle.osdmap.proofs.Coming.{comes}
 use Rattle.keylist.proofs.KeyedOrder.{rising_head, rising_tail, rising_from, rising-filter}
 use Rattle.keylist.proofs.Tests.{and_first, and_second}
 use Rattle.keylist.proofs.Each.{same_tests}
-use Rattle.pgtable.specs.Candidates.{NamedRise, excepted_groups, merged, named_in, candidates_by, candidates, number_at}
+use Rattle.pgtable.specs.Candidates.{NamedRise, excepted_groups, union_of, named_groups, candidates_by, candidates, number_at}
 use Rattle.pgtable.specs.Candidates as spec
-use Rattle.pgtable.specs.Patches.{concerned}
+use Rattle.pgtable.specs.Patches.{concerned_numbers}
 use Rattle.pgtable.proofs.Keeping.{among}
 
 -- ---- rising lists of numbers
@@ -227,7 +227,7 @@ places_rise groups up i j d less inside =
 
 -- among groups that have all that a change concerns, exactly those of a pool are found
 pub concerned_found : (m : ClusterMap) (c : ChangeParts) (p : PoolFacts) (groups : List Pg) → IsRising pg_key groups → ((g : Pg) → concerns m c g ≡ true → has_key pg_key groups (pg_key g) ≡ true)
-    → spec.numbers_in m c p groups ≡ concerned m c p
+    → spec.numbers_in m c p groups ≡ concerned_numbers m c p
 concerned_found m c p groups up complete =
     over_places (λ n. concerns m c (group_of p n)) (p.id * 2 ^ 32) p.pg_num groups
     ∙ numbers_all (λ n. concerns m c (group_of p n)) (p.id * 2 ^ 32) p.pg_num (map pg_key groups) (places_rise groups up)
@@ -287,16 +287,16 @@ other_or : (a b : Bool) → b ≡ true → (a || b) ≡ true
 other_or a b h = rw h (true_behind a)
 
 -- a group is among two lists joined where it is in either
-has_joined : (some others : List Pg) (k : ℕ) → has_key pg_key (merged some others) k ≡ (has_key pg_key others k || has_key pg_key some k)
+has_joined : (some others : List Pg) (k : ℕ) → has_key pg_key (union_of some others) k ≡ (has_key pg_key others k || has_key pg_key some k)
 has_joined some others k = has-puts pg_key some others k
 
 -- a group that a change names is among those named
-named_has : (c : ChangeParts) (g : Pg) → is_named c g ≡ true → has_key pg_key (named_in c) (pg_key g) ≡ true
+named_has : (c : ChangeParts) (g : Pg) → is_named c g ≡ true → has_key pg_key (named_groups c) (pg_key g) ≡ true
 unfolding is_named
 named_has c g named =
     let k = pg_key g in
-    let both = merged c.old_upmap c.old_items in
-    let three = merged both (excepted_groups c.new_upmap) in
+    let both = union_of c.old_upmap c.old_items in
+    let three = union_of both (excepted_groups c.new_upmap) in
     let in_both = λ (h : (is_among c.old_upmap g || is_among c.old_items g) ≡ true). has_joined c.old_upmap c.old_items k ∙ elim (or_cases _ _ h) [
       | inl first ↦ other_or (has_key pg_key c.old_items k) (has_key pg_key c.old_upmap k) first
       | inr second ↦ some_or (has_key pg_key c.old_items k) (has_key pg_key c.old_upmap k) second
@@ -344,9 +344,9 @@ by_weight m c g [] is loud = elim (or_cases _ _ loud) [
 ]
 by_weight m c g (w ∷ ws) is loud =
     let k = pg_key g in
-    has_joined (merged (named_in c) (excepted_groups m.explicit)) (excepted_groups m.items) k ∙ elim (or_cases _ _ loud) [
+    has_joined (union_of (named_groups c) (excepted_groups m.explicit)) (excepted_groups m.items) k ∙ elim (or_cases _ _ loud) [
       | inr items ↦ some_or _ _ (groups_have m.items k ∙ said_has sides c m.items g items)
-      | inl rest ↦ other_or _ _ (has_joined (named_in c) (excepted_groups m.explicit) k ∙ elim (or_cases _ _ rest) [
+      | inl rest ↦ other_or _ _ (has_joined (named_groups c) (excepted_groups m.explicit) k ∙ elim (or_cases _ _ rest) [
         | inr explicit ↦ some_or _ _ (groups_have m.explicit k ∙ said_has target c m.explicit g explicit)
         | inl named ↦ other_or _ _ (named_has c g named)
       ])
@@ -369,7 +369,7 @@ concerns_named m c g none = rw (none_reweighted target c (said_of m.explicit g) 
     or_nothing false = refl
 
 -- so it concerns the same groups of a pool by whatever map
-pub concerned_alike : (m n : ClusterMap) (c : ChangeParts) (p : PoolFacts) → c.weight ≡ [] → concerned m c p ≡ concerned n c p
+pub concerned_alike : (m n : ClusterMap) (c : ChangeParts) (p : PoolFacts) → c.weight ≡ [] → concerned_numbers m c p ≡ concerned_numbers n c p
 concerned_alike m n c p none =
     filter_agree (λ k. concerns m c (group_of p k)) (λ k. concerns n c (group_of p k))
     (λ k. concerns_named m c (group_of p k) none ∙ sym (concerns_named n c (group_of p k) none)) (range_with_len 0 p.pg_num)
@@ -381,5 +381,5 @@ groups_rise_all es gs i up is past =
     rw all (groups_rise es up)
 
 -- joined groups rise
-pub joined_rise : (some others gs : List Pg) → IsRising pg_key some → gs ≡ merged some others → IsRising pg_key gs
+pub joined_rise : (some others gs : List Pg) → IsRising pg_key some → gs ≡ union_of some others → IsRising pg_key gs
 joined_rise some others gs up is = rw is (rising-puts pg_key some others up)

@@ -4,7 +4,7 @@ ghost use Rattle.std.specs.Prelude.{◌≡◌, None, IfOk, OnOk};
 ghost use Rattle.keylist.specs.Order.{IsRising};
 ghost use Rattle.maptypes.specs.Exceptions.{pg_key, key_of};
 ghost use Rattle.osdmap.specs.Changes.{change_fault};
-ghost use Rattle.pgtable.specs.Candidates.{excepted_groups, merged, NamedRise, IsCandidates, named_in, candidates};
+ghost use Rattle.pgtable.specs.Candidates.{excepted_groups, union_of, NamedRise, IsCandidates, named_groups, candidates};
 
 use keylist::put_all;
 use maptypes::{Blank, Change, Exception, Pg};
@@ -29,7 +29,7 @@ fn groups_of<E: Blank>(alloc: Global, exceptions: &[Exception<E>]) -> Result<Vec
 fn join(groups: &mut Vec<Pg>, others: &[Pg]) -> Result<(), Memory>
     requires some { IsRising pg_key groups.old.items }
     requires others { IsRising pg_key others.now }
-    ensures groups { OnOk result (groups.new.items ≡ merged groups.old.items others.now) }
+    ensures groups { OnOk result (groups.new.items ≡ union_of groups.old.items others.now) }
     ensures rising { OnOk result (IsRising pg_key groups.new.items) }
 {
     groups.reserve(others.len())?;
@@ -46,9 +46,9 @@ pub(crate) fn names_rise(_map: &OsdMap, change: &Change)
 }
 
 /// The groups that a change names, in ascending order; or `Memory` (30).
-fn named(alloc: Global, change: &Change) -> Result<Vec<Pg>, Memory>
+fn named_groups(alloc: Global, change: &Change) -> Result<Vec<Pg>, Memory>
     requires { NamedRise change.now }
-    ensures named { IfOk result (λ groups. groups.items ≡ named_in change.now) }
+    ensures named { IfOk result (λ groups. groups.items ≡ named_groups change.now) }
     ensures rising { IfOk result (λ groups. IsRising pg_key groups.items) }
 {
     let parts = change.parts();
@@ -68,7 +68,7 @@ fn with_excepted(alloc: Global, change: &Change, after: &OsdMap) -> Result<Vec<P
     ensures rising { IfOk result (λ groups. IsRising pg_key groups.items) }
 {
     after.holds_together();
-    let mut groups = named(alloc, change)?;
+    let mut groups = named_groups(alloc, change)?;
     if !change.parts().weight.is_empty() {
         join(&mut groups, &groups_of(alloc, after.explicits())?)?;
         join(&mut groups, &groups_of(alloc, after.all_items())?)?;

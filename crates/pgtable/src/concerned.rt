@@ -9,7 +9,7 @@ ghost use Rattle.keylist.specs.Keys.{has_key};
 ghost use Rattle.maptypes.specs.Exceptions.{pg_key};
 ghost use Rattle.osdmap.specs.Evals.{is_named, names_reweighted, concerns};
 ghost use Rattle.pgtable.specs.Candidates.{IsCandidates, number_at, concerned_number, numbers_in};
-ghost use Rattle.pgtable.specs.Patches.{concerned};
+ghost use Rattle.pgtable.specs.Patches.{concerned_numbers};
 
 use keylist::{Keyed, has};
 use maptypes::{Change, Entry, Pg, Pool, Reweight};
@@ -123,7 +123,7 @@ fn numbers_in(
 }
 
 /// The groups of a pool that a change concerns, found among candidates; or `Memory` (30).
-pub(crate) fn concerned(
+pub(crate) fn concerned_numbers(
     alloc: Global,
     map: &OsdMap,
     change: &Change,
@@ -131,7 +131,7 @@ pub(crate) fn concerned(
     candidates: &[Pg],
 ) -> Result<Vec<u32>, Memory>
     requires { IsCandidates map.now.map change.now candidates.now }
-    ensures { IfOk result (λ numbers. numbers.items ≡ concerned map.now.map change.now pool.now) }
+    ensures { IfOk result (λ numbers. numbers.items ≡ concerned_numbers map.now.map change.now pool.now) }
 {
     let numbers = numbers_in(alloc, map, change, pool, candidates)?;
     Ok(numbers)

@@ -26,7 +26,7 @@ fn shown_place(place: Option<u16>, up: &[bool]) -> Option<u32>
 }
 
 /// The stored set without the OSDs that are down, in the way of a kind.
-pub fn shown(set: &[u16], kind: RuleKind, up: &[bool]) -> UpSet
+pub fn show_set(set: &[u16], kind: RuleKind, up: &[bool]) -> UpSet
     requires { length set.now ≤ max_size }
     ensures { result ≡ kept_places kind (map (option_and_then (upward_in up.now)) (map place_stored set.now)) }
 {
