@@ -45,14 +45,14 @@ pub record IsBoardOf (m : ClusterMap) (p : PoolFacts) (aim : Aim) (gs : List Gro
   pub deviations : ds ≡ deviations_of m p aim
 
 -- what is kept of a group after a move of it
-abbrev pub gone : Group → Move → Group
-gone g v = record g { places = replace (pair_of_move v) g.places; pairs = g.pairs ++ pair_of_move v ∷ [] }
+abbrev pub group_after : Group → Move → Group
+group_after g v = record g { places = replace (pair_of_move v) g.places; pairs = g.pairs ++ pair_of_move v ∷ [] }
 
 -- some groups after a move of one of them
-abbrev pub IsGone : List Group → Move → List Group → Type 0
-IsGone before v after =
+abbrev pub AreAfterMove : List Group → Move → List Group → Type 0
+AreAfterMove before v after =
     (g : Group) × (v.group < length before) × (g ≡ slice_index_or before v.group g)
-    × (after ≡ slice_set before v.group (gone g v))
+    × (after ≡ slice_set before v.group (group_after g v))
 
 -- whether a group may go from one OSD to another, where both are candidates and beside one another
 unfoldable pub may_go : ClusterMap → PoolFacts → ℕ → ℕ → Group → Bool
@@ -113,10 +113,10 @@ pub record IsOrder (m n : ClusterMap) (p : PoolFacts) (aim : Aim) (osds : List �
   pub rising : AllPairs (λ a b. (from : ℕ) → beats n p aim (move_of from b.1 0) (move_of from a.1 0) ≡ false) order
   pub candidates : All (λ e. is_candidate m p e.1 ≡ true) order
 
--- it covers those from an OSD to some
+-- the best move so far covers those from an OSD to some
 abbrev pub CoversFrom : ClusterMap → PoolFacts → Aim → Option Move → ℕ → List ℕ → Type 0
 CoversFrom m p aim best from tos = All (λ to. CoversPair m p aim best from to) tos
 
--- it covers those from some OSDs to some
+-- the best move so far covers those from some OSDs to some
 abbrev pub CoversAll : ClusterMap → PoolFacts → Aim → Option Move → List ℕ → List ℕ → Type 0
 CoversAll m p aim best froms tos = All (λ from. CoversFrom m p aim best from tos) froms

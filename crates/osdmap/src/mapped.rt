@@ -18,8 +18,8 @@ impl OsdMap {
         self.weights.get(osd as usize).copied().unwrap_or(0) == 0
     }
 
-    /// Whether one of some OSDs is out for good.
-    fn has_weightless(&self, osds: &[u32]) -> bool
+    /// Whether one of some OSDs is out for good: its reweight is 0.
+    pub fn has_weightless(&self, osds: &[u32]) -> bool
         ensures value { result ≡ list_any (is_weightless self.now.map.weights) osds.now }
         ensures small { result ≡ false → All (λ osd. osd < max_devices) osds.now }
     {

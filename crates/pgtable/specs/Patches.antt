@@ -45,8 +45,8 @@ is_empty (x ∷ xs) = false
 unfoldable pub leaves_pools : ChangeParts → Bool
 leaves_pools c = is_empty c.old_pools && not (is_some c.new_crush) && is_empty c.new_pools && is_empty c.grow_pool
 
--- whether a change leaves all raw sets: the reweights stay as well as the pools, so that only a group whose exceptions it
--- names is placed otherwise
+-- whether a change leaves all raw sets: the reweights stay as well as the pools, so that only a group whose exceptions
+-- it names is placed otherwise
 unfoldable pub leaves_raw_sets : ChangeParts → Bool
 leaves_raw_sets c = leaves_pools c && is_empty c.weight
 

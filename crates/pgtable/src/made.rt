@@ -148,8 +148,8 @@ impl PgTable {
         })
     }
 
-    /// What a change makes of the tables of all pools; or `Memory` (30). Where the map before the change tells its sets,
-    /// all pools stay in place, and so do their tables.
+    /// What a change makes of the tables of all pools; or `Memory` (30). Where the map before the change tells the sets
+    /// after it, all pools stay in place, and so do their tables.
     pub(crate) fn bring_tables(
         &self,
         alloc: Global,

@@ -20,7 +20,8 @@ Agree weights others osds = All (λ osd. slice_index weights osd ≡ slice_index
 abbrev pub MappedReadsNamed : Type 0
 MappedReadsNamed =
     (weights others : List ℕ) (explicit : Option (List ℕ)) (items : Option (List Pair)) (raw : List (Option ℕ)) →
-    Agree weights others (named explicit items) → with_exceptions weights explicit items raw ≡ with_exceptions others explicit items raw
+    Agree weights others (named explicit items) →
+    with_exceptions weights explicit items raw ≡ with_exceptions others explicit items raw
 
 -- group i of a pool of one map and of a pool of another have the same raw set, the same exceptions, and the same
 -- reweights of the OSDs that these name

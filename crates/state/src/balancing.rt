@@ -1,7 +1,7 @@
 //! Balancing the groups of a pool.
 
 use crate::state::State;
-use balancer::{Request, plan};
+use balancer::{PlannedChange, Request, plan};
 use epochlog::{Pass, Row};
 use refusal::Refusal;
 
@@ -31,7 +31,13 @@ impl State {
             request.entry.pool (asked_aim request.entry) request.entry.limit result }
         ensures pass { pass.new ≡ self.new.pass }
     {
-        let (change, moves) = plan(self.alloc, &self.map, &self.table, request, &mut self.work)?;
+        let PlannedChange { change, moves } = plan(
+            self.alloc,
+            &self.map,
+            &self.table,
+            request,
+            &mut self.work,
+        )?;
         let current = self.map.epoch();
         if moves == 0 {
             return Ok((current, 0));

@@ -110,7 +110,8 @@ impl OsdMap {
     /// How many groups the pools that stay have after a change.
     #[tactic(auto, unfolding(crate::specs::Changes::pools_kept))]
     fn groups_kept(&self, change: &Change) -> u128
-        ensures total { result ≡ total_groups (map (with_growths change.now.grow_pool) (pools_kept self.now.map change.now)) }
+        ensures total { result ≡ total_groups (map (with_growths change.now.grow_pool)
+            (pools_kept self.now.map change.now)) }
         ensures small { result < 2 ^ 100 }
     {
         let parts = change.parts();
