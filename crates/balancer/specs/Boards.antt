@@ -6,11 +6,11 @@ use Rattle.std.specs.List.Sorted.{IsPermutation}
 use Rattle.std.specs.Option.{option_map_or}
 use Rattle.maptypes.specs.declared.pg.Pg.{Pg}
 use Rattle.keylist.specs.Keys.{entry_at}
-use Rattle.maptypes.specs.Exceptions.{place_of, key_of, said_of}
+use Rattle.maptypes.specs.Exceptions.{pg_key, key_of, said_of}
 use Rattle.maptypes.specs.Pools.{PoolFacts}
 use Rattle.osdmap.specs.Maps.{ClusterMap, HoldsTogether}
 use Rattle.osdmap.specs.Mapped.{is_weightless}
-use Rattle.maptypes.specs.Sets.{replaced, is_of, stands}
+use Rattle.maptypes.specs.Sets.{replace, is_of, stands}
 use Rattle.osdmap.specs.Placement.{group_of, steps_of, mapped_set}
 use Rattle.balancer.specs.declared.moves.Move.{Move}
 use Rattle.balancer.specs.declared.group.Group.{Group}
@@ -45,14 +45,14 @@ pub record IsBoardOf (m : ClusterMap) (p : PoolFacts) (aim : Aim) (gs : List Gro
   pub deviations : ds ≡ deviations_of m p aim
 
 -- what is kept of a group after a move of it
-abbrev pub gone : Group → Move → Group
-gone g v = record g { places = replaced (pair_of_move v) g.places; pairs = g.pairs ++ pair_of_move v ∷ [] }
+abbrev pub group_after : Group → Move → Group
+group_after g v = record g { places = replace (pair_of_move v) g.places; pairs = g.pairs ++ pair_of_move v ∷ [] }
 
 -- some groups after a move of one of them
-abbrev pub IsGone : List Group → Move → List Group → Type 0
-IsGone before v after =
+abbrev pub AreAfterMove : List Group → Move → List Group → Type 0
+AreAfterMove before v after =
     (g : Group) × (v.group < length before) × (g ≡ slice_index_or before v.group g)
-    × (after ≡ slice_set before v.group (gone g v))
+    × (after ≡ slice_set before v.group (group_after g v))
 
 -- whether a group may go from one OSD to another, where both are candidates and beside one another
 unfoldable pub may_go : ClusterMap → PoolFacts → ℕ → ℕ → Group → Bool
@@ -88,7 +88,7 @@ pub record IsReached (m : ClusterMap) (p : PoolFacts) (aim : Aim) (moves : List 
   pub holds : HoldsTogether (after_moves m p moves)
   pub there : All (λ v. v.group < p.pg_num) moves
   pub named : (n : ℕ) → is_moved moves n ≡ true →
-      entry_at key_of (after_moves m p moves).items (place_of (group_of p n))
+      entry_at key_of (after_moves m p moves).items (pg_key (group_of p n))
       ≡ Some (items_at (after_moves m p moves) p n)
   pub evens :
       unevenness (after_moves m p moves) p aim + least_gain m p aim * length moves ≤ unevenness m p aim
@@ -113,10 +113,10 @@ pub record IsOrder (m n : ClusterMap) (p : PoolFacts) (aim : Aim) (osds : List �
   pub rising : AllPairs (λ a b. (from : ℕ) → beats n p aim (move_of from b.1 0) (move_of from a.1 0) ≡ false) order
   pub candidates : All (λ e. is_candidate m p e.1 ≡ true) order
 
--- it covers those from an OSD to some
+-- the best move so far covers those from an OSD to some
 abbrev pub CoversFrom : ClusterMap → PoolFacts → Aim → Option Move → ℕ → List ℕ → Type 0
 CoversFrom m p aim best from tos = All (λ to. CoversPair m p aim best from to) tos
 
--- it covers those from some OSDs to some
+-- the best move so far covers those from some OSDs to some
 abbrev pub CoversAll : ClusterMap → PoolFacts → Aim → Option Move → List ℕ → List ℕ → Type 0
 CoversAll m p aim best froms tos = All (λ from. CoversFrom m p aim best from tos) froms

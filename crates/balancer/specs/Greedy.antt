@@ -7,7 +7,7 @@ use Rattle.maptypes.specs.Pools.{PoolFacts}
 use Rattle.osdmap.specs.Maps.{ClusterMap}
 use Rattle.balancer.specs.declared.moves.Move.{Move}
 use Rattle.balancer.specs.Shares.{osds_of, deviation, Aim, least_gap}
-use Rattle.balancer.specs.Moves.{move_of, moved, is_allowed}
+use Rattle.balancer.specs.Moves.{move_of, after_move, is_allowed}
 
 -- ---- good moves
 
@@ -52,8 +52,8 @@ best_move m p aim =
 -- the plan of at most so many moves: the best one, and then the plan of the map after it
 unfoldable pub greedy : ClusterMap → PoolFacts → Aim → ℕ → List Move
 greedy m p aim zero = []
-greedy m p aim (suc n) = option_map_or (λ v. v ∷ greedy (moved m p v) p aim n) (best_move m p aim) []
+greedy m p aim (suc n) = option_map_or (λ v. v ∷ greedy (after_move m p v) p aim n) (best_move m p aim) []
 
 -- the map after some moves
 abbrev pub after_moves : ClusterMap → PoolFacts → List Move → ClusterMap
-after_moves m p moves = fold (λ n v. moved n p v) m moves
+after_moves m p moves = fold (λ n v. after_move n p v) m moves

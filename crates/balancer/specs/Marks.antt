@@ -18,8 +18,8 @@ abbrev pub shut_in : List (List Bool) → ℕ → ℕ → List (List Bool)
 shut_in rows from to = slice_set rows from (slice_set (slice_index_or rows from []) to true)
 
 -- what is known once it is not any longer that none may go from one OSD to another
-abbrev pub opened_in : List (List Bool) → ℕ → ℕ → List (List Bool)
-opened_in rows from to = slice_set rows from (slice_set (slice_index_or rows from []) to false)
+abbrev pub open_in : List (List Bool) → ℕ → ℕ → List (List Bool)
+open_in rows from to = slice_set rows from (slice_set (slice_index_or rows from []) to false)
 
 -- none of some groups may go from one OSD to another
 abbrev pub NoneGoes : ClusterMap → PoolFacts → List Group → ℕ → ℕ → Type 0

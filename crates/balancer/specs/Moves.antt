@@ -15,7 +15,7 @@ use Rattle.maptypes.specs.declared.pg.Pg.{Pg}
 use Rattle.maptypes.specs.Exceptions.{key_of, said_of}
 use Rattle.maptypes.specs.Pools.{PoolFacts}
 use Rattle.osdmap.specs.Maps.{ClusterMap}
-use Rattle.maptypes.specs.Sets.{replaced, is_of, stands}
+use Rattle.maptypes.specs.Sets.{replace, is_of, stands}
 use Rattle.osdmap.specs.Placement.{group_of, steps_of, mapped_set, up_set}
 use Rattle.balancer.specs.declared.moves.Move.{Move}
 use Rattle.balancer.specs.Shares.{is_candidate}
@@ -35,12 +35,15 @@ abbrev pub pairs_in : ClusterMap → Pg → List Pair
 pairs_in m g = unwrap_or (said_of m.items g) []
 
 -- the pairs of a group with that of a move behind them
-abbrev pub lengthened : ClusterMap → PoolFacts → Move → Exception Pair
-lengthened m p v = record { pg = group_of p v.group; entries = pairs_in m (group_of p v.group) ++ pair_of_move v ∷ [] }
+abbrev pub items_with_move : ClusterMap → PoolFacts → Move → Exception Pair
+items_with_move m p v = record {
+  pg = group_of p v.group;
+  entries = pairs_in m (group_of p v.group) ++ pair_of_move v ∷ [];
+}
 
 -- the map where the pair is appended to those of the group
-unfoldable pub moved : ClusterMap → PoolFacts → Move → ClusterMap
-moved m p v = record m { items = put key_of m.items (lengthened m p v) }
+unfoldable pub after_move : ClusterMap → PoolFacts → Move → ClusterMap
+after_move m p v = record m { items = put key_of m.items (items_with_move m p v) }
 
 -- ---- what stands above an OSD
 
@@ -64,7 +67,7 @@ level_chosen step.Emit = None
 abbrev pub levels_of : List Step → List ℕ
 levels_of steps = filter_map level_chosen steps
 
--- of these the last, over whose buckets a group is spread, and those before it
+-- the last of the types that a rule chooses, over whose buckets a group is spread, and those before it
 abbrev pub last_level : List ℕ → ℕ
 last_level levels = slice_index levels (length levels - 1)
 
@@ -110,7 +113,7 @@ is_same_set (place ∷ places) (other ∷ others) = option_eq (λ a b. a == b) p
 -- whether the pair makes of the mapped set of the group the same set with the one OSD in place of the other
 unfoldable pub does_replace : ClusterMap → PoolFacts → Move → Bool
 does_replace m p v =
-    is_same_set (mapped_set (moved m p v) p v.group) (replaced (pair_of_move v) (mapped_set m p v.group))
+    is_same_set (mapped_set (after_move m p v) p v.group) (replace (pair_of_move v) (mapped_set m p v.group))
 
 -- whether the group stands on the OSD from which it goes: in its up set, and once in its mapped set
 unfoldable pub stands_on : ClusterMap → PoolFacts → Move → Bool

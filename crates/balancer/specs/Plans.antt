@@ -1,5 +1,5 @@
 -- Plans as changes of a map, and what a plan is worth.
-use Rattle.std.specs.Prelude.{◌≡◌, ℕ, ◌+◌, ◌*◌, ◌≤◌, ◌==◌, Bool, ℤ, List, [], length, map, Option, Some, None, IfSome}
+use Rattle.std.specs.Prelude.{◌≡◌, ℕ, ◌+◌, ◌*◌, ◌≤◌, ◌==◌, Bool, List, [], length, map, Option, Some, None, IfSome}
 use Rattle.std.specs.List.{filter, list_any, range_with_len}
 use Rattle.std.specs.Option.{option_map_or}
 use Rattle.refusal.specs.declared.refused.Refusal.{Refusal}
@@ -67,7 +67,7 @@ pool_groups m pool = option_map_or (λ p. p.pg_num) (pool_at m.pools pool) 0
 unfoldable pub plan_moves : ClusterMap → ℕ → Aim → ℕ → List Move
 plan_moves m pool aim limit = option_map_or (λ p. greedy m p aim limit) (pool_at m.pools pool) []
 
--- their change
+-- the change of the moves of the plan for a pool
 unfoldable pub plan_change : ClusterMap → ℕ → Aim → ℕ → ChangeParts
 plan_change m pool aim limit =
     change_of (option_map_or (λ p. moved_items m p (greedy m p aim limit)) (pool_at m.pools pool) [])

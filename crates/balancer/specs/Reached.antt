@@ -3,6 +3,7 @@ use Rattle.std.specs.Prelude.{◌≡◌, ℕ, Bool, true, false, ℤ, int_lt, Li
 use Rattle.std.specs.List.Sorted.{IsPermutation}
 use Rattle.osdmap.specs.Maps.{ClusterMap}
 use Rattle.balancer.specs.declared.board.Board.{Board}
+use Rattle.balancer.specs.declared.frame.Frame.{Frame}
 use Rattle.balancer.specs.Shares.{is_candidate, candidate_osds, deviation, Aim, aim_of}
 use Rattle.balancer.specs.Greedy.{after_moves, gap}
 use Rattle.balancer.specs.Boards.{IsOrder}
@@ -21,6 +22,18 @@ reached b = after_moves b.frame.map.now.map b.frame.pool b.moves.items
 abbrev pub aim_in : Board → Aim
 aim_in b = aim_of b.frame.carried.now b.frame.apart
 
+-- a board is of the plan that goes by a frame
+pub record IsBoardFor (f : Frame) (b : Board) : Type 0 where
+  pub map : b.frame.map.now.map ≡ f.map.now.map
+  pub pool : b.frame.pool ≡ f.pool
+  pub aim : aim_of b.frame.carried.now b.frame.apart ≡ aim_of f.carried.now f.apart
+
+-- two boards are of plans for one pool of one map, with one aim
+pub record AreOfOnePlan (a b : Board) : Type 0 where
+  pub map : cluster a ≡ cluster b
+  pub pool : a.frame.pool ≡ b.frame.pool
+  pub aim : aim_in a ≡ aim_in b
+
 -- an OSD is one of those that the plan moves groups between
 abbrev pub takes_part : Board → ℕ → Bool
 takes_part b osd = is_candidate b.frame.map.now.map b.frame.pool osd
@@ -33,7 +46,7 @@ IsMarkedOn b marks = IsMarked b.frame.map.now.map b.frame.pool b.groups.items ma
 abbrev pub AreAll : Board → List (ℤ × ℕ) → Type 0
 AreAll b order = IsPermutation (map (λ e. e.1) order) (candidate_osds b.frame.map.now.map b.frame.pool)
 
--- with its deviation
+-- each candidate once with its deviation, in any order
 abbrev pub AreMeasured : Board → List (ℤ × ℕ) → Type 0
 AreMeasured b order = AreAll b order × All (λ e. e.0 ≡ deviation (reached b) b.frame.pool (aim_in b) e.1) order
 

@@ -30,7 +30,7 @@ is_candidate m p osd =
 abbrev pub osds_of : ClusterMap → List ℕ
 osds_of m = range_with_len 0 (length m.presences)
 
--- those between which groups of a pool may be moved
+-- the OSDs between which groups of a pool may be moved
 abbrev pub candidate_osds : ClusterMap → PoolFacts → List ℕ
 candidate_osds m p = filter (is_candidate m p) (osds_of m)
 

@@ -38,6 +38,6 @@ abbrev pub is_lower : ℕ → Option ℕ → Bool
 is_lower n None = true
 is_lower n (Some lowest) = nat_lt n lowest
 
--- the lowest so far, or a lower number whose group passes
-abbrev pub sooner : Bool → ℕ → Option ℕ → Option ℕ
-sooner passes n lowest = if is_lower n lowest && passes then Some n else lowest
+-- the lowest number so far, or a lower one whose group passes
+abbrev pub lowest_with : Bool → ℕ → Option ℕ → Option ℕ
+lowest_with passes n lowest = if is_lower n lowest && passes then Some n else lowest

@@ -13,7 +13,7 @@ ghost use Rattle.balancer.specs.Plans.{is_moved};
 ghost use Rattle.balancer.specs.Standing.{AreRowsOf};
 
 use crate::frame::Frame;
-use crate::group::{Group, gone, groups};
+use crate::group::{Group, groups, move_group};
 use crate::moves::Move;
 use crate::shares::{count, places, weight_of};
 use crate::standing::Standing;
@@ -152,9 +152,8 @@ pub(crate) struct Board<'a> {
 impl<'a> Board<'a> {
     ghost use Rattle.std.specs.Prelude.{◌≡◌, ◌<◌, [], ◌∷◌, ◌++◌, IfOk, OnOk};
     ghost use Rattle.balancer.specs.Plans.{items_at, moved_items};
-    ghost use Rattle.balancer.specs.Greedy.{after_moves};
-    ghost use Rattle.balancer.specs.Boards.{IsGood, IsGone};
-    ghost use Rattle.balancer.specs.Shares.{aim_of};
+    ghost use Rattle.balancer.specs.Boards.{IsGood, AreAfterMove};
+    ghost use Rattle.balancer.specs.Reached.{cluster, reached, aim_in, IsBoardFor, AreOfOnePlan};
     ghost use Rattle.pgtable.specs.Tables.{IsTableOf, RunsMore};
 
     /// The state at the beginning, by a run of the pool's rule for each of its groups; or `Memory` (30).
@@ -165,10 +164,7 @@ impl<'a> Board<'a> {
         work: &mut Work,
     ) -> Result<Board<'a>, Memory>
         requires { IsTableOf table.now frame.map.now.map }
-        ensures map { IfOk result (λ board. board.frame.map.now.map ≡ frame.entry.map.now.map) }
-        ensures pool { IfOk result (λ board. board.frame.pool ≡ frame.entry.pool) }
-        ensures aim { IfOk result (λ board. aim_of board.frame.carried.now board.frame.apart
-            ≡ aim_of frame.entry.carried.now frame.entry.apart) }
+        ensures frame { IfOk result (IsBoardFor frame.entry) }
         ensures moves { IfOk result (λ board. board.moves.items ≡ []) }
         ensures runs { OnOk result (RunsMore frame.entry.pool.pg_num work.old work.new) }
     {
@@ -189,18 +185,14 @@ impl<'a> Board<'a> {
 
     /// Makes a good move; or `Memory` (30).
     pub fn make(&mut self, step: Move) -> Result<(), Memory>
-        requires { IsGood (after_moves self.old.frame.map.now.map self.old.frame.pool self.old.moves.items)
-            self.old.frame.pool (aim_of self.old.frame.carried.now self.old.frame.apart) step }
+        requires { IsGood (reached self.old) self.old.frame.pool (aim_in self.old) step }
         ensures moves { OnOk result (self.new.moves.items ≡ self.old.moves.items ++ step ∷ []) }
-        ensures groups { OnOk result (IsGone self.old.groups.items step self.new.groups.items) }
-        ensures map { self.new.frame.map.now.map ≡ self.old.frame.map.now.map }
-        ensures pool { self.new.frame.pool ≡ self.old.frame.pool }
-        ensures aim { aim_of self.new.frame.carried.now self.new.frame.apart
-            ≡ aim_of self.old.frame.carried.now self.old.frame.apart }
+        ensures groups { OnOk result (AreAfterMove self.old.groups.items step self.new.groups.items) }
+        ensures same { AreOfOnePlan self.new self.old }
     {
         let weight = self.frame.group_weight();
         let at = step.group as usize;
-        let group = gone(self.groups[at], step);
+        let group = move_group(self.groups[at], step);
         self.standing.add(step.group, group.places.as_slice())?;
         self.moves.push(step)?;
         self.groups[at] = group;
@@ -213,8 +205,7 @@ impl<'a> Board<'a> {
     #[tactic(auto, unfolding(crate::specs::Boards::group_at))]
     fn items_at(&self, number: u32) -> Items
         requires { number < self.now.frame.pool.pg_num }
-        ensures { result ≡ items_at (after_moves self.now.frame.map.now.map self.now.frame.pool self.now.moves.items)
-            self.now.frame.pool number }
+        ensures { result ≡ items_at (reached self.now) self.now.frame.pool number }
     {
         let pg = Pg {
             pool: self.frame.pool.id(),
@@ -230,7 +221,7 @@ impl<'a> Board<'a> {
     #[tactic(auto, unfolding(crate::specs::Plans::moved_items))]
     pub fn items(&self, alloc: Global) -> Result<Vec<Items>, Memory>
         ensures { IfOk result (λ items. items.items
-            ≡ moved_items self.now.frame.map.now.map self.now.frame.pool self.now.moves.items) }
+            ≡ moved_items (cluster self.now) self.now.frame.pool self.now.moves.items) }
     {
         let mut items = Vec::with_capacity(alloc, self.moves.len())?;
         for number in 0..self.frame.pool.pg_num() {

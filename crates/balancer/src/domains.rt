@@ -87,7 +87,7 @@ fn is_of(place: Option<u32>, osd: u32) -> bool
 }
 
 /// In how many places of a set an OSD stands.
-pub(crate) fn times(places: &[Option<u32>], osd: u32) -> usize
+pub(crate) fn count_places(places: &[Option<u32>], osd: u32) -> usize
     ensures { result ≡ count_by (is_of osd) places.now }
 {
     places.iter().filter(|place| is_of(**place, osd)).count()

@@ -8,7 +8,7 @@ ghost use Rattle.osdmap.specs.Placement.{steps_of};
 ghost use Rattle.balancer.specs.Shares.{candidate_osds, total_weight, group_weight, least_gap, aim_of, AreSmall};
 ghost use Rattle.balancer.specs.Moves.{level_chosen, levels_of, are_under_same};
 
-use crate::domains::{are_under_same, domain_of, has_way, stands, times};
+use crate::domains::{are_under_same, count_places, domain_of, has_way, stands};
 use crate::group::Group;
 use crate::request::Request;
 use crate::shares::{are_small, candidates, total};
@@ -60,7 +60,7 @@ fn are_under_same_all(map: &OsdMap, some: u32, other: u32, levels: &[u8]) -> boo
 }
 
 /// A weight so many times.
-fn many(count: u32, weight: u64) -> i128
+fn multiply(count: u32, weight: u64) -> i128
     requires { weight ≤ 2 ^ 60 }
     ensures value { result ≡ pos (count * weight) }
     ensures small { result <ℤ pos (2 ^ 92) }
@@ -144,7 +144,7 @@ impl Frame<'_> {
     pub fn group_weight(&self) -> i128
         ensures { result ≡ pos (group_weight self.now.map.now.map self.now.pool) }
     {
-        many(256, self.weight)
+        multiply(256, self.weight)
     }
 
     /// By how much two deviations must differ for a move to be good.
@@ -153,7 +153,7 @@ impl Frame<'_> {
         ensures { result ≡ pos (least_gap self.now.map.now.map self.now.pool
             (aim_of self.now.carried.now self.now.apart)) }
     {
-        many(self.apart, self.weight) + 255
+        multiply(self.apart, self.weight) + 255
     }
 
     /// The types that the pool's rule chooses before the last.
@@ -200,7 +200,7 @@ impl Frame<'_> {
     {
         let places = group.places.as_slice();
         !group.is_fixed
-            && times(places, from) == 1
+            && count_places(places, from) == 1
             && !stands(places, to)
             && group.pairs.as_slice().len() < usize::from(self.pool.size())
             && has_way(self.map, self.last_level(), from, to, places)

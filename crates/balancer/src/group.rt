@@ -1,17 +1,14 @@
 //! Groups as a plan keeps them.
 
 ghost use Rattle.std.specs.Prelude.{◌≡◌, ◌<◌, ◌≤◌, length, position, Some, IfOk, OnOk};
-ghost use Rattle.std.specs.List.{list_any};
 ghost use Rattle.osdmap.specs.Maps.{pool_at};
-ghost use Rattle.osdmap.specs.Mapped.{is_weightless};
-ghost use Rattle.maptypes.specs.Sets.{replaced, is_of};
+ghost use Rattle.maptypes.specs.Sets.{replace, is_of};
 ghost use Rattle.osdmap.specs.Placement.{mapped_set, RunsOnce};
 ghost use Rattle.pgtable.specs.Tables.{RunsMore};
 ghost use Rattle.balancer.specs.Moves.{pairs_in};
-ghost use Rattle.balancer.specs.Boards.{is_fixed, group_at, board_groups, gone};
+ghost use Rattle.balancer.specs.Boards.{is_fixed, group_at, board_groups, group_after};
 
 use crate::moves::Move;
-use crate::shares::reweight;
 use crush::Work;
 use maptypes::{Blank, Pair, Pg, Pool, Short};
 use osdmap::{OsdMap, Placing};
@@ -73,37 +70,27 @@ fn pairs_in(map: &OsdMap, pg: Pg) -> Short<Pair>
     }
 }
 
-/// Whether an OSD is out for good.
-fn is_weightless(map: &OsdMap, osd: u32) -> bool
-    ensures { result ≡ is_weightless map.now.map.weights osd }
-{
-    reweight(map, osd) == 0
-}
-
-/// Whether one of some OSDs is out for good.
-fn has_weightless(map: &OsdMap, osds: &[u32]) -> bool
-    ensures { result ≡ list_any (is_weightless map.now.map.weights) osds.now }
-{
-    osds.iter().any(|osd| is_weightless(map, *osd))
-}
-
 /// Whether an OSD of the explicit set of a group is out for good, so that pairs do nothing.
 #[tactic(auto, unfolding(crate::specs::Boards::is_fixed))]
 fn is_fixed(map: &OsdMap, pg: Pg) -> bool
     ensures { result ≡ is_fixed map.now.map pg }
 {
     match map.explicit(pg) {
-        Some(osds) => has_weightless(map, osds),
+        Some(osds) => map.has_weightless(osds),
         None => false,
     }
 }
 
 /// The mapped set of a group of a pool, by one run of the pool's rule; or `Memory` (30).
-fn mapped(placing: &Placing, number: u32, work: &mut Work) -> Result<Short<Option<u32>>, Memory>
+fn mapped_places(
+    placing: &Placing,
+    number: u32,
+    work: &mut Work,
+) -> Result<Short<Option<u32>>, Memory>
     ensures set { IfOk result (λ set. set ≡ mapped_set placing.now.map.now.map placing.now.pool number) }
     ensures run { RunsOnce work.old work.new result }
 {
-    let set = placing.mapped(number, work)?;
+    let set = placing.mapped_set(number, work)?;
     Ok(places_of(set.places()))
 }
 
@@ -113,7 +100,7 @@ fn group_at(placing: &Placing, number: u32, work: &mut Work) -> Result<Group, Me
     ensures group { IfOk result (λ group. group ≡ group_at placing.now.map.now.map placing.now.pool number) }
     ensures run { RunsOnce work.old work.new result }
 {
-    let places = mapped(placing, number, work)?;
+    let places = mapped_places(placing, number, work)?;
     let pg = Pg {
         pool: placing.pool.id(),
         number,
@@ -154,7 +141,7 @@ fn place_of(places: &[Option<u32>], osd: u32) -> Option<usize>
 
 /// One OSD goes to another where it first stands.
 fn replace(places: &mut Short<Option<u32>>, pair: Pair)
-    ensures { places.new ≡ replaced pair places.old }
+    ensures { places.new ≡ replace pair places.old }
 {
     if let Some(place) = place_of(places.as_slice(), pair.from) {
         places.set(place, Some(pair.to));
@@ -162,9 +149,9 @@ fn replace(places: &mut Short<Option<u32>>, pair: Pair)
 }
 
 /// The group after a move of it.
-pub(crate) fn gone(group: Group, step: Move) -> Group
+pub(crate) fn move_group(group: Group, step: Move) -> Group
     requires { length group.pairs < 20 }
-    ensures { result ≡ gone group step }
+    ensures { result ≡ group_after group step }
 {
     let pair = Pair {
         from: step.from,

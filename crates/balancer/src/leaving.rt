@@ -3,7 +3,7 @@
 ghost use Rattle.std.specs.Prelude.{◌≡◌};
 ghost use Rattle.balancer.specs.Leaving.{may_leave};
 
-use crate::domains::times;
+use crate::domains::count_places;
 use crate::group::Group;
 use maptypes::Pool;
 
@@ -13,6 +13,6 @@ pub(crate) fn may_leave(pool: &Pool, from: u32, group: &Group) -> bool
     ensures { result ≡ may_leave pool.now from group.now }
 {
     !group.is_fixed
-        && times(group.places.as_slice(), from) == 1
+        && count_places(group.places.as_slice(), from) == 1
         && group.pairs.as_slice().len() < usize::from(pool.size())
 }

@@ -3,31 +3,40 @@
 //!
 //! - `limits`: how many moves a plan may have, and how far apart two OSDs may have to be at least
 //! - `moves`: moves of groups
-//! - `request`: what a plan is asked for
+//! - `request`, `planned`: what a plan is asked for, and what it answers
 //! - `plans`: plans, and the change that makes one
 //! - `frame`, `board`: what a plan goes by and no move changes, and the state of a plan after the moves so far
 //! - `group`, `domains`: groups as a plan keeps them, and what stands above OSDs
 //! - `shares`, `standing`: who is a candidate and what OSDs weigh, and which groups stand on each OSD
-//! - `search`: the search for the best move
+//! - `ordering`, `compare`, `search`: the candidates in order, which moves are taken rather than others, and the search
+//!   for the best one
+//! - `running`: the moves, made one after another
 //! - `leaving`: whether a group may leave an OSD, wherever it would go
 //! - `marks`, `widths`: what is known of OSDs: between which no group may go, and how far moves from one go at most
+//! - `marking`: how marks come and go
 #![tactic(auto)]
 
 mod board;
+mod compare;
 mod domains;
 mod frame;
 pub mod group;
 mod leaving;
 pub mod limits;
+mod marking;
 mod marks;
 pub mod moves;
+mod ordering;
+pub mod planned;
 mod plans;
 pub mod request;
+mod running;
 mod search;
 mod shares;
 mod standing;
 mod widths;
 
 pub use moves::Move;
+pub use planned::PlannedChange;
 pub use plans::plan;
 pub use request::Request;

@@ -1,7 +1,7 @@
 //! Between which OSDs no group may go, as far as it is known.
 
 ghost use Rattle.std.specs.Prelude.{◌≡◌, ◌<◌, true, false, length, replicate, slice_set, slice_index_or, IfOk, List};
-ghost use Rattle.balancer.specs.Marks.{is_shut, shut_in, opened_in, NoneGoes, IsMarked};
+ghost use Rattle.balancer.specs.Marks.{is_shut, shut_in, open_in, NoneGoes, IsMarked};
 ghost use Rattle.osdmap.specs.Maps.{ClusterMap};
 ghost use Rattle.maptypes.specs.Pools.{PoolFacts};
 ghost use Rattle.balancer.specs.declared.group.Group.{Group};
@@ -44,23 +44,13 @@ impl Row {
         }
     }
 
-    /// No group may go to an OSD.
-    fn shut(&mut self, to: u32)
-        ensures { self.new ≡ slice_set self.old to true }
+    /// Whether it is known from now on that no group may go to an OSD.
+    fn set(&mut self, to: u32, shut: bool)
+        ensures { self.new ≡ slice_set self.old to shut }
     {
         let to = to as usize;
         if to < self.shut.len() {
-            self.shut[to] = true;
-        }
-    }
-
-    /// It is not known any longer that no group may go to an OSD.
-    fn open(&mut self, to: u32)
-        ensures { self.new ≡ slice_set self.old to false }
-    {
-        let to = to as usize;
-        if to < self.shut.len() {
-            self.shut[to] = false;
+            self.shut[to] = shut;
         }
     }
 }
@@ -103,23 +93,23 @@ impl Marks {
         }
     }
 
-    /// No group may go from one OSD to another.
+    /// It is known that no group may go from one OSD to another.
     pub fn shut(&mut self, from: u32, to: u32)
         ensures { self.new ≡ shut_in self.old from to }
     {
         let from = from as usize;
         if from < self.rows.len() {
-            self.rows[from].shut(to);
+            self.rows[from].set(to, true);
         }
     }
 
     /// It is not known any longer that no group may go from one OSD to another.
     pub fn open(&mut self, from: u32, to: u32)
-        ensures { self.new ≡ opened_in self.old from to }
+        ensures { self.new ≡ open_in self.old from to }
     {
         let from = from as usize;
         if from < self.rows.len() {
-            self.rows[from].open(to);
+            self.rows[from].set(to, false);
         }
     }
 }

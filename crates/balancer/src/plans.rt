@@ -11,12 +11,14 @@ ghost use Rattle.osdmap.specs.Changes.{change_fault};
 ghost use Rattle.osdmap.specs.Placement.{steps_of};
 ghost use Rattle.pgtable.specs.Tables.{IsTableOf, RunsMore};
 ghost use Rattle.balancer.specs.Shares.{has_one_block, aim_of};
+ghost use Rattle.balancer.specs.Reached.{IsBoardFor};
 ghost use Rattle.balancer.specs.Requests.{asked_aim};
 ghost use Rattle.balancer.specs.Greedy.{good_moves, greedy, after_moves};
 ghost use Rattle.balancer.specs.Plans.{change_of, plan_fault, pool_groups, IsPlan, Evens, LeavesNone};
 
 use crate::board::Board;
 use crate::frame::Frame;
+use crate::planned::PlannedChange;
 use crate::request::Request;
 use crush::{Step, Work};
 use keylist::Entries;
@@ -52,7 +54,7 @@ fn has_one_block(map: &OsdMap, pool: &Pool) -> bool
 }
 
 /// The pool of an id, which can be balanced: else `UnknownPool` (23), `BalanceRule` (29).
-fn balanced(map: &OsdMap, id: u32) -> Result<Pool, Refusal>
+fn find_pool(map: &OsdMap, id: u32) -> Result<Pool, Refusal>
     ensures { Judges result (plan_fault map.now.map id) (λ p. pool_at map.now.map.pools id ≡ Some p) }
 {
     let pool = map.pool(id).ok_or(Refusal::UnknownPool)?;
@@ -95,7 +97,7 @@ fn change_of(alloc: Global, items: Vec<Items>) -> Result<Change, Memory>
 
 /// The state of a plan once its moves are made, at most so many, by a run of the pool's rule for each of its groups; or
 /// `Memory` (30).
-fn planned<'a>(
+fn make_moves<'a>(
     alloc: Global,
     frame: Frame<'a>,
     table: &PgTable,
@@ -103,10 +105,7 @@ fn planned<'a>(
     work: &mut Work,
 ) -> Result<Board<'a>, Memory>
     requires { IsTableOf table.now frame.map.now.map }
-    ensures map { IfOk result (λ board. board.frame.map.now.map ≡ frame.entry.map.now.map) }
-    ensures pool { IfOk result (λ board. board.frame.pool ≡ frame.entry.pool) }
-    ensures aim { IfOk result (λ board. aim_of board.frame.carried.now board.frame.apart
-        ≡ aim_of frame.entry.carried.now frame.entry.apart) }
+    ensures frame { IfOk result (IsBoardFor frame.entry) }
     ensures moves { IfOk result (λ board. board.moves.items ≡ greedy frame.entry.map.now.map frame.entry.pool
         (aim_of frame.entry.carried.now frame.entry.apart) limit) }
     ensures done { IfOk result (λ board. length board.moves.items < limit →
@@ -119,8 +118,8 @@ fn planned<'a>(
     Ok(board)
 }
 
-/// The change that makes the greedy plan that is asked for, and how many moves it is, for a map and its table. Nothing
-/// refuses the change at this map. `work` counts a run of the pool's rule for each of its groups.
+/// The greedy plan that is asked for, for a map and its table, as a change that nothing refuses at this map. `work`
+/// counts a run of the pool's rule for each of its groups.
 ///
 /// # Errors
 ///
@@ -132,21 +131,26 @@ pub fn plan(
     table: &PgTable,
     request: Request<'_>,
     work: &mut Work,
-) -> Result<(Change, usize), Refusal>
+) -> Result<PlannedChange, Refusal>
     requires table { IsTableOf table.now map.now.map }
     ensures plan { Gives result (plan_fault map.now.map request.entry.pool)
-        (λ plan. IsPlan map.now.map request.entry.pool (asked_aim request.entry) request.entry.limit plan.0 plan.1) }
-    ensures lawful { IfOk result (λ plan. change_fault map.now.map plan.0 ≡ None) }
-    ensures evens { IfOk result (λ plan. Evens map.now.map request.entry.pool (asked_aim request.entry) plan.0 plan.1) }
-    ensures leaves_none { IfOk result (λ plan. plan.1 < request.entry.limit →
-        LeavesNone map.now.map request.entry.pool (asked_aim request.entry) plan.0) }
+        (λ plan. IsPlan map.now.map request.entry.pool (asked_aim request.entry) request.entry.limit
+        plan.change plan.moves) }
+    ensures lawful { IfOk result (λ plan. change_fault map.now.map plan.change ≡ None) }
+    ensures evens { IfOk result (λ plan. Evens map.now.map request.entry.pool (asked_aim request.entry)
+        plan.change plan.moves) }
+    ensures leaves_none { IfOk result (λ plan. plan.moves < request.entry.limit →
+        LeavesNone map.now.map request.entry.pool (asked_aim request.entry) plan.change) }
     ensures runs { OnOk result (RunsMore (pool_groups map.now.map request.entry.pool) work.old work.new) }
 {
     map.holds_together();
-    let pool = balanced(map, request.pool)?;
+    let pool = find_pool(map, request.pool)?;
     let frame = Frame::new(alloc, map, pool, request)?;
-    let board = planned(alloc, frame, table, request.limit, work)?;
+    let board = make_moves(alloc, frame, table, request.limit, work)?;
     let items = board.items(alloc)?;
     let change = change_of(alloc, items)?;
-    Ok((change, board.moves.len()))
+    Ok(PlannedChange {
+        change,
+        moves: board.moves.len(),
+    })
 }

@@ -17,3 +17,10 @@ pub mod LastSteps
 pub mod Sorted
 pub mod IdleRounds
 pub mod ParentPlaces
+pub mod Folds
+pub mod PlacesPicked
+pub mod ItemTries
+pub mod DescentsWithin
+pub mod ChoicesWithin
+pub mod RunsWithin
+pub mod ReadsReached

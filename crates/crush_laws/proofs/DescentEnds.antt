@@ -15,8 +15,9 @@ use Rattle.crush.specs.WellFormed.{is_known, IsForest}
 use Rattle.crush_laws.specs.Descents.{LeadsAstray, LeadsToWanted, DescentEnds}
 use Rattle.keylist.proofs.Counts.{find-place}
 use Rattle.crush.proofs.PickableBuckets.{bucket_at-pickable}
-use Rattle.crush_laws.proofs.RunsReached.{typed, item_known}
-use Rattle.crush_laws.proofs.DescentsWithin.{IsDevice, within_by}
+use Rattle.crush.proofs.ReadsReached.{typed, item_known}
+use Rattle.crush.proofs.DescentsWithin.{IsDevice}
+use Rattle.crush.proofs.PlacesPicked.{within_by}
 
 -- what a bucket of a forest picks is known, and of a type below
 picked_known : (w : World) (b : Bucket) (r : ℕ) → IsForest w.buckets → bucket_at w.buckets b.id ≡ Some b → (is_known w.buckets 4096 (pick_of b w.x r) ≡ true) × (level_of w.buckets (pick_of b w.x r) < b.level)

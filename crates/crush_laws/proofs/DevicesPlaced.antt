@@ -24,14 +24,14 @@ use Rattle.crush_laws.specs.Descents.{LeadsAstray, LeadsToWanted}
 use Rattle.crush_laws.specs.Forests.{IsDeviceNumber}
 use Rattle.crush_laws.specs.Rules.{steps_of_blocks}
 use Rattle.crush_laws.specs.Runs.{HoldsDevice, RunPlacesDevices}
-use Rattle.crush_laws.proofs.ChoicesWithin.{LeadsIn}
+use Rattle.crush.proofs.ChoicesWithin.{LeadsIn}
 use Rattle.crush_laws.proofs.DescentEnds.{descent_ends}
-use Rattle.crush_laws.proofs.DescentsWithin.{device_by, found_by, leaf_by}
-use Rattle.crush_laws.proofs.Folds.{fold_keeps}
+use Rattle.crush.proofs.DescentsWithin.{device_by, found_by, leaf_by}
+use Rattle.crush.proofs.Folds.{fold_keeps}
 use Rattle.crush_laws.proofs.LeafSearches.{other_holds}
 use Rattle.crush_laws.proofs.RuleBlocks.{rules_are_blocks}
-use Rattle.crush_laws.proofs.RunsReached.{known_device}
-use Rattle.crush_laws.proofs.RunsWithin.{IsIn, bucket_in}
+use Rattle.crush.proofs.ReadsReached.{known_device}
+use Rattle.crush.proofs.RunsWithin.{IsIn, bucket_in}
 use Rattle.keylist.proofs.Counts.{find-place}
 
 -- a known item of type 0 has the number of a device

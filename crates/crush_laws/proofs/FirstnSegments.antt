@@ -1,6 +1,5 @@
 -- what packing chooses has no item twice, no leaf twice and nothing that is out
-use Rattle.std.proofs.Common.{◌≡◌, ◌≢◌, ℕ, suc, zero, ◌+◌, ◌<◌, ℤ, Bool, true, false, not, cond, ◌&&◌, ltb, eqb, List, [], ◌∷◌, ◌++◌, length, map, get_or, Option, Some, None, inl, inr, ◌⊎◌, sym, ap, refl, ◌∙◌, arith}
-use Rattle.std.specs.Prelude.{unwrap_or}
+use Rattle.std.proofs.Common.{◌≡◌, ◌≢◌, ℕ, suc, zero, ◌+◌, ◌<◌, ℤ, Bool, true, false, not, cond, ◌&&◌, ltb, eqb, List, [], ◌∷◌, ◌++◌, length, map, get_or, Option, Some, None, inl, inr, sym, ap, refl, ◌∙◌, arith}
 use Rattle.std.specs.List.{All, find, range_with_len, list_any}
 use Rattle.std.specs.Ordering.{int_eq}
 use Rattle.std.proofs.lemmas.Bool.{cases_Bool}
@@ -14,36 +13,11 @@ use Rattle.crush.specs.declared.choose.Picked.{Picked}
 use Rattle.crush.specs.Choosing.{Choosing}
 use Rattle.crush.specs.World.{is_out}
 use Rattle.crush.specs.Descent.{leaf_below, item_below}
-use Rattle.crush.specs.Firstn.{numbers_from, is_free, with_leaf, attempt_with, attempt_at, attempt_of, is_failed, replica_of, with_attempt, after_replica, firstn}
+use Rattle.crush.specs.Firstn.{numbers_from, is_free, attempt_with, attempt_at, attempt_of, is_failed, replica_of, with_attempt, after_replica, firstn}
 use Rattle.crush_laws.specs.Choices.{takes_devices, IsSegment, FirstnIsSegment}
-use Rattle.crush_laws.proofs.Folds.{fold_keeps}
+use Rattle.crush.proofs.Folds.{fold_keeps}
+use Rattle.crush.proofs.ItemTries.{attempt_by, chosen_by, first_of}
 use Rattle.crush_laws.proofs.LeafSearches.{leaf_accepted, neither, other_holds, no_device, other_key}
-
--- an attempt, by the tests that it makes
-unfoldable pub attempt_by : Bool → Bool → Bool → Option ℤ → ℤ → Attempt
-attempt_by held to_leaf barred leaf item = cond held Failed (cond to_leaf (with_leaf item leaf) (cond barred Failed (Chosen (record { item = item; leaf = item }))))
-
--- what is known of an item that was chosen
-pub record IsChoice (held to_leaf barred : Bool) (leaf : Option ℤ) (item : ℤ) (e : Choice) : Type 0 where
-  pub apart : held ≡ false
-  pub item_is : item ≡ e.item
-  pub taken : to_leaf ≡ true → leaf ≡ Some e.leaf
-  pub itself : to_leaf ≡ false → (e.leaf ≡ e.item) × (barred ≡ false)
-
--- what an attempt with an item says of it
-pub chosen_by : (held to_leaf barred : Bool) (leaf : Option ℤ) (item : ℤ) (e : Choice) → attempt_by held to_leaf barred leaf item ≡ Chosen e → IsChoice held to_leaf barred leaf item e
-unfolding attempt_by
-chosen_by true to_leaf barred leaf item e h = absurd (cc)
-chosen_by false true barred None item e h = absurd (cc)
-chosen_by false true barred (Some leaf) item e h =
-    let made : Choice = record { item = item; leaf = leaf } in
-    let same : made ≡ e = cc in
-    record { apart = refl; item_is = ap (λ c. c.item) same; taken = λ _. ap (λ c. Some c.leaf) same; itself = λ q. absurd (cc) }
-chosen_by false false true leaf item e h = absurd (cc)
-chosen_by false false false leaf item e h =
-    let made : Choice = record { item = item; leaf = item } in
-    let same : made ≡ e = cc in
-    record { apart = refl; item_is = ap (λ c. c.item) same; taken = λ q. absurd (cc); itself = λ _. (sym (ap (λ c. c.leaf) same) ∙ ap (λ c. c.item) same, refl) }
 
 -- a choice that may join those chosen so far
 record IsFresh (k : Choosing) (chosen : List Choice) (e : Choice) : Type 0 where
@@ -79,12 +53,6 @@ fresh_at k chosen r (Some p) e h = fresh_with k chosen r p.item e h
 fresh_of : (k : Choosing) (chosen : List Choice) (start : Bucket) (r : ℕ) (e : Choice) → attempt_of k chosen start r ≡ Chosen e → IsFresh k chosen e
 unfolding attempt_of
 fresh_of k chosen start r e h = fresh_at k chosen r (item_below k.world (λ _. r) k.choose.level start) e h
-
--- the first that is no failure is this one or comes later
-pub first_of : (a : Attempt) (rest : Option Attempt) (e : Choice) → unwrap_or (cond (not (is_failed a)) (Some a) rest) Failed ≡ Chosen e → (a ≡ Chosen e) ⊎ (unwrap_or rest Failed ≡ Chosen e)
-first_of Abandoned rest e h = absurd (cc)
-first_of Failed rest e h = inr h
-first_of (Chosen a) rest e h = inl h
 
 -- what a replica chooses is fresh
 fresh_replica : (k : Choosing) (chosen : List Choice) (start : Bucket) (n r : ℕ) (e : Choice) → replica_of k chosen start n r ≡ Chosen e → IsFresh k chosen e

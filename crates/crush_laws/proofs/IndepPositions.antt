@@ -16,36 +16,11 @@ use Rattle.crush.specs.Choosing.{Choosing}
 use Rattle.crush.specs.World.{is_out}
 use Rattle.crush.specs.Descent.{leaf_below, item_below}
 use Rattle.crush.proofs.Rounds.{range_append}
-use Rattle.crush.specs.Indep.{replica_number, replica_numbers, holds_item, is_open, filled_with, position_with, position_at, position_of, after_turn, after_round, indep}
+use Rattle.crush.specs.Indep.{replica_number, replica_numbers, holds_item, is_open, position_with, position_at, position_of, after_turn, after_round, indep}
 use Rattle.crush_laws.specs.Choices.{takes_devices, AreApart, HoldsNoneOut, ArePositions, in_rounds, IndepIsPositions, IndepKeepsPositions, IndepLooksBack}
-use Rattle.crush_laws.proofs.Folds.{fold_keeps}
+use Rattle.crush.proofs.Folds.{fold_keeps}
+use Rattle.crush.proofs.ItemTries.{position_by, filled_by}
 use Rattle.crush_laws.proofs.LeafSearches.{leaf_accepted, other_holds, no_device, not_true}
-
--- what a position becomes, by the tests that are made
-unfoldable pub position_by : Bool → Bool → Bool → Option ℤ → ℤ → Position
-position_by held to_leaf barred leaf item = cond held Open (cond to_leaf (filled_with item leaf) (cond barred Open (Filled (record { item = item; leaf = item }))))
-
--- what is known of an item that fills a position
-pub record FillsBy (held to_leaf barred : Bool) (leaf : Option ℤ) (item : ℤ) (e : Choice) : Type 0 where
-  pub apart : held ≡ false
-  pub item_is : item ≡ e.item
-  pub taken : to_leaf ≡ true → leaf ≡ Some e.leaf
-  pub itself : to_leaf ≡ false → (e.leaf ≡ item) × (barred ≡ false)
-
--- what an item that fills a position says of it
-pub filled_by : (held to_leaf barred : Bool) (leaf : Option ℤ) (item : ℤ) (e : Choice) → position_by held to_leaf barred leaf item ≡ Filled e → FillsBy held to_leaf barred leaf item e
-unfolding position_by
-filled_by true to_leaf barred leaf item e h = absurd (cc)
-filled_by false true barred None item e h = absurd (cc)
-filled_by false true barred (Some leaf) item e h =
-    let made : Choice = record { item = item; leaf = leaf } in
-    let same : made ≡ e = cc in
-    record { apart = refl; item_is = ap (λ c. c.item) same; taken = λ _. ap (λ c. Some c.leaf) same; itself = λ q. absurd (cc) }
-filled_by false false true leaf item e h = absurd (cc)
-filled_by false false false leaf item e h =
-    let made : Choice = record { item = item; leaf = item } in
-    let same : made ≡ e = cc in
-    record { apart = refl; item_is = ap (λ c. c.item) same; taken = λ q. absurd (cc); itself = λ _. (sym (ap (λ c. c.leaf) same), refl) }
 
 -- a choice that may fill a position
 record MayFill (k : Choosing) (positions : List Position) (e : Choice) : Type 0 where

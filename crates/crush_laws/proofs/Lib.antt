@@ -1,12 +1,8 @@
-pub mod Folds
 pub mod LeafSearches
 pub mod FirstnSegments
 pub mod IndepPositions
 pub mod Picks
 pub mod LongestStraws
-pub mod DescentsWithin
-pub mod ChoicesWithin
-pub mod RunsWithin
 pub mod RunsReached
 pub mod DescentEnds
 pub mod ItemsLeadDown

@@ -1,5 +1,5 @@
 -- a straw2 bucket picks the first of those with the longest straw
-use Rattle.std.proofs.Common.{◌<◌, length, sym, subst}
+use Rattle.std.proofs.Common.{length, sym, subst}
 use Rattle.buckets.specs.Straw2.{shortfall_at, least_place}
 use Rattle.buckets.specs.Pick.{place_by}
 use Rattle.buckets.proofs.Straws.{least_below, least_is}

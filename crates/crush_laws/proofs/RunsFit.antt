@@ -6,7 +6,7 @@ use Rattle.crush.specs.declared.step.Step.TheVariants.{SetChooseTries, SetChoose
 use Rattle.crush.specs.World.{World}
 use Rattle.crush.specs.Run.{Progress, no_progress, after_step, run_of}
 use Rattle.crush_laws.specs.Runs.{RunsFit}
-use Rattle.crush_laws.proofs.Folds.{fold_keeps}
+use Rattle.crush.proofs.Folds.{fold_keeps}
 
 -- one step
 step_fits : (w : World) (size : ℕ) (p : Progress) (step : Step) → length p.emitted ≤ size → length (after_step w size p step).emitted ≤ size

@@ -11,13 +11,13 @@ use Rattle.maptypes.specs.Pools.{PoolFacts}
 
 -- ---- groups
 
--- where a group stands among all: by pool, then by its number, which has 32 bits
-abbrev pub place_of : Pg → ℕ
-place_of g = g.pool * 2 ^ 32 + g.number
+-- the key by which groups are ordered: by pool, then by number, which has 32 bits
+abbrev pub pg_key : Pg → ℕ
+pg_key g = g.pool * 2 ^ 32 + g.number
 
 -- whether a group is among some
 abbrev pub is_among : List Pg → Pg → Bool
-is_among gs g = has_key place_of gs (place_of g)
+is_among gs g = has_key pg_key gs (pg_key g)
 
 -- whether a pool of an id is there
 abbrev pub has_pool : List PoolFacts → ℕ → Bool
@@ -33,13 +33,13 @@ has_group pools g = option_map_or (λ p. nat_lt g.number p.pg_num) (entry_at (λ
 
 -- ---- exceptions
 
--- where an exception stands: at its group
+-- the key of an exception: that of its group
 abbrev pub key_of : {E : Type 0} → Exception E → ℕ
-key_of e = place_of e.pg
+key_of e = pg_key e.pg
 
 -- what a list of exceptions says of a group
 abbrev pub said_of : {E : Type 0} → List (Exception E) → Pg → Option (List E)
-said_of es g = option_map (λ e. e.entries) (entry_at key_of es (place_of g))
+said_of es g = option_map (λ e. e.entries) (entry_at key_of es (pg_key g))
 
 -- the OSDs that an entry of an explicit set names
 abbrev pub target : ℕ → List ℕ
@@ -74,7 +74,7 @@ are_pairs pairs = list_all (λ p. not (p.from == p.to)) pairs
 abbrev pub says_soundly : {E : Type 0} → (List E → Bool) → PoolFacts → Exception E → Bool
 says_soundly sound p e = nat_lt 0 (length e.entries) && nat_le (length e.entries) p.size && sound e.entries
 
--- the same, of the pool of its group
+-- an exception says something soundly for the pool of its group
 abbrev pub is_sound : {E : Type 0} → (List E → Bool) → List PoolFacts → Exception E → Bool
 is_sound sound pools e = option_map_or (λ p. says_soundly sound p e) (entry_at (λ p. p.id) pools e.pg.pool) false
 

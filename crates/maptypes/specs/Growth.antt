@@ -20,9 +20,9 @@ pub record IsGrowth (g : Growth) : Type 0 where
   pub groups_most : g.pg_num ≤ max_groups
 
 -- a pool with other numbers of groups
-abbrev pub grown_to : PoolFacts → Growth → PoolFacts
-grown_to p g = record p { pg_num = g.pg_num; pgp_num = g.pgp_num }
+abbrev pub with_growth : PoolFacts → Growth → PoolFacts
+with_growth p g = record p { pg_num = g.pg_num; pgp_num = g.pgp_num }
 
 -- a pool after some growths: the last one of it counts, and a pool that has none stays
-unfoldable pub grown : List Growth → PoolFacts → PoolFacts
-grown gs p = option_map_or (grown_to p) (entry_at (λ g. g.pool) (reverse gs) p.id) p
+unfoldable pub with_growths : List Growth → PoolFacts → PoolFacts
+with_growths gs p = option_map_or (with_growth p) (entry_at (λ g. g.pool) (reverse gs) p.id) p

@@ -4,7 +4,7 @@ use Rattle.std.specs.Prelude.{◌≡◌, IfSome}
 use Rattle.std.specs.List.{All}
 use Rattle.std.specs.List.Sorted.{IsNonDecreasing, IsNonDecreasingBy}
 use Rattle.maptypes.specs.declared.change.ChangeParts.{ChangeParts}
-use Rattle.maptypes.specs.Exceptions.{place_of, key_of}
+use Rattle.maptypes.specs.Exceptions.{pg_key, key_of}
 use Rattle.keylist.specs.Order.{SortsBy}
 use Rattle.maptypes.specs.CrushMaps.{IsCrushMap}
 use Rattle.maptypes.specs.Growth.{IsGrowth}
@@ -18,8 +18,8 @@ pub record IsInOrder (c : ChangeParts) : Type 0 where
   pub down : IsNonDecreasing c.down
   pub up : IsNonDecreasing c.up
   pub weight : IsNonDecreasingBy (λ w. w.osd) c.weight
-  pub old_upmap : IsNonDecreasingBy place_of c.old_upmap
-  pub old_items : IsNonDecreasingBy place_of c.old_items
+  pub old_upmap : IsNonDecreasingBy pg_key c.old_upmap
+  pub old_items : IsNonDecreasingBy pg_key c.old_items
   pub new_upmap : IsNonDecreasingBy key_of c.new_upmap
   pub new_items : IsNonDecreasingBy key_of c.new_items
 
@@ -40,7 +40,7 @@ pub record IsOrdered (given ordered : ChangeParts) : Type 0 where
   pub down : SortsBy (λ osd. osd) given.down ordered.down
   pub up : SortsBy (λ osd. osd) given.up ordered.up
   pub weight : SortsBy (λ w. w.osd) given.weight ordered.weight
-  pub old_upmap : SortsBy place_of given.old_upmap ordered.old_upmap
-  pub old_items : SortsBy place_of given.old_items ordered.old_items
+  pub old_upmap : SortsBy pg_key given.old_upmap ordered.old_upmap
+  pub old_items : SortsBy pg_key given.old_items ordered.old_items
   pub new_upmap : SortsBy key_of given.new_upmap ordered.new_upmap
   pub new_items : SortsBy key_of given.new_items ordered.new_items

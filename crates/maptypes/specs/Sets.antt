@@ -32,10 +32,10 @@ kept_in Replicated (Some osd) = Some osd ∷ []
 kept_in Erasure place = place ∷ []
 
 -- what is kept of some places
-abbrev pub kept : RuleKind → List (Option ℕ) → List (Option ℕ)
-kept kind places = flat_map (kept_in kind) places
+abbrev pub kept_places : RuleKind → List (Option ℕ) → List (Option ℕ)
+kept_places kind places = flat_map (kept_in kind) places
 
 -- one OSD goes to another where it first stands
-unfoldable pub replaced : Pair → List (Option ℕ) → List (Option ℕ)
-replaced pair [] = []
-replaced pair (place ∷ places) = if is_of pair.from place then Some pair.to ∷ places else place ∷ replaced pair places
+unfoldable pub replace : Pair → List (Option ℕ) → List (Option ℕ)
+replace pair [] = []
+replace pair (place ∷ places) = if is_of pair.from place then Some pair.to ∷ places else place ∷ replace pair places

@@ -73,7 +73,7 @@ fn rule_of(alloc: Global, part: &RulePart, forest: &Forest) -> Result<NumberedRu
 
 /// The rules over a forest that parts within the limits state, in their order: `BadRule` (14) where one of them is
 /// none.
-fn rules_made(
+fn make_rules(
     alloc: Global,
     parts: &[RulePart],
     forest: &Forest,
@@ -100,7 +100,7 @@ fn rules_of(
     ensures { Makes result (refused_unless (rules_fit forest.now parts.now) BadRule)
         (λ rules. Rises (λ r. r.id) (map rule_of parts.now) rules.items) }
 {
-    let rules = rules_made(alloc, parts, forest)?;
+    let rules = make_rules(alloc, parts, forest)?;
     in_order(rules, Refusal::BadRule)
 }
 
@@ -149,7 +149,7 @@ fn are_lawful(rules: &[NumberedRule])
 }
 
 /// Copies of some rules.
-fn copied(alloc: Global, rules: &[NumberedRule]) -> Result<Vec<NumberedRule>, Memory>
+fn copies_of(alloc: Global, rules: &[NumberedRule]) -> Result<Vec<NumberedRule>, Memory>
     ensures { IfOk result (λ copies. copies.items ≡ rules.now) }
 {
     let mut copies = Vec::with_capacity(alloc, rules.len())?;
@@ -181,7 +181,7 @@ impl CrushMap {
     /// `BadForest` (13) where the buckets are no well-formed forest; else `BadRule` (14) where a rule is outside the
     /// grammar, takes a bucket that the forest has not, or has the id of another; or `Memory` (30) where there is no
     /// memory for it.
-    pub fn stated(
+    pub fn of_parts(
         alloc: Global,
         buckets: &[BucketPart],
         rules: &[RulePart],
@@ -260,7 +260,7 @@ impl CrushMap {
         ensures { IfOk result (λ copy. copy ≡ self.now) }
     {
         let forest = Box::new(alloc, self.forest.copy(alloc)?)?;
-        let rules = copied(alloc, &self.rules)?;
+        let rules = copies_of(alloc, &self.rules)?;
         Ok(CrushMap { forest, rules })
     }
 }

@@ -54,12 +54,12 @@ impl Blank for Pair {
 }
 
 impl<E: Blank> Keyed for Exception<E> {
-    ghost use Rattle.maptypes.specs.Exceptions.{place_of};
+    ghost use Rattle.maptypes.specs.Exceptions.{pg_key};
 
-    ghost key_of = { λ e. place_of e.pg };
+    ghost key_of = { λ e. pg_key e.pg };
 
     fn key(&self) -> u64 {
-        self.pg.place()
+        self.pg.key()
     }
 }
 
@@ -101,7 +101,7 @@ pub trait Entry: Blank {
     ghost sound: { List Self → Bool };
 
     /// The OSDs that the entry names: one, or two.
-    fn named(&self) -> (u32, Option<u32>)
+    fn named_osds(&self) -> (u32, Option<u32>)
         ensures { names self.now ≡ one_or_two result.0 result.1 };
 
     /// Whether entries are sound together.
@@ -127,7 +127,7 @@ impl Entry for u32 {
 
     ghost sound = { is_set };
 
-    fn named(&self) -> (u32, Option<u32>) {
+    fn named_osds(&self) -> (u32, Option<u32>) {
         (*self, None)
     }
 
@@ -143,7 +143,7 @@ impl Entry for Pair {
 
     ghost sound = { are_pairs };
 
-    fn named(&self) -> (u32, Option<u32>) {
+    fn named_osds(&self) -> (u32, Option<u32>) {
         (self.from, Some(self.to))
     }
 

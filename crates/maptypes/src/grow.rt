@@ -34,7 +34,7 @@ impl Grow {
     ghost use Rattle.std.specs.Prelude.{◌≡◌, true};
     ghost use Rattle.refusal.specs.Outcomes.{Judges, refused_unless};
     ghost use Rattle.refusal.specs.declared.refused.Refusal.TheVariants.{BadPool};
-    ghost use Rattle.maptypes.specs.Growth.{IsGrowth, grown_to};
+    ghost use Rattle.maptypes.specs.Growth.{IsGrowth, with_growth};
     ghost use Rattle.mapparts.specs.Parts.{growth_fits, grows_evenly, growth_fault};
     ghost use Rattle.maptypes.specs.Values.{growth_of};
     ghost use Rattle.mapparts.specs.Plain.{plain_growth_fault};
@@ -117,8 +117,8 @@ impl Grow {
     }
 
     /// A pool with these numbers of groups.
-    pub fn grown(&self, pool: &Pool) -> Pool
-        ensures { result ≡ grown_to pool.now self.now }
+    pub fn grow(&self, pool: &Pool) -> Pool
+        ensures { result ≡ with_growth pool.now self.now }
     {
         pool.with_groups(self.pg_num, self.pgp_num)
     }

@@ -1,7 +1,6 @@
 //! Placement groups.
 
 ghost use Rattle.std.specs.Prelude.{◌≡◌};
-ghost use Rattle.maptypes.specs.Exceptions.{place_of};
 
 use keylist::Keyed;
 use mapparts::PgParts;
@@ -30,19 +29,15 @@ impl Pg {
             number: parts.number.unwrap_or(0),
         }
     }
-
-    /// Where the group stands among all: by pool, then by number.
-    pub fn place(&self) -> u64
-        ensures { result ≡ place_of self.now }
-    {
-        u64::from(self.pool) * GROUPS_PER_POOL + u64::from(self.number)
-    }
 }
 
 impl Keyed for Pg {
-    ghost key_of = { place_of };
+    ghost use Rattle.maptypes.specs.Exceptions.{pg_key};
 
+    ghost key_of = { pg_key };
+
+    /// The key by which groups are ordered: by pool, then by number.
     fn key(&self) -> u64 {
-        self.place()
+        u64::from(self.pool) * GROUPS_PER_POOL + u64::from(self.number)
     }
 }

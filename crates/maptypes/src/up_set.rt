@@ -90,7 +90,7 @@ fn short_place(place: Option<u32>) -> Option<u16>
 }
 
 impl UpSet {
-    ghost use Rattle.maptypes.specs.Sets.{primary_of, replaced, is_of, kept_in};
+    ghost use Rattle.maptypes.specs.Sets.{primary_of, replace, is_of, kept_in};
     ghost use Rattle.std.specs.Prelude.{◌≡◌, ◌≤◌, ◌<◌, [], ◌∷◌, ◌++◌, length, map, Some, IfSome, All};
     ghost use Rattle.std.specs.List.{list_any};
     ghost use Rattle.buckets.specs.Limits.{max_devices};
@@ -151,7 +151,7 @@ impl UpSet {
     /// One OSD goes to another where it first stands.
     pub fn replace(&mut self, pair: Pair)
         requires { pair.to < max_devices }
-        ensures { self.new ≡ replaced pair self.old }
+        ensures { self.new ≡ replace pair self.old }
     {
         if let Some(place) = place_of(self.places(), pair.from) {
             self.places.set(place, Some(pair.to as u16));

@@ -4,7 +4,7 @@ use Rattle.maptypes.specs.declared.change.ChangeParts.{ChangeParts}
 use Rattle.maptypes.specs.Pools.{PoolFacts}
 use Rattle.keylist.specs.Keys.{is_distinct}
 use Rattle.keylist.specs.Order.{IsRising}
-use Rattle.maptypes.specs.Exceptions.{place_of, key_of}
+use Rattle.maptypes.specs.Exceptions.{pg_key, key_of}
 use Rattle.osdmap.specs.Maps.{ClusterMap}
 use Rattle.maptypes.specs.Ordered.{IsInOrder}
 use Rattle.osdmap.specs.Changes.{names_once}
@@ -26,6 +26,6 @@ pub comes : (m : ClusterMap) (c : ChangeParts) → Accepted m c → IsInOrder c 
 unfolding names_once
 comes m c ok ordered = record {
   pools = distinct_rises (λ (p : PoolFacts). p.id) c.new_pools ordered.new_pools (second_distinct (map (λ (k : ℕ). k) c.old_pools) _ (grind (arith, ok.once)));
-  upmap = distinct_rises key_of c.new_upmap ordered.new_upmap (second_distinct (map place_of c.old_upmap) _ (grind (arith, ok.once)));
-  items = distinct_rises key_of c.new_items ordered.new_items (second_distinct (map place_of c.old_items) _ (grind (arith, ok.once)));
+  upmap = distinct_rises key_of c.new_upmap ordered.new_upmap (second_distinct (map pg_key c.old_upmap) _ (grind (arith, ok.once)));
+  items = distinct_rises key_of c.new_items ordered.new_items (second_distinct (map pg_key c.old_items) _ (grind (arith, ok.once)));
 }

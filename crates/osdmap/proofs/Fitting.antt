@@ -1,13 +1,13 @@
 -- No mapped set has more places than its pool.
-use Rattle.std.proofs.Common.{◌≡◌, refl, sym, ap, subst, ◌∙◌, ℕ, zero, suc, ◌+◌, ◌*◌, ◌^◌, ◌<◌, ◌≤◌, Bool, true, false, eqb, List, [], ◌∷◌, ◌++◌, map, length, Option, Some, None, All, arith}
+use Rattle.std.proofs.Common.{◌≡◌, refl, sym, ap, subst, ◌∙◌, ℕ, suc, ◌+◌, ◌*◌, ◌^◌, ◌<◌, ◌≤◌, Bool, true, false, eqb, List, [], ◌∷◌, map, length, Option, Some, None, All, arith}
 use mathlib.Core.Bool.{false≢true}
 use Rattle.std.proofs.lemmas.Grind.{common_steps}
 use Rattle.std.specs.Prelude.{if◌then◌else◌, nat_lt, nat_le, ◌&&◌, ◌||◌, option_and_then}
-use Rattle.std.specs.List.{list_all, list_any, fold, find}
+use Rattle.std.specs.List.{list_any, fold, find}
 use Rattle.std.proofs.lemmas.Bool.{eqb-true}
 use Rattle.std.proofs.lemmas.Bool.Decides.{nat_tests}
 use Rattle.keylist.proofs.Counts.{find-place}
-use Rattle.std.proofs.lemmas.List.{length-map, length-append}
+use Rattle.std.proofs.lemmas.List.{length-map}
 use Rattle.keylist.specs.Keys.{entry_at}
 use Rattle.keylist.proofs.Tests.{and_first, and_second}
 use Rattle.crush.specs.declared.step.RuleKind.{RuleKind}
@@ -15,14 +15,14 @@ use Rattle.crush.specs.declared.step.RuleKind.TheVariants.{Replicated, Erasure}
 use Rattle.maptypes.specs.declared.pg.Pg.{Pg}
 use Rattle.maptypes.specs.declared.exception.Pair.{Pair}
 use Rattle.maptypes.specs.declared.exception.Exception.{Exception}
-use Rattle.maptypes.specs.Sets.{kept, replaced, is_of}
+use Rattle.maptypes.specs.Sets.{kept_places, replace, is_of}
 use Rattle.maptypes.specs.Pools.{PoolFacts, IsWithinLimits}
-use Rattle.maptypes.specs.Exceptions.{place_of, key_of, said_of, is_exception, is_sound, says_soundly, all_named, has_group, target, is_set}
+use Rattle.maptypes.specs.Exceptions.{pg_key, key_of, said_of, is_exception, is_sound, says_soundly, all_named, has_group, target, is_set}
 use Rattle.crush.specs.Run.{run_of}
 use Rattle.crush.specs.World.{world_of}
 use Rattle.osdmap.specs.Maps.{ClusterMap, pool_at, osd_exists, HoldsTogether}
-use Rattle.osdmap.specs.Mapped.{is_weightless, with_pair, with_items, mapped}
-use Rattle.osdmap.specs.Placement.{group_of, existing, placed, placement_input, steps_of, raw_set, mapped_set}
+use Rattle.osdmap.specs.Mapped.{is_weightless, with_pair, with_items, with_exceptions}
+use Rattle.osdmap.specs.Placement.{group_of, existing_osd, placed_devices, placement_input, steps_of, raw_set, mapped_set}
 use Rattle.osdmap.proofs.PlacementLemmas.{found_passes, short_run}
 
 -- what is found passes
@@ -31,7 +31,7 @@ found_is p [] x found = let wrong : None ≡ Some x = found in cc
 found_is p (y ∷ ys) x found = grind (arith, common_steps, found_is p ys x)
 
 -- what is kept of places is no longer
-kept_short : (kind : RuleKind) (places : List (Option ℕ)) → length (kept kind places) ≤ length places
+kept_short : (kind : RuleKind) (places : List (Option ℕ)) → length (kept_places kind places) ≤ length places
 kept_short Replicated [] = omega arith
 kept_short Erasure [] = omega arith
 kept_short Replicated (None ∷ places) = let rest = kept_short Replicated places in omega (arith, rest)
@@ -39,12 +39,12 @@ kept_short Replicated (Some osd ∷ places) = let rest = kept_short Replicated p
 kept_short Erasure (place ∷ places) = let rest = kept_short Erasure places in omega (arith, rest)
 
 -- a pair leaves how many places there are
-replaced_long : (pair : Pair) (places : List (Option ℕ)) → length (replaced pair places) ≡ length places
-unfolding replaced
+replaced_long : (pair : Pair) (places : List (Option ℕ)) → length (replace pair places) ≡ length places
+unfolding replace
 replaced_long pair [] = refl
 replaced_long pair (place ∷ places) = by_test (is_of pair.from place) (replaced_long pair places)
   where
-    by_test : (b : Bool) → length (replaced pair places) ≡ length places → length (if b then Some pair.to ∷ places else place ∷ replaced pair places) ≡ suc (length places)
+    by_test : (b : Bool) → length (replace pair places) ≡ length places → length (if b then Some pair.to ∷ places else place ∷ replace pair places) ≡ suc (length places)
     by_test true long = refl
     by_test false long = ap suc long
 
@@ -53,7 +53,7 @@ pair_long : (weights : List ℕ) (places : List (Option ℕ)) (pair : Pair) → 
 unfolding with_pair
 pair_long weights places pair = by_test (list_any (is_of pair.to) places || is_weightless weights pair.to)
   where
-    by_test : (b : Bool) → length (if b then places else replaced pair places) ≡ length places
+    by_test : (b : Bool) → length (if b then places else replace pair places) ≡ length places
     by_test true = refl
     by_test false = replaced_long pair places
 
@@ -69,10 +69,10 @@ items_long weights (Some pairs) places = pairs_long weights pairs places
 
 -- a raw set has no more places than its pool
 raw_short : (m : ClusterMap) (p : PoolFacts) (n : ℕ) → length (raw_set m p n) ≤ p.size
-unfolding raw_set placed
+unfolding raw_set placed_devices
 raw_short m p n =
     let run = run_of (world_of m.buckets m.weights (placement_input p n)) (steps_of m p) p.size in
-    omega (arith, kept_short p.kind (map (option_and_then (existing m)) run), length-map run (option_and_then (existing m)), short_run (world_of m.buckets m.weights (placement_input p n)) (steps_of m p) p.size)
+    omega (arith, kept_short p.kind (map (option_and_then (existing_osd m)) run), length-map run (option_and_then (existing_osd m)), short_run (world_of m.buckets m.weights (placement_input p n)) (steps_of m p) p.size)
 
 -- nothing is true and false
 pub not_both : (b : Bool) → b ≡ true → b ≡ false → ⊥
@@ -101,15 +101,15 @@ few_numbers pools g within has = by_pool (entry_at (λ p. p.id) pools g.pool) re
 module _ (m : ClusterMap) (p : PoolFacts) (n : ℕ) (holds : HoldsTogether m) (there : pool_at m.pools p.id ≡ Some p) (below : n < 2 ^ 32) where
   -- nor has an explicit set
   explicit_short : (osds : List ℕ) → said_of m.explicit (group_of p n) ≡ Some osds → length osds ≤ p.size
-  explicit_short osds said = by_entry (entry_at key_of m.explicit (place_of (group_of p n))) refl
+  explicit_short osds said = by_entry (entry_at key_of m.explicit (pg_key (group_of p n))) refl
     where
-      by_entry : (e : Option (Exception ℕ)) → entry_at key_of m.explicit (place_of (group_of p n)) ≡ e → length osds ≤ p.size
+      by_entry : (e : Option (Exception ℕ)) → entry_at key_of m.explicit (pg_key (group_of p n)) ≡ e → length osds ≤ p.size
       by_entry None found = let wrong : None ≡ Some osds = rw found at said in absurd (cc)
       by_entry (Some e) found =
           let same : Some e.entries ≡ Some osds = rw found at said in
           let is : e.entries ≡ osds = cc in
           let passes = found_passes _ (is_exception target is_set m.pools (osd_exists m)) m.explicit e found holds.explicit_sound in
-          let key : place_of e.pg ≡ place_of (group_of p n) = eqb-true _ _ (found_is (λ x. eqb (key_of x) (place_of (group_of p n))) m.explicit e found) in
+          let key : pg_key e.pg ≡ pg_key (group_of p n) = eqb-true _ _ (found_is (λ x. eqb (key_of x) (pg_key (group_of p n))) m.explicit e found) in
           let has = and_first (has_group m.pools e.pg) (all_named target (osd_exists m) e) (and_first (has_group m.pools e.pg && all_named target (osd_exists m) e) (is_sound is_set m.pools e) passes) in
           let id : e.pg.pool ≡ p.id = same_pool e.pg.pool p.id e.pg.number n key (few_numbers m.pools e.pg holds.pools_within has) below in
           let sound : says_soundly is_set p e ≡ true = rw (id, there) at (and_second (has_group m.pools e.pg && all_named target (osd_exists m) e) (is_sound is_set m.pools e) passes) in
@@ -117,8 +117,8 @@ module _ (m : ClusterMap) (p : PoolFacts) (n : ℕ) (holds : HoldsTogether m) (t
           let short : length e.entries ≤ p.size = grind (arith, nat_tests, few) in
           rw is at short
 
-  mapped_by : (explicit : Option (List ℕ)) (raw : List (Option ℕ)) → said_of m.explicit (group_of p n) ≡ explicit → length raw ≤ p.size → length (mapped m.weights explicit (said_of m.items (group_of p n)) raw) ≤ p.size
-  unfolding mapped
+  mapped_by : (explicit : Option (List ℕ)) (raw : List (Option ℕ)) → said_of m.explicit (group_of p n) ≡ explicit → length raw ≤ p.size → length (with_exceptions m.weights explicit (said_of m.items (group_of p n)) raw) ≤ p.size
+  unfolding with_exceptions
   mapped_by None raw said short = omega (arith, items_long m.weights (said_of m.items (group_of p n)) raw, short)
   mapped_by (Some osds) raw said short = by_test (list_any (is_weightless m.weights) osds)
     where

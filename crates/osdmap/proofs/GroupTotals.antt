@@ -7,7 +7,7 @@ use Rattle.std.proofs.lemmas.Bool.{cases_Bool, cases_order, ne_eqb, eqb-true, eq
 use Rattle.std.proofs.lemmas.Bool.Decides.{nat_tests}
 use Rattle.std.proofs.lemmas.List.Sums.{sum_by-cons}
 use Rattle.maptypes.specs.declared.change.ChangeParts.{ChangeParts}
-use Rattle.maptypes.specs.Growth.{Growth, grown}
+use Rattle.maptypes.specs.Growth.{Growth, with_growths}
 use Rattle.maptypes.specs.Pools.{PoolFacts, total_groups}
 use Rattle.maptypes.proofs.Totals.{sum_by-map}
 use Rattle.keylist.specs.Keys.{is_distinct, has_key}
@@ -60,20 +60,20 @@ module _ {X : Type 0} (key : X → ℕ) (f : X → ℕ) where
 
 -- the groups of pools that have grown
 abbrev grown_groups : List Growth → PoolFacts → ℕ
-grown_groups gs p = (grown gs p).pg_num
+grown_groups gs p = (with_growths gs p).pg_num
 
 -- they are theirs once they have grown
-grown-total : (gs : List Growth) (ps : List PoolFacts) → total_groups (map (grown gs) ps) ≡ sum_by (grown_groups gs) ps
-grown-total gs ps = sum_by-map (λ (q : PoolFacts). q.pg_num) (grown gs) ps
+with_growths-total : (gs : List Growth) (ps : List PoolFacts) → total_groups (map (with_growths gs) ps) ≡ sum_by (grown_groups gs) ps
+with_growths-total gs ps = sum_by-map (λ (q : PoolFacts). q.pg_num) (with_growths gs) ps
 
 -- where no pool comes twice, the pools after a change have the groups of those that stay and of those that come
 pub total_after : (m : ClusterMap) (c : ChangeParts) → brings_new m c ≡ true → is_distinct (map (λ p. p.id) c.new_pools) ≡ true
-    → total_groups (pools_after m c) ≡ total_groups (map (grown c.grow_pool) (pools_kept m c)) + total_groups (map (grown c.grow_pool) c.new_pools)
+    → total_groups (pools_after m c) ≡ total_groups (map (with_growths c.grow_pool) (pools_kept m c)) + total_groups (map (with_growths c.grow_pool) c.new_pools)
 unfolding pools_after pools_there brings_new
 total_after m c new once =
-    grown-total c.grow_pool (fold (put (λ (p : PoolFacts). p.id)) (pools_kept m c) c.new_pools)
+    with_growths-total c.grow_pool (fold (put (λ (p : PoolFacts). p.id)) (pools_kept m c) c.new_pools)
     ∙ sum-puts (λ (p : PoolFacts). p.id) (grown_groups c.grow_pool) (pools_kept m c) c.new_pools once new
-    ∙ rw (grown-total c.grow_pool (pools_kept m c), grown-total c.grow_pool c.new_pools) refl
+    ∙ rw (with_growths-total c.grow_pool (pools_kept m c), with_growths-total c.grow_pool c.new_pools) refl
 
 -- a change of which no key stands twice leaves so few
 pub few-groups-after : (m : ClusterMap) (c : ChangeParts) → leaves_few_groups m c ≡ true → is_distinct (map (λ p. p.id) c.new_pools) ≡ true
@@ -97,14 +97,14 @@ empty [] b is true_is = refl
 empty (x ∷ xs) b is true_is = let none : length (x ∷ xs) ≡ 0 = eqb-true _ _ (sym is ∙ true_is) in absurd (omega (arith, none))
 
 -- where none grows, all stay as they are
-none-grown : (ps : List PoolFacts) → map (grown []) ps ≡ ps
-unfolding grown
-none-grown [] = refl
-none-grown (p ∷ ps) = rw (none-grown ps) refl
+none-with_growths : (ps : List PoolFacts) → map (with_growths []) ps ≡ ps
+unfolding with_growths
+none-with_growths [] = refl
+none-with_growths (p ∷ ps) = rw (none-with_growths ps) refl
 
 -- where none comes or grows, there are as few groups as before
 pub few_stay : (m : ClusterMap) (c : ChangeParts) → c.new_pools ≡ [] → c.grow_pool ≡ [] → total_groups m.pools ≤ 1048576 → leaves_few_groups m c ≡ true
 unfolding leaves_few_groups pools_after pools_there pools_kept is_distinct
 few_stay m c none same few =
     let less = sum-filter (λ (p : PoolFacts). p.pg_num) (λ p. not (has_key (λ (id : ℕ). id) c.old_pools p.id)) m.pools in
-    rw (none, same, none-grown (filter (λ p. not (has_key (λ (id : ℕ). id) c.old_pools p.id)) m.pools)) (grind (arith, nat_tests, few, less))
+    rw (none, same, none-with_growths (filter (λ p. not (has_key (λ (id : ℕ). id) c.old_pools p.id)) m.pools)) (grind (arith, nat_tests, few, less))

@@ -16,7 +16,7 @@ use Rattle.maptypes.specs.declared.exception.Exception.{Exception}
 use Rattle.maptypes.specs.declared.change.ChangeParts.{ChangeParts}
 use Rattle.maptypes.specs.declared.change.Reweight.{Reweight}
 use Rattle.maptypes.specs.CrushMaps.{CrushFacts, IsCrushMap}
-use Rattle.maptypes.specs.Growth.{IsGrowth, grown}
+use Rattle.maptypes.specs.Growth.{IsGrowth, with_growths}
 use Rattle.maptypes.specs.Pools.{PoolFacts, total_groups, IsWithinLimits}
 use Rattle.mapparts.specs.Profiles.{most_pools}
 use Rattle.mapparts.specs.declared.profile.Profile.{Profile}
@@ -35,7 +35,7 @@ use Rattle.keylist.proofs.KeyedMaps.{has-entry, entry-put, entry-without, list_a
 use Rattle.keylist.proofs.KeyedPuts.{All-puts}
 use Rattle.keylist.proofs.KeyedDistinct.{distinct-append}
 use Rattle.osdmap.proofs.GroupTotals.{few-groups-after}
-use Rattle.osdmap.proofs.Grown.{list_all-grown, rising-grown, within-grown, exception_grows}
+use Rattle.osdmap.proofs.Grown.{list_all-with_growths, rising-with_growths, within-with_growths, exception_grows}
 use Rattle.osdmap.proofs.Devices.{over_devices}
 use Rattle.osdmap.proofs.Accepted.{Accepted, accepted}
 use Rattle.osdmap.proofs.AfterLemmas.{length-apply, length-with_weight}
@@ -216,18 +216,18 @@ groups-after m c rightly once =
 ruled-after : (m : ClusterMap) (c : ChangeParts) → Rightly m c → list_all (has_rule (rules_after m c)) (pools_after m c) ≡ true
 unfolding pools_after pools_there
 ruled-after m c rightly =
-    list_all-grown c.grow_pool (rules_after m c) (pools_there m c) ∙ list_all-puts (λ (q : PoolFacts). q.id) (has_rule (rules_after m c)) _ c.new_pools rightly.kept rightly.new
+    list_all-with_growths c.grow_pool (rules_after m c) (pools_there m c) ∙ list_all-puts (λ (q : PoolFacts). q.id) (has_rule (rules_after m c)) _ c.new_pools rightly.kept rightly.new
 
 -- each is within its limits
 within-after : (m : ClusterMap) (c : ChangeParts) → All IsWithinLimits c.new_pools → All IsGrowth c.grow_pool → All IsWithinLimits m.pools → All IsWithinLimits (pools_after m c)
 unfolding pools_after pools_there pools_kept
 within-after m c new growths within =
-    within-grown c.grow_pool _ growths (All-puts (λ (q : PoolFacts). q.id) IsWithinLimits _ c.new_pools (All-filter _ IsWithinLimits m.pools within) new)
+    within-with_growths c.grow_pool _ growths (All-puts (λ (q : PoolFacts). q.id) IsWithinLimits _ c.new_pools (All-filter _ IsWithinLimits m.pools within) new)
 
 -- and they rise by id
 pools-rise : (m : ClusterMap) (c : ChangeParts) → IsRising (λ p. p.id) m.pools → IsRising (λ p. p.id) (pools_after m c)
 unfolding pools_after pools_there pools_kept
-pools-rise m c rises = rising-grown c.grow_pool _ (rising-puts (λ (q : PoolFacts). q.id) _ c.new_pools (rising-filter (λ (q : PoolFacts). q.id) _ m.pools rises))
+pools-rise m c rises = rising-with_growths c.grow_pool _ (rising-puts (λ (q : PoolFacts). q.id) _ c.new_pools (rising-filter (λ (q : PoolFacts). q.id) _ m.pools rises))
 
 -- what holds of the forest and the rules after a change
 record CrushKept (m : ClusterMap) (c : ChangeParts) : Type 0 where
@@ -318,7 +318,7 @@ pub record Changed (m : ClusterMap) (step : Step) (made : ClusterMap) : Type 0 w
   pub epoch : made.epoch ≡ step.epoch
   pub buckets : made.buckets ≡ buckets_after m step.change
   pub rules : made.rules ≡ rules_after m step.change
-  pub pools : made.pools ≡ map (grown step.change.grow_pool) (fold (put (λ p. p.id)) (filter (λ p. not (has_key (λ id. id) step.change.old_pools p.id)) m.pools) step.change.new_pools)
+  pub pools : made.pools ≡ map (with_growths step.change.grow_pool) (fold (put (λ p. p.id)) (filter (λ p. not (has_key (λ id. id) step.change.old_pools p.id)) m.pools) step.change.new_pools)
   pub presences : made.presences ≡ fold (with_up true) (fold (with_up false) m.presences step.change.down) step.change.up
   pub weights : made.weights ≡ fold with_weight m.weights step.change.weight
   pub explicit : made.explicit ≡ exceptions_after step.change.old_pools step.change.old_upmap step.change.new_upmap m.explicit

@@ -17,3 +17,8 @@ pub mod BuildLemmas
 mod Listing
 pub mod Built
 pub mod Excepted
+pub mod MappedAlike
+pub mod StandingUp
+pub mod MappedExist
+mod PartsStay
+pub mod OthersStay

@@ -8,7 +8,7 @@ use Rattle.maptypes.specs.declared.change.Reweight.{Reweight}
 use Rattle.maptypes.specs.declared.osd.Presence.{Presence}
 use Rattle.refusal.specs.declared.refused.Refusal.{Refusal}
 use Rattle.maptypes.specs.declared.rules.NumberedRule.{NumberedRule}
-use Rattle.maptypes.specs.Growth.{Growth, grown}
+use Rattle.maptypes.specs.Growth.{Growth, with_growths}
 use Rattle.refusal.specs.declared.refused.Refusal.TheVariants.{UnknownOsd, BadWeight, UnknownPool, PoolExists, BadForest, BadPool, UnknownGroup, BadNewException, DuplicatePart}
 use Rattle.maptypes.specs.declared.pg.Pg.{Pg}
 use Rattle.maptypes.specs.Incrementals.{Step}
@@ -18,7 +18,7 @@ use Rattle.crush.specs.Limits.{full_weight}
 use Rattle.maptypes.specs.Pools.{PoolFacts, total_groups}
 use Rattle.keylist.specs.Keys.{is_distinct, has_key}
 use Rattle.keylist.specs.Puts.{put}
-use Rattle.maptypes.specs.Exceptions.{place_of, key_of, has_pool, has_pool_of, has_group, target, sides, all_named, is_set, are_pairs, is_sound, exceptions_after}
+use Rattle.maptypes.specs.Exceptions.{pg_key, key_of, has_pool, has_pool_of, has_group, target, sides, all_named, is_set, are_pairs, is_sound, exceptions_after}
 use Rattle.osdmap.specs.Maps.{ClusterMap, pool_at, osd_exists, has_rule}
 
 -- ---- refusals
@@ -43,7 +43,7 @@ pools_there m c = fold (put (λ p. p.id)) (pools_kept m c) c.new_pools
 
 -- the pools after a change: of these, some have grown
 unfoldable pub pools_after : ClusterMap → ChangeParts → List PoolFacts
-pools_after m c = map (grown c.grow_pool) (pools_there m c)
+pools_after m c = map (with_growths c.grow_pool) (pools_there m c)
 
 -- the forest and the rules after a change
 abbrev pub buckets_after : ClusterMap → ChangeParts → List Bucket
@@ -112,8 +112,8 @@ names_once c =
     && is_distinct (map (λ p. p.id) c.new_pools ++ map (λ g. g.pool) c.grow_pool)
     && is_distinct (map (λ osd. osd) c.down ++ map (λ osd. osd) c.up)
     && is_distinct (map (λ w. w.osd) c.weight)
-    && is_distinct (map place_of c.old_upmap ++ map key_of c.new_upmap)
-    && is_distinct (map place_of c.old_items ++ map key_of c.new_items)
+    && is_distinct (map pg_key c.old_upmap ++ map key_of c.new_upmap)
+    && is_distinct (map pg_key c.old_items ++ map key_of c.new_items)
 
 -- the first refusal that applies, each over all parts
 abbrev pub change_fault : ClusterMap → ChangeParts → Option Refusal

@@ -6,7 +6,7 @@ use Rattle.crush.specs.Paths as paths
 use Rattle.keylist.specs.Keys.{has_key}
 use Rattle.maptypes.specs.declared.change.ChangeParts.{ChangeParts}
 use Rattle.maptypes.specs.declared.pg.Pg.{Pg}
-use Rattle.maptypes.specs.Exceptions.{place_of, key_of, is_among, said_of, target, sides}
+use Rattle.maptypes.specs.Exceptions.{pg_key, key_of, is_among, said_of, target, sides}
 use Rattle.maptypes.specs.Pools.{PoolFacts}
 use Rattle.osdmap.specs.Maps.{ClusterMap}
 use Rattle.osdmap.specs.Placement.{group_of, steps_of}
@@ -26,7 +26,7 @@ is_touched m c p =
 unfoldable pub is_named : ChangeParts → Pg → Bool
 is_named c g =
     is_among c.old_upmap g || is_among c.old_items g
-    || has_key key_of c.new_upmap (place_of g) || has_key key_of c.new_items (place_of g)
+    || has_key key_of c.new_upmap (pg_key g) || has_key key_of c.new_items (pg_key g)
 
 -- whether an exception names an OSD that gets another reweight
 abbrev pub names_reweighted : {E : Type 0} → (E → List ℕ) → ChangeParts → Option (List E) → Bool

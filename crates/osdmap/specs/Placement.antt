@@ -11,9 +11,9 @@ use Rattle.maptypes.specs.declared.exception.Pair.{Pair}
 use Rattle.refusal.specs.declared.refused.Refusal.{Refusal}
 use Rattle.refusal.specs.declared.refused.Refusal.TheVariants.{UnknownPool, UnknownGroup}
 use Rattle.maptypes.specs.Pools.{PoolFacts}
-use Rattle.maptypes.specs.Sets.{kept}
+use Rattle.maptypes.specs.Sets.{kept_places}
 use Rattle.maptypes.specs.Exceptions.{said_of}
-use Rattle.osdmap.specs.Mapped.{mapped}
+use Rattle.osdmap.specs.Mapped.{with_exceptions}
 use Rattle.maptypes.specs.CrushMaps.{rule_at}
 use Rattle.osdmap.specs.Maps.{ClusterMap, pool_at, osd_exists, osd_is_up}
 
@@ -51,25 +51,25 @@ abbrev pub steps_of : ClusterMap → PoolFacts → List Step
 steps_of m p = option_map_or (λ r. r.steps) (rule_at m.rules p.rule) []
 
 -- the devices that the pool's rule places (_pg_to_raw_osds)
-unfoldable pub placed : ClusterMap → PoolFacts → ℕ → List (Option ℤ)
-placed m p n = run_of (world_of m.buckets m.weights (placement_input p n)) (steps_of m p) p.size
+unfoldable pub placed_devices : ClusterMap → PoolFacts → ℕ → List (Option ℤ)
+placed_devices m p n = run_of (world_of m.buckets m.weights (placement_input p n)) (steps_of m p) p.size
 
 -- a device that is an OSD which exists
-abbrev pub existing : ClusterMap → ℤ → Option ℕ
-existing m (pos osd) = if osd_exists m osd then Some osd else None
-existing m (negsuc n) = None
+abbrev pub existing_osd : ClusterMap → ℤ → Option ℕ
+existing_osd m (pos osd) = if osd_exists m osd then Some osd else None
+existing_osd m (negsuc n) = None
 
 -- an OSD that is up
-abbrev pub upward : ClusterMap → ℕ → Option ℕ
-upward m osd = if osd_is_up m osd then Some osd else None
+abbrev pub up_osd : ClusterMap → ℕ → Option ℕ
+up_osd m osd = if osd_is_up m osd then Some osd else None
 
 -- the raw set: what the rule places, without OSDs that do not exist (_pg_to_raw_osds)
 unfoldable pub raw_set : ClusterMap → PoolFacts → ℕ → List (Option ℕ)
-raw_set m p n = kept p.kind (map (option_and_then (existing m)) (placed m p n))
+raw_set m p n = kept_places p.kind (map (option_and_then (existing_osd m)) (placed_devices m p n))
 
 -- what an explicit set and pairs make of the raw set (_apply_upmap)
 abbrev pub mapped_with : Option (List ℕ) → Option (List Pair) → ClusterMap → PoolFacts → ℕ → List (Option ℕ)
-mapped_with explicit items m p n = mapped m.weights explicit items (raw_set m p n)
+mapped_with explicit items m p n = with_exceptions m.weights explicit items (raw_set m p n)
 
 -- the mapped set: the raw set under the exceptions of the group
 unfoldable pub mapped_set : ClusterMap → PoolFacts → ℕ → List (Option ℕ)
@@ -77,7 +77,7 @@ mapped_set m p n = mapped_with (said_of m.explicit (group_of p n)) (said_of m.it
 
 -- the up set: the mapped set without OSDs that are down (_raw_to_up_osds)
 unfoldable pub up_set : ClusterMap → PoolFacts → ℕ → List (Option ℕ)
-up_set m p n = kept p.kind (map (option_and_then (upward m)) (mapped_set m p n))
+up_set m p n = kept_places p.kind (map (option_and_then (up_osd m)) (mapped_set m p n))
 
 -- a set of the group is the one that a definition gives, where the group's pool is there
 pub record IsPlacedBy (set : ClusterMap → PoolFacts → ℕ → List (Option ℕ)) (m : ClusterMap) (pg : Pg)

@@ -9,7 +9,7 @@ use refusal::Memory;
 use std::alloc::Global;
 
 /// A copy of a CRUSH map, where there is one.
-fn copied(alloc: Global, crush: &Option<CrushMap>) -> Result<Option<CrushMap>, Memory>
+fn copy_of(alloc: Global, crush: &Option<CrushMap>) -> Result<Option<CrushMap>, Memory>
     ensures { IfOk result (λ copy. copy ≡ crush.now) }
 {
     match crush {
@@ -46,7 +46,7 @@ impl OsdMap {
         self.pools.reserve(parts.new_pools.len())?;
         self.explicit.reserve(parts.new_upmap.len())?;
         self.items.reserve(parts.new_items.len())?;
-        self.ready = copied(alloc, &parts.new_crush)?;
+        self.ready = copy_of(alloc, &parts.new_crush)?;
         Ok(())
     }
 

@@ -31,7 +31,7 @@ impl OsdMap {
             (λ m. IsStated (without_exceptions parts.now) m.map) }
     {
         let max_osd = word(parts.max_osd);
-        let crush = CrushMap::stated(alloc, &parts.buckets, &parts.rules, max_osd)?;
+        let crush = CrushMap::of_parts(alloc, &parts.buckets, &parts.rules, max_osd)?;
         let pools = pools_of(alloc, &parts.pools, crush.rules())?;
         let rows = rows_of(alloc, &parts.osds, max_osd)?;
         Ok(OsdMap {

@@ -6,8 +6,8 @@ ghost use Rattle.std.specs.List.Sorted.{IsNonDecreasingBy};
 ghost use Rattle.keylist.specs.Keys.{has_key};
 ghost use Rattle.keylist.specs.Order.{IsRising};
 ghost use Rattle.keylist.specs.Puts.{put};
-ghost use Rattle.maptypes.specs.Exceptions.{place_of, key_of, exceptions_after};
-ghost use Rattle.maptypes.specs.Growth.{grown};
+ghost use Rattle.maptypes.specs.Exceptions.{pg_key, key_of, exceptions_after};
+ghost use Rattle.maptypes.specs.Growth.{with_growths};
 ghost use Rattle.osdmap.specs.Changes.{with_up, with_weight};
 ghost use Rattle.osdmap.specs.Marks.{are_below};
 
@@ -37,13 +37,13 @@ pub(crate) fn set_weights(weights: &mut Entries<u32>, reweights: &[Reweight])
 }
 
 /// A pool after growths, in ascending order: the last one of it counts.
-#[tactic(auto, unfolding(maptypes::specs::Growth::grown))]
-pub(crate) fn grown(growths: &[Grow], pool: Pool) -> Pool
+#[tactic(auto, unfolding(maptypes::specs::Growth::with_growths))]
+pub(crate) fn with_growths(growths: &[Grow], pool: Pool) -> Pool
     requires { IsNonDecreasingBy (λ g. g.pool) growths.now }
-    ensures { result ≡ grown growths.now pool }
+    ensures { result ≡ with_growths growths.now pool }
 {
     match last_of(growths, u64::from(pool.id())) {
-        Some(growth) => growth.grown(&pool),
+        Some(growth) => growth.grow(&pool),
         None => pool,
     }
 }
@@ -51,10 +51,10 @@ pub(crate) fn grown(growths: &[Grow], pool: Pool) -> Pool
 /// Each pool grows as growths in ascending order say.
 fn grow_all(pools: &mut Vec<Pool>, growths: &[Grow])
     requires { IsNonDecreasingBy (λ g. g.pool) growths.now }
-    ensures { pools.new.items ≡ map (grown growths.now) pools.old.items }
+    ensures { pools.new.items ≡ map (with_growths growths.now) pools.old.items }
 {
     for at in 0..pools.len() {
-        pools[at] = grown(growths, pools[at]);
+        pools[at] = with_growths(growths, pools[at]);
     }
 }
 
@@ -65,7 +65,7 @@ pub(crate) fn change_pools(pools: &mut Vec<Pool>, old: &[u32], new: &[Pool], gro
     requires new { IsRising (λ p. p.id) new.now }
     requires growths { IsNonDecreasingBy (λ g. g.pool) growths.now }
     requires room { vec_len pools.old + length new.now ≤ vec_capacity pools.old }
-    ensures { pools.new.items ≡ map (grown growths.now)
+    ensures { pools.new.items ≡ map (with_growths growths.now)
         (fold (put (λ p. p.id)) (filter (λ p. not (has_key (λ id. id) old.now p.id)) pools.old.items) new.now) }
 {
     take_away(pools, old);
@@ -95,9 +95,9 @@ fn leave_pools<E: Entry>(exceptions: &mut Vec<Exception<E>>, old_pools: &[u32])
 /// The exceptions of some groups go.
 fn leave_groups<E: Entry>(exceptions: &mut Vec<Exception<E>>, gone: &[Pg])
     requires rising { IsRising key_of exceptions.old.items }
-    requires gone { IsNonDecreasingBy place_of gone.now }
+    requires gone { IsNonDecreasingBy pg_key gone.now }
     ensures items { exceptions.new.items ≡
-        filter (λ e. not (has_key place_of gone.now (key_of e))) exceptions.old.items }
+        filter (λ e. not (has_key pg_key gone.now (key_of e))) exceptions.old.items }
     ensures fewer { vec_len exceptions.new ≤ vec_len exceptions.old }
     ensures room { vec_capacity exceptions.new ≡ vec_capacity exceptions.old }
 {
@@ -116,7 +116,7 @@ pub(crate) fn change_exceptions<E: Entry>(
 )
     requires rising { IsRising key_of exceptions.old.items }
     requires pools { IsNonDecreasingBy (λ id. id) old_pools.now }
-    requires gone { IsNonDecreasingBy place_of gone.now }
+    requires gone { IsNonDecreasingBy pg_key gone.now }
     requires new { IsRising key_of new.now }
     requires room { vec_len exceptions.old + length new.now ≤ vec_capacity exceptions.old }
     ensures { exceptions.new.items ≡ exceptions_after old_pools.now gone.now new.now exceptions.old.items }

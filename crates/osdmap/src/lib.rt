@@ -10,6 +10,8 @@
 //!   looked for
 //! - `apply`, `in_place`: the map after a change, and changes made where the lists of a map stand
 //! - `placement`: where a map places the groups of its pools
+//! - `placing`: what places the groups of one pool
+//! - `sets`, `mapped`: sets of OSDs that exist or are up, and what exceptions make of a raw set
 #![tactic(auto)]
 
 mod apply;
@@ -18,7 +20,10 @@ mod check;
 mod copy;
 mod in_place;
 pub mod map;
+mod mapped;
 mod placement;
+mod placing;
+mod sets;
 
 pub use map::OsdMap;
 pub use mapparts::{MapParts, Profile};
@@ -26,4 +31,4 @@ pub use maptypes::{
     Change, ChangeParts, CrushMap, Exception, Explicit, Grow, Incremental, Items, NumberedRule,
     OsdState, Pair, Pg, Pool, Presence, Reweight, UpSet,
 };
-pub use placement::{Placing, stable_mod};
+pub use placing::{Placing, stable_mod};

@@ -1,7 +1,7 @@
 //! The map of a cluster, and the look-ups in it.
 
 use crush::{Forest, Rule};
-use keylist::{Entries, entry_of};
+use keylist::{Entries, Keyed, entry_of};
 use maptypes::{CrushMap, Explicit, Items, NumberedRule, OsdState, Pair, Pg, Pool, Presence};
 use std::marker::Model;
 
@@ -164,7 +164,7 @@ impl OsdMap {
         ensures value { option_copied result ≡ said_of self.now.map.explicit pg }
         ensures few { IfSome result (λ osds. length osds.now ≤ 20) }
     {
-        let explicit = entry_of(&self.explicit, pg.place())?;
+        let explicit = entry_of(&self.explicit, pg.key())?;
         Some(explicit.entries.as_slice())
     }
 
@@ -173,7 +173,7 @@ impl OsdMap {
         ensures value { option_copied result ≡ said_of self.now.map.items pg }
         ensures few { IfSome result (λ pairs. length pairs.now ≤ 20) }
     {
-        let items = entry_of(&self.items, pg.place())?;
+        let items = entry_of(&self.items, pg.key())?;
         Some(items.entries.as_slice())
     }
 }

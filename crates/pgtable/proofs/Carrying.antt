@@ -8,7 +8,7 @@ use Rattle.std.proofs.lemmas.List.{length-set, length-map}
 use Rattle.std.proofs.lemmas.Option.{slice_get-map}
 use Rattle.pgtable.specs.declared.pool_table.PoolTable.{PoolTable}
 use Rattle.pgtable.specs.declared.patch.KeptTable.{KeptTable}
-use Rattle.pgtable.specs.Patches.{carried, FitsAt, FitAll}
+use Rattle.pgtable.specs.Patches.{with_kept, FitsAt, FitAll}
 
 -- ---- lists by places
 
@@ -59,13 +59,13 @@ pub record Carries (old0 pools0 : List PoolTable) (kept0 : List (Option KeptTabl
   pub long : length pools ≡ length pools0
   pub kept_long : length kept ≡ length kept0
   pub old_long : length old ≡ length old0
-  pub done : (k : ℕ) → k < i → slice_get pools k ≡ slice_get (map (λ e. carried old0 e.0 e.1) (zip pools0 kept0)) k
+  pub done : (k : ℕ) → k < i → slice_get pools k ≡ slice_get (map (λ e. with_kept old0 e.0 e.1) (zip pools0 kept0)) k
   pub rest : (k : ℕ) → i ≤ k → slice_get pools k ≡ slice_get pools0 k
   pub kept_rest : (k : ℕ) → i ≤ k → slice_get kept k ≡ slice_get kept0 k
   pub olds : (k : ℕ) (b : KeptTable) → i ≤ k → slice_get kept0 k ≡ Some (Some b) → slice_get old b.at ≡ slice_get old0 b.at
 
--- a table carried from its place is the same from any list that has it there
-same_sets : (old0 old : List PoolTable) (q : PoolTable) (one : Option KeptTable) → ((b : KeptTable) → one ≡ Some b → slice_get old b.at ≡ slice_get old0 b.at) → carried old q one ≡ carried old0 q one
+-- a table with_kept from its place is the same from any list that has it there
+same_sets : (old0 old : List PoolTable) (q : PoolTable) (one : Option KeptTable) → ((b : KeptTable) → one ≡ Some b → slice_get old b.at ≡ slice_get old0 b.at) → with_kept old q one ≡ with_kept old0 q one
 same_sets old0 old q None same = refl
 same_sets old0 old q (Some k) same = rw (same k refl) refl
 
@@ -94,7 +94,7 @@ module _ (old0 pools0 : List PoolTable) (kept0 : List (Option KeptTable)) (fits 
         let at = sym (sofar.kept_rest i (omega arith)) ∙ is in
         fits_now old0 old k sofar.old_long (sofar.olds i k (omega arith) at) (fits.each i k at)
 
-    pub carry_step : (before after : PoolTable) (one : Option KeptTable) (old' : List PoolTable) → slice_get pools i ≡ Some before → slice_get kept i ≡ Some one → after ≡ carried old before one
+    pub carry_step : (before after : PoolTable) (one : Option KeptTable) (old' : List PoolTable) → slice_get pools i ≡ Some before → slice_get kept i ≡ Some one → after ≡ with_kept old before one
         → ((j : ℕ) → ((k : KeptTable) → one ≡ Some k → j ≢ k.at) → slice_get old' j ≡ slice_get old j) → length old' ≡ length old → i < length pools0
         → Carries old0 pools0 kept0 (i + 1) old' (set pools i after) (set kept i None)
     carry_step before after one old' here is made others same inside =
@@ -108,7 +108,7 @@ module _ (old0 pools0 : List PoolTable) (kept0 : List (Option KeptTable)) (fits 
           done = λ k less. elim (cases_order k i) [
             | inl e ↦
                 rw e (get_set_same pools i after (omega (arith, sofar.long)) ∙ ap (λ x. Some x) made0
-                ∙ sym (slice_get-map (λ e'. carried old0 e'.0 e'.1) (zip pools0 kept0) i ∙ ap (option_map (λ e'. carried old0 e'.0 e'.1)) (get_zip pools0 kept0 i before one at0 is0)))
+                ∙ sym (slice_get-map (λ e'. with_kept old0 e'.0 e'.1) (zip pools0 kept0) i ∙ ap (option_map (λ e'. with_kept old0 e'.0 e'.1)) (get_zip pools0 kept0 i before one at0 is0)))
             | inr (inl below) ↦ get_set_other pools i k after (λ e. omega arith) ∙ sofar.done k below
             | inr (inr above) ↦ absurd (omega arith)
           ];
@@ -117,7 +117,7 @@ module _ (old0 pools0 : List PoolTable) (kept0 : List (Option KeptTable)) (fits 
           olds = λ k b past there. others b.at (λ a e. λ f. fits.apart i k a b (omega arith) (is0 ∙ ap (λ x. Some x) e) there (sym f)) ∙ sofar.olds k b (omega arith) there;
         }
 
-    pub carry_ends : length pools ≤ i → pools ≡ map (λ e. carried old0 e.0 e.1) (zip pools0 kept0)
+    pub carry_ends : length pools ≤ i → pools ≡ map (λ e. with_kept old0 e.0 e.1) (zip pools0 kept0)
     carry_ends past =
         let long = long_zip pools0 kept0 fits.same in
-        same_lists pools (map (λ e. carried old0 e.0 e.1) (zip pools0 kept0)) (sofar.long ∙ sym (length-map (zip pools0 kept0) (λ e. carried old0 e.0 e.1) ∙ long)) (λ k inside. sofar.done k (omega arith))
+        same_lists pools (map (λ e. with_kept old0 e.0 e.1) (zip pools0 kept0)) (sofar.long ∙ sym (length-map (zip pools0 kept0) (λ e. with_kept old0 e.0 e.1) ∙ long)) (λ k inside. sofar.done k (omega arith))

@@ -17,7 +17,7 @@ use Rattle.maptypes.specs.declared.pg.Pg.{Pg}
 use Rattle.maptypes.specs.declared.exception.Exception.{Exception}
 use Rattle.maptypes.specs.declared.change.ChangeParts.{ChangeParts}
 use Rattle.maptypes.specs.declared.change.Reweight.{Reweight}
-use Rattle.maptypes.specs.Exceptions.{place_of, key_of, said_of, is_among, target, sides}
+use Rattle.maptypes.specs.Exceptions.{pg_key, key_of, said_of, is_among, target, sides}
 use Rattle.maptypes.specs.Ordered.{IsInOrder}
 use Rattle.maptypes.specs.Pools.{PoolFacts}
 use Rattle.osdmap.specs.Maps.{ClusterMap}
@@ -29,9 +29,9 @@ use Rattle.osdmap.proofs.Coming.{comes}
 use Rattle.keylist.proofs.KeyedOrder.{rising_head, rising_tail, rising_from, rising-filter}
 use Rattle.keylist.proofs.Tests.{and_first, and_second}
 use Rattle.keylist.proofs.Each.{same_tests}
-use Rattle.pgtable.specs.Candidates.{NamedRise, excepted_groups, merged, named_in, candidates_by, candidates, number_at}
+use Rattle.pgtable.specs.Candidates.{NamedRise, excepted_groups, union_of, named_groups, candidates_by, candidates, number_at}
 use Rattle.pgtable.specs.Candidates as spec
-use Rattle.pgtable.specs.Patches.{concerned}
+use Rattle.pgtable.specs.Patches.{concerned_numbers}
 use Rattle.pgtable.proofs.Keeping.{among}
 
 -- ---- rising lists of numbers
@@ -210,44 +210,44 @@ module _ (q : ℕ → Bool) (base n : ℕ) where
 -- ---- groups
 
 -- numbers of groups sought by their places
-over_places : (q : ℕ → Bool) (base n : ℕ) (groups : List Pg) → filter_map (λ g. number_at q base n (place_of g)) groups ≡ filter_map (number_at q base n) (map place_of groups)
+over_places : (q : ℕ → Bool) (base n : ℕ) (groups : List Pg) → filter_map (λ g. number_at q base n (pg_key g)) groups ≡ filter_map (number_at q base n) (map pg_key groups)
 over_places q base n [] = refl
-over_places q base n (g ∷ gs) = elim (cases_Bool (passes q base n (place_of g))) [
+over_places q base n (g ∷ gs) = elim (cases_Bool (passes q base n (pg_key g))) [
   | inl stays ↦ rw (stays, over_places q base n gs) refl
   | inr goes ↦ rw (goes, over_places q base n gs) refl
 ]
 
 -- places of groups that rise do
-places_rise : (groups : List Pg) → IsRising place_of groups → Rising (map place_of groups)
+places_rise : (groups : List Pg) → IsRising pg_key groups → Rising (map pg_key groups)
 places_rise groups up i j d less inside =
-    let long : length (map place_of groups) ≡ length groups = length-map groups place_of in
+    let long : length (map pg_key groups) ≡ length groups = length-map groups pg_key in
     let last : j < length groups = omega (arith, long, inside) in
     let e : Pg = record { pool = 0; number = 0 } in
-    rw (get_or-map place_of groups i e d (omega arith), get_or-map place_of groups j e d last) (up i j e less last)
+    rw (get_or-map pg_key groups i e d (omega arith), get_or-map pg_key groups j e d last) (up i j e less last)
 
 -- among groups that have all that a change concerns, exactly those of a pool are found
-pub concerned_found : (m : ClusterMap) (c : ChangeParts) (p : PoolFacts) (groups : List Pg) → IsRising place_of groups → ((g : Pg) → concerns m c g ≡ true → has_key place_of groups (place_of g) ≡ true)
-    → spec.numbers_in m c p groups ≡ concerned m c p
+pub concerned_found : (m : ClusterMap) (c : ChangeParts) (p : PoolFacts) (groups : List Pg) → IsRising pg_key groups → ((g : Pg) → concerns m c g ≡ true → has_key pg_key groups (pg_key g) ≡ true)
+    → spec.numbers_in m c p groups ≡ concerned_numbers m c p
 concerned_found m c p groups up complete =
     over_places (λ n. concerns m c (group_of p n)) (p.id * 2 ^ 32) p.pg_num groups
-    ∙ numbers_all (λ n. concerns m c (group_of p n)) (p.id * 2 ^ 32) p.pg_num (map place_of groups) (places_rise groups up)
-    (λ j less yes. key_among place_of groups (p.id * 2 ^ 32 + j) ∙ complete (group_of p j) yes)
+    ∙ numbers_all (λ n. concerns m c (group_of p n)) (p.id * 2 ^ 32) p.pg_num (map pg_key groups) (places_rise groups up)
+    (λ j less yes. key_among pg_key groups (p.id * 2 ^ 32 + j) ∙ complete (group_of p j) yes)
 
 -- ---- candidates
 
 -- the groups of exceptions are those that have one
-groups_have : {E : Type 0} (es : List (Exception E)) (k : ℕ) → has_key place_of (excepted_groups es) k ≡ has_key key_of es k
+groups_have : {E : Type 0} (es : List (Exception E)) (k : ℕ) → has_key pg_key (excepted_groups es) k ≡ has_key key_of es k
 groups_have [] k = refl
 groups_have (e ∷ es) k = ap (λ b. eqb (key_of e) k || b) (groups_have es k)
 
 -- they rise where the exceptions do
-pub groups_rise : {E : Type 0} (es : List (Exception E)) → IsRising key_of es → IsRising place_of (excepted_groups es)
+pub groups_rise : {E : Type 0} (es : List (Exception E)) → IsRising key_of es → IsRising pg_key (excepted_groups es)
 groups_rise es up i j d less inside =
     let long : length (excepted_groups es) ≡ length es = length-map es (λ e. e.pg) in
     let last : j < length es = omega (arith, long, inside) in
     by_element es up i j d less last (element es i (omega arith))
   where
-    by_element : {E : Type 0} (es : List (Exception E)) → IsRising key_of es → (i j : ℕ) (d : Pg) → i < j → j < length es → Exception E → place_of (Rattle.std.proofs.Common.get_or (excepted_groups es) i d) < place_of (Rattle.std.proofs.Common.get_or (excepted_groups es) j d)
+    by_element : {E : Type 0} (es : List (Exception E)) → IsRising key_of es → (i j : ℕ) (d : Pg) → i < j → j < length es → Exception E → pg_key (Rattle.std.proofs.Common.get_or (excepted_groups es) i d) < pg_key (Rattle.std.proofs.Common.get_or (excepted_groups es) j d)
     by_element es up i j d less last e = rw (get_or-map (λ x. x.pg) es i e d (omega arith), get_or-map (λ x. x.pg) es j e d last) (up i j e less last)
 
     element : {X : Type 0} (xs : List X) (i : ℕ) → i < length xs → X
@@ -265,8 +265,8 @@ named_rise m c lawful ordered =
     let ok = accepted m c lawful in
     let new = comes m c ok ordered in
     record {
-      old_upmap = distinct_rises place_of c.old_upmap ordered.old_upmap (first_distinct (map place_of c.old_upmap) (map key_of c.new_upmap) (grind (arith, ok.once)));
-      old_items = distinct_rises place_of c.old_items ordered.old_items (first_distinct (map place_of c.old_items) (map key_of c.new_items) (grind (arith, ok.once)));
+      old_upmap = distinct_rises pg_key c.old_upmap ordered.old_upmap (first_distinct (map pg_key c.old_upmap) (map key_of c.new_upmap) (grind (arith, ok.once)));
+      old_items = distinct_rises pg_key c.old_items ordered.old_items (first_distinct (map pg_key c.old_items) (map key_of c.new_items) (grind (arith, ok.once)));
       new_upmap = new.upmap;
       new_items = new.items;
     }
@@ -287,19 +287,19 @@ other_or : (a b : Bool) → b ≡ true → (a || b) ≡ true
 other_or a b h = rw h (true_behind a)
 
 -- a group is among two lists joined where it is in either
-has_joined : (some others : List Pg) (k : ℕ) → has_key place_of (merged some others) k ≡ (has_key place_of others k || has_key place_of some k)
-has_joined some others k = has-puts place_of some others k
+has_joined : (some others : List Pg) (k : ℕ) → has_key pg_key (union_of some others) k ≡ (has_key pg_key others k || has_key pg_key some k)
+has_joined some others k = has-puts pg_key some others k
 
 -- a group that a change names is among those named
-named_has : (c : ChangeParts) (g : Pg) → is_named c g ≡ true → has_key place_of (named_in c) (place_of g) ≡ true
+named_has : (c : ChangeParts) (g : Pg) → is_named c g ≡ true → has_key pg_key (named_groups c) (pg_key g) ≡ true
 unfolding is_named
 named_has c g named =
-    let k = place_of g in
-    let both = merged c.old_upmap c.old_items in
-    let three = merged both (excepted_groups c.new_upmap) in
+    let k = pg_key g in
+    let both = union_of c.old_upmap c.old_items in
+    let three = union_of both (excepted_groups c.new_upmap) in
     let in_both = λ (h : (is_among c.old_upmap g || is_among c.old_items g) ≡ true). has_joined c.old_upmap c.old_items k ∙ elim (or_cases _ _ h) [
-      | inl first ↦ other_or (has_key place_of c.old_items k) (has_key place_of c.old_upmap k) first
-      | inr second ↦ some_or (has_key place_of c.old_items k) (has_key place_of c.old_upmap k) second
+      | inl first ↦ other_or (has_key pg_key c.old_items k) (has_key pg_key c.old_upmap k) first
+      | inr second ↦ some_or (has_key pg_key c.old_items k) (has_key pg_key c.old_upmap k) second
     ] in
     has_joined three (excepted_groups c.new_items) k ∙ elim (or_cases _ _ named) [
       | inr last ↦ some_or _ _ (groups_have c.new_items k ∙ last)
@@ -325,15 +325,15 @@ none_reweighted names c None empty = refl
 none_reweighted names c (Some entries) empty = none_of_entries names (has_key (λ w. w.osd) c.weight) entries (λ osd. rw empty refl)
 
 -- an exception that names one is there
-said_has : {E : Type 0} (names : E → List ℕ) (c : ChangeParts) (es : List (Exception E)) (g : Pg) → names_reweighted names c (said_of es g) ≡ true → has_key key_of es (place_of g) ≡ true
-said_has {E} names c es g h = has-entry key_of es (place_of g) ∙ by_entry (entry_at key_of es (place_of g)) refl
+said_has : {E : Type 0} (names : E → List ℕ) (c : ChangeParts) (es : List (Exception E)) (g : Pg) → names_reweighted names c (said_of es g) ≡ true → has_key key_of es (pg_key g) ≡ true
+said_has {E} names c es g h = has-entry key_of es (pg_key g) ∙ by_entry (entry_at key_of es (pg_key g)) refl
   where
-    by_entry : (e : Option (Exception E)) → entry_at key_of es (place_of g) ≡ e → is_some (entry_at key_of es (place_of g)) ≡ true
+    by_entry : (e : Option (Exception E)) → entry_at key_of es (pg_key g) ≡ e → is_some (entry_at key_of es (pg_key g)) ≡ true
     by_entry None is = absurd (false≢true (rw is at h))
     by_entry (Some e) is = rw is refl
 
 -- a group whose exceptions a change concerns is a candidate, whether OSDs are reweighted or not
-by_weight : (m : ClusterMap) (c : ChangeParts) (g : Pg) (ws : List Reweight) → c.weight ≡ ws → concerns m c g ≡ true → has_key place_of (candidates_by ws m c) (place_of g) ≡ true
+by_weight : (m : ClusterMap) (c : ChangeParts) (g : Pg) (ws : List Reweight) → c.weight ≡ ws → concerns m c g ≡ true → has_key pg_key (candidates_by ws m c) (pg_key g) ≡ true
 unfolding concerns
 by_weight m c g [] is loud = elim (or_cases _ _ loud) [
   | inr items ↦ absurd (false≢true (sym (none_reweighted sides c (said_of m.items g) is) ∙ items))
@@ -343,17 +343,17 @@ by_weight m c g [] is loud = elim (or_cases _ _ loud) [
   ]
 ]
 by_weight m c g (w ∷ ws) is loud =
-    let k = place_of g in
-    has_joined (merged (named_in c) (excepted_groups m.explicit)) (excepted_groups m.items) k ∙ elim (or_cases _ _ loud) [
+    let k = pg_key g in
+    has_joined (union_of (named_groups c) (excepted_groups m.explicit)) (excepted_groups m.items) k ∙ elim (or_cases _ _ loud) [
       | inr items ↦ some_or _ _ (groups_have m.items k ∙ said_has sides c m.items g items)
-      | inl rest ↦ other_or _ _ (has_joined (named_in c) (excepted_groups m.explicit) k ∙ elim (or_cases _ _ rest) [
+      | inl rest ↦ other_or _ _ (has_joined (named_groups c) (excepted_groups m.explicit) k ∙ elim (or_cases _ _ rest) [
         | inr explicit ↦ some_or _ _ (groups_have m.explicit k ∙ said_has target c m.explicit g explicit)
         | inl named ↦ other_or _ _ (named_has c g named)
       ])
     ]
 
 -- so it always is
-pub candidates_have : (m : ClusterMap) (c : ChangeParts) (g : Pg) → concerns m c g ≡ true → has_key place_of (candidates m c) (place_of g) ≡ true
+pub candidates_have : (m : ClusterMap) (c : ChangeParts) (g : Pg) → concerns m c g ≡ true → has_key pg_key (candidates m c) (pg_key g) ≡ true
 unfolding candidates
 candidates_have m c g loud = by_weight m c g c.weight refl loud
 
@@ -369,17 +369,17 @@ concerns_named m c g none = rw (none_reweighted target c (said_of m.explicit g) 
     or_nothing false = refl
 
 -- so it concerns the same groups of a pool by whatever map
-pub concerned_alike : (m n : ClusterMap) (c : ChangeParts) (p : PoolFacts) → c.weight ≡ [] → concerned m c p ≡ concerned n c p
+pub concerned_alike : (m n : ClusterMap) (c : ChangeParts) (p : PoolFacts) → c.weight ≡ [] → concerned_numbers m c p ≡ concerned_numbers n c p
 concerned_alike m n c p none =
     filter_agree (λ k. concerns m c (group_of p k)) (λ k. concerns n c (group_of p k))
     (λ k. concerns_named m c (group_of p k) none ∙ sym (concerns_named n c (group_of p k) none)) (range_with_len 0 p.pg_num)
 
 -- the groups of exceptions with rising keys, and groups with others among them, rise
-pub groups_rise_all : {E : Type 0} (es : List (Exception E)) (gs : List Pg) (i : ℕ) → IsRising key_of es → gs ≡ excepted_groups (take i es) → length es ≤ i → IsRising place_of gs
+pub groups_rise_all : {E : Type 0} (es : List (Exception E)) (gs : List Pg) (i : ℕ) → IsRising key_of es → gs ≡ excepted_groups (take i es) → length es ≤ i → IsRising pg_key gs
 groups_rise_all es gs i up is past =
     let all : gs ≡ excepted_groups es = is ∙ ap excepted_groups (take_all i es past) in
     rw all (groups_rise es up)
 
 -- joined groups rise
-pub joined_rise : (some others gs : List Pg) → IsRising place_of some → gs ≡ merged some others → IsRising place_of gs
-joined_rise some others gs up is = rw is (rising-puts place_of some others up)
+pub joined_rise : (some others gs : List Pg) → IsRising pg_key some → gs ≡ union_of some others → IsRising pg_key gs
+joined_rise some others gs up is = rw is (rising-puts pg_key some others up)

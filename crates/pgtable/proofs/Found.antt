@@ -11,7 +11,7 @@ use Rattle.maptypes.specs.Pools.{PoolFacts}
 use Rattle.osdmap.specs.Maps.{ClusterMap, osd_exists, HoldsTogether}
 use Rattle.osdmap.specs.Placement.{mapped_set}
 use Rattle.osdmap.proofs.Named.{below_max}
-use Rattle.placement_laws.proofs.Existing.{mapped_exist}
+use Rattle.osdmap.proofs.MappedExist.{mapped_exist}
 use Rattle.pgtable.specs.Tables.{sets_of, ups_of, pool_table, tables_of}
 
 -- an element of a list with rising keys is what is found of its key

@@ -1,5 +1,5 @@
 -- A pool that a change does not touch as a whole: what is kept of its table.
-use Rattle.std.proofs.Common.{◌≡◌, ◌∙◌, refl, sym, ap, ℕ, ◌+◌, ◌<◌, ◌≤◌, Bool, true, false, eqb, List, [], ◌∷◌, length, get_or, map, set, Option, Some, None, IsSome, inl, inr, arith}
+use Rattle.std.proofs.Common.{◌≡◌, ◌∙◌, refl, sym, ap, subst, ℕ, ◌+◌, ◌<◌, ◌≤◌, Bool, true, false, eqb, List, [], ◌∷◌, length, get_or, map, set, Option, Some, None, IsSome, inl, inr, arith}
 use mathlib.Core.Bool.{false≢true}
 use Rattle.std.specs.Prelude.{slice_get, is_some, position, nat_lt}
 use Rattle.std.specs.List.{All, AllPairs, list_any, find, filter, count_by, range_with_len, position_or_len}
@@ -13,7 +13,8 @@ use Rattle.std.proofs.lemmas.List.Folds.{list_any_at, find_at}
 use Rattle.std.proofs.lemmas.List.FromFn.{length-range_with_len, length-map-range_with_len, get_or-range_with_len, get_or-map-range_with_len}
 use Rattle.std.proofs.lemmas.List.Sums.{length-filter, sum_by-cons}
 use Rattle.std.proofs.lemmas.Option.{slice_get_within, slice_get-get_or, get_or_from_slice_get}
-use Rattle.grouptable.specs.Sets.{changed}
+use Rattle.grouptable.specs.Sets.{GroupSets, changed}
+use Rattle.grouptable.specs.declared.table.GroupPatch.{GroupPatch}
 use Rattle.maptypes.specs.Sets.{Places}
 use Rattle.grouptable.proofs.Changes.{length-changed}
 use Rattle.maptypes.specs.declared.change.ChangeParts.{ChangeParts}
@@ -22,12 +23,12 @@ use Rattle.osdmap.specs.Maps.{ClusterMap, pool_at, HoldsTogether}
 use Rattle.osdmap.proofs.Fitting.{mapped_fits, pool_within}
 use Rattle.osdmap.specs.Evals.{is_touched, concerns, is_evaluated}
 use Rattle.osdmap.specs.Placement.{group_of, mapped_set}
-use Rattle.placement_laws.proofs.Others.{others_stay, pool_there}
+use Rattle.osdmap.proofs.OthersStay.{others_stay, pool_there}
 use Rattle.pgtable.specs.declared.pool_table.PoolTable.{PoolTable}
 use Rattle.pgtable.specs.Tables.{TableFacts, sets_of, pool_table, IsTableOf, pool_in}
 use Rattle.grouptable.specs.Tables.{IsPatchFor}
 use Rattle.pgtable.specs.declared.patch.KeptTable.{KeptTable}
-use Rattle.pgtable.specs.Patches.{LeadsFrom, KeepsPool, concerned, changes_of, evals_in}
+use Rattle.pgtable.specs.Patches.{LeadsFrom, KeepsPool, LeadGroups, concerned_numbers, changes_of, evals_in}
 use Rattle.pgtable.proofs.Shows.{find_map}
 use Rattle.pgtable.proofs.Carrying.{same_lists}
 
@@ -63,12 +64,12 @@ pub evals_touched : (m : ClusterMap) (c : ChangeParts) (p : PoolFacts) → is_to
 evals_touched m c p touched = rw touched (count_of_true (range_with_len 0 p.pg_num) ∙ length-range_with_len 0 p.pg_num)
 
 -- another has one for each group that the change concerns
-pub evals_concerned : (m : ClusterMap) (c : ChangeParts) (p : PoolFacts) → is_touched m c p ≡ false → evals_in m c p ≡ length (concerned m c p)
+pub evals_concerned : (m : ClusterMap) (c : ChangeParts) (p : PoolFacts) → is_touched m c p ≡ false → evals_in m c p ≡ length (concerned_numbers m c p)
 evals_concerned m c p touched = rw touched (sym (length-filter (λ n. concerns m c (group_of p n)) (range_with_len 0 p.pg_num)))
 
 -- so many as it then changes
 pub evals_changes : (m : ClusterMap) (c : ChangeParts) (p : PoolFacts) (cs : List (ℕ × Places)) (n : ℕ) → is_touched m c p ≡ false → cs ≡ changes_of m c p → n ≡ length cs → n ≡ evals_in m c p
-evals_changes m c p cs n touched is long = long ∙ ap length is ∙ length-map (concerned m c p) (λ k. (k, mapped_set m p k)) ∙ sym (evals_concerned m c p touched)
+evals_changes m c p cs n touched is long = long ∙ ap length is ∙ length-map (concerned_numbers m c p) (λ k. (k, mapped_set m p k)) ∙ sym (evals_concerned m c p touched)
 
 -- ---- changes
 
@@ -83,30 +84,30 @@ rising n i j d less inside =
     rw (get_or-range_with_len 0 n i d (omega arith), get_or-range_with_len 0 n j d (omega arith)) (omega arith)
 
 -- the groups of a pool that a change concerns are among its own
-pub concerned_within : (m : ClusterMap) (c : ChangeParts) (p : PoolFacts) → All (λ k. k < p.pg_num) (concerned m c p)
+pub concerned_within : (m : ClusterMap) (c : ChangeParts) (p : PoolFacts) → All (λ k. k < p.pg_num) (concerned_numbers m c p)
 concerned_within m c p = All-filter (λ k. concerns m c (group_of p k)) (λ k. k < p.pg_num) (range_with_len 0 p.pg_num) (below p.pg_num)
 
 -- the changes of a pool are of groups that it has
 pub changes_within : (m n : ClusterMap) (c : ChangeParts) (p : PoolFacts) → All (λ e. e.0 < length (sets_of m p)) (changes_of n c p)
 changes_within m n c p =
-    All-map (λ (e : ℕ × Places). e.0 < length (sets_of m p)) (λ k. (k, mapped_set n p k)) (concerned n c p)
+    All-map (λ (e : ℕ × Places). e.0 < length (sets_of m p)) (λ k. (k, mapped_set n p k)) (concerned_numbers n c p)
     (rw (length-map-range_with_len (mapped_set m p) 0 p.pg_num) (concerned_within n c p))
 
 -- they ascend by number
 pub changes_ascend : (n : ClusterMap) (c : ChangeParts) (p : PoolFacts) → AllPairs (λ a b. a.0 < b.0) (changes_of n c p)
 changes_ascend n c p i j d less inside =
-    let long : length (changes_of n c p) ≡ length (concerned n c p) = length-map (concerned n c p) (λ k. (k, mapped_set n p k)) in
-    let last : j < length (concerned n c p) = omega (arith, long, inside) in
-    let first = get_or-map (λ k. (k, mapped_set n p k)) (concerned n c p) i 0 d (omega arith) in
-    let second = get_or-map (λ k. (k, mapped_set n p k)) (concerned n c p) j 0 d last in
+    let long : length (changes_of n c p) ≡ length (concerned_numbers n c p) = length-map (concerned_numbers n c p) (λ k. (k, mapped_set n p k)) in
+    let last : j < length (concerned_numbers n c p) = omega (arith, long, inside) in
+    let first = get_or-map (λ k. (k, mapped_set n p k)) (concerned_numbers n c p) i 0 d (omega arith) in
+    let second = get_or-map (λ k. (k, mapped_set n p k)) (concerned_numbers n c p) j 0 d last in
     rw (first, second) (AllPairs-filter (λ a b. a < b) (λ k. concerns n c (group_of p k)) (range_with_len 0 p.pg_num) (rising p.pg_num) i j 0 less last)
 
 -- no set of them has more places than the pool
 pub changes_fit : (n : ClusterMap) (c : ChangeParts) (p : PoolFacts) → HoldsTogether n → pool_at n.pools p.id ≡ Some p → All (λ e. length e.1 ≤ p.size) (changes_of n c p)
 changes_fit n c p holds there =
     let limits = pool_within n p holds there in
-    All-map (λ (e : ℕ × Places). length e.1 ≤ p.size) (λ k. (k, mapped_set n p k)) (concerned n c p)
-    (λ k d inside. mapped_fits n p (get_or (concerned n c p) k d) holds there (omega (arith, concerned_within n c p k d inside, limits.groups_most)))
+    All-map (λ (e : ℕ × Places). length e.1 ≤ p.size) (λ k. (k, mapped_set n p k)) (concerned_numbers n c p)
+    (λ k d inside. mapped_fits n p (get_or (concerned_numbers n c p) k d) holds there (omega (arith, concerned_within n c p k d inside, limits.groups_most)))
 
 -- each group that is not changed has its set already: then all have theirs after the changes
 all_set : (f : ℕ → Places) (ns : List ℕ) (sets : List Places) (k : ℕ) → k < length sets → (list_any (λ n. eqb n k) ns ≡ false → get_or sets k [] ≡ f k) → get_or (changed sets (map (λ n. (n, f n)) ns)) k [] ≡ f k
@@ -143,7 +144,7 @@ module _ (m after : ClusterMap) (c : ChangeParts) (p : PoolFacts) (leads : Leads
   pub stays_there : (k : ℕ) → k < p.pg_num → concerns after c (group_of p k) ≡ false → mapped_set m p k ≡ mapped_set after p k
   stays_there k inside quiet =
       let none : is_evaluated after c p k ≡ false = rw (touched, quiet) refl in
-      rw leads.is (others_stay m (record { epoch = m.epoch + 1; change = c }) p k leads.holds leads.lawful (rw leads.is at there) inside (rw leads.is at none)).mapped
+      rw leads.is (others_stay m (record { epoch = m.epoch + 1; change = c }) p k leads.holds leads.lawful (rw leads.is at there) inside (rw leads.is at none)).1
 
   pub sets_kept : changed (sets_of m p) (changes_of after c p) ≡ sets_of after p
   sets_kept =
@@ -153,41 +154,45 @@ module _ (m after : ClusterMap) (c : ChangeParts) (p : PoolFacts) (leads : Leads
       same_lists (changed (sets_of m p) (changes_of after c p)) (sets_of after p) (changed_long ∙ long ∙ sym after_long) (λ k inside.
       let few : k < p.pg_num = omega arith in
       slice_get-get_or (changed (sets_of m p) (changes_of after c p)) k [] inside
-      ∙ ap (λ x. Some x) (all_set (mapped_set after p) (concerned after c p) (sets_of m p) k (omega arith) (λ others.
+      ∙ ap (λ x. Some x) (all_set (mapped_set after p) (concerned_numbers after c p) (sets_of m p) k (omega arith) (λ others.
       let quiet : concerns after c (group_of p k) ≡ false = false_from_ne_true _ (λ loud. absurd (false≢true (sym others ∙ among (λ n. concerns after c (group_of p n)) p.pg_num k few loud))) in
       get_or-map-range_with_len (mapped_set m p) 0 p.pg_num k k [] few (omega arith) ∙ stays_there k few quiet))
       ∙ sym (slice_get-get_or (sets_of after p) k [] (omega arith) ∙ ap (λ x. Some x) (get_or-map-range_with_len (mapped_set after p) 0 p.pg_num k k [] few (omega arith))))
 
+  -- a pool of which no group gets another set
+  pub lead_none : (groups : GroupSets) (cs : List (ℕ × Places)) → groups ≡ (pool_table m p).groups → cs ≡ changes_of after c p → cs ≡ [] → LeadGroups after p groups None
+  lead_none groups cs is made none =
+      let same : sets_of m p ≡ sets_of after p = subst (λ (xs : List (ℕ × Places)). changed (sets_of m p) xs ≡ sets_of after p) (sym made ∙ none) sets_kept in
+      record { fits = tt; sets = is ∙ ap (λ sets. record { width = p.size; sets = sets }) same }
+
+  -- a pool of which some do
+  pub lead_some : (groups : GroupSets) (patch : GroupPatch) → groups ≡ (pool_table m p).groups → patch.changes.items ≡ changes_of after c p → IsPatchFor groups patch → LeadGroups after p groups (Some patch)
+  lead_some groups patch is made fits =
+      record { fits = fits; sets = rw (is, made) (ap (λ sets. record { width = p.size; sets = sets }) sets_kept) }
+
+  -- the pool's table was there before the change
   pub table_was_there : (t : TableFacts) → IsTableOf t m → pool_in t p.id ≡ Some (pool_table m p)
   table_was_there t is = rw (is.pools, find_map (λ (q : PoolTable). eqb q.pool.id p.id) (pool_table m) m.pools) (ap (option_map (pool_table m)) pool_was_there)
 
-  -- the pool's table at its place
+  -- the pool's table at its position
   module _ (t : TableFacts) (is : IsTableOf t m) (at : ℕ) (found : slice_get t.pools at ≡ pool_in t p.id) where
     pub at_place : slice_get t.pools at ≡ Some (pool_table m p)
     at_place = found ∙ table_was_there t is
 
-    pub within_table : (q : PoolTable) (cs : List (ℕ × Places)) → q ≡ get_or t.pools at q → cs ≡ changes_of after c p → All (λ e. e.0 < length q.groups.sets) cs
-    within_table q cs here made =
-        let same : q ≡ pool_table m p = here ∙ get_or_from_slice_get t.pools at (pool_table m p) q at_place in
-        rw (same, made) (changes_within m after c p)
+    -- with the sets of the map before the change
+    pub groups_there : (q : PoolTable) → q ≡ get_or t.pools at q → q.groups ≡ (pool_table m p).groups
+    groups_there q here = ap (λ (r : PoolTable). r.groups) (here ∙ get_or_from_slice_get t.pools at (pool_table m p) q at_place)
 
-    pub fit_there : (q : PoolTable) (cs : List (ℕ × Places)) → q ≡ get_or t.pools at q → cs ≡ changes_of after c p → All (λ e. length e.1 ≤ q.groups.width) cs
-    fit_there q cs here made =
-        let same : q ≡ pool_table m p = here ∙ get_or_from_slice_get t.pools at (pool_table m p) q at_place in
-        rw (same, made) (changes_fit after c p leads.holds_after there)
-
-    pub ascend_there : (cs : List (ℕ × Places)) → cs ≡ changes_of after c p → AllPairs (λ a b. a.0 < b.0) cs
-    ascend_there cs made = rw made (changes_ascend after c p)
-
-    pub keeps_pool : (q : PoolTable) (k : KeptTable) → k.at ≡ at → q ≡ get_or t.pools at q → k.patch.changes.items ≡ changes_of after c p → IsPatchFor q.groups k.patch → KeepsPool t.pools after p k
-    keeps_pool q k placed here made fits =
+    -- what is kept of it, with other sets for the groups that the change concerns
+    pub keeps_pool : (q : PoolTable) (k : KeptTable) → k.at ≡ at → q ≡ get_or t.pools at q → LeadGroups after p q.groups k.patch → KeepsPool t.pools after p k
+    keeps_pool q k placed here lead =
         let there : slice_get t.pools k.at ≡ Some (pool_table m p) = rw placed at_place in
         let same : q ≡ pool_table m p = here ∙ get_or_from_slice_get t.pools at (pool_table m p) q at_place in
         record {
           fits = record {
             inside = slice_get_within t.pools k.at (pool_table m p) there;
-            patch = rw there (rw same at fits);
+            patch = rw there (rw same at lead.fits);
           };
           id = rw there refl;
-          sets = rw (there, made) (ap (λ sets. record { width = p.size; sets = sets }) sets_kept);
+          sets = rw there (rw same at lead.sets);
         }

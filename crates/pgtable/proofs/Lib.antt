@@ -6,4 +6,5 @@ pub mod Keeping
 pub mod Making
 pub mod Concerning
 pub mod States
-pub mod Regrouping
+pub mod ToldBefore
+pub mod PatchedInPlace

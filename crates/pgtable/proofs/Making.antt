@@ -1,5 +1,5 @@
 -- The tables of all pools, made one after another.
-use Rattle.std.proofs.Common.{◌≡◌, ◌≢◌, ◌⊎◌, ◌∙◌, refl, sym, ap, ℕ, zero, suc, ◌+◌, ◌*◌, ◌<◌, ◌≤◌, List, [], ◌∷◌, ◌++◌, length, get_or, take, map, Option, Some, None, inl, inr, arith}
+use Rattle.std.proofs.Common.{◌≡◌, ◌≢◌, ◌⊎◌, ◌∙◌, refl, sym, ap, subst, ℕ, zero, suc, ◌+◌, ◌*◌, ◌<◌, ◌≤◌, List, [], ◌∷◌, ◌++◌, length, get_or, take, map, Option, Some, None, inl, inr, arith}
 use Rattle.std.specs.Prelude.{slice_get}
 use Rattle.std.specs.List.{All, zip, sum_by, range_with_len}
 use Rattle.std.specs.Option.{option_map}
@@ -13,10 +13,11 @@ use Rattle.maptypes.specs.declared.change.ChangeParts.{ChangeParts}
 use Rattle.maptypes.specs.Pools.{PoolFacts, IsWithinLimits}
 use Rattle.osdmap.specs.Maps.{ClusterMap, HoldsTogether}
 use Rattle.osdmap.specs.Evals.{is_evaluated, evals_of}
+use Rattle.grouptable.specs.Sets.{GroupSets}
 use Rattle.pgtable.specs.declared.pool_table.PoolTable.{PoolTable}
 use Rattle.pgtable.specs.declared.patch.KeptTable.{KeptTable}
 use Rattle.pgtable.specs.Tables.{pool_table}
-use Rattle.pgtable.specs.Patches.{carried, KeepsPool, MakesPool, MakesAll, evals_in}
+use Rattle.pgtable.specs.Patches.{with_kept, KeepsPool, MakesPool, MakesAll, evals_in}
 
 -- ---- one more behind
 
@@ -50,13 +51,22 @@ element [] i inside = absurd (omega arith)
 element (x ∷ xs) zero inside = (x, refl)
 element (x ∷ xs) (suc i) inside = element xs i (omega arith)
 
+-- ---- one table
+
+-- the table of a pool without groups, with what is kept of an old one
+pub makes_kept : (old : List PoolTable) (m : ClusterMap) (p : PoolFacts) (q : PoolTable) (k : KeptTable) → q.pool ≡ p → KeepsPool old m p k → MakesPool old m p q (Some k)
+makes_kept old m p q k pool keeps = record {
+  table = rw pool (ap (λ (groups : GroupSets). record { pool = p; groups = groups }) keeps.sets);
+  kept = λ j is. (let same : k ≡ j = cc in subst (KeepsPool old m p) same keeps);
+}
+
 -- ---- so far
 
 -- the tables of the first pools
 pub record Makes (old : List PoolTable) (m : ClusterMap) (i : ℕ) (pools : List PoolTable) (kept : List (Option KeptTable)) : Type 0 where
   pub long : length pools ≡ i
   pub kept_long : length kept ≡ i
-  pub tables : map (λ e. carried old e.0 e.1) (zip pools kept) ≡ map (pool_table m) (take i m.pools)
+  pub tables : map (λ e. with_kept old e.0 e.1) (zip pools kept) ≡ map (pool_table m) (take i m.pools)
   pub each : (k : ℕ) (p : PoolFacts) (b : KeptTable) → slice_get m.pools k ≡ Some p → slice_get kept k ≡ Some (Some b) → KeepsPool old m p b
 
 module _ (old : List PoolTable) (m : ClusterMap) where
@@ -78,8 +88,8 @@ module _ (old : List PoolTable) (m : ClusterMap) where
         long = omega (arith, long, sofar.long);
         kept_long = omega (arith, kept_long, sofar.kept_long);
         tables =
-            ap (map (λ e. carried old e.0 e.1)) (zip_more pools kept q one (sofar.long ∙ sym sofar.kept_long))
-            ∙ map-append (λ e. carried old e.0 e.1) (zip pools kept) ((q, one) ∷ [])
+            ap (map (λ e. with_kept old e.0 e.1)) (zip_more pools kept q one (sofar.long ∙ sym sofar.kept_long))
+            ∙ map-append (λ e. with_kept old e.0 e.1) (zip pools kept) ((q, one) ∷ [])
             ∙ rw (sofar.tables, made.table) (sym (ap (map (pool_table m)) (take_more m.pools i p inside) ∙ map-append (pool_table m) (take i m.pools) (get_or m.pools i p ∷ []) ∙ rw is refl));
         each = λ k r b at kept_at. by_place k r b at kept_at (cases_lt k i);
       }

@@ -18,12 +18,12 @@ use Rattle.grouptable.proofs.Steps.{filter_same}
 use Rattle.maptypes.specs.declared.pg.Pg.{Pg}
 use Rattle.maptypes.specs.Pools.{PoolFacts}
 use Rattle.osdmap.specs.Maps.{ClusterMap, pool_at, osd_is_up}
-use Rattle.maptypes.specs.Sets.{kept, stands}
-use Rattle.osdmap.specs.Placement.{group_of, upward, mapped_set, up_set}
-use Rattle.placement_laws.proofs.Standing.{up_are_mapped_and_up}
+use Rattle.maptypes.specs.Sets.{kept_places, stands}
+use Rattle.osdmap.specs.Placement.{group_of, up_osd, mapped_set, up_set}
+use Rattle.osdmap.proofs.StandingUp.{up_are_mapped_and_up}
 use Rattle.pgtable.specs.declared.pool_table.PoolTable.{PoolTable}
 use Rattle.pgtable.specs.Index.{up_at, groups_in, stands_in, index_of, count_in}
-use Rattle.pgtable.specs.Tables.{TableFacts, sets_of, pool_table, tables_of, ups_of, IsTableOf, upward_in, shown_set, shown_at, held_in, shown_groups, shown_in}
+use Rattle.pgtable.specs.Tables.{TableFacts, sets_of, pool_table, tables_of, ups_of, IsTableOf, upward_in, shown_set, shown_at, groups_on, shown_groups, shown_in}
 use Rattle.pgtable.proofs.Found.{found_at}
 
 -- ---- lists
@@ -72,20 +72,20 @@ up_in m osd = elim (cases_lt osd (length m.presences)) [
 ]
 
 -- a place is dropped by its bit as by the map
-upward_same : (m : ClusterMap) (place : Option ℕ) → option_and_then (upward_in (ups_of m)) place ≡ option_and_then (upward m) place
+upward_same : (m : ClusterMap) (place : Option ℕ) → option_and_then (upward_in (ups_of m)) place ≡ option_and_then (up_osd m) place
 upward_same m None = refl
 upward_same m (Some osd) = rw (up_in m osd) refl
 
 -- ---- up sets
 
 -- a mapped set without those that are down, by the bits, is the up set
-set_shown : (m : ClusterMap) (p : PoolFacts) (n : ℕ) → kept p.kind (map (option_and_then (upward_in (ups_of m))) (mapped_set m p n)) ≡ up_set m p n
+set_shown : (m : ClusterMap) (p : PoolFacts) (n : ℕ) → kept_places p.kind (map (option_and_then (upward_in (ups_of m))) (mapped_set m p n)) ≡ up_set m p n
 unfolding up_set
-set_shown m p n = ap (kept p.kind) (map-agree (option_and_then (upward_in (ups_of m))) (option_and_then (upward m)) (upward_same m) (mapped_set m p n))
+set_shown m p n = ap (kept_places p.kind) (map-agree (option_and_then (upward_in (ups_of m))) (option_and_then (up_osd m)) (upward_same m) (mapped_set m p n))
 
 -- what a pool's table shows of a group is its up set
 of_pool : (m : ClusterMap) (up : List Bool) (p : PoolFacts) (n : ℕ) → up ≡ ups_of m
-    → option_map (λ set. kept p.kind (map (option_and_then (upward_in up)) set)) (slice_get (sets_of m p) n) ≡ (if nat_lt n p.pg_num then Some (up_set m p n) else None)
+    → option_map (λ set. kept_places p.kind (map (option_and_then (upward_in up)) set)) (slice_get (sets_of m p) n) ≡ (if nat_lt n p.pg_num then Some (up_set m p n) else None)
 of_pool m up p n is = rw (is, slice_get_in (mapped_set m p) p.pg_num n) (elim (cases_Bool (nat_lt n p.pg_num)) [
   | inl below ↦ rw (below, set_shown m p n) refl
   | inr past ↦ rw past refl
@@ -119,7 +119,7 @@ and_false true = refl
 and_false false = refl
 
 -- what is shown of a pool is what stands in its up sets
-held_up : (m : ClusterMap) (osd : ℕ) (p : PoolFacts) → osd_is_up m osd ≡ true → held_in osd (pool_table m p) ≡ map (group_of p) (filter (λ n. stands osd (up_set m p n)) (range_with_len 0 p.pg_num))
+held_up : (m : ClusterMap) (osd : ℕ) (p : PoolFacts) → osd_is_up m osd ≡ true → groups_on osd (pool_table m p) ≡ map (group_of p) (filter (λ n. stands osd (up_set m p n)) (range_with_len 0 p.pg_num))
 held_up m osd p up =
     ap (map (group_of p)) (numbers_held m osd p ∙ filter_agree (λ n. stands osd (mapped_set m p n)) (λ n. stands osd (up_set m p n))
     (λ n. sym (up_are_mapped_and_up m p n osd ∙ rw up (and_true (stands osd (mapped_set m p n))))) (range_with_len 0 p.pg_num))
@@ -144,12 +144,12 @@ part_found m osd p found =
     ∙ ap (map (group_of p)) (filter_agree (λ n. stands_in m osd (group_of p n)) (λ n. stands osd (up_set m p n)) (λ n. rw found refl) (range_with_len 0 p.pg_num))
 
 -- the groups of an OSD that is up are those that the tables hold
-index_up : (m : ClusterMap) (osd : ℕ) (ps : List PoolFacts) → osd_is_up m osd ≡ true → All (IsFound m) ps → flat_map (held_in osd) (map (pool_table m) ps) ≡ filter (stands_in m osd) (flat_map groups_in ps)
+index_up : (m : ClusterMap) (osd : ℕ) (ps : List PoolFacts) → osd_is_up m osd ≡ true → All (IsFound m) ps → flat_map (groups_on osd) (map (pool_table m) ps) ≡ filter (stands_in m osd) (flat_map groups_in ps)
 index_up m osd [] up found = refl
 index_up m osd (p ∷ ps) up found =
     let rest = index_up m osd ps up (All-tail (IsFound m) p ps found) in
     let here = held_up m osd p up ∙ sym (part_found m osd p (All-head (IsFound m) p ps found)) in
-    flat_map-cons (held_in osd) (pool_table m p) (map (pool_table m) ps)
+    flat_map-cons (groups_on osd) (pool_table m p) (map (pool_table m) ps)
     ∙ rw (here, rest) (sym (ap (filter (stands_in m osd)) (flat_map-cons groups_in p ps) ∙ filter-append (stands_in m osd) (groups_in p) (flat_map groups_in ps)))
 
 -- an OSD that is down has none
@@ -161,7 +161,7 @@ index_down m osd (p ∷ ps) down found =
     ap (filter (stands_in m osd)) (flat_map-cons groups_in p ps) ∙ filter-append (stands_in m osd) (groups_in p) (flat_map groups_in ps) ∙ rw (here, rest) refl
 
 -- the groups that are shown of an OSD are its index
-index_shown : (m : ClusterMap) (osd : ℕ) (b : Bool) → IsRising (λ p. p.id) m.pools → osd_is_up m osd ≡ b → (if b then flat_map (held_in osd) (tables_of m) else []) ≡ index_of m osd
+index_shown : (m : ClusterMap) (osd : ℕ) (b : Bool) → IsRising (λ p. p.id) m.pools → osd_is_up m osd ≡ b → (if b then flat_map (groups_on osd) (tables_of m) else []) ≡ index_of m osd
 index_shown m osd true rises is = index_up m osd m.pools is (all_found m rises)
 index_shown m osd false rises is = sym (index_down m osd m.pools is (all_found m rises))
 
@@ -217,7 +217,7 @@ index_parts m osd (p ∷ ps) found =
 
 -- what is counted of one pool is its part of the index
 count_of_pool : (m : ClusterMap) (osd : ℕ) (b : Bool) (p : Option PoolFacts) → osd_is_up m osd ≡ b
-    → (if b then option_map_or (λ q. length (held_in osd q)) (option_map (pool_table m) p) 0 else 0) ≡ length (option_map_or (λ q. map (group_of q) (filter (λ n. stands osd (up_set m q n)) (range_with_len 0 q.pg_num))) p [])
+    → (if b then option_map_or (λ q. length (groups_on osd q)) (option_map (pool_table m) p) 0 else 0) ≡ length (option_map_or (λ q. map (group_of q) (filter (λ n. stands osd (up_set m q n)) (range_with_len 0 q.pg_num))) p [])
 count_of_pool m osd true None is = refl
 count_of_pool m osd true (Some p) is = ap length (held_up m osd p is)
 count_of_pool m osd false None is = refl

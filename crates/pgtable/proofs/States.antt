@@ -12,7 +12,7 @@ use Rattle.maptypes.specs.declared.osd.Presence.{Presence}
 use Rattle.osdmap.specs.Maps.{ClusterMap, osd_is_up}
 use Rattle.osdmap.specs.Changes.{apply, with_up}
 use Rattle.pgtable.specs.Tables.{ups_of}
-use Rattle.pgtable.specs.Patches.{changed_map, ups_turned, ups_after}
+use Rattle.pgtable.specs.Patches.{changed_map, with_ups, ups_after}
 use Rattle.pgtable.proofs.Carrying.{same_lists}
 
 -- who is up, by what is known of each
@@ -32,16 +32,16 @@ ups_are m =
     shown k (Some p) found few = rw found refl
 
 -- OSDs that go up or down
-turned_are : (up : Bool) (ps : List Presence) (osds : List ℕ) → ups_turned up (map (λ p. p.up) ps) osds ≡ map (λ p. p.up) (fold (with_up up) ps osds)
+turned_are : (up : Bool) (ps : List Presence) (osds : List ℕ) → with_ups up (map (λ p. p.up) ps) osds ≡ map (λ p. p.up) (fold (with_up up) ps osds)
 turned_are up ps [] = refl
 turned_are up ps (osd ∷ osds) = rw (sym (map-set (λ (p : Presence). p.up) ps osd (record { exists = option_map_or (λ p. p.exists) (slice_get ps osd) false; up = up }))) (turned_are up (with_up up ps osd) osds)
 
 -- the bits after a change are those before with its OSDs turned
 pub ups_follow : (m : ClusterMap) (c : ChangeParts) → ups_of (changed_map m c) ≡ ups_after (ups_of m) c
 unfolding apply
-ups_follow m c = ups_are (changed_map m c) ∙ sym (ap (λ us. ups_after us c) (ups_are m) ∙ ap (λ us. ups_turned true us c.up) (turned_are false m.presences c.down) ∙ turned_are true _ c.up)
+ups_follow m c = ups_are (changed_map m c) ∙ sym (ap (λ us. ups_after us c) (ups_are m) ∙ ap (λ us. with_ups true us c.up) (turned_are false m.presences c.down) ∙ turned_are true _ c.up)
 
 -- as many are known to be up or down after some turned
-pub length-turned : (up : Bool) (ups : List Bool) (osds : List ℕ) → length (ups_turned up ups osds) ≡ length ups
+pub length-turned : (up : Bool) (ups : List Bool) (osds : List ℕ) → length (with_ups up ups osds) ≡ length ups
 length-turned up ups [] = refl
 length-turned up ups (osd ∷ osds) = length-turned up (set ups osd up) osds ∙ length-set ups osd up

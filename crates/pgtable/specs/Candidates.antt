@@ -8,7 +8,7 @@ use Rattle.maptypes.specs.declared.pg.Pg.{Pg}
 use Rattle.maptypes.specs.declared.exception.Exception.{Exception}
 use Rattle.maptypes.specs.declared.change.ChangeParts.{ChangeParts}
 use Rattle.maptypes.specs.declared.change.Reweight.{Reweight}
-use Rattle.maptypes.specs.Exceptions.{place_of, key_of}
+use Rattle.maptypes.specs.Exceptions.{pg_key, key_of}
 use Rattle.maptypes.specs.Pools.{PoolFacts}
 use Rattle.osdmap.specs.Maps.{ClusterMap}
 use Rattle.osdmap.specs.Evals.{concerns}
@@ -18,44 +18,45 @@ use Rattle.osdmap.specs.Placement.{group_of}
 abbrev pub excepted_groups : {E : Type 0} → List (Exception E) → List Pg
 excepted_groups es = map (λ e. e.pg) es
 
--- two rising lists of groups made one
-abbrev pub merged : List Pg → List Pg → List Pg
-merged some others = fold (put place_of) some others
+-- the groups of two rising lists, as one
+abbrev pub union_of : List Pg → List Pg → List Pg
+union_of some others = fold (put pg_key) some others
 
 -- the groups that a change names
-abbrev pub named_in : ChangeParts → List Pg
-named_in c =
-    merged (merged (merged c.old_upmap c.old_items) (excepted_groups c.new_upmap)) (excepted_groups c.new_items)
+abbrev pub named_groups : ChangeParts → List Pg
+named_groups c =
+    union_of (union_of (union_of c.old_upmap c.old_items) (excepted_groups c.new_upmap)) (excepted_groups c.new_items)
 
 -- what a change names is in ascending order, each once
 pub record NamedRise (c : ChangeParts) : Type 0 where
-  pub old_upmap : IsRising place_of c.old_upmap
-  pub old_items : IsRising place_of c.old_items
+  pub old_upmap : IsRising pg_key c.old_upmap
+  pub old_items : IsRising pg_key c.old_items
   pub new_upmap : IsRising key_of c.new_upmap
   pub new_items : IsRising key_of c.new_items
 
--- with those that have exceptions, where some OSD gets another reweight
+-- the groups that a change names, and where some OSD gets another reweight those that have exceptions
 abbrev pub candidates_by : List Reweight → ClusterMap → ChangeParts → List Pg
-candidates_by [] m c = named_in c
-candidates_by (w ∷ ws) m c = merged (merged (named_in c) (excepted_groups m.explicit)) (excepted_groups m.items)
+candidates_by [] m c = named_groups c
+candidates_by (w ∷ ws) m c = union_of (union_of (named_groups c) (excepted_groups m.explicit)) (excepted_groups m.items)
 
 unfoldable pub candidates : ClusterMap → ChangeParts → List Pg
 candidates m c = candidates_by c.weight m c
 
--- the number in a pool, whose first group has a place, of the group of another place, where a test passes it
+-- the number in a pool of the group of a key, where the pool has it and a test passes it; `base` is the key of the
+-- pool's first group
 abbrev pub number_at : (ℕ → Bool) → ℕ → ℕ → ℕ → Option ℕ
-number_at q base n place =
-    if nat_le base place && (nat_lt (place - base) n && q (place - base)) then Some (place - base) else None
+number_at q base n key =
+    if nat_le base key && (nat_lt (key - base) n && q (key - base)) then Some (key - base) else None
 
 -- the number in a pool of a group that a change concerns
 abbrev pub concerned_number : ClusterMap → ChangeParts → PoolFacts → Pg → Option ℕ
-concerned_number m c p g = number_at (λ n. concerns m c (group_of p n)) (p.id * 2 ^ 32) p.pg_num (place_of g)
+concerned_number m c p g = number_at (λ n. concerns m c (group_of p n)) (p.id * 2 ^ 32) p.pg_num (pg_key g)
 
--- the numbers of some groups
+-- the numbers in a pool of those of some groups that a change concerns
 abbrev pub numbers_in : ClusterMap → ChangeParts → PoolFacts → List Pg → List ℕ
 numbers_in m c p groups = filter_map (concerned_number m c p) groups
 
 -- groups in ascending order, among which are all that a change concerns
 pub record IsCandidates (m : ClusterMap) (c : ChangeParts) (groups : List Pg) : Type 0 where
-  pub rising : IsRising place_of groups
-  pub all : (g : Pg) → concerns m c g ≡ true → has_key place_of groups (place_of g) ≡ true
+  pub rising : IsRising pg_key groups
+  pub all : (g : Pg) → concerns m c g ≡ true → has_key pg_key groups (pg_key g) ≡ true

@@ -23,7 +23,7 @@ use Rattle.pgtable.specs.declared.patch.NewTables.{NewTables}
 use Rattle.pgtable.specs.declared.patch.Brought.{Brought}
 use Rattle.pgtable.specs.declared.patch.Brought.TheVariants.{Groups, Pools}
 use Rattle.pgtable.specs.declared.patch.Patch.{Patch}
-use Rattle.pgtable.specs.Tables.{TableFacts, sets_of, pool_table, tables_of, IsTableOf}
+use Rattle.pgtable.specs.Tables.{TableFacts, pool_table, tables_of, IsTableOf}
 
 -- the map after a change, one epoch on
 abbrev pub changed_map : ClusterMap → ChangeParts → ClusterMap
@@ -45,51 +45,67 @@ is_empty (x ∷ xs) = false
 unfoldable pub leaves_pools : ChangeParts → Bool
 leaves_pools c = is_empty c.old_pools && not (is_some c.new_crush) && is_empty c.new_pools && is_empty c.grow_pool
 
--- whether it leaves all raw sets: the reweights stay too, so that only a group whose exceptions it names is placed
--- otherwise
+-- whether a change leaves all raw sets: the reweights stay as well as the pools, so that only a group whose exceptions
+-- it names is placed otherwise
 unfoldable pub leaves_raw_sets : ChangeParts → Bool
 leaves_raw_sets c = leaves_pools c && is_empty c.weight
+
+-- the map that tells the sets after a change: the map after it, or the one before it where the change leaves all raw
+-- sets
+pub record IsToldBy (m : ClusterMap) (c : ChangeParts) (teller : ClusterMap) (is_made : Bool) : Type 0 where
+  pub after : is_made ≡ true → teller ≡ changed_map m c
+  pub before : is_made ≡ false → teller ≡ m
+  pub leaves : is_made ≡ false → leaves_raw_sets c ≡ true
 
 -- what a change makes of what is said of a group: what comes in its place, nothing where it goes, else what was said
 abbrev pub said_after : {E : Type 0} → List Pg → List (Exception E) → Option (List E) → Pg → Option (List E)
 said_after gone new said g = option_or (said_of new g) (if is_among gone g then None else said)
 
 -- some OSDs go up or down
-abbrev pub ups_turned : Bool → List Bool → List ℕ → List Bool
-ups_turned up ups osds = fold (λ us osd. slice_set us osd up) ups osds
+abbrev pub with_ups : Bool → List Bool → List ℕ → List Bool
+with_ups up ups osds = fold (λ us osd. slice_set us osd up) ups osds
 
 -- which OSDs are up after a change
 abbrev pub ups_after : List Bool → ChangeParts → List Bool
-ups_after ups c = ups_turned true (ups_turned false ups c.down) c.up
+ups_after ups c = with_ups true (with_ups false ups c.down) c.up
 
 -- the groups of a pool whose exceptions a change concerns
-abbrev pub concerned : ClusterMap → ChangeParts → PoolFacts → List ℕ
-concerned m c p = filter (λ n. concerns m c (group_of p n)) (range_with_len 0 p.pg_num)
+abbrev pub concerned_numbers : ClusterMap → ChangeParts → PoolFacts → List ℕ
+concerned_numbers m c p = filter (λ n. concerns m c (group_of p n)) (range_with_len 0 p.pg_num)
 
 -- groups with their mapped sets
 abbrev pub with_sets : ClusterMap → PoolFacts → List ℕ → List (ℕ × Places)
 with_sets m p numbers = map (λ n. (n, mapped_set m p n)) numbers
 
 abbrev pub changes_of : ClusterMap → ChangeParts → PoolFacts → List (ℕ × Places)
-changes_of m c p = with_sets m p (concerned m c p)
+changes_of m c p = with_sets m p (concerned_numbers m c p)
 
 -- how many groups of a pool a change evaluates
 abbrev pub evals_in : ClusterMap → ChangeParts → PoolFacts → ℕ
 evals_in m c p = count_by (is_evaluated m c p) (range_with_len 0 p.pg_num)
 
--- the sets of the pool that stands at a place
+-- the sets of the pool that stands at a position
 abbrev pub groups_at : List PoolTable → ℕ → GroupSets
 groups_at old at = option_map_or (λ q. q.groups) (slice_get old at) (record { width = 0; sets = [] })
 
--- a pool's table as a patch makes it: anew, or that of an old one with other sets for some groups
-abbrev pub carried : List PoolTable → PoolTable → Option KeptTable → PoolTable
-carried old q None = q
-carried old q (Some k) = record { pool = q.pool; groups = changed_in (groups_at old k.at) k.patch.changes.items }
+-- the sets of a pool with other sets for some groups, if any
+abbrev pub with_group_patch : GroupSets → Option GroupPatch → GroupSets
+with_group_patch groups None = groups
+with_group_patch groups (Some patch) = changed_in groups patch.changes.items
 
--- a pool's table that stays, with other sets for some groups
-abbrev pub regrouped : PoolTable → Option GroupPatch → PoolTable
-regrouped q None = q
-regrouped q (Some g) = record { pool = q.pool; groups = changed_in q.groups g.changes.items }
+-- a pool's table that stays in place, with other sets for some groups, if any
+abbrev pub with_patch : PoolTable → Option GroupPatch → PoolTable
+with_patch q patch = record { pool = q.pool; groups = with_group_patch q.groups patch }
+
+-- a pool's table as a patch makes it: anew, or with the sets of an old one and other sets for some groups
+abbrev pub with_kept : List PoolTable → PoolTable → Option KeptTable → PoolTable
+with_kept old q None = q
+with_kept old q (Some k) = record { pool = q.pool; groups = with_group_patch (groups_at old k.at) k.patch }
+
+-- some groups of a pool get other sets, if any, by which all have those of a map
+pub record LeadGroups (m : ClusterMap) (p : PoolFacts) (groups : GroupSets) (patch : Option GroupPatch) : Type 0 where
+  pub fits : IfSome patch (IsPatchFor groups)
+  pub sets : with_group_patch groups patch ≡ (pool_table m p).groups
 
 -- each pool's table that gets other sets gets them for groups that it has
 pub record FitGroups (old : List PoolTable) (patches : List (Option GroupPatch)) : Type 0 where
@@ -97,20 +113,10 @@ pub record FitGroups (old : List PoolTable) (patches : List (Option GroupPatch))
   pub each : (i : ℕ) (q : PoolTable) (g : GroupPatch) → slice_get old i ≡ Some q → slice_get patches i ≡ Some (Some g) →
       IsPatchFor q.groups g
 
--- a pool's table with what it gets has the sets of a map
-pub record RegroupsPool (m : ClusterMap) (q : PoolTable) (one : Option GroupPatch) : Type 0 where
-  pub table : regrouped q one ≡ pool_table m q.pool
-  pub fits : IfSome one (IsPatchFor q.groups)
-
--- the tables with what they get are those of a map
-pub record RegroupsAll (old : List PoolTable) (m : ClusterMap) (patches : List (Option GroupPatch)) : Type 0 where
-  pub fits : FitGroups old patches
-  pub tables : map (λ e. regrouped e.0 e.1) (zip old patches) ≡ tables_of m
-
 -- what is kept is there, and gets other sets for groups that it has
 pub record FitsAt (old : List PoolTable) (k : KeptTable) : Type 0 where
   pub inside : k.at < length old
-  pub patch : IsPatchFor (groups_at old k.at) k.patch
+  pub patch : IfSome k.patch (IsPatchFor (groups_at old k.at))
 
 -- each table that is kept fits, and none is kept twice
 pub record FitAll (old pools : List PoolTable) (kept : List (Option KeptTable)) : Type 0 where
@@ -123,12 +129,12 @@ pub record FitAll (old pools : List PoolTable) (kept : List (Option KeptTable)) 
 pub record KeepsPool (old : List PoolTable) (m : ClusterMap) (p : PoolFacts) (k : KeptTable) : Type 0 where
   pub fits : FitsAt old k
   pub id : option_map (λ q. q.pool.id) (slice_get old k.at) ≡ Some p.id
-  pub sets : changed_in (groups_at old k.at) k.patch.changes.items ≡ (pool_table m p).groups
+  pub sets : with_group_patch (groups_at old k.at) k.patch ≡ (pool_table m p).groups
 
 -- a pool's table as it is made, with what is kept, gets the sets of a map
 pub record MakesPool (old : List PoolTable) (m : ClusterMap) (p : PoolFacts) (q : PoolTable) (one : Option KeptTable) :
     Type 0 where
-  pub table : carried old q one ≡ pool_table m p
+  pub table : with_kept old q one ≡ pool_table m p
   pub kept : (k : KeptTable) → one ≡ Some k → KeepsPool old m p k
 
 -- the tables as they are made, with what is kept, are those of a map
@@ -136,7 +142,7 @@ pub record MakesAll (old : List PoolTable) (m : ClusterMap) (pools : List PoolTa
     Type 0 where
   pub long : length pools ≡ length m.pools
   pub fits : FitAll old pools kept
-  pub tables : map (λ e. carried old e.0 e.1) (zip pools kept) ≡ tables_of m
+  pub tables : map (λ e. with_kept old e.0 e.1) (zip pools kept) ≡ tables_of m
 
 -- the tables that a patch brings fit those of a table
 pub record FitPools (t : TableFacts) (b : NewTables) : Type 0 where
@@ -155,15 +161,20 @@ pub record Fits (t : TableFacts) (p : Patch) : Type 0 where
 
 -- the tables of pools after a patch: the old ones with other sets for some groups; or those that it brings, with what
 -- they keep of the old ones
-abbrev pub pools_patched : List PoolTable → Brought → List PoolTable
-pools_patched old (Groups patches) = map (λ e. regrouped e.0 e.1) (zip old patches.items)
-pools_patched old (Pools b) = map (λ e. carried old e.0 e.1) (zip b.pools.items b.kept.items)
+abbrev pub pools_after_patch : List PoolTable → Brought → List PoolTable
+pools_after_patch old (Groups patches) = map (λ e. with_patch e.0 e.1) (zip old patches.items)
+pools_after_patch old (Pools b) = map (λ e. with_kept old e.0 e.1) (zip b.pools.items b.kept.items)
+
+-- what a change brings makes of the tables of pools those of a map
+pub record LeadTables (m : ClusterMap) (t : TableFacts) (b : Brought) : Type 0 where
+  pub fits : FitsBrought t b
+  pub tables : pools_after_patch t.pools b ≡ tables_of m
 
 -- the table after a patch
-abbrev pub patched : TableFacts → Patch → TableFacts
-patched t p = record { pools = pools_patched t.pools p.brought; up = p.up.items }
+abbrev pub after_patch : TableFacts → Patch → TableFacts
+after_patch t p = record { pools = pools_after_patch t.pools p.brought; up = p.up.items }
 
 -- a patch makes of a table that of a map
 pub record LeadsTo (m : ClusterMap) (t : TableFacts) (p : Patch) : Type 0 where
   pub fits : Fits t p
-  pub table : IsTableOf (patched t p) m
+  pub table : IsTableOf (after_patch t p) m

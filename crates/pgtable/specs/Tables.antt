@@ -4,7 +4,7 @@ use Rattle.std.specs.List.{find, flat_map, range_with_len}
 use Rattle.std.specs.Option.{option_map, option_map_or}
 use Rattle.crush.specs.Run.{Ran}
 use Rattle.grouptable.specs.Sets.{groups_of}
-use Rattle.maptypes.specs.Sets.{Places, kept}
+use Rattle.maptypes.specs.Sets.{Places, kept_places}
 use Rattle.maptypes.specs.declared.pg.Pg.{Pg}
 use Rattle.maptypes.specs.Pools.{PoolFacts}
 use Rattle.osdmap.specs.Maps.{ClusterMap, osd_is_up, HoldsTogether}
@@ -22,11 +22,11 @@ pub record TableFacts : Type 0 where
 abbrev pub sets_of : ClusterMap → PoolFacts → List Places
 sets_of m p = map (mapped_set m p) (range_with_len 0 p.pg_num)
 
--- with its groups' sets, which have as many places at most as the pool
+-- the table of a pool of a map: the mapped sets of its groups, which have as many places at most as the pool
 abbrev pub pool_table : ClusterMap → PoolFacts → PoolTable
 pool_table m p = record { pool = p; groups = record { width = p.size; sets = sets_of m p } }
 
--- for each pool of a map
+-- the tables of all pools of a map
 abbrev pub tables_of : ClusterMap → List PoolTable
 tables_of m = map (pool_table m) m.pools
 
@@ -52,26 +52,27 @@ upward_in up osd = if slice_index_or up osd false then Some osd else None
 
 -- a set without the OSDs that are down, in the way of its pool's kind
 abbrev pub shown_set : TableFacts → PoolTable → Places → Places
-shown_set t q set = kept q.pool.kind (map (option_and_then (upward_in t.up)) set)
+shown_set t q set = kept_places q.pool.kind (map (option_and_then (upward_in t.up)) set)
 
+-- the set of a group that is there, as callers see it
 abbrev pub shown_at : TableFacts → Pg → Option Places
 shown_at t g = option_and_then (λ q. option_map (shown_set t q) (slice_get q.groups.sets g.number)) (pool_in t g.pool)
 
 -- the groups of a pool in whose set an OSD stands
-abbrev pub held_in : ℕ → PoolTable → List Pg
-held_in osd q = map (group_of q.pool) (groups_of osd q.groups.sets)
+abbrev pub groups_on : ℕ → PoolTable → List Pg
+groups_on osd q = map (group_of q.pool) (groups_of osd q.groups.sets)
 
 -- the groups of all pools in whose set an OSD stands that is up
 abbrev pub shown_groups : TableFacts → ℕ → List Pg
-shown_groups t osd = if slice_index_or t.up osd false then flat_map (held_in osd) t.pools else []
+shown_groups t osd = if slice_index_or t.up osd false then flat_map (groups_on osd) t.pools else []
 
 -- how many of these are groups of a pool
 abbrev pub shown_in : TableFacts → ℕ → ℕ → ℕ
 shown_in t pool osd =
-    if slice_index_or t.up osd false then option_map_or (λ q. length (held_in osd q)) (pool_in t pool) 0 else 0
+    if slice_index_or t.up osd false then option_map_or (λ q. length (groups_on osd q)) (pool_in t pool) 0 else 0
 
 -- ---- runs
 
--- so many more runs are counted; the count stays at the greatest number
+-- a number of runs more are counted; the count stays at the greatest number
 abbrev pub RunsMore : ℕ → Ran → Ran → Type 0
 RunsMore n old new = new.runs ≡ min (old.runs + n) (2 ^ 64 - 1)

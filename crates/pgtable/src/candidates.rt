@@ -2,9 +2,9 @@
 
 ghost use Rattle.std.specs.Prelude.{◌≡◌, None, IfOk, OnOk};
 ghost use Rattle.keylist.specs.Order.{IsRising};
-ghost use Rattle.maptypes.specs.Exceptions.{place_of, key_of};
+ghost use Rattle.maptypes.specs.Exceptions.{pg_key, key_of};
 ghost use Rattle.osdmap.specs.Changes.{change_fault};
-ghost use Rattle.pgtable.specs.Candidates.{excepted_groups, merged, NamedRise, IsCandidates, named_in, candidates};
+ghost use Rattle.pgtable.specs.Candidates.{excepted_groups, union_of, NamedRise, IsCandidates, named_groups, candidates};
 
 use keylist::put_all;
 use maptypes::{Blank, Change, Exception, Pg};
@@ -16,7 +16,7 @@ use std::alloc::Global;
 fn groups_of<E: Blank>(alloc: Global, exceptions: &[Exception<E>]) -> Result<Vec<Pg>, Memory>
     requires { IsRising key_of exceptions.now }
     ensures groups { IfOk result (λ groups. groups.items ≡ excepted_groups exceptions.now) }
-    ensures rising { IfOk result (λ groups. IsRising place_of groups.items) }
+    ensures rising { IfOk result (λ groups. IsRising pg_key groups.items) }
 {
     let mut groups = Vec::with_capacity(alloc, exceptions.len())?;
     for exception in exceptions {
@@ -27,10 +27,10 @@ fn groups_of<E: Blank>(alloc: Global, exceptions: &[Exception<E>]) -> Result<Vec
 
 /// Puts some groups among others, each in ascending order; or `Memory` (30).
 fn join(groups: &mut Vec<Pg>, others: &[Pg]) -> Result<(), Memory>
-    requires some { IsRising place_of groups.old.items }
-    requires others { IsRising place_of others.now }
-    ensures groups { OnOk result (groups.new.items ≡ merged groups.old.items others.now) }
-    ensures rising { OnOk result (IsRising place_of groups.new.items) }
+    requires some { IsRising pg_key groups.old.items }
+    requires others { IsRising pg_key others.now }
+    ensures groups { OnOk result (groups.new.items ≡ union_of groups.old.items others.now) }
+    ensures rising { OnOk result (IsRising pg_key groups.new.items) }
 {
     groups.reserve(others.len())?;
     put_all(groups, others);
@@ -46,10 +46,10 @@ pub(crate) fn names_rise(_map: &OsdMap, change: &Change)
 }
 
 /// The groups that a change names, in ascending order; or `Memory` (30).
-fn named(alloc: Global, change: &Change) -> Result<Vec<Pg>, Memory>
+fn named_groups(alloc: Global, change: &Change) -> Result<Vec<Pg>, Memory>
     requires { NamedRise change.now }
-    ensures named { IfOk result (λ groups. groups.items ≡ named_in change.now) }
-    ensures rising { IfOk result (λ groups. IsRising place_of groups.items) }
+    ensures named { IfOk result (λ groups. groups.items ≡ named_groups change.now) }
+    ensures rising { IfOk result (λ groups. IsRising pg_key groups.items) }
 {
     let parts = change.parts();
     let mut groups = Vec::from_slice(alloc, &parts.old_upmap)?;
@@ -65,10 +65,10 @@ fn named(alloc: Global, change: &Change) -> Result<Vec<Pg>, Memory>
 fn with_excepted(alloc: Global, change: &Change, after: &OsdMap) -> Result<Vec<Pg>, Memory>
     requires { NamedRise change.now }
     ensures candidates { IfOk result (λ groups. groups.items ≡ candidates after.now.map change.now) }
-    ensures rising { IfOk result (λ groups. IsRising place_of groups.items) }
+    ensures rising { IfOk result (λ groups. IsRising pg_key groups.items) }
 {
     after.holds_together();
-    let mut groups = named(alloc, change)?;
+    let mut groups = named_groups(alloc, change)?;
     if !change.parts().weight.is_empty() {
         join(&mut groups, &groups_of(alloc, after.explicits())?)?;
         join(&mut groups, &groups_of(alloc, after.all_items())?)?;

@@ -6,12 +6,12 @@ ghost use Rattle.std.specs.Option.{option_copied};
 ghost use Rattle.std.specs.List.{list_any};
 ghost use Rattle.std.specs.List.Sorted.{IsNonDecreasingBy};
 ghost use Rattle.keylist.specs.Keys.{has_key};
-ghost use Rattle.maptypes.specs.Exceptions.{place_of};
+ghost use Rattle.maptypes.specs.Exceptions.{pg_key};
 ghost use Rattle.osdmap.specs.Evals.{is_named, names_reweighted, concerns};
 ghost use Rattle.pgtable.specs.Candidates.{IsCandidates, number_at, concerned_number, numbers_in};
-ghost use Rattle.pgtable.specs.Patches.{concerned};
+ghost use Rattle.pgtable.specs.Patches.{concerned_numbers};
 
-use keylist::has;
+use keylist::{Keyed, has};
 use maptypes::{Change, Entry, Pg, Pool, Reweight};
 use osdmap::OsdMap;
 use refusal::Memory;
@@ -23,11 +23,11 @@ fn is_named(change: &Change, pg: Pg) -> bool
     ensures { result ≡ is_named change.now pg }
 {
     let parts = change.parts();
-    let place = pg.place();
-    has(&parts.old_upmap, place)
-        || has(&parts.old_items, place)
-        || has(&parts.new_upmap, place)
-        || has(&parts.new_items, place)
+    let key = pg.key();
+    has(&parts.old_upmap, key)
+        || has(&parts.old_items, key)
+        || has(&parts.new_upmap, key)
+        || has(&parts.new_items, key)
 }
 
 /// Whether an entry of an exception names an OSD that gets another reweight.
@@ -35,7 +35,7 @@ fn is_reweighted<E: Entry>(entry: &E, weight: &[Reweight]) -> bool
     requires { IsNonDecreasingBy (λ w. w.osd) weight.now }
     ensures { result ≡ list_any (has_key (λ w. w.osd) weight.now) (E.names entry.now) }
 {
-    match entry.named() {
+    match entry.named_osds() {
         (osd, None) => has(weight, u64::from(osd)),
         (osd, Some(other)) => has(weight, u64::from(osd)) || has(weight, u64::from(other)),
     }
@@ -74,13 +74,13 @@ fn concerns(map: &OsdMap, change: &Change, pg: Pg) -> bool
 
 /// The number in a pool of a group, where it stands in it.
 fn number_of(pool: &Pool, group: Pg) -> Option<u32>
-    ensures { result ≡ number_at (λ _. true) (pool.now.id * 2 ^ 32) pool.now.pg_num (place_of group) }
+    ensures { result ≡ number_at (λ _. true) (pool.now.id * 2 ^ 32) pool.now.pg_num (pg_key group) }
 {
     let first = Pg {
         pool: pool.id(),
         number: 0,
     };
-    let number = group.place().checked_sub(first.place())?;
+    let number = group.key().checked_sub(first.key())?;
     if number < u64::from(pool.pg_num()) {
         Some(number as u32)
     } else {
@@ -123,7 +123,7 @@ fn numbers_in(
 }
 
 /// The groups of a pool that a change concerns, found among candidates; or `Memory` (30).
-pub(crate) fn concerned(
+pub(crate) fn concerned_numbers(
     alloc: Global,
     map: &OsdMap,
     change: &Change,
@@ -131,7 +131,7 @@ pub(crate) fn concerned(
     candidates: &[Pg],
 ) -> Result<Vec<u32>, Memory>
     requires { IsCandidates map.now.map change.now candidates.now }
-    ensures { IfOk result (λ numbers. numbers.items ≡ concerned map.now.map change.now pool.now) }
+    ensures { IfOk result (λ numbers. numbers.items ≡ concerned_numbers map.now.map change.now pool.now) }
 {
     let numbers = numbers_in(alloc, map, change, pool, candidates)?;
     Ok(numbers)

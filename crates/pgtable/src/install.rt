@@ -4,7 +4,7 @@ ghost use Rattle.std.specs.Prelude.{◌≡◌, ◌≢◌, ℕ, length, map, slic
 ghost use Rattle.std.specs.List.{zip};
 ghost use Rattle.pgtable.specs.declared.patch.KeptTable.{KeptTable};
 ghost use Rattle.grouptable.specs.Tables.{IsPatchFor};
-ghost use Rattle.pgtable.specs.Patches.{carried, regrouped, FitsAt, FitAll, FitGroups};
+ghost use Rattle.pgtable.specs.Patches.{with_kept, with_patch, FitsAt, FitAll, FitGroups};
 
 use crate::patch::{Brought, KeptTable, NewTables, Patch};
 use crate::pool_table::PoolTable;
@@ -12,21 +12,31 @@ use crate::table::PgTable;
 use grouptable::GroupPatch;
 use std::mem;
 
+/// Gives some groups of a pool other sets, where there are any.
+fn install_groups(table: &mut PoolTable, patch: Option<GroupPatch>)
+    requires { IfSome patch (IsPatchFor table.old.groups) }
+    ensures { table.new ≡ with_patch table.old patch }
+{
+    if let Some(patch) = patch {
+        table.groups.install(patch);
+    }
+}
+
 /// Takes what stays of a pool's table out of the old ones, and gives some groups other sets.
 fn carry_one(old: &mut [PoolTable], table: &mut PoolTable, kept: KeptTable)
     requires { FitsAt old.old kept }
-    ensures table { table.new ≡ carried old.old table.old (Some kept) }
+    ensures table { table.new ≡ with_kept old.old table.old (Some kept) }
     ensures others { (j : ℕ) → j ≢ kept.at → slice_get old.new j ≡ slice_get old.old j }
     ensures long { length old.new ≡ length old.old }
 {
     mem::swap(&mut table.groups, &mut old[kept.at].groups);
-    table.groups.install(kept.patch);
+    install_groups(table, kept.patch);
 }
 
 /// Takes what stays of a pool's table out of the old ones, where something stays, and gives some groups other sets.
 fn carry(old: &mut [PoolTable], table: &mut PoolTable, kept: Option<KeptTable>)
     requires { (k : KeptTable) → kept ≡ Some k → FitsAt old.old k }
-    ensures table { table.new ≡ carried old.old table.old kept }
+    ensures table { table.new ≡ with_kept old.old table.old kept }
     ensures others { (j : ℕ) → ((k : KeptTable) → kept ≡ Some k → j ≢ k.at)
         → slice_get old.new j ≡ slice_get old.old j }
     ensures long { length old.new ≡ length old.old }
@@ -39,7 +49,7 @@ fn carry(old: &mut [PoolTable], table: &mut PoolTable, kept: Option<KeptTable>)
 /// Takes what stays out of the old tables, into the places of the new ones.
 fn carry_all(old: &mut [PoolTable], pools: &mut [PoolTable], mut kept: Vec<Option<KeptTable>>)
     requires { FitAll old.old pools.old kept.items }
-    ensures { pools.new ≡ map (λ e. carried old.old e.0 e.1) (zip pools.old kept.items) }
+    ensures { pools.new ≡ map (λ e. with_kept old.old e.0 e.1) (zip pools.old kept.items) }
 {
     let most = pools.len();
     for at in 0..most {
@@ -48,38 +58,28 @@ fn carry_all(old: &mut [PoolTable], pools: &mut [PoolTable], mut kept: Vec<Optio
     }
 }
 
-/// Gives some groups of a pool other sets, where there are any.
-fn regroup(table: &mut PoolTable, patch: Option<GroupPatch>)
-    requires { IfSome patch (IsPatchFor table.old.groups) }
-    ensures { table.new ≡ regrouped table.old patch }
-{
-    if let Some(patch) = patch {
-        table.groups.install(patch);
-    }
-}
-
 /// Gives some groups of each pool other sets. It takes no memory.
-fn regroup_all(pools: &mut [PoolTable], mut patches: Vec<Option<GroupPatch>>)
+fn install_all(pools: &mut [PoolTable], mut patches: Vec<Option<GroupPatch>>)
     requires { FitGroups pools.old patches.items }
-    ensures { pools.new ≡ map (λ e. regrouped e.0 e.1) (zip pools.old patches.items) }
+    ensures { pools.new ≡ map (λ e. with_patch e.0 e.1) (zip pools.old patches.items) }
 {
     let most = pools.len();
     for at in 0..most {
         let one = patches[at].take();
-        regroup(&mut pools[at], one);
+        install_groups(&mut pools[at], one);
     }
 }
 
 impl PgTable {
     ghost use Rattle.std.specs.Prelude.{◌≡◌};
-    ghost use Rattle.pgtable.specs.Patches.{FitsBrought, Fits, LeadsTo, patched, pools_patched};
+    ghost use Rattle.pgtable.specs.Patches.{FitsBrought, Fits, LeadsTo, after_patch, pools_after_patch};
     ghost use Rattle.osdmap.specs.Maps.{ClusterMap};
     ghost use Rattle.pgtable.specs.Tables.{IsTableOf};
 
     /// Makes of the table what a patch of it leads to. It takes no memory.
     pub fn install(&mut self, patch: Patch)
         requires { Fits self.old patch }
-        ensures value { self.new ≡ patched self.old patch }
+        ensures value { self.new ≡ after_patch self.old patch }
         ensures table { (m : ClusterMap) → LeadsTo m self.old patch → IsTableOf self.new m }
     {
         self.bring(patch.brought);
@@ -89,11 +89,11 @@ impl PgTable {
     /// Gives some groups of the pools other sets, or makes other tables those of the pools.
     fn bring(&mut self, brought: Brought)
         requires { FitsBrought self.old brought }
-        ensures pools { self.new.pools ≡ pools_patched self.old.pools brought }
+        ensures pools { self.new.pools ≡ pools_after_patch self.old.pools brought }
         ensures up { self.new.up ≡ self.old.up }
     {
         match brought {
-            Brought::Groups(patches) => regroup_all(&mut self.pools, patches),
+            Brought::Groups(patches) => install_all(&mut self.pools, patches),
             Brought::Pools(NewTables { mut pools, kept }) => {
                 carry_all(&mut self.pools, &mut pools, kept);
                 self.pools = pools;

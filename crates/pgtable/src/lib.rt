@@ -6,22 +6,21 @@
 //! - `mapped`, `shown`: mapped sets as they are stored, and as callers see them
 //! - `patch`, `prepare`, `install`: what a change makes of a table, how it is found, and how it is put in
 //! - `candidates`, `concerned`: the groups whose exceptions a change can concern, and those of a pool that it does
-//! - `update`, `remade`: a change by the map after it, and the tables of all pools by that
-//! - `regroup`, `regrouped`: a change that leaves all raw sets by the map before it, and the sets of groups by that
+//! - `update`, `told`: a change and the map that tells the sets after it, and these sets
+//! - `made`: the tables of all pools as a change makes them
 #![tactic(auto)]
 
 mod candidates;
 mod concerned;
 mod install;
+mod made;
 mod mapped;
 pub mod patch;
 pub mod pool_table;
 mod prepare;
-mod regroup;
-mod regrouped;
-mod remade;
 mod shown;
 pub mod table;
+mod told;
 mod update;
 
 pub use patch::Patch;

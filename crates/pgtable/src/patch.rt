@@ -3,13 +3,13 @@
 use crate::pool_table::PoolTable;
 use grouptable::GroupPatch;
 
-/// The table of a pool that stays, by its place among the old ones, with other sets for some groups.
+/// The table of a pool that stays, by its position among the old ones, with other sets for some groups, if any.
 #[derive(Drop)]
 pub(crate) struct KeptTable {
     /// Where it stands among the old ones.
     pub at: usize,
     /// The other sets.
-    pub patch: GroupPatch,
+    pub patch: Option<GroupPatch>,
 }
 
 /// The tables of all pools as a change makes them, with what each keeps of an old one.
@@ -22,7 +22,7 @@ pub(crate) struct NewTables {
 /// What a change makes of the tables of pools.
 #[derive(Drop)]
 pub(crate) enum Brought {
-    /// All stay, those that have a patch here with other sets for some groups.
+    /// All stay in place, those that have a patch here with other sets for some groups.
     Groups(Vec<Option<GroupPatch>>),
     /// Others take their place.
     Pools(NewTables),
@@ -45,4 +45,27 @@ impl Patch {
     {
         self.evals
     }
+}
+
+/// The other sets that a change gives to groups of a pool, if any, and how many of its groups were evaluated for them.
+#[derive(Drop)]
+pub(crate) struct PatchedGroups {
+    pub patch: Option<GroupPatch>,
+    pub evals: usize,
+}
+
+/// The table of a pool as a change makes it: anew, or without groups and with what is kept of an old one; and how many
+/// of its groups were evaluated for it.
+#[derive(Drop)]
+pub(crate) struct MadeTable {
+    pub table: PoolTable,
+    pub kept: Option<KeptTable>,
+    pub evals: usize,
+}
+
+/// What a change makes of the tables of all pools, and how many groups were evaluated for it.
+#[derive(Drop)]
+pub(crate) struct MadeTables {
+    pub brought: Brought,
+    pub evals: usize,
 }

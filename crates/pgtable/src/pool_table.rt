@@ -4,7 +4,7 @@ ghost use Rattle.std.specs.Prelude.{◌≡◌, Some, IfOk, OnOk};
 ghost use Rattle.osdmap.specs.Maps.{pool_at};
 ghost use Rattle.pgtable.specs.Tables.{pool_table, RunsMore};
 
-use crate::mapped::all_mapped;
+use crate::mapped::all_mapped_sets;
 use crush::Work;
 use grouptable::GroupTable;
 use maptypes::{Pg, Pool};
@@ -24,7 +24,7 @@ impl PoolTable {
     ghost use Rattle.buckets.specs.Limits.{max_devices};
     ghost use Rattle.mapparts.specs.Limits.{max_groups};
     ghost use Rattle.osdmap.specs.Maps.{pool_at};
-    ghost use Rattle.pgtable.specs.Tables.{pool_table, held_in, RunsMore};
+    ghost use Rattle.pgtable.specs.Tables.{pool_table, groups_on, RunsMore};
 
     /// The mapped sets of the groups of a pool of a map, by a run of the pool's rule for each; or `Memory` (30).
     pub(crate) fn of(
@@ -38,7 +38,7 @@ impl PoolTable {
         ensures runs { OnOk result (RunsMore pool.pg_num work.old work.new) }
     {
         pool.is_within_limits();
-        let sets = all_mapped(alloc, map, &pool, work)?;
+        let sets = all_mapped_sets(alloc, map, &pool, work)?;
         let groups = GroupTable::of(alloc, sets)?;
         Ok(PoolTable { pool, groups })
     }
@@ -56,7 +56,7 @@ impl PoolTable {
     /// In how many groups' sets an OSD stands.
     pub(crate) fn count(&self, osd: u32) -> usize
         requires { osd < max_devices }
-        ensures value { result ≡ length (held_in osd self.now) }
+        ensures value { result ≡ length (groups_on osd self.now) }
         ensures few { result ≤ max_groups }
     {
         self.groups.groups(osd).len()
@@ -65,7 +65,7 @@ impl PoolTable {
     /// Adds the groups in whose set an OSD stands, by number upwards; or `Memory` (30).
     pub(crate) fn add_groups(&self, osd: u32, groups: &mut Vec<Pg>) -> Result<(), Memory>
         requires { osd < max_devices }
-        ensures { OnOk result (groups.new.items ≡ groups.old.items ++ held_in osd self.now) }
+        ensures { OnOk result (groups.new.items ≡ groups.old.items ++ groups_on osd self.now) }
     {
         for number in self.groups.groups(osd) {
             groups.push(Pg {

@@ -2,12 +2,10 @@
 
 ghost use Rattle.std.specs.Prelude.{◌≡◌, true, length};
 ghost use Rattle.osdmap.specs.Marks.{are_below};
-ghost use Rattle.pgtable.specs.Patches.{is_empty, leaves_pools, leaves_raw_sets, ups_turned};
+ghost use Rattle.pgtable.specs.Patches.{is_empty, leaves_pools, leaves_raw_sets, with_ups};
 
-use crate::candidates::candidates;
-use crate::patch::{Brought, Patch};
-use crate::regroup::Regroup;
-use crate::table::{PgTable, ups_of};
+use crate::patch::Patch;
+use crate::table::PgTable;
 use crate::update::Update;
 use crush::Work;
 use maptypes::Change;
@@ -45,7 +43,7 @@ pub(crate) fn leaves_raw_sets(change: &Change) -> bool
 /// Some OSDs go up or down.
 fn turn(ups: &mut [bool], osds: &[u32], up: bool)
     requires { are_below (λ osd. osd) (length ups.old) osds.now ≡ true }
-    ensures { ups.new ≡ ups_turned up ups.old osds.now }
+    ensures { ups.new ≡ with_ups up ups.old osds.now }
 {
     for osd in osds {
         ups[*osd as usize] = up;
@@ -58,75 +56,8 @@ impl PgTable {
     ghost use Rattle.pgtable.specs.Patches.{leaves_raw_sets, changed_map, LeadsTo, ups_after};
     ghost use Rattle.osdmap.specs.Changes.{change_fault};
     ghost use Rattle.osdmap.specs.Evals.{evals_of};
+    ghost use Rattle.pgtable.specs.After.{IsPatchBy};
     ghost use Rattle.pgtable.specs.Tables.{IsTableOf, RunsMore};
-
-    /// All that a change makes of the table of a map that does not refuse it, by the map after it; or `Memory` (30).
-    fn prepare_after(
-        &self,
-        alloc: Global,
-        map: &OsdMap,
-        change: &Change,
-        work: &mut Work,
-    ) -> Result<Patch, Memory>
-        requires table { IsTableOf self.now map.now.map }
-        requires lawful { change_fault map.now.map change.now ≡ None }
-        requires epoch { map.now.map.epoch + 1 < 2 ^ 64 }
-        ensures leads { IfOk result (LeadsTo (changed_map map.now.map change.now) self.now) }
-        ensures counted { IfOk result (λ p. p.evals ≡ evals_of (changed_map map.now.map change.now) change.now) }
-        ensures runs { IfOk result (λ p. RunsMore p.evals work.old work.new) }
-    {
-        let after = map.after(alloc, change)?;
-        map.holds_together();
-        after.holds_together();
-        let groups = candidates(alloc, map, change, &after)?;
-        let update = Update {
-            before: map,
-            change,
-            after: &after,
-            groups: &groups,
-        };
-        let (tables, evals) = self.all_made(alloc, &update, work)?;
-        let up = ups_of(alloc, &after)?;
-        Ok(Patch {
-            brought: Brought::Pools(tables),
-            up,
-            evals,
-        })
-    }
-
-    /// All that a change makes of the table of a map that does not refuse it, where it leaves all raw sets: the map
-    /// after it need not be there, and as no OSD gets another reweight the exceptions before it serve for those after
-    /// it. Or `Memory` (30).
-    fn prepare_groups(
-        &self,
-        alloc: Global,
-        map: &OsdMap,
-        change: &Change,
-        work: &mut Work,
-    ) -> Result<Patch, Memory>
-        requires table { IsTableOf self.now map.now.map }
-        requires lawful { change_fault map.now.map change.now ≡ None }
-        requires leaves { leaves_raw_sets change.now ≡ true }
-        ensures leads { IfOk result (LeadsTo (changed_map map.now.map change.now) self.now) }
-        ensures counted { IfOk result (λ p. p.evals ≡ evals_of (changed_map map.now.map change.now) change.now) }
-        ensures runs { IfOk result (λ p. RunsMore p.evals work.old work.new) }
-    {
-        map.holds_together();
-        let _ = change.parts();
-        let groups = candidates(alloc, map, change, map)?;
-        let regroup = Regroup {
-            map,
-            change,
-            groups: &groups,
-        };
-        let (patches, evals) = self.all_regrouped(alloc, &regroup, work)?;
-        let up = self.ups_after(alloc, change)?;
-        Ok(Patch {
-            brought: Brought::Groups(patches),
-            up,
-            evals,
-        })
-    }
 
     /// Which OSDs are up after a change; or `Memory` (30).
     fn ups_after(&self, alloc: Global, change: &Change) -> Result<Vec<bool>, Memory>
@@ -138,6 +69,21 @@ impl PgTable {
         turn(&mut up, &change.parts().down, false);
         turn(&mut up, &change.parts().up, true);
         Ok(up)
+    }
+
+    /// The patch that makes of the table the one of the map after a change; or `Memory` (30).
+    fn make_patch(&self, alloc: Global, update: &Update, work: &mut Work) -> Result<Patch, Memory>
+        requires { IsTableOf self.now update.now.before.now.map }
+        ensures { IfOk result (IsPatchBy update.now self.now work.old work.new) }
+    {
+        update.holds();
+        let tables = self.bring_tables(alloc, update, work)?;
+        let up = self.ups_after(alloc, update.change)?;
+        Ok(Patch {
+            brought: tables.brought,
+            up,
+            evals: tables.evals,
+        })
     }
 
     /// All that a change makes of the table of a map that does not refuse it. It tells the evaluations of the change,
@@ -161,9 +107,13 @@ impl PgTable {
         ensures runs { IfOk result (λ p. RunsMore p.evals work.old work.new) }
     {
         if leaves_raw_sets(change) {
-            self.prepare_groups(alloc, map, change, work)
-        } else {
-            self.prepare_after(alloc, map, change, work)
+            let update = Update::new(alloc, map, change, map, false)?;
+            let patch = self.make_patch(alloc, &update, work)?;
+            return Ok(patch);
         }
+        let after = map.after(alloc, change)?;
+        let update = Update::new(alloc, map, change, &after, true)?;
+        let patch = self.make_patch(alloc, &update, work)?;
+        Ok(patch)
     }
 }

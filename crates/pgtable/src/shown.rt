@@ -4,7 +4,7 @@ ghost use Rattle.std.specs.Prelude.{◌≡◌, ◌≤◌, ◌<◌, length, map, 
 ghost use Rattle.buckets.specs.Limits.{max_devices};
 ghost use Rattle.crush.specs.Limits.{max_size};
 ghost use Rattle.grouptable.specs.Sets.{place_stored};
-ghost use Rattle.maptypes.specs.Sets.{kept};
+ghost use Rattle.maptypes.specs.Sets.{kept_places};
 ghost use Rattle.pgtable.specs.Tables.{upward_in};
 
 use crush::RuleKind;
@@ -26,9 +26,9 @@ fn shown_place(place: Option<u16>, up: &[bool]) -> Option<u32>
 }
 
 /// The stored set without the OSDs that are down, in the way of a kind.
-pub fn shown(set: &[u16], kind: RuleKind, up: &[bool]) -> UpSet
+pub fn show_set(set: &[u16], kind: RuleKind, up: &[bool]) -> UpSet
     requires { length set.now ≤ max_size }
-    ensures { result ≡ kept kind (map (option_and_then (upward_in up.now)) (map place_stored set.now)) }
+    ensures { result ≡ kept_places kind (map (option_and_then (upward_in up.now)) (map place_stored set.now)) }
 {
     let mut shown = UpSet::new();
     for place in 0..set.len() {

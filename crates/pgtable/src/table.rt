@@ -5,7 +5,7 @@ ghost use Rattle.osdmap.specs.Maps.{osd_is_up};
 ghost use Rattle.pgtable.specs.Tables.{ups_of};
 
 use crate::pool_table::PoolTable;
-use crate::shown::shown;
+use crate::shown::show_set;
 use crush::Work;
 use maptypes::{Pg, UpSet};
 use osdmap::OsdMap;
@@ -118,12 +118,12 @@ impl PgTable {
     }
 
     /// The set of a group without the OSDs that are down.
-    fn shown(&self, pg: Pg) -> Option<UpSet>
+    fn shown_at(&self, pg: Pg) -> Option<UpSet>
         ensures { result ≡ shown_at self.now pg }
     {
         let table = self.pool(pg.pool)?;
         let set = table.groups.set(pg.number)?;
-        Some(shown(set, table.pool.kind(), &self.up))
+        Some(show_set(set, table.pool.kind(), &self.up))
     }
 
     /// In how many groups' sets an OSD stands that is up.
@@ -168,7 +168,7 @@ impl PgTable {
     pub fn up(&self, pg: Pg) -> Option<UpSet>
         ensures { (m : ClusterMap) → IsTableOf self.now m → result ≡ up_at m pg }
     {
-        self.shown(pg)
+        self.shown_at(pg)
     }
 
     /// In how many groups' up sets an OSD stands: of a group once, however often it stands there.

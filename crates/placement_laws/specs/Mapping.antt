@@ -5,7 +5,7 @@ use Rattle.maptypes.specs.declared.exception.Pair.{Pair}
 use Rattle.maptypes.specs.Pools.{PoolFacts}
 use Rattle.maptypes.specs.Exceptions.{said_of, sides}
 use Rattle.osdmap.specs.Maps.{ClusterMap}
-use Rattle.osdmap.specs.Mapped.{mapped}
+use Rattle.osdmap.specs.Mapped.{with_exceptions}
 use Rattle.osdmap.specs.Placement.{group_of, raw_set, mapped_set}
 
 -- the OSDs that an explicit set and pairs name
@@ -20,7 +20,8 @@ Agree weights others osds = All (λ osd. slice_index weights osd ≡ slice_index
 abbrev pub MappedReadsNamed : Type 0
 MappedReadsNamed =
     (weights others : List ℕ) (explicit : Option (List ℕ)) (items : Option (List Pair)) (raw : List (Option ℕ)) →
-    Agree weights others (named explicit items) → mapped weights explicit items raw ≡ mapped others explicit items raw
+    Agree weights others (named explicit items) →
+    with_exceptions weights explicit items raw ≡ with_exceptions others explicit items raw
 
 -- group i of a pool of one map and of a pool of another have the same raw set, the same exceptions, and the same
 -- reweights of the OSDs that these name

@@ -10,10 +10,10 @@ use Rattle.maptypes.specs.Pools.{PoolFacts}
 use Rattle.osdmap.specs.Maps.{ClusterMap}
 use Rattle.balancer.specs.declared.moves.Move.{Move}
 use Rattle.balancer.specs.Shares.{total_weight, above_share, least_gap}
-use Rattle.balancer.specs.Moves.{moved, is_allowed}
+use Rattle.balancer.specs.Moves.{after_move, is_allowed}
 use Rattle.balancer.specs.Greedy.{gap, is_good, all_moves, precedes, beats, best_move, greedy}
 use Rattle.plan_laws.specs.Alone.{alone, gap_alone, is_good_alone, beats_alone, best_alone, greedy_alone}
-use Rattle.balancer.proofs.Deviating.{none_carried}
+use Rattle.balancer.proofs.DeviationsSmall.{none_carried}
 
 -- ---- numbers 256 times
 
@@ -84,4 +84,4 @@ best_is m p = λ i.
 pub greedy_is : (m : ClusterMap) (p : PoolFacts) (n : ℕ) → greedy m p alone n ≡ greedy_alone m p n
 unfolding greedy greedy_alone
 greedy_is m p zero = refl
-greedy_is m p (suc n) = λ i. option_map_or (λ v. v ∷ greedy_is (moved m p v) p n i) (best_is m p i) []
+greedy_is m p (suc n) = λ i. option_map_or (λ v. v ∷ greedy_is (after_move m p v) p n i) (best_is m p i) []

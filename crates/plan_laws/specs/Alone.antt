@@ -7,7 +7,7 @@ use Rattle.maptypes.specs.Pools.{PoolFacts}
 use Rattle.osdmap.specs.Maps.{ClusterMap}
 use Rattle.balancer.specs.declared.moves.Move.{Move}
 use Rattle.balancer.specs.Shares.{total_weight, above_share, Aim, aim_of}
-use Rattle.balancer.specs.Moves.{moved, is_allowed}
+use Rattle.balancer.specs.Moves.{after_move, is_allowed}
 use Rattle.balancer.specs.Greedy.{all_moves, precedes, greedy}
 
 -- the aim of a pool by itself
@@ -37,7 +37,7 @@ best_alone m p =
 -- the plan of at most so many moves: the best one, and then the plan of the map after it
 unfoldable pub greedy_alone : ClusterMap → PoolFacts → ℕ → List Move
 greedy_alone m p zero = []
-greedy_alone m p (suc n) = option_map_or (λ v. v ∷ greedy_alone (moved m p v) p n) (best_alone m p) []
+greedy_alone m p (suc n) = option_map_or (λ v. v ∷ greedy_alone (after_move m p v) p n) (best_alone m p) []
 
 -- where OSDs carry nothing and need be no more than one group apart, the plan is that
 abbrev pub AloneInGroups : Type 0

@@ -1,7 +1,7 @@
 //! Balancing the groups of a pool.
 
 use crate::state::State;
-use balancer::{Request, plan};
+use balancer::{PlannedChange, Request, plan};
 use epochlog::{Pass, Row};
 use keeping::Keeps;
 use refusal::Refusal;
@@ -44,7 +44,13 @@ impl<K: Keeps + Drop> State<K> {
         ensures stored { IfErr result (λ e. e ≡ NotStored → K.may_fail) }
         ensures pass { pass.new ≡ self.new.pass }
     {
-        let (change, moves) = plan(self.alloc, &self.map, &self.table, request, &mut self.work)?;
+        let PlannedChange { change, moves } = plan(
+            self.alloc,
+            &self.map,
+            &self.table,
+            request,
+            &mut self.work,
+        )?;
         let current = self.map.epoch();
         if moves == 0 {
             return Ok(Balance {

@@ -106,7 +106,7 @@ fn crush_stated(alloc: Global, parts: &CrushParts) -> Result<CrushMap, Refusal>
     ensures { Makes result (crush_fault parts.now.buckets parts.now.rules max_devices)
         (IsCrushOf parts.now.buckets parts.now.rules) }
 {
-    CrushMap::stated(alloc, &parts.buckets, &parts.rules, MAX_DEVICES)
+    CrushMap::of_parts(alloc, &parts.buckets, &parts.rules, MAX_DEVICES)
 }
 
 /// The parts of a change that is within the limits, of a profile and with a CRUSH map: `BadPool` (15) where a pool that

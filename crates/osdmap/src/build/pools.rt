@@ -51,7 +51,7 @@ fn pool_of(rules: &[NumberedRule], part: &PoolPart) -> Result<Pool, Refusal>
 }
 
 /// The pools that parts within the limits state, in their order: `BadPool` (15) where one of them is none.
-fn pools_made(
+fn make_pools(
     alloc: Global,
     parts: &[PoolPart],
     rules: &[NumberedRule],
@@ -79,6 +79,6 @@ pub(crate) fn pools_of(
     ensures { Makes result (refused_unless (pools_fit rules.now parts.now) BadPool)
         (λ pools. Rises (λ p. p.id) (map pool_of parts.now) pools.items) }
 {
-    let pools = pools_made(alloc, parts, rules)?;
+    let pools = make_pools(alloc, parts, rules)?;
     in_order(pools, Refusal::BadPool)
 }

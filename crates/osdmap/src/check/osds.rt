@@ -41,7 +41,7 @@ impl OsdMap {
     fn knows<E: Entry>(&self, entry: &E) -> bool
         ensures { result ≡ list_all (osd_exists self.now.map) (E.names entry.now) }
     {
-        match entry.named() {
+        match entry.named_osds() {
             (osd, None) => self.exists(osd),
             (osd, Some(other)) => self.exists(osd) && self.exists(other),
         }

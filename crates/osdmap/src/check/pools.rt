@@ -1,6 +1,6 @@
 //! The pools that a change names, those that stay, and those that come: `UnknownPool` (23), `PoolExists` (24).
 
-use crate::in_place::grown;
+use crate::in_place::with_growths;
 use crate::map::OsdMap;
 use keylist::{has, last_of};
 use maptypes::{Change, Grow, NamesGroup, Pool};
@@ -39,7 +39,7 @@ impl OsdMap {
         ensures { result ≡ pool_at (pools_after self.now.map change.now) id }
     {
         match self.pool_there(change, id) {
-            Some(pool) => Some(grown(&change.parts().grow_pool, pool)),
+            Some(pool) => Some(with_growths(&change.parts().grow_pool, pool)),
             None => None,
         }
     }

@@ -4,12 +4,12 @@ ghost use Rattle.std.specs.Prelude.{◌≡◌};
 ghost use Rattle.std.specs.List.{list_all};
 ghost use Rattle.std.specs.List.Sorted.{IsNonDecreasingBy};
 ghost use Rattle.std.specs.Prelude.{◌<◌, ◌^◌, map};
-ghost use Rattle.maptypes.specs.Growth.{grown};
+ghost use Rattle.maptypes.specs.Growth.{with_growths};
 ghost use Rattle.maptypes.specs.Pools.{total_groups};
 ghost use Rattle.osdmap.specs.Maps.{has_rule};
 
 use crate::build::has_rule;
-use crate::in_place::grown;
+use crate::in_place::with_growths;
 use crate::map::OsdMap;
 use keylist::{are_distinct, has, put_count};
 use mapparts::limits::MAX_TOTAL_GROUPS;
@@ -25,19 +25,19 @@ fn have_rules(pools: &[Pool], rules: &[NumberedRule]) -> bool
 /// How many groups some pools have together once they have grown.
 fn total_groups(pools: &[Pool], growths: &[Grow]) -> u128
     requires { IsNonDecreasingBy (λ g. g.pool) growths.now }
-    ensures total { result ≡ total_groups (map (grown growths.now) pools.now) }
+    ensures total { result ≡ total_groups (map (with_growths growths.now) pools.now) }
     ensures small { result < 2 ^ 100 }
 {
     let mut total: u128 = 0;
     for pool in pools {
-        total += u128::from(grown(growths, *pool).pg_num());
+        total += u128::from(with_growths(growths, *pool).pg_num());
     }
     total
 }
 
 impl OsdMap {
     ghost use Rattle.std.specs.Prelude.{◌≡◌, ◌<◌, ◌^◌, true, length, nat_le, map};
-    ghost use Rattle.maptypes.specs.Growth.{grown};
+    ghost use Rattle.maptypes.specs.Growth.{with_growths};
     ghost use Rattle.maptypes.specs.Pools.{total_groups};
     ghost use Rattle.std.specs.List.{list_all};
     ghost use Rattle.mapparts.specs.Profiles.{most_pools};
@@ -110,7 +110,8 @@ impl OsdMap {
     /// How many groups the pools that stay have after a change.
     #[tactic(auto, unfolding(crate::specs::Changes::pools_kept))]
     fn groups_kept(&self, change: &Change) -> u128
-        ensures total { result ≡ total_groups (map (grown change.now.grow_pool) (pools_kept self.now.map change.now)) }
+        ensures total { result ≡ total_groups (map (with_growths change.now.grow_pool)
+            (pools_kept self.now.map change.now)) }
         ensures small { result < 2 ^ 100 }
     {
         let parts = change.parts();
@@ -119,7 +120,7 @@ impl OsdMap {
         let mut total: u128 = 0;
         for pool in pools {
             if !has(old, u64::from(pool.id())) {
-                total += u128::from(grown(&parts.grow_pool, *pool).pg_num());
+                total += u128::from(with_growths(&parts.grow_pool, *pool).pg_num());
             }
         }
         total

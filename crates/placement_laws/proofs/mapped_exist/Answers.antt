@@ -1,4 +1,4 @@
-use Rattle.placement_laws.proofs.Existing.{mapped_exist}
+use Rattle.osdmap.proofs.MappedExist.{mapped_exist}
 use Rattle.placement_laws.proofs.mapped_exist.Goals as goal
 
 pub returns : goal.returns

@@ -1,4 +1,4 @@
-use Rattle.placement_laws.proofs.MappedLemmas.{mapped_reads_named}
+use Rattle.osdmap.proofs.MappedAlike.{mapped_reads_named}
 use Rattle.placement_laws.proofs.mapped_reads_named.Goals as goal
 
 pub returns : goal.returns

@@ -1,4 +1,4 @@
-use Rattle.placement_laws.proofs.Standing.{up_are_mapped_and_up}
+use Rattle.osdmap.proofs.StandingUp.{up_are_mapped_and_up}
 use Rattle.placement_laws.proofs.up_are_mapped_and_up.Goals as goal
 
 pub returns : goal.returns

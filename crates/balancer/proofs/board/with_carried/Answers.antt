@@ -2,7 +2,7 @@ use Rattle.std.proofs.Common.{◌≡◌, ◌∙◌, rules}
 use mir.Syntax.{w32, w128}
 use mir.Val.{SFits}
 use Rattle.std.proofs.lemmas.Int.{to_z-of_z}
-use Rattle.balancer.proofs.Made.{read_with, times_fits, with_fits}
+use Rattle.balancer.proofs.StoredMoves.{read_with, times_fits, with_fits}
 use Rattle.balancer.proofs.board.with_carried.Goals as goal
 
 pub returns : goal.returns

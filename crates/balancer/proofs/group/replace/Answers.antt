@@ -1,5 +1,5 @@
 use Rattle.std.proofs.Common.{sym, ◌∙◌}
-use Rattle.balancer.proofs.Replacing.{replaced_nowhere, replaced_at}
+use Rattle.balancer.proofs.FirstPlaceReplaced.{replaced_nowhere, replaced_at}
 use Rattle.balancer.proofs.group.replace.Goals as goal
 
 pub returns-in_default : goal.returns-in_default

@@ -2,7 +2,7 @@ use Rattle.std.proofs.Common.{None, subst}
 use Rattle.maptypes.specs.declared.change.ChangeParts.{ChangeParts}
 use Rattle.maptypes.specs.Ordered.{IsOrdered}
 use Rattle.mapparts.specs.declared.profile.Profile.TheVariants.{Stock}
-use Rattle.balancer.proofs.Ordering.{ordered_same}
+use Rattle.balancer.proofs.ChangeInOrder.{ordered_same}
 use Rattle.balancer.proofs.plans.change_of.Goals as goal
 
 pub returns : goal.returns

@@ -2,7 +2,7 @@ use Rattle.std.proofs.Common.{◌^◌, ℤ, get_or, pos, w32, SFits, rules}
 use Rattle.std.specs.Prelude.{◌<ℤ◌, ◌≤ℤ◌, neg_ℤ}
 use Rattle.std.proofs.lemmas.List.{take_all}
 use Rattle.std.proofs.lemmas.List.Elements.{All-more}
-use Rattle.balancer.proofs.Deviating.{word_small}
+use Rattle.balancer.proofs.DeviationsSmall.{word_small}
 use Rattle.balancer.proofs.shares.are_small.Goals as goal
 
 pub loop-groups-preserved : goal.loop-groups-preserved

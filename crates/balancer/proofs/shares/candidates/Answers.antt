@@ -1,6 +1,6 @@
 use Rattle.std.proofs.Common.{◌∙◌, sym, arith}
 use Rattle.balancer.specs.Shares.{is_candidate}
-use Rattle.balancer.proofs.Weighing.{filter_range_yes, filter_range_no, few_filtered}
+use Rattle.balancer.proofs.WeightsOfCandidates.{filter_range_yes, filter_range_no, few_filtered}
 use Rattle.balancer.proofs.shares.candidates.Goals as goal
 use Rattle.balancer.proofs.shares.candidates.Goals.{then-is_candidate+in_ok-push, else-is_candidate}
 

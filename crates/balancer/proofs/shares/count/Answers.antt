@@ -1,6 +1,6 @@
 use Rattle.std.proofs.Common.{◌∙◌, ap, arith}
 use Rattle.pgtable.specs.Index.{count_in}
-use Rattle.balancer.proofs.Counting.{count_small}
+use Rattle.balancer.proofs.GroupsOnOsds.{count_small}
 use Rattle.balancer.proofs.shares.count.Goals as goal
 
 pub returns-clause-value : goal.returns-clause-value

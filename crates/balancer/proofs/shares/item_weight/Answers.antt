@@ -6,7 +6,7 @@ use Rattle.std.proofs.lemmas.List.{drop_all}
 use Rattle.buckets.specs.declared.bucket.Bucket.{Bucket}
 use Rattle.buckets.specs.declared.bucket.Item.{Item}
 use Rattle.balancer.specs.Shares.{item_weight}
-use Rattle.balancer.proofs.Weighing.{find_joined}
+use Rattle.balancer.proofs.WeightsOfCandidates.{find_joined}
 use Rattle.balancer.proofs.shares.item_weight.Goals as goal
 
 pub returns-in-Some : goal.returns-in-Some

@@ -1,6 +1,6 @@
 use Rattle.std.proofs.Common.{◌∙◌, ap, arith}
 use Rattle.std.specs.Option.{option_map_or}
-use Rattle.balancer.proofs.Weighing.{reweight_shown, reweight_small}
+use Rattle.balancer.proofs.WeightsOfCandidates.{reweight_shown, reweight_small}
 use Rattle.balancer.proofs.shares.reweight.Goals as goal
 
 pub returns-in-Some-clause-value : goal.returns-in-Some-clause-value

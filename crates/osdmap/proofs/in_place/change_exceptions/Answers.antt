@@ -3,7 +3,7 @@ use Rattle.std.specs.List.{fold, filter}
 use Rattle.keylist.specs.Keys.{has_key}
 use Rattle.keylist.specs.Puts.{put}
 use Rattle.keylist.proofs.KeyedOrder.{rising-filter}
-use Rattle.maptypes.specs.Exceptions.{place_of, key_of, exceptions_after}
+use Rattle.maptypes.specs.Exceptions.{pg_key, key_of, exceptions_after}
 use Rattle.osdmap.proofs.Leaving.{filter_twice}
 use Rattle.osdmap.proofs.in_place.change_exceptions.Goals as goal
 
@@ -21,6 +21,6 @@ put_all-requires-clause-room g c =
 pub returns : goal.returns
 unfolding exceptions_after
 returns g c =
-    let left = c.leave_groups.ensures.items ∙ ap (filter (λ e. not (has_key place_of c.args.gone.now (key_of e)))) c.leave_pools.ensures.items
-    ∙ filter_twice (λ e. not (has_key (λ (id : ℕ). id) c.args.old_pools.now e.pg.pool)) (λ e. not (has_key place_of c.args.gone.now (key_of e))) c.args.exceptions.now.items in
+    let left = c.leave_groups.ensures.items ∙ ap (filter (λ e. not (has_key pg_key c.args.gone.now (key_of e)))) c.leave_pools.ensures.items
+    ∙ filter_twice (λ e. not (has_key (λ (id : ℕ). id) c.args.old_pools.now e.pg.pool)) (λ e. not (has_key pg_key c.args.gone.now (key_of e))) c.args.exceptions.now.items in
     c.put_all.ensures.items ∙ ap (λ es. fold (put key_of) es c.args.new.now) left

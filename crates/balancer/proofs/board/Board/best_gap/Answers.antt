@@ -3,8 +3,8 @@ use mir.Syntax.{w128}
 use mir.Val.{SFits}
 use Rattle.std.proofs.lemmas.Int.{to_z-of_z}
 use Rattle.balancer.specs.Shares.{aim_of}
-use Rattle.balancer.proofs.Deviating.{least_now}
-use Rattle.balancer.proofs.Searching.{best_ends}
+use Rattle.balancer.proofs.DeviationsSmall.{least_now}
+use Rattle.balancer.proofs.SearchCovers.{best_ends}
 use Rattle.balancer.proofs.board.Board.best_gap.Goals as goal
 
 pub gap-requires-clause-from : goal.gap-requires-clause-from

@@ -3,7 +3,7 @@ use mir.Syntax.{w128}
 use mir.Val.{SFits}
 use Rattle.std.proofs.lemmas.Int.{to_z-of_z}
 use Rattle.balancer.specs.Shares.{aim_of}
-use Rattle.balancer.proofs.Deviating.{candidate_below, small_now, shown_now, long_deviations}
+use Rattle.balancer.proofs.DeviationsSmall.{candidate_below, small_now, shown_now, long_deviations}
 use Rattle.balancer.proofs.board.Board.deviation.Goals as goal
 
 pub index-requires : goal.index-requires

@@ -1,7 +1,7 @@
 use Rattle.std.proofs.Common.{take}
 use Rattle.balancer.specs.Boards.{may_go}
 use Rattle.balancer.specs.Standing.{row_of}
-use Rattle.balancer.proofs.Lowest.{IsLowest}
+use Rattle.balancer.proofs.LowestGroup.{IsLowest}
 use Rattle.balancer.proofs.board.Board.first_group.Given as goal
 
 -- the lowest of those passed

@@ -3,28 +3,28 @@ use Rattle.std.proofs.lemmas.List.{get_or-set_same}
 use Rattle.balancer.specs.Shares.{aim_of}
 use Rattle.balancer.specs.declared.group.Group.{Group}
 use Rattle.balancer.specs.Greedy.{after_moves}
-use Rattle.balancer.specs.Boards.{gone, group_at}
-use Rattle.balancer.proofs.Marking.{gone_marked}
-use Rattle.balancer.proofs.Searching.{good_ends, group_kept}
-use Rattle.balancer.proofs.Reaching.{bounds_moved}
+use Rattle.balancer.specs.Boards.{group_after, group_at}
+use Rattle.balancer.proofs.MarksHold.{gone_marked}
+use Rattle.balancer.proofs.SearchCovers.{good_ends, group_kept}
+use Rattle.balancer.proofs.BoundsOfMoves.{bounds_moved}
 use Rattle.balancer.proofs.board.Board.go.Goals as goal
 
 pub returns-in-Some-clause-marks : goal.returns-in-Some-clause-marks
 returns-in-Some-clause-marks c =
     let b = c.args.self.now in
     let made = c.in_ok-make.ensures.groups in
-    let there : c.in-Some.group.now ≡ gone made.0 c.args.step =
+    let there : c.in-Some.group.now ≡ group_after made.0 c.args.step =
     c.in-Some.ensures.lookup.1 ∙ ap (λ gs. get_or gs c.args.step.group c.in-Some.group.now) (c.deref.ensures.value ∙ made.3)
-    ∙ get_or-set_same b.groups.items c.args.step.group (gone made.0 c.args.step) c.in-Some.group.now made.1
+    ∙ get_or-set_same b.groups.items c.args.step.group (group_after made.0 c.args.step) c.in-Some.group.now made.1
     in
-    rw (c.make.ensures.map, c.make.ensures.pool)
+    rw (c.make.ensures.same.map, c.make.ensures.same.pool)
     (gone_marked b.frame.map.now.map b.frame.pool b.groups.items c.make.new.self.groups.items c.args.step made.0 c.args.marks.now c.look_again_at.new.marks made.2 made.3 made.1
-    (rw (c.make.ensures.map, c.make.ensures.pool, there) at c.look_again_at.ensures) c.requires.marks)
+    (rw (c.make.ensures.same.map, c.make.ensures.same.pool, there) at c.look_again_at.ensures) c.requires.marks)
 
 pub widen-requires : goal.widen-requires
 widen-requires c =
     let b = c.args.self.now in
-    rw (c.make.ensures.map, c.make.ensures.pool) (good_ends b.frame.map.now.map b.frame.pool (aim_of b.frame.carried.now b.frame.apart) b.moves.items c.args.step c.requires.good).0
+    rw (c.make.ensures.same.map, c.make.ensures.same.pool) (good_ends b.frame.map.now.map b.frame.pool (aim_of b.frame.carried.now b.frame.apart) b.moves.items c.args.step c.requires.good).0
 
 pub returns-in-Some-clause-widths : goal.returns-in-Some-clause-widths
 returns-in-Some-clause-widths c =
@@ -37,12 +37,12 @@ returns-in-Some-clause-widths c =
     let new = c.make.new.self in
     let kept : c.in-Some.group.now ≡ group_at next p v.group =
     c.in-Some.ensures.lookup.1 ∙ ap (λ gs. get_or gs v.group c.in-Some.group.now) c.deref.ensures.value
-    ∙ (rw (c.make.ensures.map, c.make.ensures.pool, c.in_ok-make.ensures.moves) at (group_kept new.frame.map.now.map new.frame.pool (aim_of new.frame.carried.now new.frame.apart) new.moves.items new.groups.items new.deviations.items new.board v.group c.in-Some.group.now (rw c.make.ensures.pool c.requires.good.there)))
+    ∙ (rw (c.make.ensures.same.map, c.make.ensures.same.pool, c.in_ok-make.ensures.moves) at (group_kept new.frame.map.now.map new.frame.pool (aim_of new.frame.carried.now new.frame.apart) new.moves.items new.groups.items new.deviations.items new.board v.group c.in-Some.group.now (rw c.make.ensures.same.pool c.requires.good.there)))
     in
     let places : c.as_slice.result.now ≡ (group_at next p v.group).places = c.as_slice.ensures.value ∙ ap (λ (g : Group). g.places) kept in
-    rw (c.make.ensures.map, c.make.ensures.pool, c.make.ensures.aim, c.in_ok-make.ensures.moves)
+    rw (c.make.ensures.same.map, c.make.ensures.same.pool, c.make.ensures.same.aim, c.in_ok-make.ensures.moves)
     (bounds_moved m p cs b.moves.items v c.requires.good b.reached b.frame.pool_is c.args.widths.now c.forget.new.self c.requires.widths
     (λ f bound known.
     let left = c.forget.ensures f bound known in
     let wide = c.widen.ensures f bound left.0 in
-    (wide.0, rw (c.make.ensures.map, c.make.ensures.pool, c.make.ensures.aim, c.in_ok-make.ensures.moves) at wide.1, rw places at left.1)))
+    (wide.0, rw (c.make.ensures.same.map, c.make.ensures.same.pool, c.make.ensures.same.aim, c.in_ok-make.ensures.moves) at wide.1, rw places at left.1)))

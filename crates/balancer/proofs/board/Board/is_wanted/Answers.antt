@@ -1,5 +1,5 @@
 use Rattle.balancer.specs.Shares.{aim_of}
-use Rattle.balancer.proofs.Searching.{best_ends}
+use Rattle.balancer.proofs.SearchCovers.{best_ends}
 use Rattle.balancer.proofs.board.Board.is_wanted.Goals as goal
 
 pub beats-requires-clause-v_from : goal.beats-requires-clause-v_from

@@ -3,7 +3,7 @@ use mir.Syntax.{w128}
 use mir.Val.{SFits}
 use Rattle.std.proofs.lemmas.Int.{to_z-of_z}
 use Rattle.balancer.specs.Shares.{aim_of}
-use Rattle.balancer.proofs.Deviating.{least_now}
+use Rattle.balancer.proofs.DeviationsSmall.{least_now}
 use Rattle.balancer.proofs.board.Board.is_wide.Goals as goal
 
 pub returns : goal.returns

@@ -1,7 +1,7 @@
 use Rattle.std.proofs.Common.{◌≡◌, ◌∙◌, true, false, sym}
 use Rattle.balancer.specs.Greedy.{after_moves}
 use Rattle.balancer.specs.Plans.{is_moved, items_at}
-use Rattle.balancer.proofs.Weighing.{made_range_yes, made_range_no}
+use Rattle.balancer.proofs.WeightsOfCandidates.{made_range_yes, made_range_no}
 use Rattle.balancer.proofs.board.Board.items.Goals as goal
 use Rattle.balancer.proofs.board.Board.items.Goals.{then-is_moved+in_ok-push, else-is_moved}
 

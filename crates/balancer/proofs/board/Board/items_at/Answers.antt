@@ -3,7 +3,7 @@ use Rattle.balancer.specs.Shares.{aim_of}
 use Rattle.balancer.specs.declared.group.Group.{Group}
 use Rattle.balancer.specs.Greedy.{after_moves}
 use Rattle.balancer.specs.Boards.{group_at}
-use Rattle.balancer.proofs.Searching.{long_groups, group_kept}
+use Rattle.balancer.proofs.SearchCovers.{long_groups, group_kept}
 use Rattle.balancer.proofs.board.Board.items_at.Goals as goal
 
 pub index-requires : goal.index-requires

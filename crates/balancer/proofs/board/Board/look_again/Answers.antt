@@ -1,7 +1,26 @@
-use Rattle.std.proofs.Common.{◌≡◌, ◌∙◌, sym, inl, inr, arith}
+use Rattle.std.proofs.Common.{◌≡◌, ◌∙◌, None, sym, inl, inr, arith}
 use Rattle.std.proofs.lemmas.Bool.{cases_lt}
-use Rattle.balancer.proofs.Marking.{domain_is, blocked_stays, opened_marks}
+use Rattle.balancer.proofs.MarksHold.{domain_is, none_is, blocked_stays, opened_marks}
 use Rattle.balancer.proofs.board.Board.look_again.Goals as goal
+
+pub loop-to-preserved-then-is_none : goal.loop-to-preserved-then-is_none
+loop-to-preserved-then-is_none c =
+    let b = c.args.self.now in
+    let to = c.loop-to.to in
+    let nowhere : c.domain-domain.result ≡ None = none_is c.domain-domain.result _ c.is_none.ensures c.if-is_none.true in
+    let stays = blocked_stays b.frame.map.now.map b.frame.pool c.in-Some.from to c.args.group.now None (sym c.domain-domain.ensures ∙ nowhere) tt in (
+      λ f t low known.
+          let before = c.loop-to.invariant.0 f t low known in (
+            before.0,
+            λ e below. elim (cases_lt t to) [
+              | inl less ↦ before.1 e less
+              | inr over ↦
+                  let t_is : t ≡ to = omega (arith, below, over) in
+                  rw (e, t_is) stays
+            ],
+          ),
+      c.loop-to.invariant.1,
+    )
 
 pub loop-to-preserved-then-eq : goal.loop-to-preserved-then-eq
 loop-to-preserved-then-eq c =

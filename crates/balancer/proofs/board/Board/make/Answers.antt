@@ -4,9 +4,9 @@ use mir.Syntax.{w128}
 use mir.Val.{SFits}
 use Rattle.std.proofs.lemmas.Int.{to_z-of_z}
 use Rattle.balancer.specs.Shares.{aim_of, group_weight}
-use Rattle.balancer.proofs.Evening.{reached_more}
-use Rattle.balancer.proofs.Listing.{rows_kept, rows_moved}
-use Rattle.balancer.proofs.Made.{read_less, read_more, group_inside, group_room, from_inside, to_inside, from_fits, to_fits, board_made}
+use Rattle.balancer.proofs.MovesMakeEven.{reached_more}
+use Rattle.balancer.proofs.RowsOfGroups.{rows_kept, rows_moved}
+use Rattle.balancer.proofs.StoredMoves.{read_less, read_more, group_inside, group_room, from_inside, to_inside, from_fits, to_fits, board_made}
 use Rattle.balancer.proofs.board.Board.make.Goals as goal
 
 pub index-requires : goal.index-requires
@@ -15,8 +15,8 @@ index-requires c =
     let inside = group_inside b.frame.map.now.map b.frame.pool (aim_of b.frame.carried.now b.frame.apart) b.moves.items c.args.step b.groups.items b.deviations.items c.requires b.reached b.board b.frame.pool_is b.frame.weight b.frame.weight_is b.frame.weight_small b.frame.carried_small in
     omega (arith, inside, b.groups.ok.0)
 
-pub gone-group-requires : goal.gone-group-requires
-gone-group-requires c =
+pub move_group-group-requires : goal.move_group-group-requires
+move_group-group-requires c =
     let b = c.args.self.now in
     group_room b.frame.map.now.map b.frame.pool (aim_of b.frame.carried.now b.frame.apart) b.moves.items c.args.step b.groups.items b.deviations.items c.requires b.reached b.board b.frame.pool_is b.frame.weight b.frame.weight_is b.frame.weight_small b.frame.carried_small c.index.result.now c.index.ensures
 
@@ -68,7 +68,7 @@ invariant_of-self-2 c =
       board =
           rw (
             c.in_ok-push.ensures.items,
-            c.gone-group.ensures,
+            c.move_group-group.ensures,
             read_less c.index_mut-2.result.now c.group_weight-weight.result x_fits w_fits,
             read_more c.index_mut-3.result.now c.group_weight-weight.result y_fits w_fits,
             c.group_weight-weight.ensures,
@@ -78,7 +78,7 @@ invariant_of-self-2 c =
           (board_made b.frame.map.now.map b.frame.pool (aim_of b.frame.carried.now b.frame.apart) b.moves.items c.args.step b.groups.items b.deviations.items c.requires b.reached b.board b.frame.pool_is b.frame.weight b.frame.weight_is b.frame.weight_small b.frame.carried_small
           c.index.result.now c.index_mut-2.result.now c.index_mut-3.result.now _ c.index.ensures c.index_mut-2.ensures.value c.index_mut-3.ensures.value);
       stand =
-          rows_moved b.groups.items c.args.step.group c.gone-group.result b.standing c.add.new.self b.stand inside c.in_ok-add.ensures.longer
+          rows_moved b.groups.items c.args.step.group c.move_group-group.result b.standing c.add.new.self b.stand inside c.in_ok-add.ensures.longer
           (rw c.as_slice.ensures.value at c.in_ok-add.ensures.known);
       wide = c.in_ok-add.ensures.longer.many ∙ b.wide;
     }
@@ -109,4 +109,4 @@ pub returns-clause-groups : goal.returns-clause-groups
 returns-clause-groups c =
     let b = c.args.self.now in
     let inside = group_inside b.frame.map.now.map b.frame.pool (aim_of b.frame.carried.now b.frame.apart) b.moves.items c.args.step b.groups.items b.deviations.items c.requires b.reached b.board b.frame.pool_is b.frame.weight b.frame.weight_is b.frame.weight_small b.frame.carried_small in
-    (c.index.result.now, inside, c.index.ensures, rw c.gone-group.ensures refl)
+    (c.index.result.now, inside, c.index.ensures, rw c.move_group-group.ensures refl)

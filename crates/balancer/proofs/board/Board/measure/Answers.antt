@@ -7,7 +7,7 @@ use Rattle.std.specs.Prelude.{ℤ}
 use Rattle.std.specs.List.Sorted.{IsPermutation}
 use Rattle.balancer.specs.Greedy.{after_moves}
 use Rattle.balancer.specs.Shares.{is_candidate, candidate_osds, deviation, aim_of}
-use Rattle.balancer.proofs.Searching.{each_candidate, same_osds, measured_more}
+use Rattle.balancer.proofs.SearchCovers.{each_candidate, same_osds, measured_more}
 use Rattle.balancer.proofs.board.Board.measure.Goals as goal
 
 pub deviation-requires : goal.deviation-requires

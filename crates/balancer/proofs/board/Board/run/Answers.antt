@@ -1,7 +1,7 @@
 use Rattle.std.proofs.Common.{◌≡◌, ◌∙◌, [], Some}
 use Rattle.balancer.specs.Shares.{aim_of}
 use Rattle.balancer.specs.Greedy.{good_moves, best_move, after_moves}
-use Rattle.balancer.proofs.Running.{way_goes_on, way_ends, way_stops}
+use Rattle.balancer.proofs.GreedyMoveByMove.{way_goes_on, way_ends, way_stops}
 use Rattle.balancer.proofs.board.Board.run.Goals as goal
 
 pub returns-in-None-clause-moves : goal.returns-in-None-clause-moves
@@ -18,9 +18,9 @@ loop-count-preserved c =
     record {
       order = rw (i.map, i.pool) at c.in_ok-step.ensures.order;
       way = rw c.in_ok-go-in-Some.ensures.moves way;
-      map = c.go.ensures.map ∙ i.map;
-      pool = c.go.ensures.pool ∙ i.pool;
-      aim = c.go.ensures.aim ∙ i.aim;
+      map = c.go.ensures.same.map ∙ i.map;
+      pool = c.go.ensures.same.pool ∙ i.pool;
+      aim = c.go.ensures.same.aim ∙ i.aim;
       marks = c.in_ok-go-in-Some.ensures.marks;
       widths = c.in_ok-go-in-Some.ensures.widths;
     }

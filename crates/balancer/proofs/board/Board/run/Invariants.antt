@@ -4,7 +4,7 @@ use Rattle.balancer.specs.Shares.{candidate_osds, aim_of}
 use Rattle.balancer.specs.Greedy.{after_moves}
 use Rattle.balancer.specs.Marks.{IsMarked}
 use Rattle.balancer.specs.Widths.{AreBounds}
-use Rattle.balancer.proofs.Running.{IsUnderWay}
+use Rattle.balancer.proofs.GreedyMoveByMove.{IsUnderWay}
 use Rattle.balancer.proofs.board.Board.run.Given as goal
 
 abbrev pub invariant-loop-count : goal.invariant-loop-count

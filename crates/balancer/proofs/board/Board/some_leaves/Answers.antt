@@ -1,6 +1,6 @@
 use Rattle.std.proofs.Common.{sym, arith, ap, length}
-use Rattle.balancer.proofs.Deviating.{candidate_below}
-use Rattle.balancer.proofs.Lowest.{none_of_row}
+use Rattle.balancer.proofs.DeviationsSmall.{candidate_below}
+use Rattle.balancer.proofs.LowestGroup.{none_of_row}
 use Rattle.balancer.proofs.board.Board.some_leaves.Goals as goal
 
 pub returns : goal.returns

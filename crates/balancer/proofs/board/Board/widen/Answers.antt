@@ -9,9 +9,9 @@ use Rattle.std.proofs.lemmas.List.{get_or_default}
 use Rattle.balancer.specs.Shares.{aim_of}
 use Rattle.balancer.specs.Widths.{bound_of}
 use Rattle.balancer.specs.Greedy.{after_moves, gap}
-use Rattle.balancer.proofs.Searching.{candidate_at}
-use Rattle.balancer.proofs.Choosing.{candidate_in}
-use Rattle.balancer.proofs.Reaching.{z_most}
+use Rattle.balancer.proofs.SearchCovers.{candidate_at}
+use Rattle.balancer.proofs.BestCovers.{candidate_in}
+use Rattle.balancer.proofs.BoundsOfMoves.{z_most}
 use Rattle.balancer.proofs.board.Board.widen.Goals as goal
 
 pub gap-requires-clause-from : goal.gap-requires-clause-from

@@ -1,7 +1,7 @@
 use Rattle.std.proofs.Common.{◌≡◌, false, sym, ap, ◌∙◌}
 use Rattle.std.specs.List.{list_all}
 use Rattle.balancer.specs.Moves.{are_beside, are_under_same}
-use Rattle.balancer.proofs.Stays.{apart_refused}
+use Rattle.balancer.proofs.UntouchedByMoves.{apart_refused}
 use Rattle.balancer.proofs.frame.Frame.are_beside.Goals as goal
 
 pub returns-clause-value : goal.returns-clause-value

@@ -1,7 +1,7 @@
 use Rattle.std.proofs.Common.{arith, None}
 use Rattle.std.proofs.lemmas.List.{take_all}
 use mathlib.Core.Bool.{false≢true}
-use Rattle.balancer.proofs.Listing.{longer_same, longer_put, known_hole, known_put}
+use Rattle.balancer.proofs.RowsOfGroups.{longer_same, longer_put, known_hole, known_put}
 use Rattle.balancer.proofs.standing.Standing.add.Goals as goal
 use Rattle.balancer.proofs.standing.Standing.add.Goals.{in-Some+in_ok-put, in_default}
 

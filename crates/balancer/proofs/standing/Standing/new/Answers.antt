@@ -1,5 +1,5 @@
 use Rattle.std.proofs.Common.{◌∙◌}
-use Rattle.balancer.proofs.Listing.{rows_more}
+use Rattle.balancer.proofs.RowsOfGroups.{rows_more}
 use Rattle.balancer.proofs.standing.Standing.new.Goals as goal
 
 pub loop-number-preserved : goal.loop-number-preserved

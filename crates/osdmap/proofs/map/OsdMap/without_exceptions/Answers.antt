@@ -17,35 +17,35 @@ word-max_osd-requires c =
     let each = parts_fit_each c.args.parts.now c.requires in
     rw to_z-of_z (word_between 1 4096 c.args.parts.now.max_osd (omega arith) each.max_osd)
 
-pub stated-requires-clause-buckets_fit : goal.stated-requires-clause-buckets_fit
-stated-requires-clause-buckets_fit c =
+pub of_parts-requires-clause-buckets_fit : goal.of_parts-requires-clause-buckets_fit
+of_parts-requires-clause-buckets_fit c =
     let each = parts_fit_each c.args.parts.now c.requires in
     rw c.deref.ensures each.buckets
 
-pub stated-requires-clause-bucket_count : goal.stated-requires-clause-bucket_count
-stated-requires-clause-bucket_count c =
+pub of_parts-requires-clause-bucket_count : goal.of_parts-requires-clause-bucket_count
+of_parts-requires-clause-bucket_count c =
     let each = parts_fit_each c.args.parts.now c.requires in
     rw c.deref.ensures each.count
 
-pub stated-requires-clause-rules_fit : goal.stated-requires-clause-rules_fit
-stated-requires-clause-rules_fit c =
+pub of_parts-requires-clause-rules_fit : goal.of_parts-requires-clause-rules_fit
+of_parts-requires-clause-rules_fit c =
     let each = parts_fit_each c.args.parts.now c.requires in
     rw c.deref-2.ensures each.rules
 
-pub stated-requires-clause-rule_count : goal.stated-requires-clause-rule_count
-stated-requires-clause-rule_count c =
+pub of_parts-requires-clause-rule_count : goal.of_parts-requires-clause-rule_count
+of_parts-requires-clause-rule_count c =
     let each = parts_fit_each c.args.parts.now c.requires in
     rw c.deref-2.ensures each.rule_count
 
-pub stated-requires-clause-some : goal.stated-requires-clause-some
-stated-requires-clause-some c =
+pub of_parts-requires-clause-some : goal.of_parts-requires-clause-some
+of_parts-requires-clause-some c =
     let fits : SFits w128 c.args.parts.now.max_osd = search rules in
     let each = parts_fit_each c.args.parts.now c.requires in
     let max_osd : c.word-max_osd.result ≡ nat_abs c.args.parts.now.max_osd = rw to_z-of_z at c.word-max_osd.ensures in
     rw max_osd (some_osds c.args.parts.now each)
 
-pub stated-requires-clause-few : goal.stated-requires-clause-few
-stated-requires-clause-few c =
+pub of_parts-requires-clause-few : goal.of_parts-requires-clause-few
+of_parts-requires-clause-few c =
     let fits : SFits w128 c.args.parts.now.max_osd = search rules in
     let each = parts_fit_each c.args.parts.now c.requires in
     let max_osd : c.word-max_osd.result ≡ nat_abs c.args.parts.now.max_osd = rw to_z-of_z at c.word-max_osd.ensures in

@@ -1,4 +1,0 @@
-mod MappedLemmas
-pub mod Standing
-pub mod Existing
-pub mod Others
