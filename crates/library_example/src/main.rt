@@ -9,7 +9,7 @@ ghost use Rattle.monitor.specs.Histories.{GoesOn};
 ghost use Rattle.monitor.specs.Members.{IsMemberOf};
 
 use mapjson::{read_change, read_map};
-use monitor::{Follower, Member, Monitor, Request};
+use monitor::{Balance, Commit, Follower, Member, Monitor, Request};
 use osdmap::{Pg, Profile};
 use refusal::{Memory, Refusal};
 use std::alloc::Global;
@@ -44,7 +44,7 @@ fn manage<R: Wait + Print>(
     let (epoch, set) = monitor.up(rt, member, Pg { pool: 1, number: 0 })?;
     let _ = println!(rt; "epoch {epoch}: group 1.0 is at {set}");
     let (base, change) = read_change(alloc, CHANGE.as_bytes(), Profile::Plain)?;
-    let (epoch, evals) = monitor.commit(rt, member, base, change)?;
+    let Commit { epoch, evals } = monitor.commit(rt, member, base, change)?;
     let _ = println!(rt; "epoch {epoch}: {evals} groups were evaluated");
     let request = Request {
         pool: 1,
@@ -52,7 +52,7 @@ fn manage<R: Wait + Print>(
         carried: &[],
         apart: 256,
     };
-    let (epoch, moves) = monitor.balance(rt, member, request)?;
+    let Balance { epoch, moves } = monitor.balance(rt, member, request)?;
     let _ = println!(rt; "epoch {epoch}: {moves} groups were moved");
     Ok(epoch)
 }
