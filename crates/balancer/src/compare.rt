@@ -50,7 +50,7 @@ impl Board<'_> {
         gap > other || (gap == other && precedes(u, v))
     }
 
-    /// Whether the difference of the deviations of two candidates is above the weight of all candidates.
+    /// Whether the difference of the deviations of two candidates is above that from which on a move is good.
     pub(crate) fn is_wide(&self, from: u32, to: u32) -> bool
         requires from { takes_part self.now from ≡ true }
         requires to { takes_part self.now to ≡ true }
@@ -87,7 +87,7 @@ impl Board<'_> {
     /// and from no OSD before that one's.
     pub(crate) fn can_skip(&self, from: u32, best: Option<Move>, bound: Option<i128>) -> bool
         requires best { IfSome best (IsGoodOn self.now) }
-        requires bound { IfSome bound (λ b. IsBoundOn self.now from b) }
+        requires bound { IfSome bound (IsBoundOn self.now from) }
         ensures { result ≡ true → CoversFromOn self.now best from }
     {
         let Some(bound) = bound else {
