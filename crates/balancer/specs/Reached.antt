@@ -4,11 +4,12 @@ use Rattle.std.specs.List.Sorted.{IsPermutation}
 use Rattle.osdmap.specs.Maps.{ClusterMap}
 use Rattle.balancer.specs.declared.board.Board.{Board}
 use Rattle.balancer.specs.declared.frame.Frame.{Frame}
-use Rattle.balancer.specs.Shares.{is_candidate, candidate_osds, deviation, Aim, aim_of}
-use Rattle.balancer.specs.Greedy.{after_moves, gap}
-use Rattle.balancer.specs.Boards.{IsOrder}
+use Rattle.balancer.specs.Shares.{is_candidate, candidate_osds, deviation, Aim, aim_of, least_gap}
+use Rattle.balancer.specs.Greedy.{after_moves, gap, beats, good_moves}
+use Rattle.balancer.specs.Boards.{IsOrder, is_wanted, IsGood, IsBest, IsBetter, CoversPair, CoversFrom}
 use Rattle.balancer.specs.Marks.{IsMarked}
-use Rattle.balancer.specs.Widths.{bound_of}
+use Rattle.balancer.specs.Widths.{bound_of, best_gap, IsBound, AreBounds}
+use Rattle.balancer.specs.declared.moves.Move.{Move}
 
 -- the map that the plan goes by
 abbrev pub cluster : Board → ClusterMap
@@ -62,3 +63,58 @@ AreWidened b emptier before now =
     → ((old : ℤ) × (bound_of before from ≡ Some old) × (int_lt bound old ≡ false))
     × (is_candidate b.frame.map.now.map b.frame.pool from ≡ true
     → int_lt bound (gap (reached b) b.frame.pool (aim_in b) from emptier) ≡ false)
+
+-- ---- words of moves, by the map after the moves so far
+
+-- the deviation of an OSD, and the difference of those of two
+abbrev pub deviation_on : Board → ℕ → ℤ
+deviation_on b osd = deviation (reached b) b.frame.pool (aim_in b) osd
+
+abbrev pub gap_on : Board → ℕ → ℕ → ℤ
+gap_on b from to = gap (reached b) b.frame.pool (aim_in b) from to
+
+-- the difference above which a move is good
+abbrev pub least_gap_on : Board → ℕ
+least_gap_on b = least_gap (reached b) b.frame.pool (aim_in b)
+
+-- whether a move is taken rather than another
+abbrev pub beats_on : Board → Move → Move → Bool
+beats_on b u v = beats (reached b) b.frame.pool (aim_in b) u v
+
+-- whether some move between two OSDs could be taken rather than the best one so far
+abbrev pub is_wanted_on : Board → ℕ → ℕ → Option Move → Bool
+is_wanted_on b from to best = is_wanted (reached b) b.frame.pool (aim_in b) from to best
+
+-- the good moves
+abbrev pub good_moves_on : Board → List Move
+good_moves_on b = good_moves (reached b) b.frame.pool (aim_in b)
+
+-- a move is good, or the best one
+abbrev pub IsGoodOn : Board → Move → Type 0
+IsGoodOn b v = IsGood (reached b) b.frame.pool (aim_in b) v
+
+abbrev pub IsBestOn : Board → Move → Type 0
+IsBestOn b v = IsBest (reached b) b.frame.pool (aim_in b) v
+
+-- the best move so far is good and covers what the one before it covered
+abbrev pub IsBetterOn : Board → Option Move → Option Move → Type 0
+IsBetterOn b old new = IsBetter (reached b) b.frame.pool (aim_in b) old new
+
+-- the best move so far covers those between two OSDs, or from an OSD to all candidates
+abbrev pub CoversPairOn : Board → Option Move → ℕ → ℕ → Type 0
+CoversPairOn b best from to = CoversPair (reached b) b.frame.pool (aim_in b) best from to
+
+abbrev pub CoversFromOn : Board → Option Move → ℕ → Type 0
+CoversFromOn b best from = CoversFrom (reached b) b.frame.pool (aim_in b) best from b.frame.osds.items
+
+-- how far the best move so far goes
+abbrev pub best_gap_on : Board → Option Move → ℤ
+best_gap_on b best = best_gap (reached b) b.frame.pool (aim_in b) best
+
+-- no good move from an OSD goes further
+abbrev pub IsBoundOn : Board → ℕ → ℤ → Type 0
+IsBoundOn b from bound = IsBound (reached b) b.frame.pool (aim_in b) from bound
+
+-- what is known of how far moves go is so
+abbrev pub AreBoundsOn : Board → List (Option ℤ) → Type 0
+AreBoundsOn b bounds = AreBounds (reached b) b.frame.pool (aim_in b) bounds

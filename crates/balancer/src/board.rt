@@ -152,8 +152,8 @@ pub(crate) struct Board<'a> {
 impl<'a> Board<'a> {
     ghost use Rattle.std.specs.Prelude.{◌≡◌, ◌<◌, [], ◌∷◌, ◌++◌, IfOk, OnOk};
     ghost use Rattle.balancer.specs.Plans.{items_at, moved_items};
-    ghost use Rattle.balancer.specs.Boards.{IsGood, AreAfterMove};
-    ghost use Rattle.balancer.specs.Reached.{cluster, reached, aim_in, IsBoardFor, AreOfOnePlan};
+    ghost use Rattle.balancer.specs.Boards.{AreAfterMove};
+    ghost use Rattle.balancer.specs.Reached.{cluster, reached, IsBoardFor, AreOfOnePlan, IsGoodOn};
     ghost use Rattle.pgtable.specs.Tables.{IsTableOf, RunsMore};
 
     /// The state at the beginning, by a run of the pool's rule for each of its groups; or `Memory` (30).
@@ -185,7 +185,7 @@ impl<'a> Board<'a> {
 
     /// Makes a good move; or `Memory` (30).
     pub fn make(&mut self, step: Move) -> Result<(), Memory>
-        requires { IsGood (reached self.old) self.old.frame.pool (aim_in self.old) step }
+        requires { IsGoodOn self.old step }
         ensures moves { OnOk result (self.new.moves.items ≡ self.old.moves.items ++ step ∷ []) }
         ensures groups { OnOk result (AreAfterMove self.old.groups.items step self.new.groups.items) }
         ensures same { AreOfOnePlan self.new self.old }

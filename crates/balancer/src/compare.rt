@@ -15,16 +15,12 @@ fn precedes(u: Move, v: Move) -> bool
 
 impl Board<'_> {
     ghost use Rattle.std.specs.Prelude.{◌≡◌, pos, neg_ℤ, int_lt, ◌<ℤ◌, ◌^◌, true, IfSome};
-    ghost use Rattle.balancer.specs.Shares.{least_gap, deviation};
-    ghost use Rattle.balancer.specs.Greedy.{gap, beats};
-    ghost use Rattle.balancer.specs.Reached.{reached, takes_part, aim_in};
-    ghost use Rattle.balancer.specs.Widths.{IsBound, best_gap};
-    ghost use Rattle.balancer.specs.Boards.{is_wanted, IsGood, CoversFrom};
+    ghost use Rattle.balancer.specs.Reached.{takes_part, deviation_on, gap_on, least_gap_on, beats_on, is_wanted_on, best_gap_on, IsGoodOn, IsBoundOn, CoversFromOn};
 
     /// The deviation of an OSD.
     pub(crate) fn deviation(&self, osd: u32) -> i128
         requires { takes_part self.now osd ≡ true }
-        ensures value { result ≡ deviation (reached self.now) self.now.frame.pool (aim_in self.now) osd }
+        ensures value { result ≡ deviation_on self.now osd }
         ensures high { result <ℤ pos (2 ^ 108) }
         ensures low { neg_ℤ (pos (2 ^ 108)) <ℤ result }
     {
@@ -35,7 +31,7 @@ impl Board<'_> {
     pub(crate) fn gap(&self, from: u32, to: u32) -> i128
         requires from { takes_part self.now from ≡ true }
         requires to { takes_part self.now to ≡ true }
-        ensures { result ≡ gap (reached self.now) self.now.frame.pool (aim_in self.now) from to }
+        ensures { result ≡ gap_on self.now from to }
     {
         self.deviation(from) - self.deviation(to)
     }
@@ -47,19 +43,18 @@ impl Board<'_> {
         requires u_to { takes_part self.now u.to ≡ true }
         requires v_from { takes_part self.now v.from ≡ true }
         requires v_to { takes_part self.now v.to ≡ true }
-        ensures { result ≡ beats (reached self.now) self.now.frame.pool (aim_in self.now) u v }
+        ensures { result ≡ beats_on self.now u v }
     {
         let gap = self.gap(u.from, u.to);
         let other = self.gap(v.from, v.to);
         gap > other || (gap == other && precedes(u, v))
     }
 
-    /// Whether the difference of the deviations of two candidates is above the weight of all candidates.
+    /// Whether the difference of the deviations of two candidates is above that from which on a move is good.
     pub(crate) fn is_wide(&self, from: u32, to: u32) -> bool
         requires from { takes_part self.now from ≡ true }
         requires to { takes_part self.now to ≡ true }
-        ensures { result ≡ int_lt (pos (least_gap (reached self.now) self.now.frame.pool (aim_in self.now)))
-            (gap (reached self.now) self.now.frame.pool (aim_in self.now) from to) }
+        ensures { result ≡ int_lt (pos (least_gap_on self.now)) (gap_on self.now from to) }
     {
         self.gap(from, to) > self.frame.least_gap()
     }
@@ -68,8 +63,8 @@ impl Board<'_> {
     pub(crate) fn is_wanted(&self, from: u32, to: u32, best: Option<Move>) -> bool
         requires from { takes_part self.now from ≡ true }
         requires to { takes_part self.now to ≡ true }
-        requires best { IfSome best (λ v. IsGood (reached self.now) self.now.frame.pool (aim_in self.now) v) }
-        ensures { result ≡ is_wanted (reached self.now) self.now.frame.pool (aim_in self.now) from to best }
+        requires best { IfSome best (IsGoodOn self.now) }
+        ensures { result ≡ is_wanted_on self.now from to best }
     {
         match best {
             Some(best) => self.is_wide(from, to) && self.beats(Move { group: 0, from, to }, best),
@@ -79,8 +74,8 @@ impl Board<'_> {
 
     /// How far the best move so far goes: by how much the deviations of its OSDs differ.
     pub(crate) fn best_gap(&self, best: Option<Move>) -> i128
-        requires { IfSome best (λ v. IsGood (reached self.now) self.now.frame.pool (aim_in self.now) v) }
-        ensures { result ≡ best_gap (reached self.now) self.now.frame.pool (aim_in self.now) best }
+        requires { IfSome best (IsGoodOn self.now) }
+        ensures { result ≡ best_gap_on self.now best }
     {
         match best {
             Some(best) => self.gap(best.from, best.to),
@@ -91,12 +86,9 @@ impl Board<'_> {
     /// Whether it is known that no move from a candidate is taken rather than the best one so far: it goes no further,
     /// and from no OSD before that one's.
     pub(crate) fn can_skip(&self, from: u32, best: Option<Move>, bound: Option<i128>) -> bool
-        requires best { IfSome best (λ v. IsGood (reached self.now) self.now.frame.pool (aim_in self.now) v) }
-        requires bound { IfSome bound
-            (λ b. IsBound (reached self.now) self.now.frame.pool (aim_in self.now) from b) }
-        ensures { result ≡ true
-            → CoversFrom (reached self.now) self.now.frame.pool (aim_in self.now) best from
-            self.now.frame.osds.items }
+        requires best { IfSome best (IsGoodOn self.now) }
+        requires bound { IfSome bound (IsBoundOn self.now from) }
+        ensures { result ≡ true → CoversFromOn self.now best from }
     {
         let Some(bound) = bound else {
             return false;

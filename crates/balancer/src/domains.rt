@@ -79,16 +79,9 @@ pub(crate) fn stands(places: &[Option<u32>], osd: u32) -> bool
     places.iter().any(|place| *place == Some(osd))
 }
 
-/// Whether a place has an OSD.
-fn is_of(place: Option<u32>, osd: u32) -> bool
-    ensures { result ≡ is_of osd place }
-{
-    place == Some(osd)
-}
-
 /// In how many places of a set an OSD stands.
 pub(crate) fn count_places(places: &[Option<u32>], osd: u32) -> usize
     ensures { result ≡ count_by (is_of osd) places.now }
 {
-    places.iter().filter(|place| is_of(**place, osd)).count()
+    places.iter().filter(|place| **place == Some(osd)).count()
 }

@@ -29,18 +29,14 @@ use pgtable::PgTable;
 use refusal::{Memory, Refusal};
 use std::alloc::Global;
 
-/// Whether a step emits.
-fn is_emit(step: &Step) -> bool
-    ensures { result ≡ is_emit step.now }
-{
-    matches!(step, Step::Emit)
-}
-
 /// How many steps emit.
 fn emits(steps: &[Step]) -> usize
     ensures { result ≡ count_by is_emit steps.now }
 {
-    steps.iter().filter(|step| is_emit(step)).count()
+    steps
+        .iter()
+        .filter(|step| matches!(step, Step::Emit))
+        .count()
 }
 
 /// Whether the rule of a pool has one block.

@@ -9,10 +9,8 @@ use std::alloc::Global;
 
 impl Board<'_> {
     ghost use Rattle.std.specs.Prelude.{◌≡◌, ◌<◌, [], ◌∷◌, ◌++◌, length, true, OnOk};
-    ghost use Rattle.balancer.specs.Boards.{IsGood};
     ghost use Rattle.balancer.specs.Greedy.{good_moves, greedy, after_moves};
-    ghost use Rattle.balancer.specs.Reached.{cluster, reached, takes_part, IsMarkedOn, AreWidened, aim_in, AreOfOnePlan};
-    ghost use Rattle.balancer.specs.Widths.{AreBounds};
+    ghost use Rattle.balancer.specs.Reached.{cluster, takes_part, IsMarkedOn, AreWidened, aim_in, AreOfOnePlan, IsGoodOn, AreBoundsOn};
 
     /// Moves to an OSD that has become emptier may go further than was known.
     fn widen(&self, emptier: u32, widths: &mut Widths)
@@ -27,14 +25,13 @@ impl Board<'_> {
     /// Makes a good move, and looks again at what was known of the OSDs on which its group then stands; or `Memory`
     /// (30).
     fn go(&mut self, step: Move, marks: &mut Marks, widths: &mut Widths) -> Result<(), Memory>
-        requires good { IsGood (reached self.old) self.old.frame.pool (aim_in self.old) step }
+        requires good { IsGoodOn self.old step }
         requires marks { IsMarkedOn self.old marks.old }
-        requires widths { AreBounds (reached self.old) self.old.frame.pool (aim_in self.old) widths.old }
+        requires widths { AreBoundsOn self.old widths.old }
         ensures moves { OnOk result (self.new.moves.items ≡ self.old.moves.items ++ step ∷ []) }
         ensures same { AreOfOnePlan self.new self.old }
         ensures marks { OnOk result (IsMarkedOn self.new marks.new) }
-        ensures widths { OnOk result
-            (AreBounds (reached self.new) self.new.frame.pool (aim_in self.new) widths.new) }
+        ensures widths { OnOk result (AreBoundsOn self.new widths.new) }
     {
         self.make(step)?;
         self.widen(step.from, widths);

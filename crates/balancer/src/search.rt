@@ -22,11 +22,9 @@ fn is_lower(number: u32, lowest: Option<u32>) -> bool
 impl Board<'_> {
     ghost use Rattle.std.specs.Prelude.{◌≡◌, ◌<◌, [], length, slice_index_or, position, true, IfSome, IfOk, MatchOption, OnOk};
     ghost use Rattle.balancer.specs.declared.group.Group.{Group};
-    ghost use Rattle.balancer.specs.Boards.{may_go, is_wanted, IsGood, IsBest, IsBetter, CoversPair, CoversFrom};
-    ghost use Rattle.balancer.specs.Greedy.{good_moves};
-    ghost use Rattle.balancer.specs.Reached.{cluster, reached, takes_part, IsMarkedOn, AreAll, IsOrderOf, aim_in};
+    ghost use Rattle.balancer.specs.Boards.{may_go};
+    ghost use Rattle.balancer.specs.Reached.{cluster, takes_part, IsMarkedOn, AreAll, IsOrderOf, is_wanted_on, good_moves_on, IsGoodOn, IsBestOn, IsBetterOn, CoversPairOn, CoversFromOn, AreBoundsOn};
     ghost use Rattle.balancer.specs.Standing.{lowest_with};
-    ghost use Rattle.balancer.specs.Widths.{AreBounds};
 
     /// The lowest group so far, or a lower one that may go from one candidate to another beside it.
     fn lowest_with(&self, from: u32, to: u32, number: u32, lowest: Option<u32>) -> Option<u32>
@@ -44,8 +42,7 @@ impl Board<'_> {
     /// The first group that may go from one candidate to another beside it.
     fn first_group(&self, from: u32, to: u32) -> Option<u32>
         requires { takes_part self.now from ≡ true }
-        ensures { result ≡ position (may_go (cluster self.now) self.now.frame.pool from to)
-            self.now.groups.items }
+        ensures { result ≡ position (may_go (cluster self.now) self.now.frame.pool from to) self.now.groups.items }
     {
         let mut lowest = None;
         for number in self.standing.at(from) {
@@ -59,12 +56,11 @@ impl Board<'_> {
     fn find_better(&self, from: u32, to: u32, best: Option<Move>, marks: &mut Marks) -> Option<Move>
         requires from { takes_part self.now from ≡ true }
         requires to { takes_part self.now to ≡ true }
-        requires best { IfSome best (λ v. IsGood (reached self.now) self.now.frame.pool (aim_in self.now) v) }
-        requires wanted { is_wanted (reached self.now) self.now.frame.pool (aim_in self.now) from to best
-            ≡ true }
+        requires best { IfSome best (IsGoodOn self.now) }
+        requires wanted { is_wanted_on self.now from to best ≡ true }
         requires marks { IsMarkedOn self.now marks.old }
-        ensures better { IsBetter (reached self.now) self.now.frame.pool (aim_in self.now) best result }
-        ensures covers { CoversPair (reached self.now) self.now.frame.pool (aim_in self.now) result from to }
+        ensures better { IsBetterOn self.now best result }
+        ensures covers { CoversPairOn self.now result from to }
         ensures marks { IsMarkedOn self.now marks.new }
     {
         if !self.frame.are_beside(from, to) {
@@ -90,11 +86,10 @@ impl Board<'_> {
     ) -> Option<Move>
         requires from { takes_part self.now from ≡ true }
         requires order { IsOrderOf self.now order.now }
-        requires best { IfSome best (λ v. IsGood (reached self.now) self.now.frame.pool (aim_in self.now) v) }
+        requires best { IfSome best (IsGoodOn self.now) }
         requires marks { IsMarkedOn self.now marks.old }
-        ensures better { IsBetter (reached self.now) self.now.frame.pool (aim_in self.now) best result }
-        ensures covers { CoversFrom (reached self.now) self.now.frame.pool (aim_in self.now) result from
-            self.now.frame.osds.items }
+        ensures better { IsBetterOn self.now best result }
+        ensures covers { CoversFromOn self.now result from }
         ensures marks { IsMarkedOn self.now marks.new }
     {
         let mut best = best;
@@ -118,15 +113,12 @@ impl Board<'_> {
         order: &mut Vec<(i128, u32)>,
     ) -> Result<Option<Move>, Memory>
         requires marks { IsMarkedOn self.now marks.old }
-        requires widths { AreBounds (reached self.now) self.now.frame.pool (aim_in self.now) widths.old }
+        requires widths { AreBoundsOn self.now widths.old }
         requires order { AreAll self.now order.old.items }
         ensures order { OnOk result (AreAll self.now order.new.items) }
-        ensures best { IfOk result (λ best. MatchOption best
-            (good_moves (reached self.now) self.now.frame.pool (aim_in self.now) ≡ [])
-            (λ v. IsBest (reached self.now) self.now.frame.pool (aim_in self.now) v)) }
+        ensures best { IfOk result (λ best. MatchOption best (good_moves_on self.now ≡ []) (IsBestOn self.now)) }
         ensures marks { OnOk result (IsMarkedOn self.now marks.new) }
-        ensures widths { OnOk result
-            (AreBounds (reached self.now) self.now.frame.pool (aim_in self.now) widths.new) }
+        ensures widths { OnOk result (AreBoundsOn self.now widths.new) }
     {
         self.sort_candidates(order)?;
         let mut best = None;

@@ -15,7 +15,7 @@ use Rattle.crush.specs.Descent.{item_below, leaf_below}
 unfoldable pub replica_number : ℕ → ℕ → ℕ → Bucket → ℕ
 replica_number numrep base round b = base + stride_by b.kind numrep (length b.items) * round
 
--- the same for the rounds 0 up to n
+-- the replica numbers of the rounds 0 up to n at a bucket, on top of `base`
 abbrev pub replica_numbers : ℕ → ℕ → ℕ → List (Bucket → ℕ)
 replica_numbers numrep base n = map (replica_number numrep base) (range_with_len 0 n)
 

@@ -19,7 +19,7 @@ abbrev pub segment_by : Mode → Choosing → Bucket → ℕ → List (Option �
 segment_by Firstn k b room = map (λ e. Some e.leaf) (firstn k b room)
 segment_by Indep k b room = map leaf_at (indep k b (min k.numrep room))
 
--- the same by the mode of the step
+-- what a choose step gives below one bucket, by the mode of the step
 unfoldable pub segment_of : Choosing → Bucket → ℕ → List (Option ℤ)
 segment_of k b room = segment_by k.choose.mode k b room
 

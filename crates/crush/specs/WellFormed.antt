@@ -57,7 +57,7 @@ forest_ok buckets max_osd =
 abbrev pub IsDescending : List Bucket → Type 0
 IsDescending buckets = AllPairs (λ a b. b.id <ℤ a.id) buckets
 
--- the same, where an id may stand twice
+-- the ids do not rise from any bucket to a later one: an id may stand twice
 abbrev pub IsNotAscending : List Bucket → Type 0
 IsNotAscending buckets = AllPairs (λ a b. b.id ≤ℤ a.id) buckets
 

@@ -31,7 +31,7 @@ abbrev pub HoldsNoneOut : World → Position → Type 0
 HoldsNoneOut w (Filled e) = is_out w e.leaf ≡ false
 HoldsNoneOut w _ = Unit {0}
 
--- so many positions, no two of which hold the same item, and, where the step takes devices, none one that is out
+-- a number of positions, no two of which hold the same item, and, where the step takes devices, none one that is out
 pub record ArePositions (k : Choosing) (count : ℕ) (positions : List Position) : Type 0 where
   pub counted : length positions ≡ count
   pub items_once : AllPairs AreApart positions
@@ -45,7 +45,7 @@ FirstnIsSegment = (k : Choosing) (start : Bucket) (limit : ℕ) → IsSegment k 
 abbrev pub IndepIsPositions : Type 0
 IndepIsPositions = (k : Choosing) (start : Bucket) (count : ℕ) → ArePositions k count (indep k start count)
 
--- the same with so many rounds
+-- a choosing with another number of rounds
 abbrev pub in_rounds : Choosing → ℕ → Choosing
 in_rounds k rounds = record k { tries = record { total = rounds; leaf = k.tries.leaf } }
 

@@ -24,7 +24,7 @@ pub record IsGreatestWinner (x id r : ℕ) (items : List Item) (place : ℕ) : T
 abbrev pub DrawsEachPlaceOnce : Type 0
 DrawsEachPlaceOnce = (x id n : ℕ) → IsPermutation (draw_order x id n) (range_with_len 0 n)
 
--- so at the replica numbers from 0 up to its number of items a uniform bucket picks each of its items once
+-- at the replica numbers from 0 up to its number of items a uniform bucket picks each of its items once
 abbrev pub UniformPicksEachOnce : Type 0
 UniformPicksEachOnce = (b : Bucket) (x : ℕ) → b.kind ≡ Uniform →
     IsPermutation (map (λ r. pick_of b x r) (range_with_len 0 (length b.items))) (map (λ i. i.id) b.items)

@@ -1,11 +1,11 @@
 -- Sets stored side by side: one more, another in the place of one, and what stands in a place.
-use Rattle.std.proofs.Common.{◌≡◌, ℕ, zero, suc, ◌+◌, ◌-◌, ◌*◌, ◌<◌, ◌≤◌, Bool, true, false, cond, not, nat_lt, ◌&&◌, Some, None, List, [], ◌∷◌, ◌++◌, map, length, get_or, take, drop, set, replicate, refl, ap, sym, ◌∙◌, add-one, arith, drop-drop}
+use Rattle.std.proofs.Common.{◌≡◌, ℕ, zero, suc, ◌+◌, ◌-◌, ◌*◌, ◌<◌, ◌≤◌, Bool, true, false, not, List, [], ◌∷◌, ◌++◌, map, length, get_or, take, drop, set, replicate, refl, ap, sym, ◌∙◌, add-one, arith, drop-drop}
 use mathlib.Core.Bool.{false≢true}
 use Rattle.std.specs.List.{list_all, suffix_len}
 use Rattle.std.proofs.lemmas.Nat.{mul-le}
 use Rattle.std.proofs.lemmas.List.Sums.{suffix_len_is}
 use Rattle.std.proofs.lemmas.List.Folds.{list_all-append, list_all_at}
-use Rattle.std.proofs.lemmas.List.{get_or-take, get_or-drop, get_or-replicate, length-append, length-drop, length-map, length-take-le, take-append-drop, take_at, drop_at, take-append-le, drop-append-le, drop-take, take-take, take_all, length-set, take_more_set, drop-set-lt, drop-replicate, take-replicate}
+use Rattle.std.proofs.lemmas.List.{get_or-take, get_or-drop, get_or-replicate, length-append, length-drop, length-map, length-take-le, take_at, drop_at, take-append-le, drop-append-le, drop-take, take-take, take_all, length-set, take_more_set, drop-set-lt, drop-replicate}
 use Rattle.maptypes.specs.Sets.{Places}
 use Rattle.grouptable.specs.Sets.{is_end, place_stored, set_stored, set_of}
 use Rattle.grouptable.specs.Stored.{IsPadded, AreSideBySide, sets_stored, overwritten}

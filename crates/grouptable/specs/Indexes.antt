@@ -25,6 +25,6 @@ IsIndexOf lists index = (osd : ℕ) → osd < length lists → list_in index osd
 abbrev pub IsPutInto : List (ℕ × List ℕ) → List (ℕ × List ℕ) → List (ℕ × List ℕ) → Type 0
 IsPutInto fresh old new = (osd : ℕ) → list_in new osd ≡ over (list_in fresh osd) (list_in old osd)
 
--- the same of the list of one OSD
+-- one fresh list is put into an index: its OSD has it, if it has a group, and the others have what they had
 abbrev pub IsOnePutInto : ℕ → List ℕ → List (ℕ × List ℕ) → List (ℕ × List ℕ) → Type 0
 IsOnePutInto osd list old new = (k : ℕ) → list_in new k ≡ over (cond (osd == k) (Some list) None) (list_in old k)

@@ -1,5 +1,5 @@
 -- How sets are stored: numbers side by side, as many for each set.
-use Rattle.std.specs.Prelude.{◌≡◌, ℕ, zero, suc, ◌+◌, ◌-◌, ◌*◌, ◌≤◌, Bool, true, not, ◌==◌, List, [], ◌∷◌, ◌++◌, take, drop, length, replicate}
+use Rattle.std.specs.Prelude.{◌≡◌, ℕ, zero, suc, ◌+◌, ◌-◌, ◌*◌, ◌≤◌, true, not, List, [], ◌∷◌, ◌++◌, take, drop, length, replicate}
 use Rattle.std.specs.List.{list_all}
 use Rattle.crush.specs.Limits.{max_size}
 use Rattle.mapparts.specs.Limits.{max_groups}
@@ -13,7 +13,7 @@ pub record IsPadded (len : ℕ) (places : List ℕ) : Type 0 where
   pub filled : list_all (λ n. not (is_end n)) (take len places) ≡ true
   pub behind : drop len places ≡ replicate (max_size - len) 65534
 
--- so many sets, each in `width` numbers
+-- the sets that a list of numbers stores, each in `width` of them
 abbrev pub sets_stored : ℕ → ℕ → List ℕ → List Places
 sets_stored width zero places = []
 sets_stored width (suc n) places = set_stored (take width places) ∷ sets_stored width n (drop width places)

@@ -59,12 +59,12 @@ impl OsdSet {
         requires small { IfSome place (λ osd. osd < max_devices) }
         ensures { self.new ≡ self.old ++ place ∷ [] }
     {
-        self.places[usize::from(self.len)] = stored_of(place);
+        self.places[usize::from(self.len)] = store_place(place);
         self.len += 1;
     }
 
     /// What is stored.
-    pub(crate) fn stored(&self) -> &[u16]
+    pub(crate) fn as_stored(&self) -> &[u16]
         ensures value { map place_stored result.now ≡ self.now }
     {
         &self.places[..usize::from(self.len)]
@@ -82,7 +82,7 @@ impl OsdSet {
 }
 
 /// What is stored for a place.
-fn stored_of(place: Option<u16>) -> u16
+fn store_place(place: Option<u16>) -> u16
     requires { IfSome place (λ osd. osd < max_devices) }
     ensures value { place_stored result ≡ place }
     ensures filled { is_end result ≡ false }
@@ -141,7 +141,7 @@ fn filled_len(row: &[u16]) -> usize
 }
 
 /// The places of a row before the ends behind them.
-pub(crate) fn filled(row: &[u16]) -> &[u16]
+pub(crate) fn filled_places(row: &[u16]) -> &[u16]
     ensures value { map place_stored result.now ≡ set_stored row.now }
     ensures few { length result.now ≤ length row.now }
 {

@@ -6,7 +6,7 @@ ghost use Rattle.mapparts.specs.Limits.{max_groups};
 ghost use Rattle.grouptable.specs.Sets.{place_stored, set_of};
 ghost use Rattle.grouptable.specs.Stored.{overwritten};
 
-use crate::osd_set::{OsdSet, filled};
+use crate::osd_set::{OsdSet, filled_places};
 use refusal::Memory;
 use std::alloc::Global;
 use std::marker::Model;
@@ -80,7 +80,7 @@ impl SetList {
         ensures value { map place_stored result.now ≡ set_of self.now.sets group }
         ensures few { length result.now ≤ max_size }
     {
-        filled(part(&self.places, group as usize * self.width, self.width))
+        filled_places(part(&self.places, group as usize * self.width, self.width))
     }
 
     /// Another set for a group.

@@ -8,7 +8,7 @@ digit_value c =
     else if nat_le 97 c && nat_le c 102 then Some (c - 87)
     else None
 
--- the same in a base
+-- the number that a byte stands for as a digit of a base
 unfoldable pub digit_of : ℕ → ℕ → Option ℕ
 digit_of base c = option_and_then (λ d. if nat_lt d base then Some d else None) (digit_value c)
 

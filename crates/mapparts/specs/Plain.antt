@@ -68,7 +68,7 @@ step_is_plain _ = true
 abbrev pub rules_are_plain : List RulePart → Bool
 rules_are_plain rules = has_between 0 plain_rules rules && list_all (λ r. list_all step_is_plain r.steps) rules
 
--- nor has a CRUSH map, where there is one
+-- a CRUSH map, where there is one, has buckets and rules as plain clusters do
 abbrev pub crush_is_plain : Option CrushParts → Bool
 crush_is_plain crush = option_map_or (λ c. buckets_are_plain c.buckets && rules_are_plain c.rules) crush true
 

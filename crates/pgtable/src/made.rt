@@ -19,11 +19,9 @@ fn position_of(pools: &[PoolTable], id: u32) -> Option<usize>
 }
 
 impl PgTable {
-    ghost use Rattle.std.specs.Prelude.{◌≡◌, true, slice_get, Some, false, is_some, IfOk, OnOk};
-    ghost use Rattle.osdmap.specs.Maps.{pool_at};
-    ghost use Rattle.osdmap.specs.Evals.{is_touched, evals_of};
-    ghost use Rattle.pgtable.specs.After.{map_after};
-    ghost use Rattle.pgtable.specs.Patches.{evals_in, MakesPool, LeadTables};
+    ghost use Rattle.std.specs.Prelude.{◌≡◌, true, slice_get, false, is_some, IfOk, OnOk};
+    ghost use Rattle.pgtable.specs.After.{map_after, HasPool, is_touched_by, pool_evals, change_evals};
+    ghost use Rattle.pgtable.specs.Patches.{MakesPool, LeadTables};
     ghost use Rattle.pgtable.specs.Tables.{IsTableOf, pool_in, RunsMore};
 
     /// The position of the pool of an id.
@@ -43,12 +41,11 @@ impl PgTable {
         work: &mut Work,
     ) -> Result<MadeTable, Memory>
         requires table { IsTableOf self.now update.now.before.now.map }
-        requires there { pool_at (map_after update.now).pools pool.now.id ≡ Some pool.now }
-        requires untouched { is_touched (map_after update.now) update.now.change.now pool.now ≡ false }
+        requires there { HasPool update.now pool.now }
+        requires untouched { is_touched_by update.now pool.now ≡ false }
         ensures made { IfOk result (λ r. MakesPool self.now.pools (map_after update.now) pool.now r.table r.kept) }
-        ensures evals { IfOk result (λ r. r.evals ≡ evals_in (map_after update.now) update.now.change.now pool.now) }
-        ensures runs { OnOk result (RunsMore (evals_in (map_after update.now) update.now.change.now pool.now)
-            work.old work.new) }
+        ensures evals { IfOk result (λ r. r.evals ≡ pool_evals update.now pool.now) }
+        ensures runs { OnOk result (RunsMore (pool_evals update.now pool.now) work.old work.new) }
     {
         update.holds();
         let at = self.position(pool.id());
@@ -72,11 +69,10 @@ impl PgTable {
         work: &mut Work,
     ) -> Result<MadeTable, Memory>
         requires table { IsTableOf self.now update.now.before.now.map }
-        requires there { pool_at (map_after update.now).pools pool.now.id ≡ Some pool.now }
+        requires there { HasPool update.now pool.now }
         ensures made { IfOk result (λ r. MakesPool self.now.pools (map_after update.now) pool.now r.table r.kept) }
-        ensures evals { IfOk result (λ r. r.evals ≡ evals_in (map_after update.now) update.now.change.now pool.now) }
-        ensures runs { OnOk result (RunsMore (evals_in (map_after update.now) update.now.change.now pool.now)
-            work.old work.new) }
+        ensures evals { IfOk result (λ r. r.evals ≡ pool_evals update.now pool.now) }
+        ensures runs { OnOk result (RunsMore (pool_evals update.now pool.now) work.old work.new) }
     {
         if update.is_touched(pool) {
             let table = PoolTable::of(alloc, update.teller, *pool, work)?;
@@ -98,9 +94,8 @@ impl PgTable {
     ) -> Result<MadeTables, Memory>
         requires { IsTableOf self.now update.now.before.now.map }
         ensures lead { IfOk result (λ r. LeadTables (map_after update.now) self.now r.brought) }
-        ensures evals { IfOk result (λ r. r.evals ≡ evals_of (map_after update.now) update.now.change.now) }
-        ensures runs { OnOk result (RunsMore (evals_of (map_after update.now) update.now.change.now)
-            work.old work.new) }
+        ensures evals { IfOk result (λ r. r.evals ≡ change_evals update.now) }
+        ensures runs { OnOk result (RunsMore (change_evals update.now) work.old work.new) }
     {
         update.holds();
         let _ = work.runs();
@@ -129,9 +124,8 @@ impl PgTable {
         requires table { IsTableOf self.now update.now.before.now.map }
         requires before { update.now.is_made ≡ false }
         ensures lead { IfOk result (λ r. LeadTables (map_after update.now) self.now r.brought) }
-        ensures evals { IfOk result (λ r. r.evals ≡ evals_of (map_after update.now) update.now.change.now) }
-        ensures runs { OnOk result (RunsMore (evals_of (map_after update.now) update.now.change.now)
-            work.old work.new) }
+        ensures evals { IfOk result (λ r. r.evals ≡ change_evals update.now) }
+        ensures runs { OnOk result (RunsMore (change_evals update.now) work.old work.new) }
     {
         update.holds();
         let _ = work.runs();
@@ -158,9 +152,8 @@ impl PgTable {
     ) -> Result<MadeTables, Memory>
         requires { IsTableOf self.now update.now.before.now.map }
         ensures lead { IfOk result (λ r. LeadTables (map_after update.now) self.now r.brought) }
-        ensures evals { IfOk result (λ r. r.evals ≡ evals_of (map_after update.now) update.now.change.now) }
-        ensures runs { OnOk result (RunsMore (evals_of (map_after update.now) update.now.change.now)
-            work.old work.new) }
+        ensures evals { IfOk result (λ r. r.evals ≡ change_evals update.now) }
+        ensures runs { OnOk result (RunsMore (change_evals update.now) work.old work.new) }
     {
         if update.is_made {
             self.make_tables(alloc, update, work)

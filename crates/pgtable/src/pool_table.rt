@@ -49,7 +49,7 @@ impl PoolTable {
     {
         PoolTable {
             pool,
-            groups: GroupTable::nothing(alloc, usize::from(pool.size())),
+            groups: GroupTable::empty(alloc, usize::from(pool.size())),
         }
     }
 

@@ -43,15 +43,14 @@ fn said_after<'a, E: Blank>(
 impl Update<'_> {
     ghost use Rattle.std.specs.Prelude.{◌≡◌, ◌<◌, true, false, length, Some, IfOk, OnOk, All};
     ghost use Rattle.osdmap.specs.Maps.{pool_at};
-    ghost use Rattle.osdmap.specs.Evals.{is_touched};
     ghost use Rattle.osdmap.specs.Placement.{mapped_set, RunsOnce};
-    ghost use Rattle.pgtable.specs.After.{map_after};
-    ghost use Rattle.pgtable.specs.Patches.{with_sets, evals_in, LeadGroups};
+    ghost use Rattle.pgtable.specs.After.{map_after, HasPool, is_touched_by, pool_evals};
+    ghost use Rattle.pgtable.specs.Patches.{with_sets, LeadGroups};
     ghost use Rattle.pgtable.specs.Tables.{pool_table, RunsMore};
 
     /// The mapped set of a group of a pool by the map after the change; or `Memory` (30).
     fn set_by_after(&self, pool: &Pool, number: u32, work: &mut Work) -> Result<OsdSet, Memory>
-        requires there { pool_at (map_after self.now).pools pool.now.id ≡ Some pool.now }
+        requires there { HasPool self.now pool.now }
         requires made { self.now.is_made ≡ true }
         ensures set { IfOk result (λ set. set ≡ mapped_set (map_after self.now) pool.now number) }
         ensures run { RunsOnce work.old work.new result }
@@ -63,7 +62,7 @@ impl Update<'_> {
 
     /// A pool of the map after the change is one of the map before it, where that tells: for proofs alone.
     fn had_pool(&self, pool: &Pool)
-        requires there { pool_at (map_after self.now).pools pool.now.id ≡ Some pool.now }
+        requires there { HasPool self.now pool.now }
         requires before { self.now.is_made ≡ false }
         ensures { pool_at self.now.before.now.map.pools pool.now.id ≡ Some pool.now }
     {
@@ -74,7 +73,7 @@ impl Update<'_> {
     /// The mapped set of a group of a pool after the change, by the map before it: its raw set there under what the
     /// change makes of its exceptions; or `Memory` (30).
     fn set_by_before(&self, pool: &Pool, number: u32, work: &mut Work) -> Result<OsdSet, Memory>
-        requires there { pool_at (map_after self.now).pools pool.now.id ≡ Some pool.now }
+        requires there { HasPool self.now pool.now }
         requires inside { number < pool.now.pg_num }
         requires before { self.now.is_made ≡ false }
         ensures set { IfOk result (λ set. set ≡ mapped_set (map_after self.now) pool.now number) }
@@ -101,7 +100,7 @@ impl Update<'_> {
 
     /// The mapped set of a group of a pool after the change, by one run of the pool's rule; or `Memory` (30).
     fn set(&self, pool: &Pool, number: u32, work: &mut Work) -> Result<OsdSet, Memory>
-        requires there { pool_at (map_after self.now).pools pool.now.id ≡ Some pool.now }
+        requires there { HasPool self.now pool.now }
         requires inside { number < pool.now.pg_num }
         ensures set { IfOk result (λ set. set ≡ mapped_set (map_after self.now) pool.now number) }
         ensures run { RunsOnce work.old work.new result }
@@ -122,7 +121,7 @@ impl Update<'_> {
         numbers: &[u32],
         work: &mut Work,
     ) -> Result<Vec<(u32, OsdSet)>, Memory>
-        requires there { pool_at (map_after self.now).pools pool.now.id ≡ Some pool.now }
+        requires there { HasPool self.now pool.now }
         requires inside { All (λ number. number < pool.now.pg_num) numbers.now }
         ensures changes { IfOk result (λ changes. changes.items ≡ with_sets (map_after self.now) pool.now numbers.now) }
         ensures runs { OnOk result (RunsMore (length numbers.now) work.old work.new) }
@@ -145,12 +144,11 @@ impl Update<'_> {
         work: &mut Work,
     ) -> Result<PatchedGroups, Memory>
         requires groups { groups.now ≡ (pool_table self.now.before.now.map pool.now).groups }
-        requires there { pool_at (map_after self.now).pools pool.now.id ≡ Some pool.now }
-        requires untouched { is_touched (map_after self.now) self.now.change.now pool.now ≡ false }
+        requires there { HasPool self.now pool.now }
+        requires untouched { is_touched_by self.now pool.now ≡ false }
         ensures lead { IfOk result (λ r. LeadGroups (map_after self.now) pool.now groups.now r.patch) }
-        ensures evals { IfOk result (λ r. r.evals ≡ evals_in (map_after self.now) self.now.change.now pool.now) }
-        ensures runs { OnOk result (RunsMore (evals_in (map_after self.now) self.now.change.now pool.now)
-            work.old work.new) }
+        ensures evals { IfOk result (λ r. r.evals ≡ pool_evals self.now pool.now) }
+        ensures runs { OnOk result (RunsMore (pool_evals self.now pool.now) work.old work.new) }
     {
         self.holds();
         if self.is_idle() {

@@ -91,8 +91,7 @@ impl<'a> Update<'a> {
 
 impl Update<'_> {
     ghost use Rattle.std.specs.Prelude.{◌≡◌, true};
-    ghost use Rattle.osdmap.specs.Evals.{is_touched};
-    ghost use Rattle.pgtable.specs.After.{map_after};
+    ghost use Rattle.pgtable.specs.After.{map_after, is_touched_by};
     ghost use Rattle.pgtable.specs.Candidates.{IsCandidates};
     ghost use Rattle.pgtable.specs.Patches.{LeadsFrom, IsToldBy, is_empty};
 
@@ -114,7 +113,7 @@ impl Update<'_> {
 
     /// Whether all groups of a pool of the map after the change may be placed otherwise. Then that map tells.
     pub fn is_touched(&self, pool: &Pool) -> bool
-        ensures value { result ≡ is_touched (map_after self.now) self.now.change.now pool.now }
+        ensures value { result ≡ is_touched_by self.now pool.now }
         ensures made { result ≡ true → self.now.teller.now.map ≡ map_after self.now }
     {
         self.holds();

@@ -12,7 +12,8 @@ pub record WasThere (m other : ClusterMap) (p : PoolFacts) (n : ℕ) : Type 0 wh
   pub pool : pool_at m.pools p.id ≡ Some p
   pub mapped : mapped_set m p n ≡ mapped_set other p n
 
--- so is each group of the map after a change that is not among the evaluations of the change
+-- each group of the map after a change that is not among the evaluations of the change was there before it, with the
+-- mapped set that it has
 abbrev pub OthersStay : Type 0
 OthersStay =
     (m : ClusterMap) (step : Step) (p : PoolFacts) (n : ℕ) → HoldsTogether m → change_fault m step.change ≡ None →

@@ -1,4 +1,4 @@
-use Rattle.std.proofs.Common.{ℕ, List, [], ◌∙◌, arith}
+use Rattle.std.proofs.Common.{ℕ, List, [], arith}
 use Rattle.std.proofs.lemmas.List.{length-replicate}
 use Rattle.grouptable.proofs.Listing.{none_replicated}
 use Rattle.grouptable.proofs.build.empty_lists.Goals as goal

@@ -1,4 +1,4 @@
-use Rattle.std.proofs.Common.{◌≡◌, ℕ, ap, sym, length, arith, ◌∙◌}
+use Rattle.std.proofs.Common.{ap, length, arith}
 use Rattle.grouptable.proofs.Stored.{push_filled, filled_len}
 use Rattle.grouptable.proofs.osd_set.OsdSet.push.Goals as goal
 
@@ -6,4 +6,4 @@ pub invariant_of-self : goal.invariant_of-self
 invariant_of-self c =
     let len = filled_len c.self.inside.len c.self.inside.places c.self.invariant in
     let long = ap length c.self.view_is in
-    rw c.from.ensures (push_filled c.self.inside.len c.self.inside.places c.stored_of.result c.self.invariant (omega (arith, len, long, c.requires.room)) c.stored_of.ensures.filled)
+    rw c.from.ensures (push_filled c.self.inside.len c.self.inside.places c.store_place.result c.self.invariant (omega (arith, len, long, c.requires.room)) c.store_place.ensures.filled)

@@ -1,4 +1,4 @@
-use Rattle.std.proofs.Common.{◌≡◌, length, ap, sym, ◌∙◌, ◌+◌, ◌*◌, arith}
+use Rattle.std.proofs.Common.{◌≡◌, length, ap, ◌∙◌, ◌+◌, ◌*◌, arith}
 use Rattle.std.proofs.lemmas.List.{length-append}
 use Rattle.grouptable.specs.Sets.{GroupSets}
 use Rattle.grouptable.proofs.Stored.{sets_count, set_pushed}

@@ -1,5 +1,4 @@
-use Rattle.std.proofs.Common.{◌*◌, length, ap, ◌∙◌, sym, arith}
-use Rattle.grouptable.specs.Sets.{GroupSets}
+use Rattle.std.proofs.Common.{◌*◌, length, ap, ◌∙◌, arith}
 use Rattle.grouptable.proofs.Stored.{length_written, set_within, set_replaced}
 use Rattle.grouptable.proofs.set_list.SetList.put.Goals as goal
 

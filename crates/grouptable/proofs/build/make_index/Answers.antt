@@ -1,5 +1,5 @@
 use Rattle.grouptable.proofs.Listing.{indexes_all}
-use Rattle.grouptable.proofs.build.indexed.Goals as goal
+use Rattle.grouptable.proofs.build.make_index.Goals as goal
 
 pub returns : goal.returns
 returns c = record {

@@ -1,7 +1,7 @@
 use Rattle.std.proofs.Common.{◌≡◌, ◌-◌, length, map, take, ap, arith}
 use Rattle.std.specs.List.{suffix_len}
 use Rattle.grouptable.specs.Sets.{is_end, place_stored}
-use Rattle.grouptable.proofs.osd_set.filled.Goals as goal
+use Rattle.grouptable.proofs.osd_set.filled_places.Goals as goal
 
 pub returns-clause-value : goal.returns-clause-value
 returns-clause-value c =
