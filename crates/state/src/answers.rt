@@ -12,6 +12,11 @@ impl State {
     ghost use Rattle.pgtable.specs.Index.{up_at};
     ghost use Rattle.state.specs.Answers.{osd_fault, FindsUp, FindsCount, FindsGroups};
 
+    /// Where the state takes memory.
+    pub fn alloc(&self) -> Global {
+        self.alloc
+    }
+
     /// The epoch and the up set of a group. It takes no memory.
     ///
     /// # Errors
