@@ -1,8 +1,7 @@
 -- One history: what a member has seen before a call and after it, and what the call answers by that.
-use Rattle.std.specs.Prelude.{◌≡◌, ◌⊎◌, ℕ, ◌+◌, List, [], ◌∷◌, ◌++◌, length, None, Result, Ok, Err, MatchResult}
+use Rattle.std.specs.Prelude.{◌≡◌, ◌⊎◌, ℕ, ◌+◌, List, [], ◌∷◌, ◌++◌, length, None, Result, Err, MatchResult}
 use Rattle.refusal.specs.declared.refused.Refusal.{Refusal}
 use Rattle.refusal.specs.declared.refused.Refusal.TheVariants.{SeatSpent}
-use Rattle.refusal.specs.Outcomes.{Gives}
 use Rattle.maptypes.specs.declared.change.ChangeParts.{ChangeParts}
 use Rattle.maptypes.specs.Incrementals.{Step}
 use Rattle.osdmap.specs.Maps.{ClusterMap}
@@ -11,7 +10,6 @@ use Rattle.osdmap.specs.Changes.{after, IsLawful, epoch_after}
 use Rattle.epochlog.specs.Epochs.{Begins}
 use Rattle.state.specs.declared.state.Commit.{Commit}
 use Rattle.state.specs.States.{commit_fault, IsRefusedBy}
-use Rattle.mapjson.specs.Written.{written}
 
 -- a history goes on: the one before begins it, and it is lawful from the first map
 pub record GoesOn (first : ClusterMap) (before now : List Step) : Type 0 where
@@ -23,14 +21,6 @@ pub record GoesOn (first : ClusterMap) (before now : List Step) : Type 0 where
 abbrev pub Looks : {X : Type 0} → ClusterMap → List Step → List Step → (ClusterMap → Result X Refusal → Type 0)
     → Result X Refusal → Type 0
 Looks first before now finds r = GoesOn first before now × ((r ≡ Err SeatSpent) ⊎ finds (after first now) r)
-
--- the epoch
-abbrev pub FindsEpoch : ClusterMap → Result ℕ Refusal → Type 0
-FindsEpoch m r = r ≡ Ok m.epoch
-
--- the written form of the map, in a list of any form
-abbrev pub FindsText : {X : Type 0} → (X → List ℕ) → ClusterMap → Result X Refusal → Type 0
-FindsText listed m r = Gives r None (λ text. listed text ≡ written m)
 
 -- a change is committed: to the map after some history, which goes on from the one before; the history now is that one
 -- with the incremental at its end

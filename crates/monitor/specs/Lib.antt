@@ -5,3 +5,4 @@ pub mod Looking
 pub mod Followers
 pub mod Balances
 pub mod Sharing
+pub mod Questions

@@ -1,6 +1,8 @@
 -- What callers see of a monitor, who its members are, and what a member that holds its lock knows.
-use Rattle.std.specs.Prelude.{◌≡◌, ◌⊎◌, ℕ, ◌+◌, Bool, true, [], IsSomeAnd, option_and_then, option_map, unwrap_or}
+use Rattle.std.specs.Prelude.{◌≡◌, ◌⊎◌, ℕ, ◌+◌, Bool, true, [], IsSomeAnd, option_and_then, option_map, unwrap_or, Result, Err, IfErr}
 use Rattle.std.specs.Option.{option_map_or}
+use Rattle.refusal.specs.declared.refused.Refusal.{Refusal}
+use Rattle.refusal.specs.declared.refused.Refusal.TheVariants.{SeatSpent}
 use Rattle.ticketlock.specs.declared.table.Words.{Words}
 use Rattle.ticketlock.specs.declared.read_guard.ReadGuard.{ReadGuard}
 use Rattle.ticketlock.specs.declared.write_guard.WriteGuard.{WriteGuard}
@@ -79,6 +81,14 @@ DrawsOnce monitor before after =
 -- a member that has none beside it sees no more than before
 abbrev pub StaysAlone : Monitored → Seen → Seen → Type 0
 StaysAlone monitor before now = monitor.alone ≡ true → now ≡ before
+
+-- a member has taken a turn at the lock for a call, or was refused as its seat has made its draws, and else never for
+-- that: it is still one of this monitor, and a turn of one that has seen nothing is one draw
+pub record TakesTurn {X : Type 0} (monitor : Monitored) (before after : Member) (r : Result X Refusal) : Type 0 where
+  pub member : IsMemberOf monitor after
+  pub spent : IfErr r (λ e. e ≡ SeatSpent → IsSpent monitor after)
+  pub refused : IsSpent monitor before → r ≡ Err SeatSpent
+  pub once : DrawsOnce monitor before after
 
 -- ---- who holds the lock
 

@@ -1,152 +1,22 @@
-//! What a member asks of its monitor, and what it commits.
+//! What a member commits to its monitor.
 
 use crate::locked::{balance, commit};
 use crate::member::Member;
 use crate::monitor::Monitor;
 use balancer::Request;
 use keeping::Keeps;
-use mapjson::write_map;
-use maptypes::{Change, Pg, UpSet};
+use maptypes::Change;
 use refusal::Refusal;
 use state::{Balance, Commit, State};
-use std::alloc::Global;
 use std::sync::Wait;
 
 impl<K: Keeps + Drop> Monitor<K> {
-    ghost use Rattle.std.specs.Prelude.{◌≡◌, true, length, Err, IfOk, IfErr};
-    ghost use Rattle.std.specs.Str.{IsUtf8};
-    ghost use Rattle.refusal.specs.declared.refused.Refusal.TheVariants.{SeatSpent, NotStored};
+    ghost use Rattle.std.specs.Prelude.{◌≡◌, true, length, IfErr};
+    ghost use Rattle.refusal.specs.declared.refused.Refusal.TheVariants.{NotStored};
     ghost use Rattle.balancer.specs.Requests.{asked_aim};
-    ghost use Rattle.state.specs.Answers.{FindsUp, FindsCount, FindsGroups};
-    ghost use Rattle.monitor.specs.Histories.{Looks, FindsEpoch, FindsText, AnswersCommit, AddsChange};
+    ghost use Rattle.monitor.specs.Histories.{AnswersCommit, AddsChange};
     ghost use Rattle.monitor.specs.Balances.{AnswersBalance, AddsPlan};
-    ghost use Rattle.monitor.specs.Members.{IsMemberOf, IsSpent, DrawsOnce, StaysAlone};
-
-    /// The epoch and the up set of a group. It takes no memory. Members share the lock.
-    ///
-    /// # Errors
-    ///
-    /// `SeatSpent` (31) once the member's seat has made its draws, and only then; else `UnknownPool` (23) where the map
-    /// has no such pool; else `UnknownGroup` (25) where the pool has no such group.
-    pub fn up<R: Wait>(&self, rt: &R, member: &mut Member, pg: Pg) -> Result<(u64, UpSet), Refusal>
-        requires { IsMemberOf self.now member.old }
-        ensures member { IsMemberOf self.now member.new }
-        ensures looks { Looks self.now.first member.old.pass.history member.new.pass.history
-            (λ m. FindsUp m pg) result }
-        ensures spent { IfErr result (λ e. e ≡ SeatSpent → IsSpent self.now member.new) }
-        ensures refused { IsSpent self.now member.old → result ≡ Err SeatSpent }
-        ensures once { DrawsOnce self.now member.old member.new }
-        ensures alone { StaysAlone self.now member.old.pass member.new.pass }
-    {
-        let shared = self.share(rt, member)?;
-        let answer = self.shown(&shared, member).answer_up(pg);
-        self.give_back(shared, member);
-        answer
-    }
-
-    /// The epoch, and in how many groups' up sets an OSD stands. It takes no memory. Members share the lock.
-    ///
-    /// # Errors
-    ///
-    /// `SeatSpent` (31) once the member's seat has made its draws, and only then; else `UnknownOsd` (21) where the OSD
-    /// does not exist.
-    pub fn count<R: Wait>(
-        &self,
-        rt: &R,
-        member: &mut Member,
-        osd: u32,
-    ) -> Result<(u64, usize), Refusal>
-        requires { IsMemberOf self.now member.old }
-        ensures member { IsMemberOf self.now member.new }
-        ensures looks { Looks self.now.first member.old.pass.history member.new.pass.history
-            (λ m. FindsCount m osd) result }
-        ensures spent { IfErr result (λ e. e ≡ SeatSpent → IsSpent self.now member.new) }
-        ensures refused { IsSpent self.now member.old → result ≡ Err SeatSpent }
-        ensures once { DrawsOnce self.now member.old member.new }
-        ensures alone { StaysAlone self.now member.old.pass member.new.pass }
-    {
-        let shared = self.share(rt, member)?;
-        let answer = self.shown(&shared, member).answer_count(osd);
-        self.give_back(shared, member);
-        answer
-    }
-
-    /// The epoch, and the groups in whose up set an OSD stands, by pool upwards, then by number. Members share the
-    /// lock.
-    ///
-    /// # Errors
-    ///
-    /// `SeatSpent` (31) once the member's seat has made its draws, and only then; else `UnknownOsd` (21) where the OSD
-    /// does not exist; else `Memory` (30) where there is no memory for it.
-    pub fn groups<R: Wait>(
-        &self,
-        rt: &R,
-        alloc: Global,
-        member: &mut Member,
-        osd: u32,
-    ) -> Result<(u64, Vec<Pg>), Refusal>
-        requires { IsMemberOf self.now member.old }
-        ensures member { IsMemberOf self.now member.new }
-        ensures looks { Looks self.now.first member.old.pass.history member.new.pass.history
-            (λ m. FindsGroups (λ groups. groups.items) m osd) result }
-        ensures spent { IfErr result (λ e. e ≡ SeatSpent → IsSpent self.now member.new) }
-        ensures refused { IsSpent self.now member.old → result ≡ Err SeatSpent }
-        ensures once { DrawsOnce self.now member.old member.new }
-        ensures alone { StaysAlone self.now member.old.pass member.new.pass }
-    {
-        let shared = self.share(rt, member)?;
-        let answer = self.shown(&shared, member).answer_groups(alloc, osd);
-        self.give_back(shared, member);
-        answer
-    }
-
-    /// The epoch. It takes no memory. Members share the lock.
-    ///
-    /// # Errors
-    ///
-    /// `SeatSpent` (31) once the member's seat has made its draws, and only then.
-    pub fn epoch<R: Wait>(&self, rt: &R, member: &mut Member) -> Result<u64, Refusal>
-        requires { IsMemberOf self.now member.old }
-        ensures member { IsMemberOf self.now member.new }
-        ensures looks { Looks self.now.first member.old.pass.history member.new.pass.history FindsEpoch result }
-        ensures spent { IfErr result (λ e. e ≡ SeatSpent → IsSpent self.now member.new) }
-        ensures refused { IsSpent self.now member.old → result ≡ Err SeatSpent }
-        ensures once { DrawsOnce self.now member.old member.new }
-        ensures alone { StaysAlone self.now member.old.pass member.new.pass }
-    {
-        let shared = self.share(rt, member)?;
-        let epoch = self.shown(&shared, member).map().epoch();
-        self.give_back(shared, member);
-        Ok(epoch)
-    }
-
-    /// The text of the map, as `mapjson::write_map` writes it. Members share the lock.
-    ///
-    /// # Errors
-    ///
-    /// `SeatSpent` (31) once the member's seat has made its draws, and only then; else `Memory` (30) where there is no
-    /// memory for it.
-    pub fn dump<R: Wait>(
-        &self,
-        rt: &R,
-        alloc: Global,
-        member: &mut Member,
-    ) -> Result<Vec<u8>, Refusal>
-        requires { IsMemberOf self.now member.old }
-        ensures member { IsMemberOf self.now member.new }
-        ensures looks { Looks self.now.first member.old.pass.history member.new.pass.history
-            (FindsText (λ text. text.items)) result }
-        ensures utf8 { IfOk result (λ text. IsUtf8 text.items) }
-        ensures spent { IfErr result (λ e. e ≡ SeatSpent → IsSpent self.now member.new) }
-        ensures refused { IsSpent self.now member.old → result ≡ Err SeatSpent }
-        ensures once { DrawsOnce self.now member.old member.new }
-        ensures alone { StaysAlone self.now member.old.pass member.new.pass }
-    {
-        let shared = self.share(rt, member)?;
-        let text = write_map(alloc, self.shown(&shared, member).map());
-        self.give_back(shared, member);
-        Ok(text?)
-    }
+    ghost use Rattle.monitor.specs.Members.{IsMemberOf, TakesTurn};
 
     /// Commits a change to the map of the epoch `base`: the new epoch, and for how many groups a rule was run, which
     /// are those whose placement it can alter. The member has the lock alone.
@@ -166,13 +36,10 @@ impl<K: Keeps + Drop> Monitor<K> {
         change: Change,
     ) -> Result<Commit, Refusal>
         requires { IsMemberOf self.now member.old }
-        ensures member { IsMemberOf self.now member.new }
+        ensures turn { TakesTurn self.now member.old member.new result }
         ensures commits { AnswersCommit self.now.first (length self.now.row.cells)
             member.old.pass.history member.new.pass.history base change result }
-        ensures spent { IfErr result (λ e. e ≡ SeatSpent → IsSpent self.now member.new) }
-        ensures refused { IsSpent self.now member.old → result ≡ Err SeatSpent }
         ensures stored { IfErr result (λ e. e ≡ NotStored → K.may_fail) }
-        ensures once { DrawsOnce self.now member.old member.new }
         ensures alone { self.now.alone ≡ true →
             AddsChange member.old.pass.history member.new.pass.history change result }
     {
@@ -200,14 +67,11 @@ impl<K: Keeps + Drop> Monitor<K> {
         request: Request<'_>,
     ) -> Result<Balance, Refusal>
         requires { IsMemberOf self.now member.old }
-        ensures member { IsMemberOf self.now member.new }
+        ensures turn { TakesTurn self.now member.old member.new result }
         ensures balances { AnswersBalance self.now.first
             (length self.now.row.cells) member.old.pass.history member.new.pass.history
             request.entry.pool (asked_aim request.entry) request.entry.limit result }
-        ensures spent { IfErr result (λ e. e ≡ SeatSpent → IsSpent self.now member.new) }
-        ensures refused { IsSpent self.now member.old → result ≡ Err SeatSpent }
         ensures stored { IfErr result (λ e. e ≡ NotStored → K.may_fail) }
-        ensures once { DrawsOnce self.now member.old member.new }
         ensures alone { self.now.alone ≡ true →
             AddsPlan self.now.first member.old.pass.history member.new.pass.history
             request.entry.pool (asked_aim request.entry) request.entry.limit result }

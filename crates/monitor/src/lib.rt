@@ -3,12 +3,14 @@
 //! one history, which goes on from all that the caller has seen.
 //!
 //! - `monitor`, `open`: a monitor, and how one is opened
-//! - `member`, `calls`: who asks a monitor, and what each call answers
+//! - `member`, `question`, `asking`: who asks a monitor, what is asked, and how it is answered
+//! - `calls`: what a member commits
 //! - `turns`, `locked`: a member's turns at the lock, and what lies under it
 //! - `shared`, `look`: holds of the lock that members share
 //! - `follower`: who reads the row of sealed epochs without the lock
 #![tactic(auto)]
 
+mod asking;
 mod calls;
 mod follower;
 mod locked;
@@ -16,6 +18,7 @@ mod look;
 mod member;
 mod monitor;
 mod open;
+mod question;
 mod shared;
 mod turns;
 
@@ -26,5 +29,6 @@ pub use look::Look;
 pub use member::Member;
 pub use monitor::Monitor;
 pub use open::Limits;
+pub use question::{Answer, Question};
 pub use shared::Shared;
 pub use state::{Balance, Commit, State};

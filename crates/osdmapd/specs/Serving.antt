@@ -14,7 +14,7 @@ use Rattle.session.specs.Answers.{Sight, session_with}
 use Rattle.session.specs.Transcripts.{IsTranscript}
 use Rattle.session.specs.Sinks.{HasPut}
 use Rattle.osdmapd.specs.Pairs.{Pairs}
-use Rattle.session.specs.Buffers.{buffered}
+use Rattle.session.specs.Buffers.{bytes_of}
 use Rattle.osdmapd.specs.declared.playing.Left.{Left}
 use Rattle.osdmapd.specs.declared.part.Part.{Part}
 use Rattle.osdmapd.specs.declared.part.Part.TheVariants.{Script, Live}
@@ -63,7 +63,7 @@ IsLeftOf first journal profile alone number (Live source target) left seen = lef
 
 -- what is to be put out of what is left
 abbrev pub text_left : Left → List ℕ
-text_left left = buffered left.text
+text_left left = bytes_of left.text
 
 -- what is left, without its member
 abbrev pub facts_left : Left → LeftFacts

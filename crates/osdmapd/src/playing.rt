@@ -2,7 +2,7 @@
 ghost use Rattle.std.specs.Prelude.{◌≡◌, ◌≢◌, ◌+◌, ◌++◌, ℕ, List, false, All, OnOk, IfOk, IfErr, IfSome, MatchOption, length, vec_len};
 ghost use Rattle.epochlog.specs.Epochs.{Begins};
 ghost use Rattle.monitor.specs.Members.{IsMemberOf, IsNewMemberOf, IsPassOf};
-ghost use Rattle.session.specs.Buffers.{buffered, is_short};
+ghost use Rattle.session.specs.Buffers.{bytes_of, is_short};
 ghost use Rattle.session.specs.Ends.{has_sink_failed};
 ghost use Rattle.osdmapd.specs.Pairs.{Pairs};
 ghost use Rattle.osdmapd.specs.Serving.{heading, seen_left, IsTextBy, IsLeftBy, AreLeftBy};
@@ -52,7 +52,7 @@ type Player<'a> = PromisedHandle<Result<Left, Memory>, LeftOf<'a>>;
 
 /// A text that begins with the heading of the session of a number. `None` where memory is short.
 fn headed(alloc: Global, number: usize) -> Option<Buffer>
-    ensures heading { IfSome result (λ text. buffered text ≡ heading number) }
+    ensures heading { IfSome result (λ text. bytes_of text ≡ heading number) }
     ensures whole { IfSome result (λ text. is_short text ≡ false) }
 {
     let mut text = Buffer::new(alloc);
@@ -71,7 +71,7 @@ fn play_script<R: Wait>(
     requires { IsNewMemberOf desk.now.monitor.now member.old }
     ensures member { IsMemberOf desk.now.monitor.now member.new }
     ensures text { IfSome result (λ text.
-        IsTextBy desk.now.monitor.now number script.now (buffered text) member.new.pass.history) }
+        IsTextBy desk.now.monitor.now number script.now (bytes_of text) member.new.pass.history) }
 {
     let mut text = headed(desk.alloc, number)?;
     match desk.run(member, script, &mut text) {

@@ -213,7 +213,7 @@ fn nine<R: Wait + Threads + Sync>(
             requires { IsMemberOf monitor.now members.0 × IsMemberOf monitor.now members.1 }
         {
             let (mut one, _) = race(rt, alloc, monitor, members, (STATES, SHAPES))?;
-            monitor.dump(rt, alloc, &mut one).ok()
+            monitor.dump(rt, &mut one).ok()
         },
         move || -> Option<Vec<u8>> { followed(alloc, monitor, 10) },
     );

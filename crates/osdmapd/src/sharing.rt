@@ -19,16 +19,16 @@ use std::thread;
 use std::thread::Threads;
 
 /// How many of the five questions a member is answered.
-fn answered<R: Wait>(rt: &R, alloc: Global, monitor: &Monitor, member: Member) -> u32
+fn answered<R: Wait>(rt: &R, monitor: &Monitor, member: Member) -> u32
     requires { IsMemberOf monitor.now member }
 {
     let mut member = member;
     let pg = Pg { pool: 1, number: 0 };
     let up = monitor.up(rt, &mut member, pg).is_ok();
     let count = monitor.count(rt, &mut member, 0).is_ok();
-    let groups = monitor.groups(rt, alloc, &mut member, 0).is_ok();
+    let groups = monitor.groups(rt, &mut member, 0).is_ok();
     let epoch = monitor.epoch(rt, &mut member).is_ok();
-    let dump = monitor.dump(rt, alloc, &mut member).is_ok();
+    let dump = monitor.dump(rt, &mut member).is_ok();
     u32::from(up) + u32::from(count) + u32::from(groups) + u32::from(epoch) + u32::from(dump)
 }
 
@@ -72,7 +72,6 @@ fn holds_a_look<R: Wait>(rt: &R, monitor: &Monitor, member: Member, signs: Signs
 /// How many of the five questions a member is answered once a look is held.
 fn answered_then<R: Wait>(
     rt: &R,
-    alloc: Global,
     monitor: &Monitor,
     member: Member,
     signs: Signs<'_>,
@@ -80,7 +79,7 @@ fn answered_then<R: Wait>(
     requires { IsMemberOf monitor.now member }
 {
     let is_held = is_given(signs.held);
-    let answers = answered(rt, alloc, monitor, member);
+    let answers = answered(rt, monitor, member);
     signs.done.store(1, Ordering::SeqCst);
     if is_held { Some(answers) } else { None }
 }
@@ -89,7 +88,6 @@ fn answered_then<R: Wait>(
 /// the look was not held until then.
 fn answered_beside<R: Wait + Threads + Sync>(
     rt: &R,
-    alloc: Global,
     monitor: &Monitor,
     one: Member,
     other: Member,
@@ -106,7 +104,7 @@ fn answered_beside<R: Wait + Threads + Sync>(
         { holds_a_look(rt, monitor, one, Signs { held, done }) },
         move ||
             requires { IsMemberOf monitor.now other }
-        { answered_then(rt, alloc, monitor, other, Signs { held, done }) },
+        { answered_then(rt, monitor, other, Signs { held, done }) },
     );
     if lasted { answers } else { None }
 }
@@ -114,7 +112,7 @@ fn answered_beside<R: Wait + Threads + Sync>(
 /// How many are answered beside a look at a new monitor.
 fn answered_by<R: Wait + Threads + Sync>(rt: &R, alloc: Global) -> Option<u32> {
     let (monitor, one, other) = opened(alloc, FOUR_DEVICES, 1024)?;
-    answered_beside(rt, alloc, &monitor, one, other)
+    answered_beside(rt, &monitor, one, other)
 }
 
 /// A question that took its turn to write would wait for the look, which is left after a while.
@@ -134,7 +132,7 @@ fn drew_once(monitor: &Monitor, member: &Member, left: &mut u64) -> bool
 }
 
 /// Whether each of the five questions of a member draws once.
-fn ask_once<R: Wait>(rt: &R, alloc: Global, monitor: &Monitor, member: &mut Member) -> bool
+fn ask_once<R: Wait>(rt: &R, monitor: &Monitor, member: &mut Member) -> bool
     requires { IsMemberOf monitor.now member.old }
     ensures { IsMemberOf monitor.now member.new }
 {
@@ -144,11 +142,11 @@ fn ask_once<R: Wait>(rt: &R, alloc: Global, monitor: &Monitor, member: &mut Memb
     let up = drew_once(monitor, member, &mut left);
     let _ = monitor.count(rt, member, 0);
     let count = drew_once(monitor, member, &mut left);
-    let _ = monitor.groups(rt, alloc, member, 0);
+    let _ = monitor.groups(rt, member, 0);
     let groups = drew_once(monitor, member, &mut left);
     let _ = monitor.epoch(rt, member);
     let epoch = drew_once(monitor, member, &mut left);
-    let _ = monitor.dump(rt, alloc, member);
+    let _ = monitor.dump(rt, member);
     let dump = drew_once(monitor, member, &mut left);
     up && count && groups && epoch && dump
 }
@@ -187,17 +185,11 @@ fn look_once<R: Wait>(rt: &R, monitor: &Monitor, member: Member) -> bool
 }
 
 /// Whether each call of a member draws once.
-fn call_once<R: Wait>(
-    rt: &R,
-    alloc: Global,
-    monitor: &Monitor,
-    member: Member,
-    change: Change,
-) -> bool
+fn call_once<R: Wait>(rt: &R, monitor: &Monitor, member: Member, change: Change) -> bool
     requires { IsMemberOf monitor.now member }
 {
     let mut member = member;
-    let asked = ask_once(rt, alloc, monitor, &mut member);
+    let asked = ask_once(rt, monitor, &mut member);
     let changed = change_once(rt, monitor, &mut member, change);
     let looked = look_once(rt, monitor, member);
     asked && changed && looked
@@ -210,8 +202,8 @@ fn called_once<R: Wait>(rt: &R, alloc: Global) -> Option<bool> {
     let (monitor, mut one, mut other) = opened(alloc, FOUR_DEVICES, 1024)?;
     let made = commit_now(rt, alloc, &monitor, &mut one, DOWN).is_ok();
     let seen = monitor.epoch(rt, &mut other) == Ok(2);
-    let own = call_once(rt, alloc, &monitor, one, first);
-    let others = call_once(rt, alloc, &monitor, other, second);
+    let own = call_once(rt, &monitor, one, first);
+    let others = call_once(rt, &monitor, other, second);
     Some(made && seen && own && others)
 }
 

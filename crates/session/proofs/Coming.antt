@@ -8,7 +8,7 @@ use Rattle.session.specs.declared.error.SessionError.{SessionError}
 use Rattle.session.specs.declared.error.SessionError.TheVariants.{Write, Memory, Held, Read}
 use Rattle.session.specs.Commands.{is_newline, lines_in}
 use Rattle.session.specs.Transcripts.{Manner, IsTranscript, Stops, StopsFrom}
-use Rattle.session.specs.Readings.{IsPart, Passes, StopsAt, Halted, StopsTaking, StopsReading}
+use Rattle.session.specs.Readings.{IsPart, Passes, StopsAt, Halted, Stand, AnswersLines, AnswersAll, StopsTaking, StopsReading}
 use Rattle.session.specs.Ends.{Halts}
 use Rattle.session.proofs.Transcribed.{transcript_more}
 use Rattle.session.proofs.Passing.{passes_none, halted_behind, halted_before, halted_short, halted_all, stops_behind, all_lines}
@@ -17,11 +17,11 @@ use Rattle.session.proofs.Passing.{passes_none, halted_behind, halted_before, ha
 pub line_of_parts : (begun text end others : List ℕ) → text ≡ end ++ 10 ∷ others → begun ++ text ≡ (begun ++ end) ++ 10 ∷ others
 line_of_parts begun text end others is = ap (λ t. begun ++ t) is ∙ sym (append_assoc begun end (10 ∷ others))
 
--- nothing is a part
+-- an empty text has no newline
 pub no_part : IsPart []
 no_part = All-from_get_or (λ c. is_newline c ≡ false) [] 0 (λ i lt. absurd (omega arith))
 
--- a part behind a part is one
+-- a text with no newline behind another is one
 pub part_both : (a b : List ℕ) → IsPart a → IsPart b → IsPart (a ++ b)
 part_both a b p q = All-append (λ c. is_newline c ≡ false) a b p q
 
@@ -29,29 +29,18 @@ part_both a b p q = All-append (λ c. is_newline c ≡ false) a b p q
 pub short_line : {S : Type 0} (m : Manner S) (number : ℕ) (between : S) (line : List ℕ) → StopsAt m Memory number between line [] between
 short_line m number between line others before = inl (append-nil before, refl)
 
-module _ {S : Type 0} (m : Manner S) (number next : ℕ) (first last : S) (text put rest before after : List ℕ) (r : Result Unit SessionError) where
-  -- what is left of a text is kept
-  pub kept_rest : (now : List ℕ) → Passes m number first text put next last rest → after ≡ before ++ put → OnOk r (now ≡ rest)
-      → OnOk r ((p : List ℕ) × Passes m number first text p next last now × (after ≡ before ++ p))
-  kept_rest now passed out is = elim r as (λ (s : Result Unit SessionError).
-      OnOk s (now ≡ rest) → OnOk s ((p : List ℕ) × Passes m number first text p next last now × (after ≡ before ++ p))) [
-        | Ok done ↦ λ is. (put, subst (λ t. Passes m number first text put next last t) (sym is) passed, out)
-        | Err e ↦ λ is. tt
-      ] is
-
-  -- memory is short for it
-  pub short_rest : Passes m number first text put next last rest → after ≡ before ++ put → IfErr r (λ e. e ≡ Memory)
-      → IfErr r (λ e. (out : List ℕ) × Halted m e number first text out last × (after ≡ before ++ out))
-  short_rest passed out is = elim r as (λ (s : Result Unit SessionError).
-      IfErr s (λ e. e ≡ Memory) → IfErr s (λ e. (out : List ℕ) × Halted m e number first text out last × (after ≡ before ++ out))) [
-        | Ok done ↦ λ is. tt
-        | Err e ↦ λ is. rw is (
-          put,
-          subst (λ o. Halted m Memory number first text o last) (append-nil put)
-              (halted_behind m Memory number next first last last text put rest [] passed (halted_short m next last rest)),
-          out,
-        )
-      ] is
+-- what is left of a text is kept; or memory is short for it
+pub rest_kept : {S : Type 0} (m : Manner S) (from to : Stand S) (text put rest now before after : List ℕ) (r : Result Unit SessionError)
+    → Passes m from.number from.seen text put to.number to.seen rest → after ≡ before ++ put → OnOk r (now ≡ rest) → IfErr r (λ e. e ≡ Memory)
+    → AnswersLines m from to text (λ _. now) before after r
+rest_kept m from to text put rest now before after (Ok done) passed out is short =
+    (put, subst (λ t. Passes m from.number from.seen text put to.number to.seen t) (sym is) passed, out)
+rest_kept m from to text put rest now before after (Err e) passed out is short = rw short (
+  put,
+  subst (λ o. Halted m Memory from.number from.seen text o to.seen) (append-nil put)
+      (halted_behind m Memory from.number to.number from.seen to.seen to.seen text put rest [] passed (halted_short m to.number to.seen rest)),
+  out,
+)
 
 -- ---- what comes behind what was read
 
@@ -112,7 +101,7 @@ pub stops_flushing : {S : Type 0} (m : Manner S) (known : Option (List ℕ)) (nu
     → StopsTaking m known known Write number first begun [] first
 stops_flushing m known number first begun = ([], Consumes-nil known, halted_before m number first (begun ++ []))
 
--- nothing came
+-- where no bytes came, no line is answered
 pub passes_nothing : {S : Type 0} (m : Manner S) (number : ℕ) (first : S) (begun : List ℕ) → Passes m number first (begun ++ []) [] number first begun
 passes_nothing m number first begun = subst (λ t. Passes m number first t [] number first begun) (sym (append-nil begun)) (passes_none m number first begun)
 
@@ -157,35 +146,34 @@ module _ {S : Type 0} (m : Manner S) (known mid left : Option (List ℕ)) (next 
 
 -- ---- the end of the input
 
-module _ {S : Type 0} (m : Manner S) (known left : Option (List ℕ)) (next : ℕ) (first between last : S) (read put begun before mid after : List ℕ) where
-  -- all lines are answered
+module _ {S : Type 0} (m : Manner S) (known left : Option (List ℕ)) (from to : Stand S) (first : S) (read put begun before mid after : List ℕ) where
+  -- all lines of a reader are answered
   pub told_reading : (P : S → Type 0) (r : Result Unit SessionError) → Consumes known left read → IsAtEnd left
-      → Passes m 1 first read put next between begun → mid ≡ before ++ put → P last
-      → OnOk r ((more : List ℕ) × IsTranscript m next between (lines_in begun) more last × (after ≡ mid ++ more))
+      → Passes m 1 first read put from.number from.seen begun → mid ≡ before ++ put → P to.seen → AnswersAll m from to begun mid after r
       → OnOk r ((all : List ℕ) × (bytes : List ℕ) × (l : S) × IfSome known (λ xs. xs ≡ all) × IsTranscript m 1 first (lines_in all) bytes l
       × P l × (after ≡ before ++ bytes))
   told_reading P (Ok done) takes end (whole, cuts, told, many) out holds (more, then, on) = (
     read,
     put ++ more,
-    last,
+    to.seen,
     Consumes-whole known left read (λ xs. xs ≡ read) takes end refl,
     rw (all_lines read begun whole cuts)
-        (transcript_more m 1 first between last whole (lines_in begun) put more told (subst (λ n. IsTranscript m n between (lines_in begun) more last) many then)),
+        (transcript_more m 1 first from.seen to.seen whole (lines_in begun) put more told
+        (subst (λ n. IsTranscript m n from.seen (lines_in begun) more to.seen) many then)),
     holds,
     on ∙ ap (λ o. o ++ more) out ∙ append_assoc before put more,
   )
   told_reading P (Err e) takes end passed out holds told = tt
 
-  -- it stops behind the last newline
+  -- the session stops behind the last newline
   pub stopped_reading : (P : S → Type 0) (r : Result Unit SessionError) → Consumes known left read → IsAtEnd left
-      → Passes m 1 first read put next between begun → mid ≡ before ++ put → P last
-      → IfErr r (λ e. (out : List ℕ) × StopsFrom m (Halts m e) next between (lines_in begun) out last × (after ≡ mid ++ out))
+      → Passes m 1 first read put from.number from.seen begun → mid ≡ before ++ put → P to.seen → AnswersAll m from to begun mid after r
       → IfErr r (λ e. (out : List ℕ) × (l : S) × StopsReading m known left e first out l × P l × (after ≡ before ++ out))
   stopped_reading P (Ok done) takes end passed out holds stopped = tt
   stopped_reading P (Err e) takes end passed out holds (more, stops, on) = (
     put ++ more,
-    last,
-    stops_finishing m known left left next first between last read put begun more e takes end passed stops,
+    to.seen,
+    stops_finishing m known left left from.number first from.seen to.seen read put begun more e takes end passed stops,
     holds,
     on ∙ ap (λ o. o ++ more) out ∙ append_assoc before put more,
   )

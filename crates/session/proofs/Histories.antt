@@ -18,7 +18,7 @@ begins_more one two three (rest, is) (more, then) = (rest ++ more, sym (append_a
 pub goes_on_same : (first : ClusterMap) (history : List Step) → IsLawful first history → GoesOn first history history
 goes_on_same first history lawful = record { begins = begins_same history; lawful = lawful }
 
--- and from what it went on from before
+-- a history goes on from what it went on from before
 pub goes_on_more : (first : ClusterMap) (one two three : List Step) → GoesOn first one two → GoesOn first two three → GoesOn first one three
 goes_on_more first one two three before then =
     record { begins = begins_more one two three before.begins then.begins; lawful = then.lawful }

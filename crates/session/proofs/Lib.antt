@@ -8,3 +8,4 @@ mod Asked
 mod Coming
 mod Firsts
 mod Alone
+mod Fresh

@@ -38,14 +38,14 @@ part_before text end e =
     All-from_get_or (λ b. is_newline b ≡ false) (take end text) 0
     (λ i lt. rw (get_or-take end text i 0 (omega (arith, long))) (before i (omega (arith, long))))
 
--- and then the newline
+-- behind what stands before the first newline comes the newline
 pub cut_at : (text : List ℕ) (end : ℕ) → position is_newline text ≡ Some end → text ≡ take end text ++ 10 ∷ drop (end + 1) text
 cut_at text end e =
     let (within, here, before) = position-Some is_newline text end 0 e in
     let ten : get_or text end 0 ≡ 10 = eqb-true _ _ here in
     sym (take-append-drop end text) ∙ ap (λ t. take end text ++ t) (drop-cons text end 0 within ∙ rw (ten, add-one end) refl)
 
--- nothing has no lines
+-- an empty text has no lines
 pub lines_in-none : lines_in [] ≡ []
 unfolding lines_in
 lines_in-none = refl

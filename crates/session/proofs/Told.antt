@@ -6,25 +6,23 @@ use Rattle.maptypes.specs.Incrementals.{Step}
 use Rattle.std.specs.Result.{IsErrAnd}
 use Rattle.osdmap.specs.Maps.{ClusterMap}
 use Rattle.epochlog.specs.Epochs.{OneBegins}
+use Rattle.monitor.specs.declared.question.Answer.{Answer}
 use Rattle.session.specs.declared.command.Task.{Task}
 use Rattle.session.specs.declared.command.Task.TheVariants.{CatchUp, Up, Dump}
-use Rattle.session.specs.declared.reply.Reply.{Reply}
-use Rattle.session.specs.Texts.{refusal_text, line_of}
-use Rattle.session.specs.Replies.{reply_text}
 use Rattle.session.specs.Answers.{Track, Tells}
 use Rattle.session.specs.Sessions.{track_of}
 use Rattle.session.proofs.Histories.{goes_on_none}
 
 -- each task tells so
-pub no_follower : (first : ClusterMap) (task : Task) → Tells first [] (track_of None) task (refusal_text OutOfMemory)
-no_follower first CatchUp = (Err OutOfMemory, (goes_on_none first, tt, inl refl), refl)
-no_follower first (Up pg) = (Err OutOfMemory, (refl, inl refl), refl)
-no_follower first Dump = (Err OutOfMemory, (refl, inl refl), refl)
+pub no_follower : (first : ClusterMap) (task : Task) → Tells first [] (track_of None) task (Err OutOfMemory)
+no_follower first CatchUp = (goes_on_none first, tt, inl refl)
+no_follower first (Up pg) = (refl, inl refl)
+no_follower first Dump = (refl, inl refl)
 
--- the same of what is handed on
-pub no_follower_told : (first : ClusterMap) (task : Task) (before : List Step) (now : Track) (r : Result Reply Refusal) → before ≡ [] → now ≡ track_of None
-    → IsErrAnd r (λ e. e ≡ OutOfMemory) → Tells first before now task (line_of reply_text r)
-no_follower_told first task before now (Ok reply) none still is = absurd is
+-- what is handed on tells so
+pub no_follower_told : (first : ClusterMap) (task : Task) (before : List Step) (now : Track) (r : Result Answer Refusal) → before ≡ [] → now ≡ track_of None
+    → IsErrAnd r (λ e. e ≡ OutOfMemory) → Tells first before now task r
+no_follower_told first task before now (Ok answer) none still is = absurd is
 no_follower_told first task before now (Err e) none still is = rw (none, still, is) (no_follower first task)
 
 -- where nothing has been followed, that begins all

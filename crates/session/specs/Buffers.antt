@@ -3,8 +3,8 @@ use Rattle.std.specs.Prelude.{ℕ, Bool, List}
 use Rattle.session.specs.declared.sink.Buffer.{Buffer}
 
 -- the bytes put
-abbrev pub buffered : Buffer → List ℕ
-buffered b = b.bytes.items
+abbrev pub bytes_of : Buffer → List ℕ
+bytes_of b = b.bytes.items
 
 -- whether it has found no memory
 abbrev pub is_short : Buffer → Bool

@@ -1,16 +1,16 @@
 -- The lines of a script, and the command of a line.
-use Rattle.std.specs.Prelude.{ℕ, ◌==◌, ◌^◌, ◌+◌, ◌&&◌, Bool, List, [], ◌∷◌, length, take, drop, codes, nat_lt, nat_le, position, Option, Some, None, if◌then◌else◌}
+use Rattle.std.specs.Prelude.{ℕ, ◌==◌, ◌^◌, ◌+◌, ◌&&◌, Bool, List, [], ◌∷◌, length, take, drop, codes, nat_le, position, Option, Some, None, if◌then◌else◌}
 use Rattle.std.specs.List.{onto_first}
 use Rattle.std.specs.Option.{option_map, option_and_then}
 use Rattle.std.specs.Str.{bytes_eq}
 use Rattle.balancer.specs.Limits.{max_moves}
 use Rattle.mapparts.specs.Digits.{below, number_in}
 use Rattle.maptypes.specs.GroupText.{group_in}
+use Rattle.monitor.specs.declared.question.Question.{Question}
+use Rattle.monitor.specs.declared.question.Question.TheVariants.{Up, Count, Groups, Epoch, Dump}
 use Rattle.session.specs.declared.command.Command.{Command as Read}
 use Rattle.session.specs.declared.command.Command.TheVariants.{Ask, Change, Await, Balance, Follower}
-use Rattle.session.specs.declared.plan.Beside.{Beside as ReadBeside}
-use Rattle.session.specs.declared.command.Question.{Question}
-use Rattle.session.specs.declared.command.Question.TheVariants.{Up, Count, Groups, Epoch, Dump}
+use Rattle.session.specs.declared.command.Beside.{Beside as ReadBeside}
 use Rattle.session.specs.declared.command.Task.{Task}
 use Rattle.session.specs.declared.command.Task.TheVariants as task
 
@@ -72,16 +72,16 @@ pub data Command : Type 0 where
   follower : Task → Command
 
 -- what is to be counted beside a pool, as it was read
-abbrev pub shown_beside : ReadBeside → Beside
-shown_beside b = record { apart = b.apart; loads = b.loads.now }
+abbrev pub beside_of : ReadBeside → Beside
+beside_of b = record { apart = b.apart; loads = b.loads.now }
 
 -- the command that was read of a line
-abbrev pub shown : Read → Command
-shown (Ask question) = ask question
-shown (Change text) = change text.now
-shown (Await epoch) = wait epoch
-shown (Balance plan) = balance plan.pool plan.limit (option_map shown_beside plan.beside)
-shown (Follower t) = follower t
+abbrev pub command_of : Read → Command
+command_of (Ask question) = ask question
+command_of (Change text) = change text.now
+command_of (Await epoch) = wait epoch
+command_of (Balance plan) = balance plan.pool plan.limit (option_map beside_of plan.beside)
+command_of (Follower t) = follower t
 
 -- what stands behind a word and its space
 abbrev pub behind : List ℕ → List ℕ → Option (List ℕ)
@@ -127,17 +127,17 @@ unfoldable pub plan_in : List ℕ → Option Command
 plan_in text =
     option_and_then (λ words. option_and_then (λ pool. plan_for pool words.1) (pool_number words.0)) (two_words text)
 
--- the command of a line: `change ` and a text, `await ` and an epoch, `balance ` and a plan, a question, or a task;
+-- the command of a line: a question, `change ` and a text, `await ` and an epoch, `balance ` and a plan, or a task;
 -- none where it is none of them
 unfoldable pub command_in : List ℕ → Option Command
-command_in line = elim (behind (codes "change ") line) [
-  | Some text ↦ Some (change text)
-  | None ↦ elim (behind (codes "await ") line) [
-    | Some epoch ↦ option_map wait (epoch_in epoch)
-    | None ↦ elim (behind (codes "balance ") line) [
-      | Some plan ↦ plan_in plan
-      | None ↦ elim (question_in line) [
-        | Some question ↦ Some (ask question)
+command_in line = elim (question_in line) [
+  | Some question ↦ Some (ask question)
+  | None ↦ elim (behind (codes "change ") line) [
+    | Some text ↦ Some (change text)
+    | None ↦ elim (behind (codes "await ") line) [
+      | Some epoch ↦ option_map wait (epoch_in epoch)
+      | None ↦ elim (behind (codes "balance ") line) [
+        | Some plan ↦ plan_in plan
         | None ↦ option_map follower (task_in line)
       ]
     ]

@@ -1,9 +1,13 @@
 -- The line of a reply.
-use Rattle.std.specs.Prelude.{ℕ, List, codes, string_bytes}
+use Rattle.std.specs.Prelude.{List, ℕ, codes, string_bytes}
+use Rattle.state.specs.declared.state.Commit.{Commit}
+use Rattle.state.specs.declared.balancing.Balance.{Balance}
+use Rattle.monitor.specs.declared.question.Answer.{Answer}
+use Rattle.monitor.specs.declared.question.Answer.TheVariants.{Up, Count, Groups, Epoch, Dump}
 use Rattle.session.specs.declared.reply.Speaker.{Speaker}
 use Rattle.session.specs.declared.reply.Speaker.TheVariants.{Monitor, Follower}
 use Rattle.session.specs.declared.reply.Reply.{Reply}
-use Rattle.session.specs.declared.reply.Reply.TheVariants.{Up, Count, Groups, Epoch, Dump, Changed, Moved}
+use Rattle.session.specs.declared.reply.Reply.TheVariants.{Found, Changed, Moved}
 use Rattle.session.specs.Texts.{up_text, count_text, groups_text, epoch_text, dump_text, ok_text, moved_text}
 
 -- the first word of an up set, of an epoch and of a map's text, by whom it is of
@@ -19,12 +23,24 @@ abbrev pub dump_word : Speaker → List ℕ
 dump_word Monitor = codes "dump"
 dump_word Follower = codes "fdump"
 
+-- the line of the answer to a question, by whom it is of
+abbrev pub answer_text : Speaker → Answer → List ℕ
+answer_text by (Up epoch pg set) = up_text (up_word by) epoch pg set
+answer_text by (Count epoch osd count) = count_text epoch osd count
+answer_text by (Groups epoch osd groups) = groups_text epoch osd groups.items
+answer_text by (Epoch epoch) = epoch_text (epoch_word by) epoch
+answer_text by (Dump text) = dump_text (dump_word by) (string_bytes text)
+
+-- the line of a change: the new epoch, and its evaluations
+abbrev pub changed_text : Commit → List ℕ
+changed_text commit = ok_text commit.epoch commit.evals
+
+-- the line of a plan: the epoch then, and its moves
+abbrev pub planned_text : Balance → List ℕ
+planned_text balance = moved_text balance.moves balance.epoch
+
 -- the line of a command that is not refused
 abbrev pub reply_text : Reply → List ℕ
-reply_text (Up by epoch pg set) = up_text (up_word by) epoch pg set
-reply_text (Count epoch osd count) = count_text epoch osd count
-reply_text (Groups epoch osd groups) = groups_text epoch osd groups.items
-reply_text (Epoch by epoch) = epoch_text (epoch_word by) epoch
-reply_text (Dump by text) = dump_text (dump_word by) (string_bytes text)
+reply_text (Found by answer) = answer_text by answer
 reply_text (Changed epoch evals) = ok_text epoch evals
 reply_text (Moved moves epoch) = moved_text moves epoch

@@ -1,5 +1,5 @@
 -- The bytes of each answer.
-use Rattle.std.specs.Prelude.{ℕ, List, [], ◌∷◌, ◌++◌, codes, Option, Some, None, Result, Ok, Err}
+use Rattle.std.specs.Prelude.{ℕ, List, [], ◌∷◌, ◌++◌, codes, Option, Result, Ok, Err}
 use Rattle.std.specs.Fmt.{decimal}
 use Rattle.maptypes.specs.declared.pg.Pg.{Pg}
 use Rattle.refusal.specs.declared.refused.Refusal.{Refusal}

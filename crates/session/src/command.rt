@@ -1,55 +1,31 @@
-//! The commands of a script.
-ghost use Rattle.std.specs.Prelude.{◌≡◌, ◌<◌, ◌≤◌, ◌==◌, ◌∷◌, ◌++◌, ◌+◌, ◌*◌, ◌^◌, length, position, IfSome, MatchOption};
-ghost use Rattle.std.specs.Option.{option_map, option_and_then};
+//! What a line of a script may ask for.
+ghost use Rattle.std.specs.Prelude.{◌≤◌};
 ghost use Rattle.balancer.specs.Limits.{max_moves};
-ghost use Rattle.session.specs.Readings.{IsPart, BeginsWith};
-ghost use Rattle.session.specs.Commands.{is_newline, osd_in, epoch_in, two_words, limit_in, apart_in, beside_in, plan_for, plan_in, question_in, task_in, shown, shown_beside, command_in};
-ghost use Rattle.session.specs.declared.command.Command.TheVariants.{Balance};
 
-use crate::plan::{Beside, Plan};
-use balancer::limits::{LEAST_APART, MAX_MOVES};
-use mapparts::number;
 use maptypes::Pg;
-use memchr::memchr;
+use monitor::Question;
 
-/// The base of numbers in a script.
-const DECIMAL: u32 = 10;
-
-const EPOCH: &[u8] = b"epoch";
-
-const DUMP: &[u8] = b"dump";
-
-const UP: &[u8] = b"up ";
-
-const COUNT: &[u8] = b"count ";
-
-const GROUPS: &[u8] = b"groups ";
-
-const CHANGE: &[u8] = b"change ";
-
-const AWAIT: &[u8] = b"await ";
-
-const BALANCE: &[u8] = b"balance ";
-
-const FOLLOW: &[u8] = b"follow";
-
-const FOLLOWER_DUMP: &[u8] = b"fdump";
-
-const FOLLOWER_UP: &[u8] = b"fup ";
-
-/// A question to the monitor.
+/// A plan that is asked for.
 #[derive(Clone, Copy, Debug)]
-pub(crate) enum Question {
-    /// The up set of a group.
-    Up(Pg),
-    /// In how many groups' up sets an OSD stands.
-    Count(u32),
-    /// In which groups' up sets an OSD stands.
-    Groups(u32),
-    /// The epoch.
-    Epoch,
-    /// The written form of the map.
-    Dump,
+pub(crate) struct Plan<'a> {
+    /// The pool whose groups are to be moved.
+    pub pool: u32,
+    /// How many moves there may be, 1 to 1,024.
+    pub limit: u32,
+    /// What the plan is to count beside the pool.
+    pub beside: Option<Beside<'a>>,
+    pub ghost some: { 1 ≤ limit },
+    pub ghost few: { limit ≤ max_moves },
+}
+
+/// What a plan is to count beside its pool.
+#[derive(Clone, Copy, Debug)]
+pub(crate) struct Beside<'a> {
+    /// How far two OSDs must be apart for a move between them to be good, in 256ths of a group: 256 or more.
+    pub apart: u32,
+    /// What OSDs carry, as JSON.
+    pub loads: &'a [u8],
+    pub ghost least: { 256 ≤ apart },
 }
 
 /// What the session's follower is to do.
@@ -76,195 +52,4 @@ pub(crate) enum Command<'a> {
     Balance(Plan<'a>),
     /// Has the session's follower do something.
     Follower(Task),
-}
-
-/// The first line that ends in a text, and what stands behind its newline.
-#[derive(Clone, Copy)]
-pub(crate) struct FirstLine<'t> {
-    pub line: &'t [u8],
-    pub rest: &'t [u8],
-}
-
-/// The place of the first newline.
-fn newline(text: &[u8]) -> Option<usize>
-    ensures place { result ≡ position is_newline text.now }
-    ensures within { IfSome result (λ at. at < length text.now) }
-{
-    memchr(b'\n', text)
-}
-
-/// The first line that ends in a text. `None` where no line ends in it.
-pub(crate) fn cut(text: &[u8]) -> Option<FirstLine<'_>>
-    ensures { MatchOption result (IsPart text.now)
-        (λ found. IsPart found.line.now × (text.now ≡ found.line.now ++ 10 ∷ found.rest.now)) }
-{
-    match newline(text) {
-        Some(end) => Some(FirstLine {
-            line: &text[..end],
-            rest: &text[end + 1..],
-        }),
-        None => None,
-    }
-}
-
-/// The epoch that a text is: a number of at most 64 bits, without a sign or leading zeros.
-fn read_epoch(text: &[u8]) -> Option<u64>
-    ensures { result ≡ epoch_in text.now }
-{
-    number(DECIMAL, text)?
-}
-
-/// The OSD that a text is: a number of at most 32 bits, without a sign or leading zeros.
-fn read_osd(text: &[u8]) -> Option<u32>
-    ensures { result ≡ osd_in text.now }
-{
-    u32::try_from(read_epoch(text)?).ok()
-}
-
-/// The place of the first space.
-fn space(text: &[u8]) -> Option<usize>
-    ensures place { result ≡ position (λ c. c == 32) text.now }
-    ensures within { IfSome result (λ at. at < length text.now) }
-{
-    text.iter().position(|byte| *byte == b' ')
-}
-
-/// The words before and behind the first space.
-fn two_words(text: &[u8]) -> Option<(&[u8], &[u8])>
-    ensures { option_map (λ words. (words.0.now, words.1.now)) result ≡ two_words text.now }
-{
-    let at = space(text)?;
-    Some((&text[..at], &text[at + 1..]))
-}
-
-/// The number of moves that a text is, from 1 to 1,024.
-fn read_limit(text: &[u8]) -> Option<u32>
-    ensures value { result ≡ limit_in text.now }
-    ensures within { IfSome result (λ limit. (1 ≤ limit) × (limit ≤ max_moves)) }
-{
-    let limit = read_osd(text)?;
-    if 1 <= limit && limit <= MAX_MOVES {
-        Some(limit)
-    } else {
-        None
-    }
-}
-
-/// How far two OSDs must be apart, as a text says it: 256 or more.
-fn read_apart(text: &[u8]) -> Option<u32>
-    ensures value { result ≡ apart_in text.now }
-    ensures least { IfSome result (λ apart. 256 ≤ apart) }
-{
-    let apart = read_osd(text)?;
-    if LEAST_APART <= apart {
-        Some(apart)
-    } else {
-        None
-    }
-}
-
-/// What a text says is to be counted beside a pool.
-#[tactic(auto, unfolding(crate::specs::Commands::beside_in))]
-fn read_beside(text: &[u8]) -> Option<Beside<'_>>
-    ensures { option_map shown_beside result ≡ beside_in text.now }
-{
-    let (apart, loads) = two_words(text)?;
-    let apart = read_apart(apart)?;
-    Some(Beside { apart, loads })
-}
-
-/// The plan for a pool that a text says.
-#[tactic(auto, unfolding(crate::specs::Commands::plan_for))]
-fn read_plan_for(pool: u32, text: &[u8]) -> Option<Plan<'_>>
-    ensures { option_map (λ plan. shown (Balance plan)) result ≡ plan_for pool text.now }
-{
-    match two_words(text) {
-        None => Some(Plan {
-            pool,
-            limit: read_limit(text)?,
-            beside: None,
-        }),
-        Some((limit, beside)) => Some(Plan {
-            pool,
-            limit: read_limit(limit)?,
-            beside: Some(read_beside(beside)?),
-        }),
-    }
-}
-
-/// The plan that a text asks for; `None` where it asks for none.
-#[tactic(auto, unfolding(crate::specs::Commands::plan_in))]
-fn read_plan(text: &[u8]) -> Option<Plan<'_>>
-    ensures { option_map (λ plan. shown (Balance plan)) result ≡ plan_in text.now }
-{
-    let (pool, plan) = two_words(text)?;
-    read_plan_for(read_osd(pool)?, plan)
-}
-
-/// The question of a line; `None` where it is none.
-#[tactic(auto, unfolding(crate::specs::Commands::question_in))]
-fn read_question(line: &[u8]) -> Option<Question>
-    ensures { result ≡ question_in line.now }
-{
-    if line == EPOCH {
-        return Some(Question::Epoch);
-    }
-    if line == DUMP {
-        return Some(Question::Dump);
-    }
-    if let Some(group) = line.strip_prefix(UP) {
-        return Some(Question::Up(Pg::parse(group)?));
-    }
-    if let Some(osd) = line.strip_prefix(COUNT) {
-        return Some(Question::Count(read_osd(osd)?));
-    }
-    let osd = line.strip_prefix(GROUPS)?;
-    Some(Question::Groups(read_osd(osd)?))
-}
-
-/// The follower's task of a line; `None` where it is none.
-#[tactic(auto, unfolding(crate::specs::Commands::task_in))]
-fn read_task(line: &[u8]) -> Option<Task>
-    ensures { result ≡ task_in line.now }
-{
-    if line == FOLLOW {
-        return Some(Task::CatchUp);
-    }
-    if line == FOLLOWER_DUMP {
-        return Some(Task::Dump);
-    }
-    let group = line.strip_prefix(FOLLOWER_UP)?;
-    Some(Task::Up(Pg::parse(group)?))
-}
-
-/// The command of a line; `None` where the line is none.
-#[tactic(auto, unfolding(crate::specs::Commands::command_in))]
-pub(crate) fn read_command(line: &[u8]) -> Option<Command<'_>>
-    ensures { option_map shown result ≡ command_in line.now }
-{
-    if let Some(text) = line.strip_prefix(CHANGE) {
-        return Some(Command::Change(text));
-    }
-    if let Some(epoch) = line.strip_prefix(AWAIT) {
-        return Some(Command::Await(read_epoch(epoch)?));
-    }
-    if let Some(plan) = line.strip_prefix(BALANCE) {
-        return Some(Command::Balance(read_plan(plan)?));
-    }
-    if let Some(question) = read_question(line) {
-        return Some(Command::Ask(question));
-    }
-    Some(Command::Follower(read_task(line)?))
-}
-
-/// The question of the first line that ends in a text, and what stands behind its newline. `None` where no line ends in
-/// it, or the first is no question.
-pub(crate) fn first_question(text: &[u8]) -> Option<(Question, &[u8])>
-    ensures { IfSome result (λ found. BeginsWith text.now found.0 found.1.now) }
-{
-    let FirstLine { line, rest: others } = cut(text)?;
-    match read_command(line) {
-        Some(Command::Ask(question)) => Some((question, others)),
-        _ => None,
-    }
 }

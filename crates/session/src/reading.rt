@@ -2,12 +2,13 @@
 ghost use Rattle.std.specs.Prelude.{◌≡◌, ◌<◌, ◌≤◌, ◌+◌, ◌^◌, ◌++◌, true, false, length, take, IfOk, OnOk, IfErr, OnErr, MatchOption};
 ghost use Rattle.std.specs.Io.KnownBytes.{Consumes, Keeps, IsAtEnd};
 
-use crate::command::cut;
 use crate::desk::Desk;
 use crate::error::SessionError;
 use crate::gate::Gate;
-use crate::lines::{Room, flush};
+use crate::line::{cut, read_line};
+use crate::progress::Progress;
 use crate::sink::Sink;
+use crate::telling::flush;
 use monitor::Member;
 use std::io;
 use std::io::Read;
@@ -16,10 +17,10 @@ use std::sync::Wait;
 /// How many bytes are read at once, at most.
 const CHUNK: usize = 16_384;
 
-/// What a session that reads its lines has of its own: its room, and the line that has begun.
+/// What a session that reads its lines has of its own: its progress, and the line that has begun.
 #[derive(Drop)]
 struct Reading {
-    room: Room,
+    progress: Progress,
     begun: Vec<u8>,
 }
 
@@ -62,8 +63,8 @@ fn can_count(number: u64, more: usize) -> bool
 }
 
 /// Keeps more of the line that has begun.
-fn keep(begun: &mut Vec<u8>, more: &[u8]) -> Result<(), SessionError>
-    ensures kept { OnOk result (begun.new.items ≡ begun.old.items ++ more.now) }
+fn keep_more(begun: &mut Vec<u8>, more: &[u8]) -> Result<(), SessionError>
+    ensures more { OnOk result (begun.new.items ≡ begun.old.items ++ more.now) }
     ensures memory { IfErr result (λ error. error ≡ SessionError.Memory) }
 {
     begun
@@ -72,15 +73,12 @@ fn keep(begun: &mut Vec<u8>, more: &[u8]) -> Result<(), SessionError>
 }
 
 impl<'a, R: Wait, G: Gate> Desk<'a, R, G> {
-    ghost use Rattle.std.specs.Prelude.{◌≡◌, ◌++◌, ◌∷◌, ◌+◌, ◌<◌, ◌^◌, ℕ, List, [], Bool, true, false, length, IfOk, OnOk, IfErr, IfSome};
-    ghost use Rattle.std.specs.Io.KnownBytes.{Consumes, IsAtEnd};
+    ghost use Rattle.std.specs.Prelude.{◌≡◌, ◌++◌, ◌+◌, ◌<◌, ◌^◌, [], true, false, length, IfOk, OnOk, IfErr};
+    ghost use Rattle.std.specs.Io.KnownBytes.{IsAtEnd};
     ghost use Rattle.monitor.specs.Members.{IsMemberOf};
-    ghost use Rattle.session.specs.Commands.{lines_in};
-    ghost use Rattle.session.specs.Answers.{Sight};
-    ghost use Rattle.session.specs.Sessions.{session_at, sees, Puts, sight_of, IsFollowerOf, stand, PassesOn, StopsOn};
-    ghost use Rattle.session.specs.Transcripts.{TakesLine, IsTranscript, StopsFrom};
-    ghost use Rattle.session.specs.Readings.{IsPart, Passes, StopsAt, Halted, StopsReading};
-    ghost use Rattle.session.specs.Ends.{Halts, has_sink_failed};
+    ghost use Rattle.session.specs.Sessions.{session_at, sight_of, stand, reader_at, IsAtDesk, IsReadOut, IsCutShort};
+    ghost use Rattle.session.specs.Readings.{IsPart, AnswersLine, AnswersLines, AnswersAll, TakesMore};
+    ghost use Rattle.session.specs.Ends.{has_sink_failed};
 
     /// Answers the line that has begun, with its end behind it.
     fn answer_begun<W: Sink>(
@@ -90,27 +88,25 @@ impl<'a, R: Wait, G: Gate> Desk<'a, R, G> {
         end: &[u8],
         sink: &mut W,
     ) -> Result<(), SessionError>
-        requires member { IsMemberOf self.now.monitor.now member.old }
-        requires follower { IsFollowerOf self.now.monitor.now reading.old.room.follower }
-        requires unfailed { W.has_failed sink.old ≡ false }
-        requires few { reading.old.room.number + 1 < 2 ^ 64 }
-        ensures member { IsMemberOf self.now.monitor.now member.new }
-        ensures follower { IsFollowerOf self.now.monitor.now reading.new.room.follower }
-        ensures number { OnOk result (reading.new.room.number ≡ reading.old.room.number + 1) }
+        requires session { IsAtDesk self.now member.old reading.old.progress (W.has_failed sink.old) false }
+        requires few { reading.old.progress.number + 1 < 2 ^ 64 }
+        ensures session { IsAtDesk self.now member.new reading.new.progress (W.has_failed sink.new)
+            (has_sink_failed result) }
+        ensures number { OnOk result (reading.new.progress.number ≡ reading.old.progress.number + 1) }
         ensures none { OnOk result (reading.new.begun.items ≡ []) }
-        ensures ok { OnOk result (Puts (W.written sink.old) (W.written sink.new) (λ answer.
-            TakesLine (session_at self.now G.lets) reading.old.room.number (sees member.old reading.old.room)
-            (reading.old.begun.items ++ end.now) answer (sees member.new reading.new.room))) }
-        ensures err { IfErr result (λ error. (part : List ℕ)
-            × (W.written sink.new ≡ W.written sink.old ++ part)
-            × StopsAt (session_at self.now G.lets) error reading.old.room.number (sees member.old reading.old.room)
-            (reading.old.begun.items ++ end.now) part (sees member.new reading.new.room)) }
-        ensures failed { W.has_failed sink.new ≡ has_sink_failed result }
+        ensures answers { AnswersLine (session_at self.now G.lets) (stand member.old reading.old.progress)
+            (stand member.new reading.new.progress) (reading.old.begun.items ++ end.now)
+            (W.written sink.old) (W.written sink.new) result }
     {
-        keep(&mut reading.begun, end)?;
-        self.answer(member, &mut reading.room, &reading.begun, sink)?;
+        keep_more(&mut reading.begun, end)?;
+        self.answer(
+            member,
+            &mut reading.progress,
+            read_line(&reading.begun),
+            sink,
+        )?;
         reading.begun.clear();
-        reading.room.number += 1;
+        reading.progress.number += 1;
         Ok(())
     }
 
@@ -122,29 +118,22 @@ impl<'a, R: Wait, G: Gate> Desk<'a, R, G> {
         text: &[u8],
         sink: &mut W,
     ) -> Result<(), SessionError>
-        requires member { IsMemberOf self.now.monitor.now member.old }
-        requires follower { IsFollowerOf self.now.monitor.now reading.old.room.follower }
-        requires unfailed { W.has_failed sink.old ≡ false }
+        requires session { IsAtDesk self.now member.old reading.old.progress (W.has_failed sink.old) false }
         requires begun { IsPart reading.old.begun.items }
-        requires few { reading.old.room.number + length text.now < 2 ^ 64 }
-        ensures member { IsMemberOf self.now.monitor.now member.new }
-        ensures follower { IsFollowerOf self.now.monitor.now reading.new.room.follower }
+        requires few { reading.old.progress.number + length text.now < 2 ^ 64 }
+        ensures session { IsAtDesk self.now member.new reading.new.progress (W.has_failed sink.new)
+            (has_sink_failed result) }
         ensures begun { OnOk result (IsPart reading.new.begun.items) }
-        ensures ok { OnOk result (Puts (W.written sink.old) (W.written sink.new) (λ put.
-            Passes (session_at self.now G.lets) reading.old.room.number (sees member.old reading.old.room)
-            (reading.old.begun.items ++ text.now) put reading.new.room.number (sees member.new reading.new.room)
-            reading.new.begun.items)) }
-        ensures err { IfErr result (λ error. Puts (W.written sink.old) (W.written sink.new) (λ out.
-            Halted (session_at self.now G.lets) error reading.old.room.number (sees member.old reading.old.room)
-            (reading.old.begun.items ++ text.now) out (sees member.new reading.new.room))) }
-        ensures failed { W.has_failed sink.new ≡ has_sink_failed result }
+        ensures answers { AnswersLines (session_at self.now G.lets) (stand member.old reading.old.progress)
+            (stand member.new reading.new.progress) (reading.old.begun.items ++ text.now)
+            (λ _. reading.new.begun.items) (W.written sink.old) (W.written sink.new) result }
     {
         let Some(first) = cut(text) else {
-            return keep(&mut reading.begun, text);
+            return keep_more(&mut reading.begun, text);
         };
         self.answer_begun(member, reading, first.line, sink)?;
-        let rest = self.answer_lines(member, &mut reading.room, first.rest, sink)?;
-        keep(&mut reading.begun, rest)
+        let rest = self.answer_lines(member, &mut reading.progress, first.rest, sink)?;
+        keep_more(&mut reading.begun, rest)
     }
 
     /// Reads more, and answers each line that ends in it: whether the input has ended. Before it reads, all answers are
@@ -156,25 +145,20 @@ impl<'a, R: Wait, G: Gate> Desk<'a, R, G> {
         reader: &mut B,
         sink: &mut W,
     ) -> Result<bool, SessionError>
-        requires member { IsMemberOf self.now.monitor.now member.old }
-        requires follower { IsFollowerOf self.now.monitor.now reading.old.room.follower }
-        requires unfailed { W.has_failed sink.old ≡ false }
+        requires session { IsAtDesk self.now member.old reading.old.progress (W.has_failed sink.old) false }
         requires begun { IsPart reading.old.begun.items }
-        ensures member { IsMemberOf self.now.monitor.now member.new }
-        ensures follower { IsFollowerOf self.now.monitor.now reading.new.room.follower }
+        ensures session { IsAtDesk self.now member.new reading.new.progress (W.has_failed sink.new)
+            (has_sink_failed result) }
         ensures begun { OnOk result (IsPart reading.new.begun.items) }
         ensures ended { IfOk result (λ ended. ended ≡ true → IsAtEnd (B.remaining reader.new)) }
-        ensures ok { OnOk result ((text : List ℕ) × Consumes (B.remaining reader.old) (B.remaining reader.new) text
-            × Puts (W.written sink.old) (W.written sink.new) (λ put. PassesOn (session_at self.now G.lets)
-            (stand member.old reading.old) text put (stand member.new reading.new))) }
-        ensures err { IfErr result (λ error. Puts (W.written sink.old) (W.written sink.new) (λ out.
-            StopsOn (session_at self.now G.lets) (B.remaining reader.old) (B.remaining reader.new) error
-            (stand member.old reading.old) out (sees member.new reading.new.room))) }
-        ensures failed { W.has_failed sink.new ≡ has_sink_failed result }
+        ensures takes { TakesMore (session_at self.now G.lets)
+            (reader_at member.old reading.old (B.remaining reader.old))
+            (reader_at member.new reading.new (B.remaining reader.new))
+            (W.written sink.old) (W.written sink.new) result }
     {
         flush(sink)?;
         may_wait(sink);
-        if !can_count(reading.room.number, CHUNK) {
+        if !can_count(reading.progress.number, CHUNK) {
             return Err(SessionError::Read);
         }
         let mut chunk = [0; CHUNK];
@@ -192,23 +176,16 @@ impl<'a, R: Wait, G: Gate> Desk<'a, R, G> {
         reading: &mut Reading,
         sink: &mut W,
     ) -> Result<(), SessionError>
-        requires member { IsMemberOf self.now.monitor.now member.old }
-        requires follower { IsFollowerOf self.now.monitor.now reading.old.room.follower }
-        requires unfailed { W.has_failed sink.old ≡ false }
+        requires session { IsAtDesk self.now member.old reading.old.progress (W.has_failed sink.old) false }
         requires begun { IsPart reading.old.begun.items }
-        ensures member { IsMemberOf self.now.monitor.now member.new }
-        ensures follower { IsFollowerOf self.now.monitor.now reading.new.room.follower }
+        ensures session { IsAtDesk self.now member.new reading.new.progress (W.has_failed sink.new)
+            (has_sink_failed result) }
         ensures out { OnOk result (W.holds_back sink.new ≡ false) }
-        ensures ok { OnOk result (Puts (W.written sink.old) (W.written sink.new) (λ put.
-            IsTranscript (session_at self.now G.lets) reading.old.room.number (sees member.old reading.old.room)
-            (lines_in reading.old.begun.items) put (sees member.new reading.new.room))) }
-        ensures err { IfErr result (λ error. Puts (W.written sink.old) (W.written sink.new) (λ out.
-            StopsFrom (session_at self.now G.lets) (Halts (session_at self.now G.lets) error)
-            reading.old.room.number (sees member.old reading.old.room) (lines_in reading.old.begun.items) out
-            (sees member.new reading.new.room))) }
-        ensures failed { W.has_failed sink.new ≡ has_sink_failed result }
+        ensures answers { AnswersAll (session_at self.now G.lets) (stand member.old reading.old.progress)
+            (stand member.new reading.new.progress) reading.old.begun.items
+            (W.written sink.old) (W.written sink.new) result }
     {
-        self.answer_last(member, &mut reading.room, &reading.begun, sink)?;
+        self.answer_last(member, &mut reading.progress, &reading.begun, sink)?;
         flush(sink)?;
         Ok(())
     }
@@ -232,23 +209,15 @@ impl<'a, R: Wait, G: Gate> Desk<'a, R, G> {
         requires unfailed { W.has_failed sink.old ≡ false }
         ensures member { IsMemberOf self.now.monitor.now member.new }
         ensures out { OnOk result (W.holds_back sink.new ≡ false) }
-        ensures ok { OnOk result ((read : List ℕ) × (bytes : List ℕ) × (last : Sight)
-            × IfSome (B.remaining reader.old) (λ xs. xs ≡ read)
-            × IsTranscript (session_at self.now G.lets) 1 (sight_of member.old)
-            (lines_in read) bytes last
-            × (last.member ≡ member.new.pass.history) × (W.written sink.new ≡ W.written sink.old ++ bytes)) }
-        ensures err { IfErr result (λ error. (out : List ℕ) × (last : Sight)
-            × StopsReading (session_at self.now G.lets)
-            (B.remaining reader.old) (B.remaining reader.new) error (sight_of member.old) out last
-            × (last.member ≡ member.new.pass.history) × (W.written sink.new ≡ W.written sink.old ++ out)) }
+        ensures ok { OnOk result (IsReadOut (session_at self.now G.lets) (B.remaining reader.old)
+            (sight_of member.old) member.new.pass.history (W.written sink.old) (W.written sink.new)) }
+        ensures err { IfErr result (IsCutShort (session_at self.now G.lets) (B.remaining reader.old)
+            (B.remaining reader.new) (sight_of member.old) member.new.pass.history
+            (W.written sink.old) (W.written sink.new)) }
         ensures failed { W.has_failed sink.new ≡ has_sink_failed result }
     {
         let mut reading = Reading {
-            room: Room {
-                follower: None,
-                text: String::new(self.alloc),
-                number: 1,
-            },
+            progress: Progress::new(self.alloc),
             begun: Vec::new(self.alloc),
         };
         for _ in self.rt.forever() {

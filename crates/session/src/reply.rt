@@ -1,13 +1,15 @@
 //! What the commands of a script answer, and its line.
 ghost use Rattle.std.specs.Prelude.{◌≡◌, ◌++◌, codes, decimal, OnOk};
 ghost use Rattle.std.specs.String.{string_bytes};
-ghost use Rattle.maptypes.specs.SetText.{place_text, osd_text, list_text};
-ghost use Rattle.session.specs.Texts.{count_text, epoch_text, dump_text, up_text, groups_text, refusal_text, line_of};
-ghost use Rattle.session.specs.Replies.{up_word, epoch_word, dump_word, reply_text};
+ghost use Rattle.maptypes.specs.SetText.{list_text};
 ghost use Rattle.maptypes.specs.GroupText.{group_text};
+ghost use Rattle.session.specs.declared.reply.Speaker.TheVariants.{Monitor};
+ghost use Rattle.session.specs.Texts.{count_text, epoch_text, dump_text, up_text, groups_text, refusal_text, line_of};
+ghost use Rattle.session.specs.Replies.{up_word, epoch_word, dump_word, answer_text, reply_text};
 
-use crate::number::{push_group, push_number};
+use crate::text::{push_group, push_list, push_number, push_osd, push_places};
 use maptypes::{Pg, UpSet};
+use monitor::Answer;
 use refusal::Refusal;
 use std::alloc::AllocError;
 
@@ -23,45 +25,12 @@ pub(crate) enum Speaker {
 /// What a command that is not refused answers.
 #[derive(Debug, Drop)]
 pub(crate) enum Reply {
-    /// The up set of a group at an epoch.
-    Up {
-        by: Speaker,
-        epoch: u64,
-        pg: Pg,
-        set: UpSet,
-    },
-    /// In how many groups' up sets an OSD stands at an epoch.
-    Count {
-        epoch: u64,
-        osd: u32,
-        count: usize,
-    },
-    /// In which groups' up sets an OSD stands at an epoch.
-    Groups {
-        epoch: u64,
-        osd: u32,
-        groups: Vec<Pg>,
-    },
-    /// The epoch.
-    Epoch {
-        by: Speaker,
-        epoch: u64,
-    },
-    /// The written form of the map.
-    Dump {
-        by: Speaker,
-        map: String,
-    },
+    /// What a question finds, in the map of the monitor or of the session's follower.
+    Found { by: Speaker, answer: Answer },
     /// The epoch after a change, and the number of groups whose placement the change can alter.
-    Changed {
-        epoch: u64,
-        evals: usize,
-    },
+    Changed { epoch: u64, evals: usize },
     /// How many moves a plan had, and the epoch after it.
-    Moved {
-        moves: usize,
-        epoch: u64,
-    },
+    Moved { moves: usize, epoch: u64 },
 }
 
 impl Speaker {
@@ -94,56 +63,6 @@ impl Speaker {
             Speaker::Follower => "fdump",
         }
     }
-}
-
-/// An OSD in decimal, or a word where there is none.
-fn push_osd(text: &mut String, osd: Option<u32>, word: &str) -> Result<(), AllocError>
-    ensures { OnOk result (string_bytes text.new ≡ string_bytes text.old ++ osd_text word.now osd) }
-{
-    match osd {
-        Some(osd) => push_number(text, u64::from(osd)),
-        None => text.push_str(word),
-    }
-}
-
-/// The OSD of a place in decimal, or `none`.
-fn push_place(text: &mut String, place: Option<u16>) -> Result<(), AllocError>
-    ensures { OnOk result (string_bytes text.new ≡ string_bytes text.old ++ place_text place) }
-{
-    match place {
-        Some(osd) => push_number(text, u64::from(osd)),
-        None => text.push_str("none"),
-    }
-}
-
-/// The places with commas between them.
-fn push_places(text: &mut String, places: &[Option<u16>]) -> Result<(), AllocError>
-    ensures { OnOk result (string_bytes text.new ≡ string_bytes text.old ++ list_text place_text places.now) }
-{
-    let [first, others @ ..] = places else {
-        return Ok(());
-    };
-    push_place(text, *first)?;
-    for place in others {
-        text.push_str(",")?;
-        push_place(text, *place)?;
-    }
-    Ok(())
-}
-
-/// The groups with commas between them.
-fn push_list(text: &mut String, groups: &[Pg]) -> Result<(), AllocError>
-    ensures { OnOk result (string_bytes text.new ≡ string_bytes text.old ++ list_text group_text groups.now) }
-{
-    let [first, others @ ..] = groups else {
-        return Ok(());
-    };
-    push_group(text, *first)?;
-    for group in others {
-        text.push_str(",")?;
-        push_group(text, *group)?;
-    }
-    Ok(())
 }
 
 /// Adds the first word of an answer and the epoch.
@@ -234,30 +153,50 @@ fn push_refusal(text: &mut String, refusal: Refusal) -> Result<(), AllocError>
     text.push_str("\n")
 }
 
-impl Reply {
-    /// Puts the reply's line behind a text. The one error is out of memory.
-    #[tactic(auto, unfolding(crate::specs::Texts::ok_text, crate::specs::Texts::moved_text))]
-    fn push_to(&self, text: &mut String) -> Result<(), AllocError>
-        ensures { OnOk result (string_bytes text.new ≡ string_bytes text.old ++ reply_text self.now) }
-    {
-        match self {
-            Reply::Up { by, epoch, pg, set } => push_set(text, by.up_word(), *epoch, *pg, set),
-            Reply::Count { epoch, osd, count } => push_count(text, *epoch, *osd, *count),
-            Reply::Groups { epoch, osd, groups } => push_groups(text, *epoch, *osd, groups),
-            Reply::Epoch { by, epoch } => push_epoch(text, by.epoch_word(), *epoch),
-            Reply::Dump { by, map } => push_dump(text, by.dump_word(), map),
-            Reply::Changed { epoch, evals } => writeln!(text, "ok {epoch} evals {evals}"),
-            Reply::Moved { moves, epoch } => writeln!(text, "moved {moves} epoch {epoch}"),
-        }
+/// Adds the line of what a question finds.
+fn push_answer(text: &mut String, by: Speaker, answer: &Answer) -> Result<(), AllocError>
+    ensures { OnOk result (string_bytes text.new ≡ string_bytes text.old ++ answer_text by answer.now) }
+{
+    match answer {
+        Answer::Up { epoch, pg, set } => push_set(text, by.up_word(), *epoch, *pg, set),
+        Answer::Count { epoch, osd, count } => push_count(text, *epoch, *osd, *count),
+        Answer::Groups { epoch, osd, groups } => push_groups(text, *epoch, *osd, groups),
+        Answer::Epoch(epoch) => push_epoch(text, by.epoch_word(), *epoch),
+        Answer::Dump(map) => push_dump(text, by.dump_word(), map),
     }
 }
 
-/// Puts the line of a reply or a refusal behind a text. The one error is out of memory.
+/// Adds the line of a reply.
+#[tactic(auto, unfolding(crate::specs::Texts::ok_text, crate::specs::Texts::moved_text))]
+fn push_reply(text: &mut String, reply: &Reply) -> Result<(), AllocError>
+    ensures { OnOk result (string_bytes text.new ≡ string_bytes text.old ++ reply_text reply.now) }
+{
+    match reply {
+        Reply::Found { by, answer } => push_answer(text, *by, answer),
+        Reply::Changed { epoch, evals } => writeln!(text, "ok {epoch} evals {evals}"),
+        Reply::Moved { moves, epoch } => writeln!(text, "moved {moves} epoch {epoch}"),
+    }
+}
+
+/// Puts the line of what the monitor finds, or of why it refuses, behind a text. The one error is out of memory.
+pub(crate) fn push_found(
+    text: &mut String,
+    found: &Result<Answer, Refusal>,
+) -> Result<(), AllocError>
+    ensures { OnOk result (string_bytes text.new ≡ string_bytes text.old ++ line_of (answer_text Monitor) found.now) }
+{
+    match found {
+        Ok(answer) => push_answer(text, Speaker::Monitor, answer),
+        Err(refusal) => push_refusal(text, *refusal),
+    }
+}
+
+/// Puts the line of a reply, or of a refusal, behind a text. The one error is out of memory.
 pub(crate) fn push_line(text: &mut String, reply: &Result<Reply, Refusal>) -> Result<(), AllocError>
     ensures { OnOk result (string_bytes text.new ≡ string_bytes text.old ++ line_of reply_text reply.now) }
 {
     match reply {
-        Ok(reply) => reply.push_to(text),
+        Ok(reply) => push_reply(text, reply),
         Err(refusal) => push_refusal(text, *refusal),
     }
 }

@@ -2,19 +2,16 @@
 use crate::desk::Desk;
 use crate::error::SessionError;
 use crate::gate::Gate;
-use crate::lines::Room;
+use crate::progress::Progress;
 use crate::sink::Sink;
 use monitor::Member;
 use std::sync::Wait;
 
 impl<'a, R: Wait, G: Gate> Desk<'a, R, G> {
-    ghost use Rattle.std.specs.Prelude.{◌≡◌, ◌++◌, ℕ, List, false, OnOk, IfErr};
+    ghost use Rattle.std.specs.Prelude.{◌≡◌, false, OnOk, IfErr};
     ghost use Rattle.monitor.specs.Members.{IsMemberOf};
-    ghost use Rattle.session.specs.Commands.{lines_in};
-    ghost use Rattle.session.specs.Answers.{Sight};
-    ghost use Rattle.session.specs.Sessions.{sight_of, session_at};
-    ghost use Rattle.session.specs.Transcripts.{IsTranscript, Stops};
-    ghost use Rattle.session.specs.Ends.{Halts, has_sink_failed};
+    ghost use Rattle.session.specs.Sessions.{sight_of, session_at, IsPlayed, IsStopped};
+    ghost use Rattle.session.specs.Ends.{has_sink_failed};
 
     /// Runs a script for a member of the monitor: does the command of each line in order, and writes its answer whole
     /// before the next command. A line that is no command answers `BadCommand` (33), a refused one its number and name,
@@ -40,23 +37,14 @@ impl<'a, R: Wait, G: Gate> Desk<'a, R, G> {
         requires member { IsMemberOf self.now.monitor.now member.old }
         requires unfailed { W.has_failed sink.old ≡ false }
         ensures member { IsMemberOf self.now.monitor.now member.new }
-        ensures ok { OnOk result ((bytes : List ℕ) × (last : Sight)
-            × IsTranscript (session_at self.now G.lets) 1 (sight_of member.old)
-            (lines_in script.now) bytes last
-            × (last.member ≡ member.new.pass.history) × (W.written sink.new ≡ W.written sink.old ++ bytes)) }
-        ensures err { IfErr result (λ error. (out : List ℕ) × (last : Sight)
-            × Stops (session_at self.now G.lets)
-            (Halts (session_at self.now G.lets) error)
-            (sight_of member.old) (lines_in script.now) out last
-            × (last.member ≡ member.new.pass.history) × (W.written sink.new ≡ W.written sink.old ++ out)) }
+        ensures ok { OnOk result (IsPlayed (session_at self.now G.lets) (sight_of member.old) script.now
+            member.new.pass.history (W.written sink.old) (W.written sink.new)) }
+        ensures err { IfErr result (IsStopped (session_at self.now G.lets) (sight_of member.old) script.now
+            member.new.pass.history (W.written sink.old) (W.written sink.new)) }
         ensures failed { W.has_failed sink.new ≡ has_sink_failed result }
     {
-        let mut room = Room {
-            follower: None,
-            text: String::new(self.alloc),
-            number: 1,
-        };
-        let last = self.answer_lines(member, &mut room, script, sink)?;
-        self.answer_last(member, &mut room, last, sink)
+        let mut progress = Progress::new(self.alloc);
+        let last = self.answer_lines(member, &mut progress, script, sink)?;
+        self.answer_last(member, &mut progress, last, sink)
     }
 }

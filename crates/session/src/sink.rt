@@ -94,11 +94,11 @@ pub struct Buffer {
 
 impl Buffer {
     ghost use Rattle.std.specs.Prelude.{◌≡◌, [], false};
-    ghost use Rattle.session.specs.Buffers.{buffered, is_short};
+    ghost use Rattle.session.specs.Buffers.{bytes_of, is_short};
 
     /// An empty buffer.
     pub fn new(alloc: Global) -> Buffer
-        ensures bytes { buffered result ≡ [] }
+        ensures bytes { bytes_of result ≡ [] }
         ensures failed { is_short result ≡ false }
     {
         Buffer {
@@ -109,7 +109,7 @@ impl Buffer {
 
     /// The bytes put so far.
     pub fn bytes(&self) -> &[u8]
-        ensures { result.now ≡ buffered self.now }
+        ensures { result.now ≡ bytes_of self.now }
     {
         &self.bytes
     }

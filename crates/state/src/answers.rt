@@ -13,6 +13,11 @@ impl<K: Keeps + Drop> State<K> {
     ghost use Rattle.pgtable.specs.Index.{up_at};
     ghost use Rattle.state.specs.Answers.{osd_fault, FindsUp, FindsCount, FindsGroups};
 
+    /// Where the state takes memory.
+    pub fn alloc(&self) -> Global {
+        self.alloc
+    }
+
     /// The epoch and the up set of a group. It takes no memory.
     ///
     /// # Errors

@@ -2,7 +2,7 @@ use Rattle.std.proofs.Common.{◌≡◌, ◌++◌, drop}
 use Rattle.std.specs.String.{string_bytes}
 use Rattle.maptypes.specs.GroupText.{group_text}
 use Rattle.maptypes.specs.SetText.{more_texts}
-use Rattle.session.proofs.reply.push_list.Given as goal
+use Rattle.session.proofs.text.push_list.Given as goal
 
 -- the text so far, with the groups that are left
 abbrev pub invariant-loop-group : goal.invariant-loop-group

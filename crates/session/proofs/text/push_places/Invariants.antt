@@ -1,7 +1,7 @@
 use Rattle.std.proofs.Common.{◌≡◌, ◌++◌, drop}
 use Rattle.std.specs.String.{string_bytes}
 use Rattle.maptypes.specs.SetText.{more_texts, place_text}
-use Rattle.session.proofs.reply.push_places.Given as goal
+use Rattle.session.proofs.text.push_places.Given as goal
 
 -- the text so far, with the places that are left
 abbrev pub invariant-loop-place : goal.invariant-loop-place

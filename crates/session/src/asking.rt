@@ -1,0 +1,159 @@
+//! What a session asks of its monitor: the command of a line is done.
+
+use crate::command::{Beside, Command, Plan};
+use crate::desk::Desk;
+use crate::following::follow;
+use crate::reply::{Reply, Speaker};
+use crate::watch::watch;
+use balancer::Request;
+use balancer::limits::LEAST_APART;
+use mapjson::{read_change, read_loads};
+use monitor::{Answer, Balance, Commit, Follower, Member};
+use refusal::Refusal;
+use std::sync::Wait;
+
+impl<'a, R: Wait, G> Desk<'a, R, G> {
+    ghost use Rattle.std.specs.Prelude.{◌≤◌, codes, length};
+    ghost use Rattle.std.specs.Option.{option_map};
+    ghost use Rattle.refusal.specs.Outcomes.{Makes};
+    ghost use Rattle.mapjson.specs.LoadTexts.{StatesLoads};
+    ghost use Rattle.balancer.specs.Shares.{aim_of};
+    ghost use Rattle.monitor.specs.Members.{IsMemberOf};
+    ghost use Rattle.monitor.specs.Balances.{AnswersBalance};
+    ghost use Rattle.session.specs.Texts.{line_of, epoch_text};
+    ghost use Rattle.session.specs.Commands.{command_of, beside_of};
+    ghost use Rattle.session.specs.Replies.{changed_text, planned_text, reply_text};
+    ghost use Rattle.session.specs.Answers.{Changes, beside_fault, Plans, PlansBeside, Awaits};
+    ghost use Rattle.session.specs.Sessions.{IsFollowerOf, basis_of, Serves, IsDone};
+
+    /// Commits the change that a text states: the new epoch, and how many groups' placement was worked out anew.
+    fn change(&self, member: &mut Member, text: &[u8]) -> Result<Commit, Refusal>
+        requires { IsMemberOf self.now.monitor.now member.old }
+        ensures { Serves self.now.monitor.now member.old member.new
+            (Changes (basis_of self.now.monitor.now) text.now) changed_text result }
+    {
+        let (base, change) = read_change(self.alloc, text, self.monitor.profile())?;
+        self.monitor.commit(self.rt, member, base, change)
+    }
+
+    /// The epoch, once it is at least the one wanted: `AwaitSpent` (34) after 1,000,000 looks without it. It takes the
+    /// lock once, after the looks.
+    fn await_epoch(&self, member: &mut Member, wanted: u64) -> Result<u64, Refusal>
+        requires { IsMemberOf self.now.monitor.now member.old }
+        ensures { Serves self.now.monitor.now member.old member.new
+            (Awaits (basis_of self.now.monitor.now) wanted) (epoch_text (codes "epoch")) result }
+    {
+        let _ = watch(self.rt, self.monitor, wanted);
+        let epoch = self.monitor.epoch(self.rt, member)?;
+        if epoch >= wanted {
+            Ok(epoch)
+        } else {
+            Err(Refusal::AwaitSpent)
+        }
+    }
+
+    /// What OSDs carry, by number, as a text states it: `BadCommand` (33) in a script of plain maps.
+    fn loads(&self, text: &[u8]) -> Result<Vec<i32>, Refusal>
+        ensures { Makes result
+            (beside_fault self.now.monitor.now.profile (length self.now.monitor.now.first.presences) text.now)
+            (λ list. StatesLoads (length self.now.monitor.now.first.presences) text.now list.items) }
+    {
+        if !self.monitor.profile().is_stock() {
+            return Err(Refusal::BadCommand);
+        }
+        read_loads(self.alloc, text, self.monitor.max_osd())
+    }
+
+    /// Balances the groups of a pool, where OSDs carry so much and must be so far apart: the epoch then, and how many
+    /// moves.
+    fn balance_by(
+        &self,
+        member: &mut Member,
+        plan: Plan<'_>,
+        carried: &[i32],
+        apart: u32,
+    ) -> Result<Balance, Refusal>
+        requires member { IsMemberOf self.now.monitor.now member.old }
+        requires least { 256 ≤ apart }
+        ensures { Serves self.now.monitor.now member.old member.new
+            (λ before now. AnswersBalance self.now.monitor.now.first (length self.now.monitor.now.row.cells)
+            before now plan.entry.pool (aim_of carried.now apart) plan.entry.limit) planned_text result }
+    {
+        let request = Request {
+            pool: plan.pool,
+            limit: plan.limit,
+            carried,
+            apart,
+        };
+        self.monitor.balance(self.rt, member, request)
+    }
+
+    /// Balances the groups of a pool, where a text states what OSDs carry beside it: the epoch then, and how many
+    /// moves.
+    fn balance_beside(
+        &self,
+        member: &mut Member,
+        plan: Plan<'_>,
+        beside: Beside<'_>,
+    ) -> Result<Balance, Refusal>
+        requires { IsMemberOf self.now.monitor.now member.old }
+        ensures { Serves self.now.monitor.now member.old member.new
+            (PlansBeside (basis_of self.now.monitor.now) plan.entry.pool plan.entry.limit (beside_of beside.entry))
+            planned_text result }
+    {
+        let carried = self.loads(beside.loads)?;
+        self.balance_by(member, plan, &carried, beside.apart)
+    }
+
+    /// Balances the groups of a pool: the epoch then, and how many moves.
+    fn balance(&self, member: &mut Member, plan: Plan<'_>) -> Result<Balance, Refusal>
+        requires { IsMemberOf self.now.monitor.now member.old }
+        ensures { Serves self.now.monitor.now member.old member.new (Plans (basis_of self.now.monitor.now)
+            plan.entry.pool plan.entry.limit (option_map beside_of plan.entry.beside)) planned_text result }
+    {
+        match plan.beside {
+            None => self.balance_by(member, plan, &[], LEAST_APART),
+            Some(beside) => self.balance_beside(member, plan, beside),
+        }
+    }
+
+    /// Does a command; `None` is a line that is no command.
+    pub(crate) fn do_command(
+        &self,
+        member: &mut Member,
+        follower: &mut Option<Follower>,
+        command: Option<Command<'_>>,
+    ) -> Result<Reply, Refusal>
+        requires member { IsMemberOf self.now.monitor.now member.old }
+        requires follower { IsFollowerOf self.now.monitor.now follower.old }
+        ensures { IsDone self.now.monitor.now member.old member.new follower.old follower.new
+            (option_map command_of command.entry) (line_of reply_text result) }
+    {
+        match command {
+            None => Err(Refusal::BadCommand),
+            Some(Command::Ask(question)) => {
+                let answer = self.monitor.ask(self.rt, member, question)?;
+                let by = Speaker::Monitor;
+                Ok(Reply::Found { by, answer })
+            }
+            Some(Command::Change(text)) => {
+                let Commit { epoch, evals } = self.change(member, text)?;
+                Ok(Reply::Changed { epoch, evals })
+            }
+            Some(Command::Await(wanted)) => {
+                let answer = Answer::Epoch(self.await_epoch(member, wanted)?);
+                let by = Speaker::Monitor;
+                Ok(Reply::Found { by, answer })
+            }
+            Some(Command::Balance(plan)) => {
+                let Balance { epoch, moves } = self.balance(member, plan)?;
+                Ok(Reply::Moved { moves, epoch })
+            }
+            Some(Command::Follower(task)) => {
+                let answer = follow(self.alloc, self.monitor, member, follower, task)?;
+                let by = Speaker::Follower;
+                Ok(Reply::Found { by, answer })
+            }
+        }
+    }
+}
