@@ -96,10 +96,16 @@ FALSE_IN_COMMENTS = [
 OF_PARSERS = {"--help", "--version"}
 # The lists of places in CONTRIBUTING.md: of each the enums whose variants are looked for, or the struct whose fields
 # are, and where that is declared. Out of memory is not looked for: it stands wherever a call allocates.
-COMMAND, REPLY = "session/src/command.rt", "session/src/reply.rt"
+COMMAND, REPLY, QUESTION = "session/src/command.rt", "session/src/reply.rt", "monitor/src/question.rt"
 LISTS = {
     "A kind of bucket": {"BucketKind": "buckets/src/bucket.rt"},
-    "A line of a script": {"Question": COMMAND, "Command": COMMAND, "Task": COMMAND, "Reply": REPLY},
+    "A line of a script": {
+        "Question": QUESTION,
+        "Answer": QUESTION,
+        "Command": COMMAND,
+        "Task": COMMAND,
+        "Reply": REPLY,
+    },
     "A part of a change": {"ChangeParts": "maptypes/src/change.rt"},
     "A refusal": {"Refusal": "refusal/src/refused.rt"},
 }

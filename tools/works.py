@@ -20,7 +20,7 @@ WORKS = {
 }
 STATES = {"monitor/src/open.rt": "the state of the monitor"}
 FOLLOWERS = {
-    "session/src/desk.rt": "the follower of a session",
+    "session/src/following.rt": "the follower of a session",
     "library_example/src/main.rt": "a follower as the library has them",
 }
 # What makes something, by its name, and where that may be: another name of a work (`type Room = Work`) nowhere.

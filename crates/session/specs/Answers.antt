@@ -64,7 +64,7 @@ abbrev pub Changes : Basis → List ℕ → List Step → List Step → Result C
 Changes basis text before now r =
     (read : Result (ℕ × ChangeParts) Refusal)
     × Makes read (change_text_fault basis.profile text) (StatesChange basis.profile text)
-    × MatchResult read (λ stated. AnswersCommit basis.first basis.most before now stated.0 stated.1 r)
+    × MatchResult read (λ (base, parts). AnswersCommit basis.first basis.most before now base parts r)
     (λ e. (r ≡ Err e) × (now ≡ before))
 
 -- why a text is refused as what OSDs carry: a script of plain maps knows none

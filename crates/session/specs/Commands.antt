@@ -11,6 +11,7 @@ use Rattle.monitor.specs.declared.question.Question.TheVariants.{Up, Count, Grou
 use Rattle.session.specs.declared.command.Command.{Command as Read}
 use Rattle.session.specs.declared.command.Command.TheVariants.{Ask, Change, Await, Balance, Follower}
 use Rattle.session.specs.declared.command.Beside.{Beside as ReadBeside}
+use Rattle.session.specs.declared.parse.Words.{Words as ReadWords}
 use Rattle.session.specs.declared.command.Task.{Task}
 use Rattle.session.specs.declared.command.Task.TheVariants as task
 
@@ -37,9 +38,19 @@ osd_in text = number_below (2 ^ 32) text
 abbrev pub epoch_in : List ℕ → Option ℕ
 epoch_in text = number_below (2 ^ 64) text
 
+-- the first word of a text, and what stands behind its space
+pub record Words : Type 0 where
+  pub first : List ℕ
+  pub rest : List ℕ
+
 -- the words before and behind the first space
-abbrev pub two_words : List ℕ → Option (List ℕ × List ℕ)
-two_words text = option_map (λ at. (take at text, drop (at + 1) text)) (position (λ c. c == 32) text)
+abbrev pub two_words : List ℕ → Option Words
+two_words text =
+    option_map (λ end. record { first = take end text; rest = drop (end + 1) text }) (position (λ c. c == 32) text)
+
+-- the words, as they were read
+abbrev pub words_of : ReadWords → Words
+words_of words = record { first = words.first.now; rest = words.rest.now }
 
 -- the number of a pool, of 32 bits
 abbrev pub pool_number : List ℕ → Option ℕ
@@ -111,21 +122,23 @@ task_in line =
 unfoldable pub beside_in : List ℕ → Option Beside
 beside_in text =
     option_and_then
-    (λ words. option_map (λ apart. record { apart = apart; loads = words.1 }) (apart_in words.0)) (two_words text)
+    (λ words. option_map (λ apart. record { apart = apart; loads = words.rest }) (apart_in words.first))
+    (two_words text)
 
 -- the plan for a pool that a text says: a number of moves, and what stands behind a space is to be counted beside it
 unfoldable pub plan_for : ℕ → List ℕ → Option Command
 plan_for pool text = elim (two_words text) [
   | None ↦ option_map (λ limit. balance pool limit None) (limit_in text)
   | Some words ↦
-      option_and_then (λ limit. option_map (λ beside. balance pool limit (Some beside)) (beside_in words.1))
-      (limit_in words.0)
+      option_and_then (λ limit. option_map (λ beside. balance pool limit (Some beside)) (beside_in words.rest))
+      (limit_in words.first)
 ]
 
 -- the plan of a text: a pool, a space and the plan for it
 unfoldable pub plan_in : List ℕ → Option Command
 plan_in text =
-    option_and_then (λ words. option_and_then (λ pool. plan_for pool words.1) (pool_number words.0)) (two_words text)
+    option_and_then (λ words. option_and_then (λ pool. plan_for pool words.rest) (pool_number words.first))
+    (two_words text)
 
 -- the command of a line: a question, `change ` and a text, `await ` and an epoch, `balance ` and a plan, or a task;
 -- none where it is none of them

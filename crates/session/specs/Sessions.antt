@@ -61,7 +61,7 @@ session_at desk lets = session_of desk.monitor.now (lets desk.gate.now)
 
 -- what is asked of a monitor is answered to a member, which is one of it still: so, by what the member has seen before
 -- and then; and with none beside it, it sees nothing but what the line of the answer tells
-pub record Serves {X : Type 0} (monitor : Monitored) (before after : Member)
+pub record AnswersMember {X : Type 0} (monitor : Monitored) (before after : Member)
     (gives : List Step → List Step → Result X Refusal → Type 0) (text : X → List ℕ) (r : Result X Refusal) :
     Type 0 where
   pub member : IsMemberOf monitor after

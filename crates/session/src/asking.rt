@@ -24,12 +24,12 @@ impl<'a, R: Wait, G> Desk<'a, R, G> {
     ghost use Rattle.session.specs.Commands.{command_of, beside_of};
     ghost use Rattle.session.specs.Replies.{changed_text, planned_text, reply_text};
     ghost use Rattle.session.specs.Answers.{Changes, beside_fault, Plans, PlansBeside, Awaits};
-    ghost use Rattle.session.specs.Sessions.{IsFollowerOf, basis_of, Serves, IsDone};
+    ghost use Rattle.session.specs.Sessions.{IsFollowerOf, basis_of, AnswersMember, IsDone};
 
     /// Commits the change that a text states: the new epoch, and how many groups' placement was worked out anew.
     fn change(&self, member: &mut Member, text: &[u8]) -> Result<Commit, Refusal>
         requires { IsMemberOf self.now.monitor.now member.old }
-        ensures { Serves self.now.monitor.now member.old member.new
+        ensures { AnswersMember self.now.monitor.now member.old member.new
             (Changes (basis_of self.now.monitor.now) text.now) changed_text result }
     {
         let (base, change) = read_change(self.alloc, text, self.monitor.profile())?;
@@ -40,7 +40,7 @@ impl<'a, R: Wait, G> Desk<'a, R, G> {
     /// lock once, after the looks.
     fn await_epoch(&self, member: &mut Member, wanted: u64) -> Result<u64, Refusal>
         requires { IsMemberOf self.now.monitor.now member.old }
-        ensures { Serves self.now.monitor.now member.old member.new
+        ensures { AnswersMember self.now.monitor.now member.old member.new
             (Awaits (basis_of self.now.monitor.now) wanted) (epoch_text (codes "epoch")) result }
     {
         let _ = watch(self.rt, self.monitor, wanted);
@@ -75,7 +75,7 @@ impl<'a, R: Wait, G> Desk<'a, R, G> {
     ) -> Result<Balance, Refusal>
         requires member { IsMemberOf self.now.monitor.now member.old }
         requires least { 256 ≤ apart }
-        ensures { Serves self.now.monitor.now member.old member.new
+        ensures { AnswersMember self.now.monitor.now member.old member.new
             (λ before now. AnswersBalance self.now.monitor.now.first (length self.now.monitor.now.row.cells)
             before now plan.entry.pool (aim_of carried.now apart) plan.entry.limit) planned_text result }
     {
@@ -97,7 +97,7 @@ impl<'a, R: Wait, G> Desk<'a, R, G> {
         beside: Beside<'_>,
     ) -> Result<Balance, Refusal>
         requires { IsMemberOf self.now.monitor.now member.old }
-        ensures { Serves self.now.monitor.now member.old member.new
+        ensures { AnswersMember self.now.monitor.now member.old member.new
             (PlansBeside (basis_of self.now.monitor.now) plan.entry.pool plan.entry.limit (beside_of beside.entry))
             planned_text result }
     {
@@ -108,7 +108,7 @@ impl<'a, R: Wait, G> Desk<'a, R, G> {
     /// Balances the groups of a pool: the epoch then, and how many moves.
     fn balance(&self, member: &mut Member, plan: Plan<'_>) -> Result<Balance, Refusal>
         requires { IsMemberOf self.now.monitor.now member.old }
-        ensures { Serves self.now.monitor.now member.old member.new (Plans (basis_of self.now.monitor.now)
+        ensures { AnswersMember self.now.monitor.now member.old member.new (Plans (basis_of self.now.monitor.now)
             plan.entry.pool plan.entry.limit (option_map beside_of plan.entry.beside)) planned_text result }
     {
         match plan.beside {

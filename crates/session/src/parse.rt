@@ -2,7 +2,7 @@
 ghost use Rattle.std.specs.Prelude.{◌≡◌, ◌<◌, ◌≤◌, ◌==◌, ◌+◌, ◌*◌, ◌^◌, length, position, IfSome};
 ghost use Rattle.std.specs.Option.{option_map, option_and_then};
 ghost use Rattle.balancer.specs.Limits.{max_moves};
-ghost use Rattle.session.specs.Commands.{osd_in, epoch_in, two_words, limit_in, apart_in, beside_in, plan_for, plan_in, question_in, task_in, command_of, beside_of, command_in};
+ghost use Rattle.session.specs.Commands.{osd_in, epoch_in, two_words, words_of, limit_in, apart_in, beside_in, plan_for, plan_in, question_in, task_in, command_of, beside_of, command_in};
 ghost use Rattle.session.specs.declared.command.Command.TheVariants.{Balance};
 
 use crate::command::{Beside, Command, Plan, Task};
@@ -36,6 +36,13 @@ const FOLLOWER_DUMP: &[u8] = b"fdump";
 
 const FOLLOWER_UP: &[u8] = b"fup ";
 
+/// The first word of a text, and what stands behind its space.
+#[derive(Clone, Copy)]
+struct Words<'t> {
+    first: &'t [u8],
+    rest: &'t [u8],
+}
+
 /// The epoch that a text is: a number of at most 64 bits, without a sign or leading zeros.
 fn read_epoch(text: &[u8]) -> Option<u64>
     ensures { result ≡ epoch_in text.now }
@@ -59,11 +66,14 @@ fn space(text: &[u8]) -> Option<usize>
 }
 
 /// The words before and behind the first space.
-fn two_words(text: &[u8]) -> Option<(&[u8], &[u8])>
-    ensures { option_map (λ words. (words.0.now, words.1.now)) result ≡ two_words text.now }
+fn two_words(text: &[u8]) -> Option<Words<'_>>
+    ensures { option_map words_of result ≡ two_words text.now }
 {
     let at = space(text)?;
-    Some((&text[..at], &text[at + 1..]))
+    Some(Words {
+        first: &text[..at],
+        rest: &text[at + 1..],
+    })
 }
 
 /// The number of moves that a text is, from 1 to 1,024.
@@ -97,9 +107,12 @@ fn read_apart(text: &[u8]) -> Option<u32>
 fn read_beside(text: &[u8]) -> Option<Beside<'_>>
     ensures { option_map beside_of result ≡ beside_in text.now }
 {
-    let (apart, loads) = two_words(text)?;
-    let apart = read_apart(apart)?;
-    Some(Beside { apart, loads })
+    let words = two_words(text)?;
+    let apart = read_apart(words.first)?;
+    Some(Beside {
+        apart,
+        loads: words.rest,
+    })
 }
 
 /// The plan for a pool that a text says.
@@ -113,10 +126,10 @@ fn read_plan_for(pool: u32, text: &[u8]) -> Option<Plan<'_>>
             limit: read_limit(text)?,
             beside: None,
         }),
-        Some((limit, beside)) => Some(Plan {
+        Some(words) => Some(Plan {
             pool,
-            limit: read_limit(limit)?,
-            beside: Some(read_beside(beside)?),
+            limit: read_limit(words.first)?,
+            beside: Some(read_beside(words.rest)?),
         }),
     }
 }
@@ -126,8 +139,8 @@ fn read_plan_for(pool: u32, text: &[u8]) -> Option<Plan<'_>>
 fn read_plan(text: &[u8]) -> Option<Plan<'_>>
     ensures { option_map (λ plan. command_of (Balance plan)) result ≡ plan_in text.now }
 {
-    let (pool, plan) = two_words(text)?;
-    read_plan_for(read_osd(pool)?, plan)
+    let words = two_words(text)?;
+    read_plan_for(read_osd(words.first)?, words.rest)
 }
 
 /// The question of a line; `None` where it is none.
