@@ -115,6 +115,7 @@ impl PgTable {
     }
 
     /// Other sets for groups of the pools, which all stay in place; or `Memory` (30).
+    #[inline(always)]
     fn patch_tables(
         &self,
         alloc: Global,
@@ -144,6 +145,7 @@ impl PgTable {
 
     /// What a change makes of the tables of all pools; or `Memory` (30). Where the map before the change tells the sets
     /// after it, all pools stay in place, and so do their tables.
+    #[inline(always)]
     pub(crate) fn bring_tables(
         &self,
         alloc: Global,

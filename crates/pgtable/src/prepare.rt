@@ -72,6 +72,7 @@ impl PgTable {
     }
 
     /// The patch that makes of the table the one of the map after a change; or `Memory` (30).
+    #[inline(always)]
     fn make_patch(&self, alloc: Global, update: &Update, work: &mut Work) -> Result<Patch, Memory>
         requires { IsTableOf self.now update.now.before.now.map }
         ensures { IfOk result (IsPatchBy update.now self.now work.old work.new) }

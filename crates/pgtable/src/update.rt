@@ -64,6 +64,7 @@ impl<'a> Update<'a> {
     ghost use Rattle.pgtable.specs.Patches.{IsToldBy};
 
     /// A change that a map does not refuse, by a map that tells the sets after it; or `Memory` (30).
+    #[inline(always)]
     pub fn new(
         alloc: Global,
         before: &'a OsdMap,
