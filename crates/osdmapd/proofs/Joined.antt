@@ -8,7 +8,7 @@ use Rattle.osdmap.specs.Changes.{IsLawful}
 use Rattle.epochlog.specs.Epochs.{Seen, Begins, longer}
 use Rattle.monitor.specs.Members.{Monitored, IsMemberOf, IsPassOf}
 use Rattle.osdmapd.specs.declared.part.Part.{Part}
-use Rattle.osdmapd.specs.declared.playing.Left.{Left}
+use Rattle.osdmapd.specs.declared.left.Left.{Left}
 use Rattle.osdmapd.specs.Pairs.{Pairs}
 use Rattle.osdmapd.specs.Serving.{facts_left, seen_left, IsLeftBy, IsLeftIn, AreLeftBy}
 

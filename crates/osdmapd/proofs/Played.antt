@@ -17,8 +17,8 @@ use Rattle.session.specs.Transcripts.{IsTranscript}
 use Rattle.session.specs.Sinks.{HasPut}
 use Rattle.std.specs.declared.thread.PromisedHandle.{PromisedHandle}
 use Rattle.osdmapd.specs.declared.part.Part.{Part}
-use Rattle.osdmapd.specs.declared.playing.Left.{Left}
-use Rattle.osdmapd.specs.declared.playing.LeftOf.{LeftOf}
+use Rattle.osdmapd.specs.declared.left.Left.{Left}
+use Rattle.osdmapd.specs.declared.left.LeftOf.{LeftOf}
 use Rattle.osdmapd.specs.declared.fault.Fault.{Fault}
 use Rattle.osdmapd.specs.declared.fault.Fault.TheVariants.{Output, Memory}
 use Rattle.osdmapd.specs.Players.{IsStartedFor, Keeps}

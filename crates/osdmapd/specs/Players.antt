@@ -3,8 +3,8 @@ use Rattle.std.specs.Prelude.{◌≡◌, ℕ}
 use Rattle.std.specs.declared.thread.PromisedHandle.{PromisedHandle}
 use Rattle.monitor.specs.Members.{Monitored}
 use Rattle.osdmapd.specs.declared.part.Part.{Part}
-use Rattle.osdmapd.specs.declared.playing.Left.{Left}
-use Rattle.osdmapd.specs.declared.playing.LeftOf.{LeftOf}
+use Rattle.osdmapd.specs.declared.left.Left.{Left}
+use Rattle.osdmapd.specs.declared.left.LeftOf.{LeftOf}
 use Rattle.osdmapd.specs.Serving.{IsLeftBy}
 
 -- a thread that was started for a part, by its number

@@ -15,7 +15,7 @@ use Rattle.session.specs.Transcripts.{IsTranscript}
 use Rattle.session.specs.Sinks.{HasPut}
 use Rattle.osdmapd.specs.Pairs.{Pairs}
 use Rattle.session.specs.Buffers.{bytes_of}
-use Rattle.osdmapd.specs.declared.playing.Left.{Left}
+use Rattle.osdmapd.specs.declared.left.Left.{Left}
 use Rattle.osdmapd.specs.declared.part.Part.{Part}
 use Rattle.osdmapd.specs.declared.part.Part.TheVariants.{Script, Live}
 use Rattle.osdmapd.specs.declared.fault.Fault.{Fault}
@@ -59,7 +59,7 @@ pub record LeftFacts : Type 0 where
 abbrev pub IsLeftOf : ClusterMap → ℕ → Profile → Bool → ℕ → Part → LeftFacts → List Step → Type 0
 IsLeftOf first journal profile alone number (Script script) left seen =
     IsSessionText first journal profile alone number script.items left.text seen × (left.told ≡ false)
-IsLeftOf first journal profile alone number (Live source target) left seen = left.text ≡ []
+IsLeftOf first journal profile alone number (Live streams) left seen = left.text ≡ []
 
 -- what is to be put out of what is left
 abbrev pub text_left : Left → List ℕ

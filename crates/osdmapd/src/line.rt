@@ -116,7 +116,7 @@ fn command<'a>(alloc: Global) -> Result<Command<'a>, AllocError>
 }
 
 /// Why the parser refused the words.
-fn refused(alloc: Global, error: &Error) -> LineError
+fn line_error(alloc: Global, error: &Error) -> LineError
     ensures { TellsOf (kind_of error.now) result }
 {
     let kind = error.kind();
@@ -133,7 +133,7 @@ fn refused(alloc: Global, error: &Error) -> LineError
 }
 
 /// Copies of words.
-fn copied(alloc: Global, words: &[&str]) -> Result<Vec<String>, AllocError>
+fn copies_of(alloc: Global, words: &[&str]) -> Result<Vec<String>, AllocError>
     ensures texts { IfOk result (λ copies. map string_bytes copies.items ≡ map (λ word. word.now) words.now) }
     ensures count { IfOk result (λ copies. vec_len copies ≡ length words.now) }
 {
@@ -191,13 +191,13 @@ fn answers(alloc: Global, matches: &ArgMatches<'_>) -> Result<Vec<String>, Alloc
     ensures { IfOk result (λ copies. map string_bytes copies.items ≡ answer_paths_in (rows_of (found_of matches.now))) }
 {
     match answers_in(matches) {
-        Some(words) => copied(alloc, words),
+        Some(words) => copies_of(alloc, words),
         None => Ok(Vec::new(alloc)),
     }
 }
 
 /// The options of words that the parser took. A value that it had to find and did not is told as out of memory.
-fn taken(alloc: Global, matches: &ArgMatches<'_>) -> Result<Options, LineError>
+fn options_in(alloc: Global, matches: &ArgMatches<'_>) -> Result<Options, LineError>
     ensures least { IfOk result (λ o. 1 ≤ o.journal) }
     ensures most { IfOk result (λ o. o.journal ≤ max_capacity) }
     ensures some { IfOk result (λ o. 1 ≤ vec_len o.scripts) }
@@ -222,7 +222,7 @@ fn taken(alloc: Global, matches: &ArgMatches<'_>) -> Result<Options, LineError>
         journal,
         profile: profile_in(matches),
         map: String::from_str(alloc, map)?,
-        scripts: copied(alloc, scripts)?,
+        scripts: copies_of(alloc, scripts)?,
         answers,
     })
 }
@@ -244,7 +244,7 @@ pub fn options(alloc: Global, words: &[String]) -> Result<Options, LineError>
     ensures usual { ReadsUsual (map string_bytes words.now) result }
 {
     match command(alloc)?.try_get_matches_from(words) {
-        Ok(matches) => taken(alloc, &matches),
-        Err(error) => Err(refused(alloc, &error)),
+        Ok(matches) => options_in(alloc, &matches),
+        Err(error) => Err(line_error(alloc, &error)),
     }
 }

@@ -3,7 +3,9 @@
 //!
 //! - `line`, `choices`: what a command line asks for
 //! - `part`: where a session's lines come from and its answers go
-//! - `serving`, `playing`: the run over its files, with a thread for each session
+//! - `serving`, `players`: the run over its files, and the threads of its sessions
+//! - `playing`, `left`: what one thread plays, and what is left of its session
+//! - `system`: what a run has of the machine
 //! - `out`: a writer as a sink
 //! - `fault`, `ending`: why nothing is served, and how a run ends
 //! - `sharing`, `racing`, `tests`: what no clause says, and no run of the program shows
@@ -20,16 +22,19 @@ ghost use Rattle.osdmapd.specs.Endings.{file_ending, run_status, status_of, Tell
 mod choices;
 mod ending;
 mod fault;
+mod left;
 mod line;
 mod out;
 mod part;
+mod players;
 mod playing;
 mod serving;
+mod system;
 
 use choices::{LineError, Options};
 use ending::Ending;
 use fault::Fault;
-use part::{Part, Source, Target};
+use part::{Part, Source, Streams, Target};
 use refusal::Memory;
 use serving::Terms;
 use session::Buffer;
@@ -39,12 +44,13 @@ use std::rt::Files;
 use std::sync::Wait;
 use std::thread::Threads;
 use std::{fs, io};
+use system::System;
 
 /// The word for a script that is standard input, and for a file of answers that is standard output.
 const STANDARD: &str = "-";
 
 /// Ends a run: where something kept it from being done, standard error tells why.
-fn ended(rt: &impl Eprint, done: Result<(), Ending<'_>>) -> ExitCode
+fn end_run(rt: &impl Eprint, done: Result<(), Ending<'_>>) -> ExitCode
     ensures { exit_status result ≡ run_status done.entry }
 {
     match done {
@@ -78,7 +84,7 @@ fn is_given_twice(paths: &[String]) -> bool
 }
 
 /// Where the lines of a path come from.
-fn source(host: &HostRuntime, path: &str) -> Result<Source, AllocError> {
+fn source_of(host: &HostRuntime, path: &str) -> Result<Source, AllocError> {
     if path == STANDARD {
         return Ok(Source::Standard(host.stdin()));
     }
@@ -86,7 +92,7 @@ fn source(host: &HostRuntime, path: &str) -> Result<Source, AllocError> {
 }
 
 /// Where the answers of a path go.
-fn target(host: &HostRuntime, path: &str) -> Result<Target, AllocError> {
+fn target_of(host: &HostRuntime, path: &str) -> Result<Target, AllocError> {
     if path == STANDARD {
         return Ok(Target::Standard(host.stdout()));
     }
@@ -100,31 +106,30 @@ fn live_parts(host: &HostRuntime, options: &Options) -> Result<Vec<Part>, Memory
 {
     let mut parts = Vec::new(host.alloc());
     for k in 0..options.scripts.len() {
-        let source = source(host, options.scripts[k].as_str())?;
-        let target = target(host, options.answers[k].as_str())?;
-        parts.push(Part::Live(source, target))?;
+        let source = source_of(host, options.scripts[k].as_str())?;
+        let target = target_of(host, options.answers[k].as_str())?;
+        parts.push(Part::Live(Streams { source, target }))?;
     }
     Ok(parts)
 }
 
 /// What the session of each of these paths is played from.
 fn parts_of<'a, R: Files + AllocGlobal>(
-    rt: &R,
-    host: &HostRuntime,
+    system: &System<'_, R>,
     paths: &'a [String],
 ) -> Result<Vec<Part>, Ending<'a>>
     ensures count { IfOk result (λ parts. vec_len parts ≡ length paths.now) }
     ensures status { IfErr result (λ e. 3 ≤ status_of e) }
 {
-    let mut parts = Vec::new(rt.alloc());
+    let mut parts = Vec::new(system.rt.alloc());
     for path in paths {
         let part = if path.as_str() == STANDARD {
-            Part::Live(
-                Source::Standard(host.stdin()),
-                Target::Standard(host.stdout()),
-            )
+            Part::Live(Streams {
+                source: Source::Standard(system.host.stdin()),
+                target: Target::Standard(system.host.stdout()),
+            })
         } else {
-            Part::Script(read(rt, path.as_str())?)
+            Part::Script(read(system.rt, path.as_str())?)
         };
         if parts.push(part).is_err() {
             return Err(Ending::Memory);
@@ -143,8 +148,7 @@ fn put_out<'a>(rt: &impl Print, answers: &[u8]) -> Result<(), Ending<'a>>
 /// Reads the files, the map first, and puts the answers to standard output; where there are files of answers, the map
 /// alone, and each session opens its own.
 fn work<'a, R: Files + AllocGlobal + Print + Eprint + Threads + Wait + Sync>(
-    rt: &R,
-    host: &HostRuntime,
+    system: &System<'_, R>,
     options: &'a Options,
 ) -> Result<(), Ending<'a>>
     requires least { 1 ≤ options.now.journal }
@@ -154,21 +158,21 @@ fn work<'a, R: Files + AllocGlobal + Print + Eprint + Threads + Wait + Sync>(
     requires paired { ArePaired (vec_len options.now.scripts) (vec_len options.now.answers) }
     ensures { IfErr result (λ e. 2 ≤ status_of e) }
 {
-    let map = read(rt, options.map.as_str())?;
+    let map = read(system.rt, options.map.as_str())?;
     let parts = if options.answers.is_empty() {
-        parts_of(rt, host, options.scripts.as_slice())?
+        parts_of(system, options.scripts.as_slice())?
     } else {
-        live_parts(host, options).map_err(|_| Ending::Memory)?
+        live_parts(system.host, options).map_err(|_| Ending::Memory)?
     };
-    let mut out = Buffer::new(rt.alloc());
+    let mut out = Buffer::new(system.rt.alloc());
     let terms = Terms {
         journal: options.journal,
         profile: options.profile,
     };
-    match serving::serve((rt, host), terms, &map, &parts, &mut out) {
-        Ok(()) => put_out(rt, out.bytes()),
+    match serving::serve(system, terms, &map, &parts, &mut out) {
+        Ok(()) => put_out(system.rt, out.bytes()),
         Err(Fault::Told) => {
-            put_out(rt, out.bytes())?;
+            put_out(system.rt, out.bytes())?;
             Err(Ending::Told)
         }
         Err(fault) => Err(Ending::of_fault(fault)),
@@ -176,7 +180,7 @@ fn work<'a, R: Files + AllocGlobal + Print + Eprint + Threads + Wait + Sync>(
 }
 
 /// Shows the help that a command line asks for, or says why it asks for no run.
-fn told<'a>(rt: &impl Print, error: &'a LineError) -> Result<(), Ending<'a>>
+fn tell_line<'a>(rt: &impl Print, error: &'a LineError) -> Result<(), Ending<'a>>
     ensures { TellsLine error.now result }
 {
     let help = Ending::of_line(error)?;
@@ -187,20 +191,21 @@ fn main(rt: HostRuntime) -> ExitCode {
     let alloc = rt.alloc();
     let words = match std::env::args(&rt) {
         Ok(words) => words,
-        Err(error) => return ended(&rt, Err(Ending::of_words(&error))),
+        Err(error) => return end_run(&rt, Err(Ending::of_words(&error))),
     };
     let Ok(words) = words.collect::<Vec<String>>(alloc) else {
-        return ended(&rt, Err(Ending::Memory));
+        return end_run(&rt, Err(Ending::Memory));
     };
+    let system = System { rt: &rt, host: &rt };
     match line::options(alloc, words.as_slice()) {
         Ok(options) if is_given_twice(options.scripts.as_slice()) => {
-            ended(&rt, Err(Ending::TwoInputs))
+            end_run(&rt, Err(Ending::TwoInputs))
         }
         Ok(options) if is_given_twice(options.answers.as_slice()) => {
-            ended(&rt, Err(Ending::TwoOutputs))
+            end_run(&rt, Err(Ending::TwoOutputs))
         }
-        Ok(options) => ended(&rt, work(&rt, &rt, &options)),
-        Err(error) => ended(&rt, told(&rt, &error)),
+        Ok(options) => end_run(&rt, work(&system, &options)),
+        Err(error) => end_run(&rt, tell_line(&rt, &error)),
     }
 }
 

@@ -21,13 +21,22 @@ pub enum Target {
     File(String),
 }
 
+/// The two ends of a live session.
+#[derive(Drop)]
+pub struct Streams {
+    /// Where its lines come from.
+    pub source: Source,
+    /// Where its answers go.
+    pub target: Target,
+}
+
 /// What a session is played from, and where its answers go.
 #[derive(Drop)]
 pub enum Part {
     /// The bytes of a script, whose answers are put out once all sessions have ended.
     Script(Vec<u8>),
     /// Lines that come while the session runs, each answered as soon as it has ended.
-    Live(Source, Target),
+    Live(Streams),
 }
 
 impl Source {

@@ -4,7 +4,7 @@ ghost use Rattle.std.specs.Prelude.{IfSome};
 ghost use Rattle.monitor.specs.Members.{IsMemberOf};
 ghost use Rattle.monitor.specs.Followers.{Follows};
 
-use crate::tests::{FOUR_DEVICES, commit_now, opened};
+use crate::tests::{FOUR_DEVICES, commit_now, open_for_two};
 use crossbeam_utils::Backoff;
 use maptypes::{Pg, UpSet};
 use monitor::{Follower, Member, Monitor};
@@ -64,7 +64,7 @@ fn commit_all<R: Wait>(
 }
 
 /// A member after its changes; `None` where one is refused.
-fn changed<R: Wait>(
+fn member_after<R: Wait>(
     rt: &R,
     alloc: Global,
     monitor: &Monitor,
@@ -100,11 +100,11 @@ fn race<R: Wait + Threads + Sync>(
         move || -> Option<Member>
             requires { IsMemberOf monitor.now one }
             ensures { IfSome result (IsMemberOf monitor.entry.now) }
-        { changed(rt, alloc, monitor, one, mine) },
+        { member_after(rt, alloc, monitor, one, mine) },
         move || -> Option<Member>
             requires { IsMemberOf monitor.now other }
             ensures { IfSome result (IsMemberOf monitor.entry.now) }
-        { changed(rt, alloc, monitor, other, theirs) },
+        { member_after(rt, alloc, monitor, other, theirs) },
     );
     Some((first?, second?))
 }
@@ -124,8 +124,8 @@ fn up_after_meeting<R: Wait>(
 }
 
 /// What group 1.0 is mapped to once two members have each put another OSD down.
-fn two_down<R: Wait + Threads + Sync>(rt: &R, alloc: Global) -> Option<(u64, UpSet)> {
-    let (monitor, one, other) = opened(alloc, FOUR_DEVICES, MAX_DRAWS)?;
+fn up_after_two_down<R: Wait + Threads + Sync>(rt: &R, alloc: Global) -> Option<(u64, UpSet)> {
+    let (monitor, one, other) = open_for_two(alloc, FOUR_DEVICES, MAX_DRAWS)?;
     let texts: (&[&str], &[&str]) = (&[r#"{"base":1,"down":[0]}"#], &[r#"{"base":1,"down":[1]}"#]);
     let members = race(rt, alloc, &monitor, (one, other), texts)?;
     up_after_meeting(rt, &monitor, members)
@@ -134,7 +134,7 @@ fn two_down<R: Wait + Threads + Sync>(rt: &R, alloc: Global) -> Option<(u64, UpS
 /// Each is accepted once.
 #[test]
 fn two_members_put_another_osd_down(rt: HostRuntime) -> Result<(), Fail> {
-    match two_down(&rt, rt.alloc()) {
+    match up_after_two_down(&rt, rt.alloc()) {
         Some((epoch, set)) => {
             assert_eq!(rt; epoch, 3);
             assert_eq!(rt; set.places(), [Some(2)].as_slice());
@@ -188,7 +188,7 @@ fn reaches(alloc: Global, monitor: &Monitor, follower: &mut Follower, epoch: u64
 }
 
 /// The map of a follower at the epoch.
-fn followed(alloc: Global, monitor: &Monitor, epoch: u64) -> Option<Vec<u8>> {
+fn follower_map(alloc: Global, monitor: &Monitor, epoch: u64) -> Option<Vec<u8>> {
     let mut follower = Follower::new(alloc, monitor).ok()?;
     if reaches(alloc, monitor, &mut follower, epoch) {
         follower.dump(alloc).ok()
@@ -199,7 +199,7 @@ fn followed(alloc: Global, monitor: &Monitor, epoch: u64) -> Option<Vec<u8>> {
 
 /// The map of the monitor after nine changes of two members, and that of a follower, which reads beside them without
 /// the lock.
-fn nine<R: Wait + Threads + Sync>(
+fn maps_after_race<R: Wait + Threads + Sync>(
     rt: &R,
     alloc: Global,
     monitor: &Monitor,
@@ -215,15 +215,15 @@ fn nine<R: Wait + Threads + Sync>(
             let (mut one, _) = race(rt, alloc, monitor, members, (STATES, SHAPES))?;
             monitor.dump(rt, &mut one).ok()
         },
-        move || -> Option<Vec<u8>> { followed(alloc, monitor, 10) },
+        move || -> Option<Vec<u8>> { follower_map(alloc, monitor, 10) },
     );
     Some((own?, text?))
 }
 
 /// What a member and a follower dump after nine changes to a new monitor.
 fn nine_changes<R: Wait + Threads + Sync>(rt: &R, alloc: Global) -> Option<(Vec<u8>, Vec<u8>)> {
-    let (monitor, one, other) = opened(alloc, TWO_DEVICES, MAX_DRAWS)?;
-    nine(rt, alloc, &monitor, (one, other))
+    let (monitor, one, other) = open_for_two(alloc, TWO_DEVICES, MAX_DRAWS)?;
+    maps_after_race(rt, alloc, &monitor, (one, other))
 }
 
 /// Whatever their order was.

@@ -9,8 +9,10 @@ ghost use Rattle.osdmapd.specs.CommandLine.{max_scripts};
 ghost use Rattle.osdmapd.specs.Serving.{Serves, has_output_failed, text_left};
 
 use crate::fault::Fault;
+use crate::left::Left;
 use crate::part::Part;
-use crate::playing::{Left, play_all};
+use crate::players::play_all;
+use crate::system::System;
 use mapjson::read_map;
 use mapparts::Profile;
 use monitor::{Member, Monitor};
@@ -53,7 +55,7 @@ fn have_told(lefts: &[Left]) -> bool
 }
 
 /// A monitor that begins with a map, and its members, where all limits hold; or `Memory` (30).
-fn opened(
+fn open_monitor(
     alloc: Global,
     map: OsdMap,
     terms: Terms,
@@ -79,7 +81,7 @@ fn opened(
 /// `Output` comes only where the map is not refused and the sink has failed, which then has a beginning of the texts;
 /// at every other end it has not failed.
 pub fn serve<R: AllocGlobal + Threads + Wait + Eprint + Sync, W: Sink>(
-    system: (&R, &HostRuntime),
+    system: &System<'_, R>,
     terms: Terms,
     map: &[u8],
     parts: &[Part],
@@ -94,12 +96,12 @@ pub fn serve<R: AllocGlobal + Threads + Wait + Eprint + Sync, W: Sink>(
         (W.written out.old) (W.written out.new) result }
     ensures failed { W.has_failed out.new ≡ has_output_failed result }
 {
-    let alloc = system.0.alloc();
+    let alloc = system.rt.alloc();
     let map = match read_map(alloc, map, terms.profile) {
         Ok(map) => map,
         Err(refusal) => return Err(Fault::of_refusal(refusal)),
     };
-    let Ok((monitor, members)) = opened(alloc, map, terms, parts.len()) else {
+    let Ok((monitor, members)) = open_monitor(alloc, map, terms, parts.len()) else {
         return Err(Fault::Memory);
     };
     let lefts = play_all(system, monitor, members, parts)?;

@@ -3,7 +3,7 @@
 ghost use Rattle.std.specs.Prelude.{IfSome};
 ghost use Rattle.monitor.specs.Members.{IsMemberOf};
 
-use crate::tests::{DOWN, FOUR_DEVICES, commit_now, opened};
+use crate::tests::{DOWN, FOUR_DEVICES, commit_now, open_for_two};
 use crossbeam_utils::Backoff;
 use mapjson::{read_change, read_map};
 use mapparts::Profile;
@@ -19,7 +19,7 @@ use std::thread;
 use std::thread::Threads;
 
 /// How many of the five questions a member is answered.
-fn answered<R: Wait>(rt: &R, monitor: &Monitor, member: Member) -> u32
+fn count_answers<R: Wait>(rt: &R, monitor: &Monitor, member: Member) -> u32
     requires { IsMemberOf monitor.now member }
 {
     let mut member = member;
@@ -70,7 +70,7 @@ fn holds_a_look<R: Wait>(rt: &R, monitor: &Monitor, member: Member, signs: Signs
 }
 
 /// How many of the five questions a member is answered once a look is held.
-fn answered_then<R: Wait>(
+fn count_once_held<R: Wait>(
     rt: &R,
     monitor: &Monitor,
     member: Member,
@@ -79,14 +79,14 @@ fn answered_then<R: Wait>(
     requires { IsMemberOf monitor.now member }
 {
     let is_held = is_given(signs.held);
-    let answers = answered(rt, monitor, member);
+    let answers = count_answers(rt, monitor, member);
     signs.done.store(1, Ordering::SeqCst);
     if is_held { Some(answers) } else { None }
 }
 
 /// How many of the five questions a member is answered while another holds a look in a thread of its own; `None` where
 /// the look was not held until then.
-fn answered_beside<R: Wait + Threads + Sync>(
+fn count_beside_look<R: Wait + Threads + Sync>(
     rt: &R,
     monitor: &Monitor,
     one: Member,
@@ -104,21 +104,21 @@ fn answered_beside<R: Wait + Threads + Sync>(
         { holds_a_look(rt, monitor, one, Signs { held, done }) },
         move ||
             requires { IsMemberOf monitor.now other }
-        { answered_then(rt, monitor, other, Signs { held, done }) },
+        { count_once_held(rt, monitor, other, Signs { held, done }) },
     );
     if lasted { answers } else { None }
 }
 
 /// How many are answered beside a look at a new monitor.
-fn answered_by<R: Wait + Threads + Sync>(rt: &R, alloc: Global) -> Option<u32> {
-    let (monitor, one, other) = opened(alloc, FOUR_DEVICES, 1024)?;
-    answered_beside(rt, &monitor, one, other)
+fn count_at_new_monitor<R: Wait + Threads + Sync>(rt: &R, alloc: Global) -> Option<u32> {
+    let (monitor, one, other) = open_for_two(alloc, FOUR_DEVICES, 1024)?;
+    count_beside_look(rt, &monitor, one, other)
 }
 
 /// A question that took its turn to write would wait for the look, which is left after a while.
 #[test]
 fn five_questions_are_answered_beside_a_look(rt: HostRuntime) -> Result<(), Fail> {
-    assert!(rt; answered_by(&rt, rt.alloc()) == Some(5));
+    assert!(rt; count_at_new_monitor(&rt, rt.alloc()) == Some(5));
     Ok(())
 }
 
@@ -196,10 +196,10 @@ fn call_once<R: Wait>(rt: &R, monitor: &Monitor, member: Member, change: Change)
 }
 
 /// Whether each call of two members draws once after a change that one of them made and both have seen.
-fn called_once<R: Wait>(rt: &R, alloc: Global) -> Option<bool> {
+fn call_once_after_change<R: Wait>(rt: &R, alloc: Global) -> Option<bool> {
     let (_, first) = read_change(alloc, DOWN.as_bytes(), Profile::Plain).ok()?;
     let (_, second) = read_change(alloc, DOWN.as_bytes(), Profile::Plain).ok()?;
-    let (monitor, mut one, mut other) = opened(alloc, FOUR_DEVICES, 1024)?;
+    let (monitor, mut one, mut other) = open_for_two(alloc, FOUR_DEVICES, 1024)?;
     let made = commit_now(rt, alloc, &monitor, &mut one, DOWN).is_ok();
     let seen = monitor.epoch(rt, &mut other) == Ok(2);
     let own = call_once(rt, &monitor, one, first);
@@ -210,7 +210,7 @@ fn called_once<R: Wait>(rt: &R, alloc: Global) -> Option<bool> {
 /// A member that has seen nothing draws once by a clause.
 #[test]
 fn each_call_draws_once_after_a_change(rt: HostRuntime) -> Result<(), Fail> {
-    assert!(rt; called_once(&rt, rt.alloc()) == Some(true));
+    assert!(rt; call_once_after_change(&rt, rt.alloc()) == Some(true));
     Ok(())
 }
 
@@ -236,8 +236,8 @@ impl<'a> Gate for Counting<'a> {
 }
 
 /// How often the gate of a session is asked.
-fn asked<R: Wait>(rt: &R, alloc: Global, script: &[u8]) -> Option<u64> {
-    let (monitor, mut member, _) = opened(alloc, FOUR_DEVICES, 1024)?;
+fn count_asks<R: Wait>(rt: &R, alloc: Global, script: &[u8]) -> Option<u64> {
+    let (monitor, mut member, _) = open_for_two(alloc, FOUR_DEVICES, 1024)?;
     let count = AtomicU64::new(0);
     let gate = Counting { asked: &count };
     let mut answers = Buffer::new(alloc);
@@ -257,12 +257,12 @@ fn asked<R: Wait>(rt: &R, alloc: Global, script: &[u8]) -> Option<u64> {
 #[test]
 fn a_gate_is_asked_once_for_a_line(rt: HostRuntime) -> Result<(), Fail> {
     let script = b"epoch\nup 1.0\n\nchange {\"base\":1}\nnone\nepoch";
-    assert!(rt; asked(&rt, rt.alloc(), script) == Some(5));
+    assert!(rt; count_asks(&rt, rt.alloc(), script) == Some(5));
     Ok(())
 }
 
 /// How many members a monitor with so many seats has.
-fn seated(alloc: Global, seats: u32) -> Option<Result<usize, Refusal>> {
+fn member_count(alloc: Global, seats: u32) -> Option<Result<usize, Refusal>> {
     let map = read_map(alloc, FOUR_DEVICES.as_bytes(), Profile::Plain).ok()?;
     match Monitor::open(alloc, map, 16, seats) {
         Ok((_, members)) => Some(Ok(members.len())),
@@ -271,7 +271,7 @@ fn seated(alloc: Global, seats: u32) -> Option<Result<usize, Refusal>> {
 }
 
 /// How many members a monitor with so many seats has, each with so many draws.
-fn seated_for(alloc: Global, seats: u32, draws: u64) -> Option<Result<usize, Refusal>> {
+fn limited_member_count(alloc: Global, seats: u32, draws: u64) -> Option<Result<usize, Refusal>> {
     let map = read_map(alloc, FOUR_DEVICES.as_bytes(), Profile::Plain).ok()?;
     match Monitor::open_limited(alloc, map, 16, seats, draws) {
         Ok((_, members)) => Some(Ok(members.len())),
@@ -283,10 +283,10 @@ fn seated_for(alloc: Global, seats: u32, draws: u64) -> Option<Result<usize, Ref
 #[test]
 fn a_monitor_has_up_to_1024_seats(rt: HostRuntime) -> Result<(), Fail> {
     let alloc = rt.alloc();
-    assert!(rt; seated(alloc, 1024) == Some(Ok(1024)));
-    assert!(rt; seated(alloc, 1025) == Some(Err(Refusal::BadLimit)));
-    assert!(rt; seated_for(alloc, 1024, 1 << 40) == Some(Ok(1024)));
-    assert!(rt; seated_for(alloc, 1025, 1) == Some(Err(Refusal::BadLimit)));
-    assert!(rt; seated_for(alloc, 1, (1 << 40) + 1) == Some(Err(Refusal::BadLimit)));
+    assert!(rt; member_count(alloc, 1024) == Some(Ok(1024)));
+    assert!(rt; member_count(alloc, 1025) == Some(Err(Refusal::BadLimit)));
+    assert!(rt; limited_member_count(alloc, 1024, 1 << 40) == Some(Ok(1024)));
+    assert!(rt; limited_member_count(alloc, 1025, 1) == Some(Err(Refusal::BadLimit)));
+    assert!(rt; limited_member_count(alloc, 1, (1 << 40) + 1) == Some(Err(Refusal::BadLimit)));
     Ok(())
 }

@@ -6,7 +6,7 @@ ghost use Rattle.monitor.specs.Members.{IsMemberOf, IsNewMemberOf};
 
 use crate::choices::LineError;
 use crate::fault::Fault;
-use crate::playing::next;
+use crate::players::take_member;
 use crossbeam_utils::Backoff;
 use mapjson::{read_change, read_map};
 use mapparts::Profile;
@@ -36,13 +36,13 @@ fn two_of(monitor: &Monitor, members: Vec<Member>) -> Option<(Member, Member)>
     ensures { IfSome result (λ r. IsNewMemberOf monitor.now r.0 × IsNewMemberOf monitor.now r.1) }
 {
     let mut members = members;
-    let one = next(monitor, &mut members)?;
-    let other = next(monitor, &mut members)?;
+    let one = take_member(monitor, &mut members)?;
+    let other = take_member(monitor, &mut members)?;
     Some((one, other))
 }
 
 /// A monitor of the map of a text, and two members of it, whose seats may draw so often.
-pub fn opened(alloc: Global, text: &str, draws: u64) -> Option<(Monitor, Member, Member)>
+pub fn open_for_two(alloc: Global, text: &str, draws: u64) -> Option<(Monitor, Member, Member)>
     ensures { IfSome result (λ r. IsNewMemberOf r.0 r.1 × IsNewMemberOf r.0 r.2) }
 {
     let map = read_map(alloc, text.as_bytes(), Profile::Plain).ok()?;
@@ -102,12 +102,12 @@ impl Sink for Slow {
 
 /// A change and a question over four devices, to a sink that takes some calls: how the session ends, what is out, and
 /// whether another member then sees the change.
-fn cut_off<R: Wait>(
+fn run_cut_off<R: Wait>(
     rt: &R,
     alloc: Global,
     calls: usize,
 ) -> Option<(Result<(), SessionError>, Slow, bool)> {
-    let (monitor, mut member, mut other) = opened(alloc, FOUR_DEVICES, 1024)?;
+    let (monitor, mut member, mut other) = open_for_two(alloc, FOUR_DEVICES, 1024)?;
     let mut slow = Slow {
         bytes: Vec::new(alloc),
         calls,
@@ -141,7 +141,7 @@ fn a_session_ends_at_each_failed_write(rt: HostRuntime) -> Result<(), Fail> {
         } else {
             Ok(())
         };
-        match cut_off(&rt, rt.alloc(), calls) {
+        match run_cut_off(&rt, rt.alloc(), calls) {
             Some((ended, slow, stands)) => {
                 assert_eq!(rt; ended, wanted, "{calls}");
                 assert_eq!(rt; slow.bytes.as_slice(), &answers[..out.min(30)], "{calls}");
@@ -154,8 +154,8 @@ fn a_session_ends_at_each_failed_write(rt: HostRuntime) -> Result<(), Fail> {
 }
 
 /// What a session answers whose seat may draw twice, and how it ends.
-fn spent<R: Wait>(rt: &R, alloc: Global) -> Option<(Result<(), SessionError>, Buffer)> {
-    let (monitor, mut member, _) = opened(alloc, FOUR_DEVICES, 2)?;
+fn run_spent_seat<R: Wait>(rt: &R, alloc: Global) -> Option<(Result<(), SessionError>, Buffer)> {
+    let (monitor, mut member, _) = open_for_two(alloc, FOUR_DEVICES, 2)?;
     let mut answers = Buffer::new(alloc);
     let script = b"epoch\nepoch\nepoch\nhello\nfup 1.0\n";
     let desk = Desk {
@@ -172,7 +172,7 @@ fn spent<R: Wait>(rt: &R, alloc: Global) -> Option<(Result<(), SessionError>, Bu
 #[test]
 fn a_third_draw_of_two_is_refused(rt: HostRuntime) -> Result<(), Fail> {
     let wanted = b"epoch 1\nepoch 1\nerr 31 SeatSpent\nerr 33 BadCommand\nfup 1 1.0 [2,0,1] 2\n";
-    match spent(&rt, rt.alloc()) {
+    match run_spent_seat(&rt, rt.alloc()) {
         Some((ended, answers)) => {
             assert_eq!(rt; ended, Ok(()));
             assert_eq!(rt; answers.bytes(), wanted.as_slice());
@@ -221,7 +221,7 @@ impl<'a> Gate for Meeting<'a> {
 }
 
 /// How a session ends behind such a gate.
-fn met<R: Wait>(
+fn run_behind_gate<R: Wait>(
     rt: &R,
     alloc: Global,
     monitor: &Monitor,
@@ -268,35 +268,35 @@ fn meet<R: Wait + Threads + Sync>(
                 held: Some(held),
                 asked,
             };
-            met(rt, alloc, monitor, one, gate)
+            run_behind_gate(rt, alloc, monitor, one, gate)
         },
         move ||
             requires { IsMemberOf monitor.now other }
         {
             let gate = Meeting { held: None, asked };
-            met(rt, alloc, monitor, other, gate)
+            run_behind_gate(rt, alloc, monitor, other, gate)
         },
     );
     first.is_ok() && second.is_ok()
 }
 
 /// Whether both of two such sessions end well at a new monitor.
-fn met_at_once<R: Wait + Threads + Sync>(rt: &R, alloc: Global, held: u64) -> Option<bool> {
-    let (monitor, one, other) = opened(alloc, FOUR_DEVICES, 1024)?;
+fn meet_at_new_monitor<R: Wait + Threads + Sync>(rt: &R, alloc: Global, held: u64) -> Option<bool> {
+    let (monitor, one, other) = open_for_two(alloc, FOUR_DEVICES, 1024)?;
     Some(meet(rt, alloc, &monitor, (one, other), held))
 }
 
 /// One after the other, the first would end held.
 #[test]
 fn sessions_run_at_once(rt: HostRuntime) -> Result<(), Fail> {
-    assert!(rt; met_at_once(&rt, rt.alloc(), 1) == Some(true));
+    assert!(rt; meet_at_new_monitor(&rt, rt.alloc(), 1) == Some(true));
     Ok(())
 }
 
 /// Where the lock were held from a question to the gate of the next line, the other could not change the map.
 #[test]
 fn no_hold_lasts_over_a_gate(rt: HostRuntime) -> Result<(), Fail> {
-    assert!(rt; met_at_once(&rt, rt.alloc(), 2) == Some(true));
+    assert!(rt; meet_at_new_monitor(&rt, rt.alloc(), 2) == Some(true));
     Ok(())
 }
 
@@ -311,8 +311,8 @@ fn questions(alloc: Global, first: &str, count: usize) -> Result<String, AllocEr
 }
 
 /// What a change, where there is one, and 40 questions answer by a seat that may draw so often.
-fn drawn<R: Wait>(rt: &R, alloc: Global, draws: u64, change: &str) -> Option<Buffer> {
-    let (monitor, mut member, _) = opened(alloc, FOUR_DEVICES, draws)?;
+fn answers_by_draws<R: Wait>(rt: &R, alloc: Global, draws: u64, change: &str) -> Option<Buffer> {
+    let (monitor, mut member, _) = open_for_two(alloc, FOUR_DEVICES, draws)?;
     let script = questions(alloc, change, 40).ok()?;
     let mut answers = Buffer::new(alloc);
     let desk = Desk {
@@ -337,7 +337,7 @@ fn a_seat_is_spent_at_its_line(rt: HostRuntime) -> Result<(), Fail> {
                 "err 31 SeatSpent\n"
             })?;
         }
-        match drawn(&rt, rt.alloc(), draws as u64, "") {
+        match answers_by_draws(&rt, rt.alloc(), draws as u64, "") {
             Some(answers) => assert_eq!(rt; answers.bytes(), wanted.as_bytes(), "{draws}"),
             None => assert!(rt; false, "{draws}"),
         }
@@ -358,7 +358,7 @@ fn a_seat_is_spent_at_its_line_after_a_change(rt: HostRuntime) -> Result<(), Fai
                 "err 31 SeatSpent\n"
             })?;
         }
-        match drawn(&rt, rt.alloc(), draws as u64, "change {\"base\":1}\n") {
+        match answers_by_draws(&rt, rt.alloc(), draws as u64, "change {\"base\":1}\n") {
             Some(answers) => assert_eq!(rt; answers.bytes(), wanted.as_bytes(), "{draws}"),
             None => assert!(rt; false, "{draws}"),
         }
@@ -367,12 +367,12 @@ fn a_seat_is_spent_at_its_line_after_a_change(rt: HostRuntime) -> Result<(), Fai
 }
 
 /// How 40 questions end to a sink that takes some calls, what is out, and whether another member then commits.
-fn asked<R: Wait>(
+fn ask_cut_off<R: Wait>(
     rt: &R,
     alloc: Global,
     calls: usize,
 ) -> Option<(Result<(), SessionError>, Slow, bool)> {
-    let (monitor, mut member, mut other) = opened(alloc, FOUR_DEVICES, MAX_DRAWS)?;
+    let (monitor, mut member, mut other) = open_for_two(alloc, FOUR_DEVICES, MAX_DRAWS)?;
     let script = questions(alloc, "", 40).ok()?;
     let mut slow = Slow {
         bytes: Vec::new(alloc),
@@ -404,7 +404,7 @@ fn a_run_of_questions_ends_at_each_failed_write(rt: HostRuntime) -> Result<(), F
         } else {
             Ok(())
         };
-        match asked(&rt, rt.alloc(), calls) {
+        match ask_cut_off(&rt, rt.alloc(), calls) {
             Some((ended, slow, commits)) => {
                 assert_eq!(rt; ended, end, "{calls}");
                 assert_eq!(rt;
@@ -441,7 +441,7 @@ pub fn commit_now<R: Wait>(
 }
 
 /// The epochs that two looks show which are held at the same time.
-fn seen_together<R: Wait>(
+fn epochs_together<R: Wait>(
     rt: &R,
     monitor: &Monitor,
     first: &Look<'_>,
@@ -466,7 +466,7 @@ fn looks<R: Wait>(rt: &R, monitor: &Monitor, one: Member, other: Member) -> Opti
 {
     match monitor.look(rt, one) {
         Ok(first) => {
-            let epochs = seen_together(rt, monitor, &first, other);
+            let epochs = epochs_together(rt, monitor, &first, other);
             let _ = first.leave();
             epochs
         }
@@ -475,8 +475,8 @@ fn looks<R: Wait>(rt: &R, monitor: &Monitor, one: Member, other: Member) -> Opti
 }
 
 /// The epochs of the looks of two members, after a commit of the one.
-fn looked<R: Wait>(rt: &R, alloc: Global) -> Option<(u64, u64)> {
-    let (monitor, mut one, other) = opened(alloc, FOUR_DEVICES, 1024)?;
+fn epochs_after_commit<R: Wait>(rt: &R, alloc: Global) -> Option<(u64, u64)> {
+    let (monitor, mut one, other) = open_for_two(alloc, FOUR_DEVICES, 1024)?;
     let _ = commit_now(rt, alloc, &monitor, &mut one, DOWN);
     looks(rt, &monitor, one, other)
 }
@@ -484,7 +484,7 @@ fn looked<R: Wait>(rt: &R, alloc: Global) -> Option<(u64, u64)> {
 /// Where readers did not share, the second would wait for good.
 #[test]
 fn two_looks_are_held_at_once_after_a_commit(rt: HostRuntime) -> Result<(), Fail> {
-    assert!(rt; looked(&rt, rt.alloc()) == Some((2, 2)));
+    assert!(rt; epochs_after_commit(&rt, rt.alloc()) == Some((2, 2)));
     Ok(())
 }
 

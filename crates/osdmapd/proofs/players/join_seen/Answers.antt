@@ -1,7 +1,7 @@
 use Rattle.std.proofs.Common.{◌∙◌, sym, ap, arith}
 use Rattle.epochlog.specs.Epochs.{Seen}
 use Rattle.osdmapd.proofs.Joined.{join_more, all_joined, member_at}
-use Rattle.osdmapd.proofs.playing.join_seen.Goals as goal
+use Rattle.osdmapd.proofs.players.join_seen.Goals as goal
 
 pub join-requires : goal.join-requires
 join-requires c =

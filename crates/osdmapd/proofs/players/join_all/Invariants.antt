@@ -2,7 +2,7 @@ use Rattle.std.proofs.Common.{◌≡◌, ◌++◌, List}
 use Rattle.std.specs.Vec.Iter.{into_iter_items}
 use Rattle.osdmapd.specs.Pairs.{Pairs}
 use Rattle.osdmapd.specs.Players.{Keeps}
-use Rattle.osdmapd.proofs.playing.join_all.Given as goal
+use Rattle.osdmapd.proofs.players.join_all.Given as goal
 
 -- the texts so far are those of the threads that have been joined
 abbrev pub invariant-loop-player : goal.invariant-loop-player

@@ -2,7 +2,7 @@ use Rattle.std.proofs.Common.{◌≡◌, All, length, take, vec_len, ◌+◌}
 use Rattle.monitor.specs.Members.{IsNewMemberOf}
 use Rattle.osdmapd.specs.Pairs.{Pairs}
 use Rattle.osdmapd.specs.Players.{IsStartedFor}
-use Rattle.osdmapd.proofs.playing.start_all.Given as goal
+use Rattle.osdmapd.proofs.players.start_all.Given as goal
 
 -- a thread is started for each part so far, and a member is left for each of the others
 abbrev pub invariant-loop-part : goal.invariant-loop-part

@@ -1,9 +1,9 @@
 use Rattle.std.proofs.Common.{All, take}
 use Rattle.epochlog.specs.Epochs.{Begins}
 use Rattle.monitor.specs.Members.{IsPassOf}
-use Rattle.osdmapd.specs.declared.playing.Left.{Left}
+use Rattle.osdmapd.specs.declared.left.Left.{Left}
 use Rattle.osdmapd.specs.Serving.{seen_left}
-use Rattle.osdmapd.proofs.playing.join_seen.Given as goal
+use Rattle.osdmapd.proofs.players.join_seen.Given as goal
 
 -- what each member so far has seen begins what is joined
 abbrev pub invariant-loop-left : goal.invariant-loop-left

@@ -1,7 +1,7 @@
 use Rattle.std.proofs.Common.{◌≡◌, All, rules, sym, subst}
 use Rattle.osdmapd.proofs.Joined.{BeginsIn, HasMemberOf, members_left, all_left}
 use Rattle.osdmapd.proofs.Played.{left_by}
-use Rattle.osdmapd.proofs.playing.fn.play_all.scope.Goals as goal
+use Rattle.osdmapd.proofs.players.fn.play_all.scope.Goals as goal
 
 pub join_seen-requires : goal.join_seen-requires
 join_seen-requires g c =

@@ -1,5 +1,5 @@
 use Rattle.std.proofs.Common.{◌≡◌, map, take, string_bytes, vec_len}
-use Rattle.osdmapd.proofs.line.copied.Given as goal
+use Rattle.osdmapd.proofs.line.copies_of.Given as goal
 
 -- the copies so far are of the words so far
 abbrev pub invariant-loop-word : goal.invariant-loop-word

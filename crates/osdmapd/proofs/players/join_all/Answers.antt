@@ -1,7 +1,7 @@
 use Rattle.std.proofs.Common.{◌++◌, ◌∷◌, [], append_assoc, arith}
 use Rattle.osdmapd.specs.Players.{Keeps}
 use Rattle.osdmapd.proofs.Paired.{pairs_more}
-use Rattle.osdmapd.proofs.playing.join_all.Goals as goal
+use Rattle.osdmapd.proofs.players.join_all.Goals as goal
 
 pub loop-player-preserved : goal.loop-player-preserved
 loop-player-preserved g c =
