@@ -136,7 +136,6 @@ impl Update<'_> {
 
     /// Other sets for the groups of a pool whose exceptions the change concerns, where it does not touch the pool as a
     /// whole, by a run of the pool's rule for each of them; or `Memory` (30).
-    #[inline(always)]
     pub fn patch_groups(
         &self,
         alloc: Global,
