@@ -1,5 +1,5 @@
 -- What callers see of a monitor, who its members are, and what a member that holds its lock knows.
-use Rattle.std.specs.Prelude.{◌≡◌, ◌⊎◌, ℕ, ◌+◌, Bool, true, [], IsSomeAnd, option_and_then, option_map, unwrap_or, Result, Err, IfErr}
+use Rattle.std.specs.Prelude.{◌≡◌, ◌⊎◌, ℕ, ◌+◌, Bool, true, [], IsSomeAnd, option_and_then, option_map, unwrap_or, Result, Err, IfErr, OnOk, OnErr, IfOk}
 use Rattle.std.specs.Option.{option_map_or}
 use Rattle.refusal.specs.declared.refused.Refusal.{Refusal}
 use Rattle.refusal.specs.declared.refused.Refusal.TheVariants.{SeatSpent}
@@ -14,6 +14,7 @@ use Rattle.osdmap.specs.Changes.{IsLawful}
 use Rattle.mapparts.specs.declared.profile.Profile.{Profile}
 use Rattle.epochlog.specs.Epochs.{Line, Seen}
 use Rattle.state.specs.States.{StateFacts, opened}
+use Rattle.monitor.specs.Histories.{GoesOn}
 use Rattle.monitor.specs.declared.locked.Locked.{Locked}
 use Rattle.monitor.specs.declared.member.Member.{Member}
 
@@ -89,6 +90,19 @@ pub record TakesTurn {X : Type 0} (monitor : Monitored) (before after : Member) 
   pub spent : IfErr r (λ e. e ≡ SeatSpent → IsSpent monitor after)
   pub refused : IsSpent monitor before → r ≡ Err SeatSpent
   pub once : DrawsOnce monitor before after
+
+-- a member has drawn for a hold of the lock, and its history goes on to what the lent state has seen: the hold tells
+-- how often its seat has drawn then, once more for one that had seen nothing; or it is refused, as its seat has made
+-- its draws, and is as it was
+pub record TakesHold {X : Type 0} (monitor : Monitored) (before after : Member) (draws : X → ℕ) (r : Result X Refusal) :
+    Type 0 where
+  pub goes_on : GoesOn monitor.first before.pass.history after.pass.history
+  pub alone : StaysAlone monitor before.pass after.pass
+  pub unspent : OnOk r (IsSpent monitor before → ⊥)
+  pub once : IfOk r (λ hold. before.pass.history ≡ [] → draws hold ≡ draws_made before + 1)
+  pub spent : IfErr r (λ e. (e ≡ SeatSpent) × IsMemberOf monitor after × IsSpent monitor after)
+  pub same : OnErr r (after.pass ≡ before.pass)
+  pub spent_before : OnErr r (before.pass.history ≡ [] → IsSpent monitor before)
 
 -- ---- who holds the lock
 

@@ -32,8 +32,7 @@ impl<K: Keeps + Drop> Monitor<K> {
     ghost use Rattle.std.specs.Prelude.{◌≡◌, ◌≤◌, ◌+◌, ◌-◌, [], true, length, IfOk, IfErr, IsSomeAnd, OnOk, OnErr};
     ghost use Rattle.osdmap.specs.Changes.{after, IsLawful};
     ghost use Rattle.refusal.specs.declared.refused.Refusal.TheVariants.{SeatSpent};
-    ghost use Rattle.monitor.specs.Histories.{GoesOn};
-    ghost use Rattle.monitor.specs.Members.{IsMemberOf, IsStateOf, IsSpent, StaysAlone, Holds, draws_made, draws_of};
+    ghost use Rattle.monitor.specs.Members.{IsMemberOf, IsStateOf, Holds, TakesHold, draws_made, draws_of};
     ghost use Rattle.monitor.specs.Sharing.{IsSharing};
 
     /// Returns only where a member that has none beside it finds no more than it has seen: nobody else can have made
@@ -57,16 +56,8 @@ impl<K: Keeps + Drop> Monitor<K> {
     /// what it has seen is as it was.
     pub fn share<R: Wait>(&self, rt: &R, member: &mut Member) -> Result<Shared<'_, K>, Refusal>
         requires { IsMemberOf self.now member.old }
-        ensures goes_on { GoesOn self.now.first member.old.pass.history member.new.pass.history }
+        ensures turn { TakesHold self.now member.old member.new (λ shared. shared.guard.turn.place.draws) result }
         ensures shares { IfOk result (λ shared. IsSharing self.now shared member.new) }
-        ensures spent { IfErr result (λ e.
-            (e ≡ SeatSpent) × IsMemberOf self.now member.new × IsSpent self.now member.new) }
-        ensures same { OnErr result (member.new.pass ≡ member.old.pass) }
-        ensures alone { StaysAlone self.now member.old.pass member.new.pass }
-        ensures unspent { OnOk result (¬ IsSpent self.now member.old) }
-        ensures once { IfOk result (λ shared.
-            member.old.pass.history ≡ [] → shared.guard.turn.place.draws ≡ draws_made member.old + 1) }
-        ensures spent_before { OnErr result (member.old.pass.history ≡ [] → IsSpent self.now member.old) }
     {
         let Some(mut seat) = member.seat.take() else {
             unreachable!()
@@ -98,17 +89,9 @@ impl<K: Keeps + Drop> Monitor<K> {
     ) -> Result<WriteGuard<'_, Locked<K>>, Refusal>
         requires { IsMemberOf self.now member.old }
         ensures row { member.new.pass.row ≡ self.now.row }
-        ensures goes_on { GoesOn self.now.first member.old.pass.history member.new.pass.history }
+        ensures turn { TakesHold self.now member.old member.new (λ guard. guard.turn.place.draws) result }
         ensures holds { IfOk result (λ guard. Holds self.now guard
             × (guard.value.state.value.first ≡ self.now.first) × (guard.value.state.value.pass ≡ member.new.pass)) }
-        ensures spent { IfErr result (λ e.
-            (e ≡ SeatSpent) × IsMemberOf self.now member.new × IsSpent self.now member.new) }
-        ensures same { OnErr result (member.new.pass ≡ member.old.pass) }
-        ensures alone { StaysAlone self.now member.old.pass member.new.pass }
-        ensures unspent { OnOk result (¬ IsSpent self.now member.old) }
-        ensures once { IfOk result (λ guard.
-            member.old.pass.history ≡ [] → guard.turn.place.draws ≡ draws_made member.old + 1) }
-        ensures spent_before { OnErr result (member.old.pass.history ≡ [] → IsSpent self.now member.old) }
     {
         let Some(mut seat) = member.seat.take() else {
             unreachable!()

@@ -12,5 +12,5 @@ returns-clause-balances g c =
     let rows : c.self.inside.row ≡ c.args.self.now.row = ap (λ (m : Monitored). m.row) c.self.view_is in
     let firsts : state.first ≡ c.args.self.now.first = ap (λ (k : StateFacts). k.first) c.deref_mut-state.ensures.value ∙ ap (λ (l : Locked g.row.K.Denot). l.state.value.first) c.value_mut.ensures.value ∙ c.in_ok-held.ensures.holds.1 in
     let done = balances_from state.first (length c.self.inside.row.cells) c.args.member.now.pass.history c.hold.new.member.pass.history
-    c.balance-answer.new.pass.history c.args.request.pool (asked_aim c.args.request) c.args.request.limit c.balance-answer.result c.hold.ensures.goes_on.begins c.balance-answer.ensures.balances in
+    c.balance-answer.new.pass.history c.args.request.pool (asked_aim c.args.request) c.args.request.limit c.balance-answer.result c.hold.ensures.turn.goes_on.begins c.balance-answer.ensures.balances in
     rw (c.put_back.ensures.pass, ← rows, ← firsts) done

@@ -13,5 +13,5 @@ returns-clause-commits g c =
     ap (λ (k : StateFacts). k.first) c.deref_mut-state.ensures.value ∙ ap (λ (l : Locked g.row.K.Denot). l.state.value.first) c.value_mut.ensures.value ∙ c.in_ok-guard.ensures.holds.1 in
     let done = commits_from first (length c.self.inside.row.cells) c.args.member.now.pass.history
     c.hold.new.member.pass.history c.commit-answer.new.pass.history c.args.base c.args.change c.commit-answer.result
-    c.hold.ensures.goes_on.begins c.commit-answer.ensures.commits in
+    c.hold.ensures.turn.goes_on.begins c.commit-answer.ensures.commits in
     rw (c.put_back.ensures.pass, ← rows, ← firsts) done

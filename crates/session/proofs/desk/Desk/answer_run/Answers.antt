@@ -20,8 +20,8 @@ returns-in-Err-clause-answers g c =
     let line = c.args.asking.line.now in
     let question = c.args.asking.question in
     let answer = refusal_text c.in-Err.refusal in
-    let own = own_same basis.alone c.args.member.now.pass c.share.new.member.pass answer c.share.ensures.alone in
-    let asked = asks_refused basis before.member now.member question c.in-Err.refusal c.share.ensures.goes_on c.in-Err.ensures.spent.0 in
+    let own = own_same basis.alone c.args.member.now.pass c.share.new.member.pass answer c.share.ensures.turn.alone in
+    let asked = asks_refused basis before.member now.member question c.in-Err.refusal c.share.ensures.turn.goes_on c.in-Err.ensures.turn.spent.0 in
     let answered = answers_question basis before now line question answer c.requires.asks.1 asked refl own in
     let taken = takes_question basis (g.G.Gate.lets c.args.self.now.gate.now) number before now line question answer c.requires.shares.0 c.requires.asks.1 answered in
     (answer, passes_line m number before now line c.args.asking.rest.now answer c.requires.asks.0 taken, c.in_ok-tell_found-in-Err.ensures.out)
@@ -39,8 +39,8 @@ returns-in_err-tell_found-in-Err-clause-answers g c =
     let error = c.in_err-tell_found-in-Err.field-0.0 in
     let before = g.W.Sink.written c.args.sink.now in
     let after = g.W.Sink.written c.tell_found.new.sink in
-    let own = own_same basis.alone c.args.member.now.pass c.share.new.member.pass answer c.share.ensures.alone in
-    let asked = asks_refused basis from.seen.member now.seen.member question c.in-Err.refusal c.share.ensures.goes_on c.in-Err.ensures.spent.0 in
+    let own = own_same basis.alone c.args.member.now.pass c.share.new.member.pass answer c.share.ensures.turn.alone in
+    let asked = asks_refused basis from.seen.member now.seen.member question c.in-Err.refusal c.share.ensures.turn.goes_on c.in-Err.ensures.turn.spent.0 in
     let answered = answers_question basis from.seen now.seen line question answer c.requires.asks.1 asked refl own in
     let (cut, stopped, more) = told_line m from now line answer before after (Err error) (some_line line question c.requires.asks.1)
     (c.requires.shares.0 from.number) answered c.in_err-tell_found-in-Err.ensures.out in
@@ -57,9 +57,9 @@ returns-clause-answers g c =
     let others = c.args.asking.rest.now in
     let question = c.args.asking.question in
     let answer = line_of (answer_text Monitor) c.answer-found.result in
-    let own = own_same basis.alone c.args.member.now.pass c.share.new.member.pass answer c.share.ensures.alone in
+    let own = own_same basis.alone c.args.member.now.pass c.share.new.member.pass answer c.share.ensures.turn.alone in
     let there = asks_shared basis now.seen.member question c.answer-found.result c.in-Ok.ensures.shares.lawful c.answer-found.ensures in
-    let asked = asks_from basis from.seen.member now.seen.member question answer c.share.ensures.goes_on there in
+    let asked = asks_from basis from.seen.member now.seen.member question answer c.share.ensures.turn.goes_on there in
     let answered = answers_question basis from.seen now.seen line question answer c.requires.asks.1 asked refl own in
     let taken = takes_question basis (g.G.Gate.lets c.args.self.now.gate.now) from.number from.seen now.seen line question answer
     c.requires.shares.0 c.requires.asks.1 answered in
