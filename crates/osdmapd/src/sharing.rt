@@ -1,6 +1,5 @@
 //! What no clause says of members: that questions go on beside a look, that a call draws once for a member that has
 //! seen a change, that a gate is asked once for a line, and that there is memory for as many seats as there may be.
-ghost use Rattle.std.specs.Prelude.{IfSome};
 ghost use Rattle.monitor.specs.Members.{IsMemberOf};
 
 use crate::tests::{DOWN, FOUR_DEVICES, commit_now, open_for_two};

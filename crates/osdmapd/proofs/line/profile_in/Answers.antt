@@ -1,10 +1,7 @@
-use Rattle.std.proofs.Common.{◌≡◌, ◌∙◌, Bool, true, false, Some, codes, refl, sym}
+use Rattle.std.proofs.Common.{◌≡◌, ◌∙◌, true, false, codes, refl, sym}
 use Rattle.clap.specs.Matches.{found_of}
-use Rattle.clap.specs.Walk.{one_of, rows_of}
 use Rattle.clap.proofs.WalkLemmas.{one_text-rows}
-use Rattle.mapparts.specs.declared.profile.Profile.{Profile}
 use Rattle.mapparts.specs.declared.profile.Profile.TheVariants.{Plain, Stock}
-use Rattle.osdmapd.specs.CommandLine.{stock_word}
 use Rattle.osdmapd.proofs.line.profile_in.Goals as goal
 
 pub returns-then-get_flag : goal.returns-then-get_flag
