@@ -60,7 +60,8 @@ impl<K: Keeps + Drop> Keeper<K> {
         Ok(())
     }
 
-    /// Takes note that the last incremental that was kept is not in the journal: a store that holds it counts as failed.
+    /// Takes note that the last incremental that was kept is not in the journal: a store that holds it counts as
+    /// failed.
     pub fn forget(&mut self)
         ensures { (j : Journal) (step : Step) → IsKeptBy K.holds K.may_leave K.may_fail self.old (with_step j step)
             → (self.old.has_failed ≡ false) → IsKeptBy K.holds K.may_leave K.may_fail self.new j }

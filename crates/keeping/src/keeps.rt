@@ -37,8 +37,8 @@ pub trait Keeps {
     /// While it holds a journal, a crash leaves that one and no other.
     ghost settled: { (store : Self) (held left : Journal) → holds store held → may_leave store left → left ≡ held };
 
-    /// Keeps an incremental behind those that it holds. A crash at any moment of it leaves the journal from before, with
-    /// this incremental or without.
+    /// Keeps an incremental behind those that it holds. A crash at any moment of it leaves the journal from before,
+    /// with this incremental or without.
     fn keep(&mut self, step: &Incremental) -> Result<(), NotKept>
         ensures kept { OnOk result ((j : Journal) → holds self.old j → holds self.new (with_step j step.now)) }
         ensures crash { (j : Journal) → holds self.old j → (left : Journal) → may_leave self.new left

@@ -26,8 +26,8 @@ impl<K: Keeps + Drop> Monitor<K> {
     /// `SeatSpent` (31) once the member's seat has made its draws, and only then; else `StaleEpoch` (20) with the
     /// present epoch where `base` is another; else what [`osdmap::OsdMap::check`] refuses (21, 22, 23, 24, 13, 15, 25,
     /// 26, 27); else `JournalFull` (28) where the journal has its capacity; else `Memory` (30) where there is no memory
-    /// for it, `NotStored` (35) where the store does not take it or has failed before, or `NotSealed` (32) where another
-    /// sealed the epoch.
+    /// for it, `NotStored` (35) where the store does not take it or has failed before, or `NotSealed` (32) where
+    /// another sealed the epoch.
     pub fn commit<R: Wait>(
         &self,
         rt: &R,

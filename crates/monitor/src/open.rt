@@ -134,9 +134,9 @@ impl<K: Keeps + Drop> Monitor<K> {
         Ok((monitor, members))
     }
 
-    /// A monitor that begins with this map, with this room and what keeps its journal, which holds the map and no change
-    /// yet; and its members. Each call of a member that takes the lock spends a draw of its seat, and a second only
-    /// where the lent state has not seen what the member has. The members have seen nothing.
+    /// A monitor that begins with this map, with this room and what keeps its journal, which holds the map and no
+    /// change yet; and its members. Each call of a member that takes the lock spends a draw of its seat, and a second
+    /// only where the lent state has not seen what the member has. The members have seen nothing.
     ///
     /// # Errors
     ///

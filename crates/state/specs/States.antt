@@ -114,8 +114,8 @@ IsDoneUnless r fault P =
 -- for runs and a store that failed
 abbrev pub Commits : StateFacts → StateFacts → ℕ → ChangeParts → Result Commit Refusal → Type 0
 Commits old new base change r =
-    IsDoneUnless r (fault_in old base change) (λ ok. (old.has_failed ≡ false) × (new ≡ ran ok.evals (committed old change))
-    × (ok.epoch ≡ base + 1) × (ok.evals ≡ evals_of new.map change))
+    IsDoneUnless r (fault_in old base change) (λ ok. (old.has_failed ≡ false)
+    × (new ≡ ran ok.evals (committed old change)) × (ok.epoch ≡ base + 1) × (ok.evals ≡ evals_of new.map change))
     × IfErr r (λ e. IsUnchangedBy e old new)
 
 -- all that a commit needs is ready: room in the map, a patch that makes of the table that of the map after the change

@@ -177,8 +177,8 @@ impl<K: Keeps + Drop> State<K> {
     /// `StaleEpoch` (20) with the present epoch where `base` is another; else what [`OsdMap::check`] refuses (21, 22,
     /// 23, 24, 13, 15, 25, 26, 27); else `JournalFull` (28) where the journal has its capacity; else `Memory` (30)
     /// where there is no memory for it, `NotStored` (35) where the store does not take it or has failed before, or
-    /// `NotSealed` (32) where another sealed the epoch. After an error all is as before, but that rules may have run and
-    /// be counted, and that after 35 or 32 the store may count as failed: then nothing more is accepted.
+    /// `NotSealed` (32) where another sealed the epoch. After an error all is as before, but that rules may have run
+    /// and be counted, and that after 35 or 32 the store may count as failed: then nothing more is accepted.
     pub fn commit(
         &mut self,
         row: &Row,
