@@ -4,7 +4,7 @@ use Rattle.std.specs.List.{filter, range_with_len}
 use Rattle.std.proofs.lemmas.Bool.{lt-ltb, le-ltb, cases_order}
 use Rattle.std.proofs.lemmas.List.{length-set, get_or-set_same, get_or-set_other}
 use Rattle.grouptable.specs.Keys.{with_key, without_key}
-use Rattle.grouptable.specs.Sets.{set_of, groups_of, left, joined}
+use Rattle.grouptable.specs.Sets.{set_of, groups_of, after_leaving, after_joining}
 use Rattle.maptypes.specs.Sets.{Places, stands, is_of}
 use Rattle.grouptable.proofs.Steps.{filter_same, filter_with, filter_without}
 
@@ -33,7 +33,7 @@ with_twice g (y ∷ t) =
     ]
 
 -- leaving by two tests is leaving by either
-left_twice : (b c a : Bool) (g : ℕ) (t : List ℕ) → left c a g (left b a g t) ≡ left (b || c) a g t
+left_twice : (b c a : Bool) (g : ℕ) (t : List ℕ) → after_leaving c a g (after_leaving b a g t) ≡ after_leaving (b || c) a g t
 left_twice true true true g t = refl
 left_twice true false true g t = refl
 left_twice true true false g t = without_twice g t
@@ -41,7 +41,7 @@ left_twice true false false g t = refl
 left_twice false c a g t = refl
 
 -- joining by two tests is joining by either
-joined_twice : (b a c : Bool) (g : ℕ) (t : List ℕ) → joined b c g (joined b a g t) ≡ joined b (a || c) g t
+joined_twice : (b a c : Bool) (g : ℕ) (t : List ℕ) → after_joining b c g (after_joining b a g t) ≡ after_joining b (a || c) g t
 joined_twice true true true g t = refl
 joined_twice true true false g t = refl
 joined_twice false true true g t = with_twice g t
@@ -65,11 +65,11 @@ stands_more k (p ∷ s) zero h = or_none (is_of k p)
 stands_more k (p ∷ s) (suc i) h = ap (λ b. is_of k p || b) (stands_more k s i (omega arith)) ∙ or_group (is_of k p) (stands k (take i s)) (is_of k (get_or s i None))
 
 -- leaving by the places so far, by one place more
-pub left_step : (k g : ℕ) (s : Places) (i : ℕ) (a : Bool) (place : Option ℕ) (t now next : List ℕ) → i < length s → place ≡ get_or s i None → now ≡ left (stands k (take i s)) a g t → next ≡ left (is_of k place) a g now → next ≡ left (stands k (take (i + 1) s)) a g t
+pub left_step : (k g : ℕ) (s : Places) (i : ℕ) (a : Bool) (place : Option ℕ) (t now next : List ℕ) → i < length s → place ≡ get_or s i None → now ≡ after_leaving (stands k (take i s)) a g t → next ≡ after_leaving (is_of k place) a g now → next ≡ after_leaving (stands k (take (i + 1) s)) a g t
 left_step k g s i a place t now next h p e f = rw (add-one, stands_more k s i h) (f ∙ rw (p, e) (left_twice (stands k (take i s)) (is_of k (get_or s i None)) a g t))
 
 -- joining by the places so far, by one place more
-pub joined_step : (k g : ℕ) (s : Places) (i : ℕ) (b : Bool) (place : Option ℕ) (t now next : List ℕ) → i < length s → place ≡ get_or s i None → now ≡ joined b (stands k (take i s)) g t → next ≡ joined b (is_of k place) g now → next ≡ joined b (stands k (take (i + 1) s)) g t
+pub joined_step : (k g : ℕ) (s : Places) (i : ℕ) (b : Bool) (place : Option ℕ) (t now next : List ℕ) → i < length s → place ≡ get_or s i None → now ≡ after_joining b (stands k (take i s)) g t → next ≡ after_joining b (is_of k place) g now → next ≡ after_joining b (stands k (take (i + 1) s)) g t
 joined_step k g s i b place t now next h p e f = rw (add-one, stands_more k s i h) (f ∙ rw (p, e) (joined_twice b (stands k (take i s)) (is_of k (get_or s i None)) g t))
 
 -- the groups of an OSD, where one set is replaced
@@ -90,12 +90,12 @@ same_sets osd g new sets h e x =
     ]
 
 -- the groups of an OSD once one group has another set
-moved : (osd g : ℕ) (new : Places) (sets : List Places) (b a : Bool) → g < length sets → stands osd (set_of sets g) ≡ b → stands osd new ≡ a → filter (λ x. stands osd (set_of (set sets g new) x)) (range_with_len 0 (length sets)) ≡ joined b a g (left b a g (groups_of osd sets))
+moved : (osd g : ℕ) (new : Places) (sets : List Places) (b a : Bool) → g < length sets → stands osd (set_of sets g) ≡ b → stands osd new ≡ a → filter (λ x. stands osd (set_of (set sets g new) x)) (range_with_len 0 (length sets)) ≡ after_joining b a g (after_leaving b a g (groups_of osd sets))
 moved osd g new sets true true h e f = filter_same (λ x. stands osd (set_of sets x)) (λ x. stands osd (set_of (set sets g new) x)) 0 (length sets) (λ x l r. same_sets osd g new sets h (f ∙ sym e) x)
 moved osd g new sets false false h e f = filter_same (λ x. stands osd (set_of sets x)) (λ x. stands osd (set_of (set sets g new) x)) 0 (length sets) (λ x l r. same_sets osd g new sets h (f ∙ sym e) x)
 moved osd g new sets true false h e f = filter_without (λ x. stands osd (set_of sets x)) (λ x. stands osd (set_of (set sets g new) x)) g (range_with_len 0 (length sets)) (this_set osd g new sets h ∙ f) (other_set osd g new sets)
 moved osd g new sets false true h e f = filter_with (λ x. stands osd (set_of sets x)) (λ x. stands osd (set_of (set sets g new) x)) g 0 (length sets) (omega arith) (omega arith) (this_set osd g new sets h ∙ f) (other_set osd g new sets)
 
 -- the same, by whether it stood in the old set and stands in the new
-pub groups_moved : (osd g : ℕ) (new : Places) (sets : List Places) → g < length sets → groups_of osd (set sets g new) ≡ joined (stands osd (set_of sets g)) (stands osd new) g (left (stands osd (set_of sets g)) (stands osd new) g (groups_of osd sets))
+pub groups_moved : (osd g : ℕ) (new : Places) (sets : List Places) → g < length sets → groups_of osd (set sets g new) ≡ after_joining (stands osd (set_of sets g)) (stands osd new) g (after_leaving (stands osd (set_of sets g)) (stands osd new) g (groups_of osd sets))
 groups_moved osd g new sets h = rw (length-set sets g new) (moved osd g new sets (stands osd (set_of sets g)) (stands osd new) h refl refl)

@@ -1,7 +1,7 @@
 -- What stands for each OSD, by its number, while an index is built.
 use Rattle.std.specs.Prelude.{◌≡◌, ℕ, ◌<◌, ◌≤◌, Bool, false, List, [], length, slice_index_or}
 use Rattle.buckets.specs.Limits.{max_devices}
-use Rattle.grouptable.specs.Sets.{groups_of, joined}
+use Rattle.grouptable.specs.Sets.{groups_of, after_joining}
 use Rattle.maptypes.specs.Sets.{Places}
 
 -- there is no more than one for each OSD
@@ -23,4 +23,4 @@ AreListsOf sets lists = (osd : ℕ) → osd < max_devices → osd_list lists osd
 -- the lists of the OSDs that pass a test have a group more, the others those that they had
 abbrev pub AreJoined : (ℕ → Bool) → ℕ → List (List ℕ) → List (List ℕ) → Type 0
 AreJoined joins group old new =
-    (osd : ℕ) → osd < max_devices → osd_list new osd ≡ joined false (joins osd) group (osd_list old osd)
+    (osd : ℕ) → osd < max_devices → osd_list new osd ≡ after_joining false (joins osd) group (osd_list old osd)

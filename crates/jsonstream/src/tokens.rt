@@ -1,72 +1,17 @@
 //! The tokens of a text.
 
-ghost use Rattle.std.specs.Prelude.{◌≡◌, ◌-◌, ◌≤◌, ◌<◌, ◌==◌, [], ◌∷◌, true, false, length, slice_index, Some, None, MatchResult, OnOk, IsTrue, option_map};
+ghost use Rattle.std.specs.Prelude.{◌≡◌, ◌-◌, ◌≤◌, ◌<◌, [], ◌∷◌, true, false, length, Some, None, MatchResult, OnOk, option_map};
 ghost use Rattle.json.specs.Reads.{token_of};
 ghost use Rattle.json.specs.Json.{after_end_array, read_key, parse_map};
 ghost use Rattle.std.specs.Bool.{MatchBool};
 ghost use Rattle.serde_json.specs.Data.{Data, array, object};
-ghost use Rattle.serde_json.specs.Find.{as_array, as_bool, as_object, as_str, as_integer};
-ghost use Rattle.serde_json.specs.Read.{number_of, number_from, float_of};
+ghost use Rattle.serde_json.specs.Find.{as_array, as_bool, as_object, as_str};
 ghost use Rattle.jsonstream.specs.Stream.{next, rest_of_list, rest_of_object, StepsOver, TakesPlain, token_number, token_text, token_flag, opens_list, opens_object};
 ghost use Rattle.jsonstream.specs.Json.{whole_number as number_in_data};
 
-use fast_float::Numeral;
+use crate::numbers::number_in;
 use json::{Reader, Token};
 use refusal::Refusal;
-
-/// The number of digits that may be a fraction: none where it is past every float.
-fn fraction(negative: bool, numeral: &Numeral<'_>) -> Option<Option<i128>>
-    ensures { result ≡ option_map as_integer (float_of negative numeral.now) }
-{
-    if numeral.to_float::<f64>(negative).is_finite() {
-        Some(None)
-    } else {
-        None
-    }
-}
-
-/// A number without a sign.
-fn unsigned(numeral: &Numeral<'_>) -> Option<Option<i128>>
-    ensures { result ≡ option_map as_integer (number_from false numeral.now) }
-{
-    match numeral.to_u64() {
-        Some(number) => Some(Some(i128::from(number))),
-        None => fraction(false, numeral),
-    }
-}
-
-/// A number behind its sign.
-fn negative(numeral: &Numeral<'_>) -> Option<Option<i128>>
-    ensures { result ≡ option_map as_integer (number_from true numeral.now) }
-{
-    if let Some(number) = numeral.to_i64(true) {
-        if number < 0 {
-            return Some(Some(i128::from(number)));
-        }
-    }
-    fraction(true, numeral)
-}
-
-/// Whether a number has a sign.
-fn has_minus(bytes: &[u8]) -> bool
-    ensures value { result ≡ (slice_index bytes.now 0 == 45) }
-    ensures len { IsTrue result → 0 < length bytes.now }
-{
-    !bytes.is_empty() && bytes[0] == b'-'
-}
-
-/// The whole number that a number's text states, `Some(None)` where it states another: none where it is past every
-/// float.
-fn number_in(text: &str) -> Option<Option<i128>>
-    ensures { result ≡ option_map as_integer (number_of text.now) }
-{
-    let bytes = text.as_bytes();
-    if has_minus(bytes) {
-        negative(&Numeral::scan(&bytes[1..]))
-    } else {
-        unsigned(&Numeral::scan(bytes))
-    }
-}
 
 /// The next token.
 ///
@@ -172,7 +117,7 @@ pub fn skip(reader: &mut Reader<'_>, depth: usize) -> Result<(), Refusal>
 }
 
 /// The digits of a token that is a number.
-fn digits<'a>(token: &Token<'a>) -> Option<&'a str>
+fn digits_of<'a>(token: &Token<'a>) -> Option<&'a str>
     ensures { option_map (λ s. s.now) result ≡ token_number (token_of token.now) }
 {
     match token {
@@ -190,7 +135,7 @@ pub fn number(reader: &mut Reader<'_>, depth: usize) -> Result<Option<i128>, Ref
     ensures { TakesPlain (parse_map number_in_data (next depth reader.old)) result reader.new }
 {
     let token = next_token(reader)?;
-    let Some(text) = digits(&token) else {
+    let Some(text) = digits_of(&token) else {
         finish(token, reader, depth)?;
         return Ok(None);
     };
@@ -259,7 +204,7 @@ pub fn object_begins(reader: &mut Reader<'_>, depth: usize) -> Result<bool, Refu
 }
 
 /// The text of a token that is one.
-fn quoted<'a>(token: &Token<'a>) -> Option<&'a str>
+fn text_of<'a>(token: &Token<'a>) -> Option<&'a str>
     ensures { option_map (λ s. s.now) result ≡ token_text (token_of token.now) }
 {
     match token {
@@ -279,7 +224,7 @@ pub fn text<'a>(reader: &mut Reader<'a>, depth: usize) -> Result<Option<&'a str>
         (λ e. (e ≡ Refusal.BadJson) × (next depth reader.old ≡ None)) }
 {
     let token = next_token(reader)?;
-    let Some(text) = quoted(&token) else {
+    let Some(text) = text_of(&token) else {
         finish(token, reader, depth)?;
         return Ok(None);
     };
@@ -287,7 +232,7 @@ pub fn text<'a>(reader: &mut Reader<'a>, depth: usize) -> Result<Option<&'a str>
 }
 
 /// The truth of a token that is true or false.
-fn truth(token: &Token<'_>) -> Option<bool>
+fn flag_of(token: &Token<'_>) -> Option<bool>
     ensures { result ≡ token_flag (token_of token.now) }
 {
     match token {
@@ -305,7 +250,7 @@ pub fn flag(reader: &mut Reader<'_>, depth: usize) -> Result<Option<bool>, Refus
     ensures { TakesPlain (parse_map as_bool (next depth reader.old)) result reader.new }
 {
     let token = next_token(reader)?;
-    let Some(flag) = truth(&token) else {
+    let Some(flag) = flag_of(&token) else {
         finish(token, reader, depth)?;
         return Ok(None);
     };

@@ -21,4 +21,4 @@ pub use find::{are_apart, entry_of, has, last_of};
 pub use in_place::{put_all, take_away};
 pub use key::Keyed;
 pub use merge::put_count;
-pub use order::{are_distinct, in_order, ordered, sorted};
+pub use order::{are_distinct, sort_distinct, sort_entries, sort_vec};

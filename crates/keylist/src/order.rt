@@ -15,7 +15,7 @@ use refusal::{Memory, Refusal};
 /// # Errors
 ///
 /// `Memory` (30) where there is no memory for it.
-pub fn sorted<K: Keyed>(mut entries: Vec<K>) -> Result<Vec<K>, Memory>
+pub fn sort_vec<K: Keyed>(mut entries: Vec<K>) -> Result<Vec<K>, Memory>
     ensures { IfOk result (λ r. SortsBy K.key_of entries.items r.items) }
 {
     entries.sort_by_key(|entry| entry.key())?;
@@ -35,10 +35,10 @@ pub fn are_distinct<K: Keyed>(entries: &[K]) -> bool
 /// # Errors
 ///
 /// `Memory` (30) where there is no memory for it.
-pub fn ordered<K: Keyed>(entries: Entries<K>) -> Result<Entries<K>, Memory>
+pub fn sort_entries<K: Keyed>(entries: Entries<K>) -> Result<Entries<K>, Memory>
     ensures { IfOk result (SortsBy K.key_of entries) }
 {
-    Ok(Entries::new(sorted(entries.into_vec())?))
+    Ok(Entries::new(sort_vec(entries.into_vec())?))
 }
 
 /// The entries by key upwards.
@@ -46,11 +46,11 @@ pub fn ordered<K: Keyed>(entries: Entries<K>) -> Result<Entries<K>, Memory>
 /// # Errors
 ///
 /// `refusal` where a key stands twice; or `Memory` (30) where there is no memory for it.
-pub fn in_order<K: Keyed>(entries: Vec<K>, refusal: Refusal) -> Result<Vec<K>, Refusal>
+pub fn sort_distinct<K: Keyed>(entries: Vec<K>, refusal: Refusal) -> Result<Vec<K>, Refusal>
     ensures { Makes result (refused_unless (is_distinct (map K.key_of entries.items)) refusal)
         (λ r. Rises K.key_of entries.items r.items) }
 {
-    let entries = sorted(entries)?;
+    let entries = sort_vec(entries)?;
     if !are_distinct(&entries) {
         return Err(refusal);
     }

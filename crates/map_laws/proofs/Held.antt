@@ -1,6 +1,5 @@
 -- What holds in every map holds in one that accepted parts state, and in those to which lawful journals of it lead.
 use Rattle.std.proofs.Common.{◌≡◌, ◌∙◌, refl, sym, ap, ℕ, true, ◌&&◌, List, [], ◌∷◌, map, None, nat_abs, arith, IsPermutation}
-use Rattle.std.specs.List.{All}
 use Rattle.std.proofs.lemmas.List.Elements.{All-head, All-tail}
 use Rattle.std.proofs.lemmas.List.Sorted.{length_permutation}
 use Rattle.std.proofs.lemmas.Int.{ints}
@@ -11,7 +10,6 @@ use Rattle.crush.proofs.Made.{forest-passed, own-ok}
 use Rattle.crush.proofs.Sorted.{bucket_at-moved, forest_ok-moved}
 use Rattle.mapparts.specs.declared.parts.MapParts.{MapParts}
 use Rattle.refusal.specs.declared.refused.Refusal.TheVariants.{BadPool, BadOsd, BadException}
-use Rattle.maptypes.specs.Pools.{IsWithinLimits}
 use Rattle.mapparts.specs.Parts.{parts_fit}
 use Rattle.maptypes.specs.Exceptions.{target, sides, is_set, are_pairs}
 use Rattle.osdmap.specs.Maps.{ClusterMap, osd_exists, HoldsTogether}
@@ -101,6 +99,7 @@ module _ (p : MapParts) (m : ClusterMap) (faultless : map_fault p ≡ None) (sta
   abbrev max_osd : ℕ
   max_osd = nat_abs p.max_osd
 
+  -- the buckets of a map that parts state without a fault are a forest
   is_forest : IsForest m.buckets
   is_forest =
       let fine = faultless_each p faultless in
@@ -108,6 +107,7 @@ module _ (p : MapParts) (m : ClusterMap) (faultless : map_fault p ≡ None) (sta
       let limits = limits-moved (buckets_of p) m.buckets stated.buckets max_osd (forest_limits p.buckets max_osd each.buckets each.count (some_osds p each) (few_osds p each)) in
       forest-passed m.buckets max_osd (not_ascending m.buckets stated.falling) limits (forest_ok-moved (buckets_of p) m.buckets stated.buckets max_osd ∙ fine.forest)
 
+  -- the map without its exceptions is what the parts without theirs build
   is_built : IsBuilt (without_exceptions p) bare
   is_built =
       let fine = faultless_each p faultless in
@@ -134,6 +134,7 @@ module _ (p : MapParts) (m : ClusterMap) (faultless : map_fault p ≡ None) (sta
         items = refl;
       }
 
+  -- so a map that parts state without a fault holds together
   pub accepted_holds : HoldsTogether m
   accepted_holds =
       let fine = faultless_each p faultless in

@@ -6,10 +6,7 @@ use Rattle.std.proofs.lemmas.Int.{ints}
 use Rattle.std.proofs.lemmas.List.Sorted.{IsPermutation-sym, Contains-permutation}
 use Rattle.buckets.specs.declared.bucket.Bucket.{Bucket}
 use Rattle.keylist.specs.Order.{IsRising}
-use Rattle.mapparts.specs.declared.parts.MapParts.{MapParts}
 use Rattle.maptypes.specs.Exceptions.{key_of}
-use Rattle.osdmap.specs.Maps.{ClusterMap}
-use Rattle.osdmap.specs.Stated.{IsStated}
 use Rattle.map_laws.specs.Laws.{StatesOneMap}
 
 -- ---- by an order that holds one way alone
@@ -20,6 +17,7 @@ module _ {X : Type 0} (R : X → X → Type 0) (one_way : (a b : X) → R a b �
   by_place y x ys zero inside is = inl is
   by_place y x ys (suc i) inside is = inr (i, omega arith, is)
 
+  -- so what a list contains is its first element, or is in the rest
   first_or_rest : (y x : X) (ys : List X) → Contains (y ∷ ys) x → (y ≡ x) ⊎ Contains ys x
   first_or_rest y x ys there = by_place y x ys there.0 there.1 there.2
 
@@ -83,11 +81,11 @@ module _ {X : Type 0} (R : X → X → Type 0) (one_way : (a b : X) → R a b �
       (λ x there. Contains-permutation given ys x first (Contains-permutation zs given x (IsPermutation-sym given zs second) there))
 
 -- by keys upwards
-one_rising : {X : Type 0} (key : X → ℕ) (given ys zs : List X) → IsPermutation given ys → IsPermutation given zs → IsRising key ys → IsRising key zs → ys ≡ zs
+pub one_rising : {X : Type 0} (key : X → ℕ) (given ys zs : List X) → IsPermutation given ys → IsPermutation given zs → IsRising key ys → IsRising key zs → ys ≡ zs
 one_rising key given ys zs = one_order (λ a b. key a < key b) (λ a b less more. omega (arith, less, more)) given ys zs
 
 -- by ids downwards
-one_falling : (given ys zs : List Bucket) → IsPermutation given ys → IsPermutation given zs → AllPairs (λ a b. b.id <ℤ a.id) ys → AllPairs (λ a b. b.id <ℤ a.id) zs → ys ≡ zs
+pub one_falling : (given ys zs : List Bucket) → IsPermutation given ys → IsPermutation given zs → AllPairs (λ a b. b.id <ℤ a.id) ys → AllPairs (λ a b. b.id <ℤ a.id) zs → ys ≡ zs
 one_falling given ys zs = one_order (λ a b. b.id <ℤ a.id) (λ a b less more. omega (arith, ints, less, more)) given ys zs
 
 -- ---- the law

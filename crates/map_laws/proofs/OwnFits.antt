@@ -1,5 +1,5 @@
 -- Values within their limits fit as parts.
-use Rattle.std.proofs.Common.{◌≡◌, ◌∙◌, ℕ, ◌^◌, ◌≤◌, ℤ, pos, negsuc, true, nat_lt, List, [], ◌∷◌, map, length, get_or, nat_abs, refl, arith}
+use Rattle.std.proofs.Common.{◌≡◌, ◌∙◌, ℕ, ◌^◌, ◌≤◌, pos, true, nat_lt, List, [], ◌∷◌, map, length, get_or, nat_abs, refl, arith}
 use Rattle.std.specs.List.{list_all, sum_by, All}
 use Rattle.std.proofs.lemmas.Bool.Decides.{nat_tests}
 use Rattle.std.proofs.lemmas.List.{length-map}
@@ -25,17 +25,13 @@ use Rattle.osdmap.specs.PartsOf.{item_part, bucket_part, step_part, rule_part, p
 use Rattle.mapparts.specs.declared.parts.PoolPart.{PoolPart}
 use Rattle.maptypes.specs.Pools.{PoolFacts, total_groups, IsWithinLimits}
 use Rattle.maptypes.proofs.Totals.{sum_by-map}
+use Rattle.mapjson.proofs.OwnValues.{natural_fits}
 use Rattle.keylist.proofs.Tests.{and_first}
 use Rattle.keylist.proofs.Each.{all_more}
 
 -- ---- numbers and counts
 
--- a natural number between two limits is, as a stated one
-pub natural_fits : (low high n : ℕ) → low ≤ n → n ≤ high → is_between (pos low) (pos high) (pos n) ≡ true
-unfolding is_between
-natural_fits low high n least most = grind (arith, nat_tests, least, most)
-
--- so is one that is tested
+-- a number that is tested to be between two limits is, as a stated one
 within_fits : (low high n : ℕ) → is_within low high n ≡ true → is_between (pos low) (pos high) (pos n) ≡ true
 within_fits low high n h = natural_fits low high n (grind (arith, nat_tests, h)) (grind (arith, nat_tests, h))
 

@@ -39,16 +39,12 @@ use Rattle.osdmap.proofs.Excepted.{exists_same, exceptions_same}
 use Rattle.maptypes.specs.Ordered.{IsChange}
 use Rattle.osdmap.proofs.Kept.{HoldsTogether-after}
 use Rattle.map_laws.proofs.FewExceptions.{few_exceptions}
-use Rattle.map_laws.proofs.OwnFits.{natural_fits, count_fits, buckets_fine, rules_fine, pools_fine, groups_fine}
-use Rattle.map_laws.proofs.OwnOsds.{own_distinct, own_ok, own_fit, own_presences, own_weights}
+use Rattle.mapjson.proofs.OwnValues.{natural_fits, map_own, bucket_own, step_own, rule_own, pool_own, number_own, pair_own, exception_own}
+use Rattle.map_laws.proofs.OwnFits.{count_fits, buckets_fine, rules_fine, pools_fine, groups_fine}
+use Rattle.mapjson.proofs.OwnOsds.{own_distinct, own_ok, own_fit, own_presences, own_weights}
 use Rattle.keylist.proofs.Each.{all_more, map_twice}
 
 -- ---- values that state themselves
-
--- what is stated entry by entry is read back so
-map_own : {X Y : Type 0} (f : Y → X) (g : X → Y) → ((x : X) → f (g x) ≡ x) → (xs : List X) → map f (map g xs) ≡ xs
-map_own f g own [] = refl
-map_own f g own (x ∷ xs) = rw (own x, map_own f g own xs) refl
 
 -- the version of a map's own parts is one that a map may have
 version_fine : (rules : List NumberedRule) → is_between (pos 1) (pos 2) (version_of rules) ≡ true
@@ -58,59 +54,28 @@ version_fine rules = by_tries (list_any (λ r. list_any sets_tries r.rule.steps)
     by_tries true = natural_fits 1 2 2 (omega arith) (omega arith)
     by_tries false = natural_fits 1 2 1 (omega arith) (omega arith)
 
--- an item is the one that its part states
-item_own : (i : Item) → item_of (item_part i) ≡ i
-item_own i = refl
-
--- so is a bucket
-bucket_own : (b : Bucket) → bucket_of (bucket_part b) ≡ b
-bucket_own b = rw (map_own item_of item_part item_own b.items) refl
-
--- a step
-step_own : (s : RuleStep) → step_of (step_part s) ≡ s
-step_own (step.SetChooseTries n) = refl
-step_own (step.SetChooseleafTries n) = refl
-step_own (step.Take id) = refl
-step_own (step.Choose c) = refl
-step_own step.Emit = refl
-
--- a rule
-rule_own : (r : NumberedRule) → rule_of (rule_part r) ≡ r
-rule_own r = rw (map_own step_of step_part step_own r.rule.steps) refl
-
--- a pool
-pool_own : (p : PoolFacts) → pool_of (pool_part p) ≡ p
-pool_own p = refl
-
--- a number
-number_own : (n : ℕ) → nat_abs (pos n) ≡ n
-number_own n = refl
-
--- a pair
-pair_own : (p : Pair) → pair_of (pair_part p) ≡ p
-pair_own p = refl
-
--- and an exception
-exception_own : {E P : Type 0} (entry_of : P → E) (entry_part : E → P) → ((e : E) → entry_of (entry_part e) ≡ e) → (e : Exception E) → exception_of entry_of (exception_part entry_part e) ≡ e
-exception_own entry_of entry_part own e = rw (map_own entry_of entry_part own e.entries) refl
-
 module _ (m : ClusterMap) where
+  -- the buckets of its own parts are those of the map
   buckets_own : buckets_of (parts_of m) ≡ m.buckets
   unfolding parts_of
   buckets_own = map_own bucket_of bucket_part bucket_own m.buckets
 
+  -- the rules of its own parts are its rules
   rules_own : map rule_of (parts_of m).rules ≡ m.rules
   unfolding parts_of
   rules_own = map_own rule_of rule_part rule_own m.rules
 
+  -- the pools of its own parts are its pools
   pools_own : map pool_of (parts_of m).pools ≡ m.pools
   unfolding parts_of
   pools_own = map_own pool_of pool_part pool_own m.pools
 
+  -- the explicit sets of its own parts are its explicit sets
   explicit_own : explicit_of (parts_of m) ≡ m.explicit
   unfolding parts_of
   explicit_own = map_own (exception_of nat_abs) (exception_part pos) (exception_own nat_abs pos number_own) m.explicit
 
+  -- the pairs of its own parts are its pairs
   items_own : items_of (parts_of m) ≡ m.items
   unfolding parts_of
   items_own = map_own (exception_of pair_of) (exception_part pair_part) (exception_own pair_of pair_part pair_own) m.items
@@ -125,6 +90,7 @@ module _ (m : ClusterMap) (holds : HoldsTogether m) where
       most : e.pg.pool ≤ 65535
       few : length e.entries ≤ 20
 
+    -- an exception of the map is of a pool that is there
     of_pool : (e : Exception E) → is_exception names sound m.pools (osd_exists m) e ≡ true → IsOfPool e
     of_pool e h = by_pool (entry_at (λ (q : PoolFacts). q.id) m.pools e.pg.pool) refl (and_second (has_group m.pools e.pg && all_named names (osd_exists m) e) (is_sound sound m.pools e) h)
       where
@@ -141,6 +107,7 @@ module _ (m : ClusterMap) (holds : HoldsTogether m) where
               few = grind (arith, nat_tests, says, within.size_most);
             }
 
+    -- its part is within the limits
     one_fits : (e : Exception E) → is_exception names sound m.pools (osd_exists m) e ≡ true → exception_fits fits (exception_part entry_part e) ≡ true
     unfolding exception_fits pg_fits
     one_fits e h =
@@ -150,7 +117,8 @@ module _ (m : ClusterMap) (holds : HoldsTogether m) where
         let entries = list_all-map fits entry_part e.entries ∙ all_more (λ entry. list_all (osd_exists m) (names entry)) (λ entry. fits (entry_part entry)) e.entries each named in
         rw (count, entries) (grind (arith, nat_tests, pool.some, pool.most))
 
-    exceptions_fine : (es : List (Exception E)) → IsRising key_of es → list_all (is_exception names sound m.pools (osd_exists m)) es ≡ true → exceptions_fit fits (map (exception_part entry_part) es) ≡ true
+    -- so are the parts of exceptions whose groups rise, and these are not too many
+    pub exceptions_fine : (es : List (Exception E)) → IsRising key_of es → list_all (is_exception names sound m.pools (osd_exists m)) es ≡ true → exceptions_fit fits (map (exception_part entry_part) es) ≡ true
     unfolding exceptions_fit
     exceptions_fine es rises all =
         let there = AllPass-from_list_all (λ e. has_group m.pools e.pg) es
@@ -161,16 +129,19 @@ module _ (m : ClusterMap) (holds : HoldsTogether m) where
         let entries = list_all-map (exception_fits fits) (exception_part entry_part) es ∙ all_more (is_exception names sound m.pools (osd_exists m)) (λ e. exception_fits fits (exception_part entry_part e)) es one_fits all in
         rw (count, entries) refl
 
-  osd_fine : (osd : ℕ) → osd_exists m osd ≡ true → is_osd_id (pos osd) ≡ true
+  -- an OSD that exists has a number within the limits
+  pub osd_fine : (osd : ℕ) → osd_exists m osd ≡ true → is_osd_id (pos osd) ≡ true
   unfolding is_osd_id
   osd_fine osd there =
       let below = below_max m osd (length m.presences) (omega arith) there in
       natural_fits 0 4095 osd (omega arith) (grind (arith, nat_tests, below, holds.few))
 
-  target_fine : (osd : ℕ) → list_all (osd_exists m) (target osd) ≡ true → is_osd_id (pos osd) ≡ true
+  -- so has one that a set names, if it exists
+  pub target_fine : (osd : ℕ) → list_all (osd_exists m) (target osd) ≡ true → is_osd_id (pos osd) ≡ true
   target_fine osd there = osd_fine osd (and_first (osd_exists m osd) true there)
 
-  pair_fine : (p : Pair) → list_all (osd_exists m) (sides p) ≡ true → pair_fits (pair_part p) ≡ true
+  -- a pair of OSDs that exist is within the limits
+  pub pair_fine : (p : Pair) → list_all (osd_exists m) (sides p) ≡ true → pair_fits (pair_part p) ≡ true
   unfolding pair_fits
   pair_fine p there =
       rw (
@@ -180,6 +151,7 @@ module _ (m : ClusterMap) (holds : HoldsTogether m) where
 
   -- ---- each test
 
+  -- the parts of a map whose epoch a text may have are within the limits
   own_limits : 1 ≤ m.epoch → m.epoch ≤ 2147483648 → parts_fit (parts_of m) ≡ true
   unfolding parts_fit head_fits lists_fit parts_of
   own_limits some most =
@@ -199,14 +171,17 @@ module _ (m : ClusterMap) (holds : HoldsTogether m) where
         exceptions_fine sides are_pairs pair_part pair_fits pair_fine m.items holds.items_rise holds.items_sound,
       ) refl
 
+  -- their buckets pass as a forest
   own_forest : forest_ok (buckets_of (parts_of m)) (nat_abs (parts_of m).max_osd) ≡ true
   unfolding parts_of
   own_forest = rw (buckets_own m) holds.over_osds
 
+  -- a rule that is lawful over the buckets of the map is so over those of its parts
   one_rule : (r : NumberedRule) → is_rule_over m.buckets r ≡ true → rule_ok r.rule.kind (map step_of (map step_part r.rule.steps)) (buckets_of (parts_of m)) ≡ true
   unfolding is_rule_over
   one_rule r h = rw (map_own step_of step_part step_own r.rule.steps, buckets_own m) (grind (arith, h))
 
+  -- their rules pass
   own_rules : rules_ok (parts_of m) ≡ true
   unfolding rules_ok parts_of
   own_rules =
@@ -214,6 +189,7 @@ module _ (m : ClusterMap) (holds : HoldsTogether m) where
       let lawful = list_all-map (λ (r : RulePart). rule_ok r.kind (map step_of r.steps) (buckets_of (parts_of m))) rule_part m.rules ∙ all_more (is_rule_over m.buckets) _ m.rules one_rule holds.rules_over in
       rw (distinct, lawful) refl
 
+  -- pools within their limits, each with its rule, pass as parts
   each_pool : (pools : List PoolFacts) → All IsWithinLimits pools → list_all (has_rule m.rules) pools ≡ true → list_all (pool_ok (map rule_of (parts_of m).rules)) (map pool_part pools) ≡ true
   unfolding pool_ok
   each_pool [] within ruled = refl
@@ -224,26 +200,31 @@ module _ (m : ClusterMap) (holds : HoldsTogether m) where
       let served : has_rule (map rule_of (parts_of m).rules) p ≡ true = rw (rules_own m) (and_first (has_rule m.rules p) (list_all (has_rule m.rules) ps) ruled) in
       rw (few, served, rest) refl
 
+  -- their pools pass
   own_pools : pools_ok (parts_of m) ≡ true
   unfolding pools_ok parts_of
   own_pools =
       let distinct = ap is_distinct (map_twice (λ (q : PoolPart). nat_abs q.id) pool_part m.pools) ∙ rising_distinct (λ (p : PoolFacts). p.id) m.pools holds.pools_rise in
       rw (distinct, each_pool m.pools holds.pools_within holds.ruled) refl
 
+  -- their OSDs pass
   own_osds : osds_ok (parts_of m) ≡ true
   unfolding osds_ok parts_of
   own_osds = rw (own_distinct m, own_ok m holds) refl
 
+  -- they list just the OSDs that exist
   listed_same : (n : ℕ) → is_listed (parts_of m).osds n ≡ osd_exists m n
   unfolding parts_of
   listed_same n = sym (exists_same (parts_of m).osds (length m.presences) m (own_presences m holds) (own_ok m holds) n)
 
+  -- exceptions that are right in the map pass as parts
   each_exception : {E : Type 0} (names : E → List ℕ) (sound : List E → Bool) (es : List (Exception E)) → IsRising key_of es → list_all (is_exception names sound m.pools (osd_exists m)) es ≡ true
       → exceptions_ok names sound m.pools (is_listed (parts_of m).osds) es ≡ true
   each_exception names sound es rises all =
       exceptions_same names sound m.pools m.pools (is_listed (parts_of m).osds) (osd_exists m) (λ k. refl) listed_same es
       ∙ rw (rising_distinct key_of es rises, all) refl
 
+  -- their explicit sets and pairs pass
   own_exceptions : all_exceptions_ok (parts_of m) ≡ true
   unfolding all_exceptions_ok
   own_exceptions =
@@ -257,10 +238,12 @@ module _ (m : ClusterMap) (holds : HoldsTogether m) where
 
   -- ---- all of it
 
+  -- nothing is wrong with the parts of a map whose epoch a text may have
   own_faultless : 1 ≤ m.epoch → m.epoch ≤ 2147483648 → map_fault (parts_of m) ≡ None
   unfolding map_fault
   own_faultless some most = rw (own_limits some most, own_forest, own_rules, own_pools, own_osds, own_exceptions) refl
 
+  -- they state the map
   own_stated : IsStated (parts_of m) m
   unfolding parts_of
   own_stated = record {
@@ -279,6 +262,7 @@ module _ (m : ClusterMap) (holds : HoldsTogether m) where
     items_rise = holds.items_rise;
   }
 
+  -- so a map whose epoch a text may have states itself
   pub states_itself : IsTextEpoch m.epoch → StatesItself m
   states_itself within = record { faultless = own_faultless within.0 within.1; stated = own_stated }
 

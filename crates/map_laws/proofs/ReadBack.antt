@@ -1,12 +1,9 @@
 -- What is written of a map is read as that map.
-use Rattle.std.proofs.Common.{◌≡◌, ◌⊎◌, inl, inr, ℕ, ◌≤◌, nat_abs, map, List, Option, Result, Bool, true, false, not, if◌then◌else◌, Some, None, Ok, Err, IfOk, refl, sym, ap, subst, ◌∙◌, arith}
+use Rattle.std.proofs.Common.{◌≡◌, ◌⊎◌, inl, inr, ℕ, nat_abs, map, List, Option, Result, Bool, true, false, not, if◌then◌else◌, Some, None, Ok, Err, IfOk, refl, sym, ap, subst, ◌∙◌}
 use Rattle.std.specs.List.{list_all}
 use Rattle.std.specs.Option.{option_map_or}
-use Rattle.std.specs.Str.{IsUtf8}
 use Rattle.std.proofs.lemmas.Bool.{and_parts}
-use Rattle.serde_json.specs.Data.{Data, depth}
-use Rattle.serde_json.specs.Read.{read, max_depth}
-use Rattle.serde_json.specs.Written.{has_float, compact_text}
+use Rattle.serde_json.specs.Data.{Data}
 use Rattle.mapparts.specs.declared.parts.MapParts.{MapParts}
 use Rattle.refusal.specs.declared.refused.Refusal.{Refusal}
 use Rattle.refusal.specs.declared.refused.Refusal.TheVariants.{Memory as OutOfMemory, BadJson, BadField, BadLimit, BadForest, BadRule, BadPool, BadOsd, BadException}
@@ -19,14 +16,11 @@ use Rattle.osdmap.specs.Stated.{buckets_of, rules_ok, pools_ok, osds_ok, is_list
 use Rattle.osdmap.specs.PartsOf.{parts_of}
 use Rattle.jsonstream.specs.Json.{◌>>=◌, json_of, stated_by}
 use Rattle.mapparts.specs.declared.profile.Profile.TheVariants.{Stock}
-use Rattle.partjson.specs.StatedMaps.{in_its_version, stated_map}
+use Rattle.partjson.specs.StatedMaps.{stated_map}
 use Rattle.partjson.specs.Profiles.{map_allowed, map_in}
 use Rattle.mapjson.specs.Written.{AreNamed, map_data, written}
-use Rattle.jsonstream.proofs.Texts.{json_of_some}
 use Rattle.mapjson.proofs.Readable.{read-compact_text, IsUtf8-compact_text}
 use Rattle.mapjson.proofs.ReadableMaps.{map_readable}
-use Rattle.mapjson.proofs.Shallow.{map_whole, map_flat}
-use Rattle.mapjson.proofs.ReadBack.{map_back}
 use Rattle.mapjson.proofs.Named.{exceptions_named}
 use Rattle.mapjson.specs.MapTexts.{fault_of_stated, map_text_fault, StatesMap}
 use Rattle.map_laws.specs.Laws.{StatesOneMap}
@@ -45,7 +39,7 @@ written_states m fits explicit items =
     states_parts p (map_data p) _ explicit items (own_version m) refl (IsUtf8-compact_text (map_data p) readable) (read-compact_text (map_data p) readable)
 
 -- what is kept of what a value states
-abbrev kept_or : {X : Type 0} → Option X → Result X Refusal
+abbrev pub kept_or : {X : Type 0} → Option X → Result X Refusal
 kept_or o = option_map_or (λ x. Ok x) o (Err BadField)
 
 -- a part that is kept of one that is there
@@ -59,7 +53,7 @@ kept_value stated keep None x e = absurd (cc)
 kept_value stated keep (Some d) x e = kept_part keep (stated d) x e
 
 -- of a text that states something
-kept_of : {X : Type 0} (stated : Data → Option X) (keep : X → Option X) (bytes : List ℕ) (x : X) → stated_by stated bytes ≡ Ok x → stated_by (λ d. stated d >>= keep) bytes ≡ kept_or (keep x)
+pub kept_of : {X : Type 0} (stated : Data → Option X) (keep : X → Option X) (bytes : List ℕ) (x : X) → stated_by stated bytes ≡ Ok x → stated_by (λ d. stated d >>= keep) bytes ≡ kept_or (keep x)
 kept_of stated keep bytes x e = kept_value stated keep (json_of bytes) x e
 
 -- so it does where each kind of bucket is allowed

@@ -2,14 +2,15 @@
 use Rattle.std.proofs.Common.{◌≡◌, ℤ, pos, Bool, true, IsTrue, All, List, slice_index_or, arith}
 use Rattle.std.specs.List.{list_all}
 use Rattle.std.specs.Option.{option_map_or}
-use Rattle.mapparts.specs.Parts.{crush_fits, growth_fits, is_between, is_osd_id, pool_fits, pair_fits, exceptions_fit}
+use Rattle.mapparts.specs.Parts.{crush_fits, growth_fits, is_between, is_osd_id, pool_fits, pg_fits, pair_fits, exceptions_fit}
 use Rattle.mapparts.proofs.Within.{word_between}
 use Rattle.partjson.specs.declared.change.RawChange.{RawChange}
 use Rattle.mapjson.specs.ChangeTexts.{is_pool_id, reweight_fits, change_fits}
 use Rattle.mapjson.proofs.Tests.{all_from_test}
 
--- what is asked of the parts that become values
+-- what is asked of the base and of each list
 pub record ChangeFits (c : RawChange) : Type 0 where
+  pub base : is_between (pos 0) (pos 18446744073709551615) c.base ≡ true
   pub old_pools : list_all is_pool_id c.old_pools ≡ true
   pub new_crush : option_map_or crush_fits c.new_crush true ≡ true
   pub new_pools : list_all pool_fits c.new_pools ≡ true
@@ -17,6 +18,8 @@ pub record ChangeFits (c : RawChange) : Type 0 where
   pub down : list_all is_osd_id c.down ≡ true
   pub up : list_all is_osd_id c.up ≡ true
   pub weight : list_all reweight_fits c.weight ≡ true
+  pub old_upmap : list_all pg_fits c.old_upmap ≡ true
+  pub old_items : list_all pg_fits c.old_items ≡ true
   pub new_upmap : exceptions_fit is_osd_id c.new_upmap ≡ true
   pub new_items : exceptions_fit pair_fits c.new_items ≡ true
 
@@ -24,6 +27,7 @@ pub record ChangeFits (c : RawChange) : Type 0 where
 pub change_fits_each : (c : RawChange) → change_fits c ≡ true → ChangeFits c
 unfolding change_fits
 change_fits_each c h = record {
+  base = grind arith;
   old_pools = grind arith;
   new_crush = grind arith;
   new_pools = grind arith;
@@ -31,6 +35,8 @@ change_fits_each c h = record {
   down = grind arith;
   up = grind arith;
   weight = grind arith;
+  old_upmap = grind arith;
+  old_items = grind arith;
   new_upmap = grind arith;
   new_items = grind arith;
 }

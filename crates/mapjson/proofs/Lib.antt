@@ -10,3 +10,8 @@ pub mod ChangeFits
 pub mod Versions
 pub mod Carrying
 pub mod Refusing
+pub mod ChangeBack
+pub mod ReadableChanges
+pub mod OwnValues
+pub mod OwnOsds
+pub mod OneText

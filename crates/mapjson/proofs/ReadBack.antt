@@ -25,19 +25,19 @@ use Rattle.mapjson.specs.Written.{number_data, list_data, item_data, kind_word, 
 -- ---- values
 
 -- a number reads back as itself
-number_back : (z : ℤ) → whole_number (number_data z) ≡ Some z
+pub number_back : (z : ℤ) → whole_number (number_data z) ≡ Some z
 number_back (pos n) = refl
 number_back (negsuc n) = refl
 
 -- a list of which each value is read back that has what P says
-entries_back : {X : Type 0} (stated : Data → Option X) (entry : X → Data) (P : X → Type 0) → ((x : X) → P x → stated (entry x) ≡ Some x)
+pub entries_back : {X : Type 0} (stated : Data → Option X) (entry : X → Data) (P : X → Type 0) → ((x : X) → P x → stated (entry x) ≡ Some x)
     → (xs : List X) → All P xs → stated_list stated (list_data entry xs) ≡ Some xs
 entries_back stated entry P back [] all = refl
 entries_back stated entry P back (x ∷ xs) all =
     rw (back x (all 0 x (omega arith)), entries_back stated entry P back xs (λ k d below. all (suc k) d (omega arith)))
 
 -- a list reads back where each of its entries does
-list_back : {X : Type 0} (stated : Data → Option X) (entry : X → Data) → ((x : X) → stated (entry x) ≡ Some x) → (xs : List X) → stated_list stated (list_data entry xs) ≡ Some xs
+pub list_back : {X : Type 0} (stated : Data → Option X) (entry : X → Data) → ((x : X) → stated (entry x) ≡ Some x) → (xs : List X) → stated_list stated (list_data entry xs) ≡ Some xs
 list_back stated entry back xs = entries_back stated entry (λ x. ⊤) (λ x h. back x) xs (λ k d below. tt)
 
 -- ---- the forest
@@ -55,7 +55,7 @@ unfolding stated_item
 item_back i = rw (number_back i.id, number_back i.weight)
 
 -- a bucket reads back as itself
-bucket_back : (b : BucketPart) → stated_bucket (bucket_data b) ≡ Some b
+pub bucket_back : (b : BucketPart) → stated_bucket (bucket_data b) ≡ Some b
 unfolding stated_bucket bucket_data
 bucket_back b = rw (number_back b.id, number_back b.level, kind_back b.kind, list_back stated_item item_data item_back b.items)
 
@@ -84,14 +84,14 @@ step_back (Choose c) = choose_back c.mode c.to_leaf c.count c.level
 step_back Emit = refl
 
 -- a rule reads back as itself
-rule_back : (r : RulePart) → stated_rule (rule_data r) ≡ Some r
+pub rule_back : (r : RulePart) → stated_rule (rule_data r) ≡ Some r
 unfolding stated_rule rule_data
 rule_back r = rw (number_back r.id, use_back r.kind, list_back stated_step step_data step_back r.steps)
 
 -- ---- pools and OSDs
 
 -- a pool reads back as itself
-pool_back : (p : PoolPart) → stated_pool (pool_data p) ≡ Some p
+pub pool_back : (p : PoolPart) → stated_pool (pool_data p) ≡ Some p
 unfolding stated_pool pool_data
 pool_back p = rw (number_back p.id, use_back p.kind, number_back p.pg_num, number_back p.pgp_num, number_back p.rule, number_back p.size)
 
@@ -103,7 +103,7 @@ osd_back o = rw (number_back o.id, number_back o.weight)
 -- ---- exceptions
 
 -- a pair reads back as itself
-pair_back : (p : PairPart) → stated_pair (pair_data p) ≡ Some p
+pub pair_back : (p : PairPart) → stated_pair (pair_data p) ≡ Some p
 unfolding stated_pair
 pair_back p = rw (number_back p.from, number_back p.to)
 
@@ -114,7 +114,7 @@ unfolding stated_exception exception_data
 exception_back stated entry back e named = rw (named, list_back stated entry back e.entries)
 
 -- exceptions of named groups read back where each of their entries does
-exceptions_back : {X : Type 0} (stated : Data → Option X) (entry : X → Data) → ((x : X) → stated (entry x) ≡ Some x)
+pub exceptions_back : {X : Type 0} (stated : Data → Option X) (entry : X → Data) → ((x : X) → stated (entry x) ≡ Some x)
     → (es : List (ExceptionPart X)) → AreNamed es → stated_list (stated_exception stated) (list_data (exception_data entry) es) ≡ Some es
 exceptions_back stated entry back es named = entries_back (stated_exception stated) (exception_data entry) (λ e. IsNamed e.pg) (exception_back stated entry back) es named
 

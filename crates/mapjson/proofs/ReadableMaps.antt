@@ -55,12 +55,12 @@ number_within (negsuc b) high (negsuc n) l u above below = let least : negsuc b 
 number_within (pos b) high (negsuc n) l u above below = let least : pos b ≤ℤ negsuc n = grind (arith, ints) in absurd (omega (arith, ints))
 
 -- the same by the test
-number_between : (low high z : ℤ) → IsLow low → IsHigh high → is_between low high z ≡ true → IsReadable (number_data z)
+pub number_between : (low high z : ℤ) → IsLow low → IsHigh high → is_between low high z ≡ true → IsReadable (number_data z)
 unfolding is_between
 number_between low high z l u h = let p = and_parts (int_le low z) _ h in number_within low high z l u p.0 p.1
 
 -- a list is readable where each entry that passes a test is
-entries_within : {X : Type 0} (fits : X → Bool) (entry : X → Data) → ((x : X) → fits x ≡ true → IsReadable (entry x)) → (xs : List X) → list_all fits xs ≡ true → ItemsReadable (items_of (map entry xs))
+pub entries_within : {X : Type 0} (fits : X → Bool) (entry : X → Data) → ((x : X) → fits x ≡ true → IsReadable (entry x)) → (xs : List X) → list_all fits xs ≡ true → ItemsReadable (items_of (map entry xs))
 entries_within fits entry each [] h = tt
 entries_within fits entry each (x ∷ xs) h = let p = and_parts (fits x) _ h in (each x p.0, entries_within fits entry each xs p.1)
 
@@ -87,7 +87,7 @@ id_readable (pos n) h = number_between (negsuc 65535) (negsuc 0) (pos n) (omega 
 id_readable (negsuc n) h = number_between (negsuc 65535) (negsuc 0) (negsuc n) (omega arith) tt (grind (arith, nat_tests))
 
 -- a bucket within its limits is readable
-bucket_readable : (b : BucketPart) → bucket_fits b ≡ true → IsReadable (bucket_data b)
+pub bucket_readable : (b : BucketPart) → bucket_fits b ≡ true → IsReadable (bucket_data b)
 unfolding bucket_fits bucket_data
 bucket_readable b h =
     let items = and_parts _ (list_all item_fits b.items) h in
@@ -133,7 +133,7 @@ step_readable (Choose c) h =
 step_readable Emit h = (refl, tt)
 
 -- a rule within its limits is readable
-rule_readable : (r : RulePart) → rule_fits r ≡ true → IsReadable (rule_data r)
+pub rule_readable : (r : RulePart) → rule_fits r ≡ true → IsReadable (rule_data r)
 unfolding rule_fits rule_data
 rule_readable r h =
     let steps = and_parts _ (list_all step_fits r.steps) h in
@@ -149,7 +149,7 @@ rule_readable r h =
 -- ---- pools and OSDs
 
 -- a pool within its limits is readable
-pool_readable : (p : PoolPart) → pool_fits p ≡ true → IsReadable (pool_data p)
+pub pool_readable : (p : PoolPart) → pool_fits p ≡ true → IsReadable (pool_data p)
 unfolding pool_fits pool_data
 pool_readable p h =
     let size = and_parts _ (is_between (pos 1) (pos 20) p.size) h in
@@ -221,19 +221,19 @@ ascii-digits_onto (suc k) base n cs some few others =
     ascii-last k base (n / base) (digit_glyph false (n % base) ∷ cs) (n / base == 0) last (ascii-digits_onto k base (n / base) (digit_glyph false (n % base) ∷ cs) some few last)
 
 -- the text of a group is ASCII
-group_ascii : (g : Pg) → are_ascii (group_text g) ≡ true
+pub group_ascii : (g : Pg) → are_ascii (group_text g) ≡ true
 unfolding digits
 group_ascii g =
     ascii-append (decimal g.pool) _ (ascii-digits_onto 64 10 g.pool [] (omega arith) (omega arith) refl)
     (ascii-digits_onto 64 16 g.number [] (omega arith) (omega arith) refl)
 
 -- the id of an OSD is readable
-osd_id_readable : (z : ℤ) → is_osd_id z ≡ true → IsReadable (number_data z)
+pub osd_id_readable : (z : ℤ) → is_osd_id z ≡ true → IsReadable (number_data z)
 unfolding is_osd_id
 osd_id_readable z h = number_between (pos 0) (pos 4095) z tt (omega arith) h
 
 -- a pair within its limits is readable
-pair_readable : (p : PairPart) → pair_fits p ≡ true → IsReadable (pair_data p)
+pub pair_readable : (p : PairPart) → pair_fits p ≡ true → IsReadable (pair_data p)
 unfolding pair_fits
 pair_readable p h = let each = and_parts (is_osd_id p.from) (is_osd_id p.to) h in (osd_id_readable p.from each.0, (osd_id_readable p.to each.1, tt))
 
@@ -243,7 +243,7 @@ unfolding exception_fits exception_data
 exception_readable fits entry each e h = (group_ascii (pg_of e.pg), (entries_within fits entry each e.entries (and_parts _ (list_all fits e.entries) h).1, tt))
 
 -- exceptions within their limits are readable where their entries are
-exceptions_readable : {X : Type 0} (fits : X → Bool) (entry : X → Data) → ((x : X) → fits x ≡ true → IsReadable (entry x)) → (es : List (ExceptionPart X)) → exceptions_fit fits es ≡ true → ItemsReadable (items_of (map (exception_data entry) es))
+pub exceptions_readable : {X : Type 0} (fits : X → Bool) (entry : X → Data) → ((x : X) → fits x ≡ true → IsReadable (entry x)) → (es : List (ExceptionPart X)) → exceptions_fit fits es ≡ true → ItemsReadable (items_of (map (exception_data entry) es))
 unfolding exceptions_fit
 exceptions_readable fits entry each es h =
     entries_within (exception_fits fits) (exception_data entry) (exception_readable fits entry each) es (and_parts _ (list_all (exception_fits fits) es) h).1

@@ -17,12 +17,12 @@ use Rattle.mapjson.specs.Written.{number_data, list_data, item_data, bucket_data
 -- ---- no floats
 
 -- a number that is written is no float
-number_whole : (z : ℤ) → has_float (number_data z) ≡ false
+pub number_whole : (z : ℤ) → has_float (number_data z) ≡ false
 number_whole (pos n) = refl
 number_whole (negsuc n) = refl
 
 -- a list holds no float where none of its entries does
-list_whole : {X : Type 0} (entry : X → Data) → ((x : X) → has_float (entry x) ≡ false) → (xs : List X) → has_float (list_data entry xs) ≡ false
+pub list_whole : {X : Type 0} (entry : X → Data) → ((x : X) → has_float (entry x) ≡ false) → (xs : List X) → has_float (list_data entry xs) ≡ false
 list_whole entry h [] = refl
 list_whole entry h (x ∷ xs) = rw (h x) (list_whole entry h xs)
 
@@ -31,7 +31,7 @@ item_whole : (i : ItemPart) → has_float (item_data i) ≡ false
 item_whole i = rw (number_whole i.id, number_whole i.weight)
 
 -- a bucket holds no float
-bucket_whole : (b : BucketPart) → has_float (bucket_data b) ≡ false
+pub bucket_whole : (b : BucketPart) → has_float (bucket_data b) ≡ false
 unfolding bucket_data
 bucket_whole b = rw (number_whole b.id, list_whole item_data item_whole b.items, number_whole b.level)
 
@@ -45,12 +45,12 @@ step_whole (Choose c) = rw (number_whole c.count, number_whole c.level)
 step_whole Emit = refl
 
 -- a rule holds no float
-rule_whole : (r : RulePart) → has_float (rule_data r) ≡ false
+pub rule_whole : (r : RulePart) → has_float (rule_data r) ≡ false
 unfolding rule_data
 rule_whole r = rw (number_whole r.id, list_whole step_data step_whole r.steps)
 
 -- a pool holds no float
-pool_whole : (p : PoolPart) → has_float (pool_data p) ≡ false
+pub pool_whole : (p : PoolPart) → has_float (pool_data p) ≡ false
 unfolding pool_data
 pool_whole p = rw (number_whole p.id, number_whole p.pg_num, number_whole p.pgp_num, number_whole p.rule, number_whole p.size)
 
@@ -60,11 +60,11 @@ unfolding osd_data
 osd_whole o = rw (number_whole o.id, number_whole o.weight)
 
 -- a pair holds no float
-pair_whole : (p : PairPart) → has_float (pair_data p) ≡ false
+pub pair_whole : (p : PairPart) → has_float (pair_data p) ≡ false
 pair_whole p = rw (number_whole p.from, number_whole p.to)
 
 -- an exception holds no float where none of its entries does
-exception_whole : {X : Type 0} (entry : X → Data) → ((x : X) → has_float (entry x) ≡ false) → (e : ExceptionPart X) → has_float (exception_data entry e) ≡ false
+pub exception_whole : {X : Type 0} (entry : X → Data) → ((x : X) → has_float (entry x) ≡ false) → (e : ExceptionPart X) → has_float (exception_data entry e) ≡ false
 unfolding exception_data
 exception_whole entry h e = rw (list_whole entry h e.entries)
 
@@ -86,7 +86,7 @@ map_whole p = rw (
 -- ---- how deep
 
 -- a list nests one level more than its entries
-list_flat : {X : Type 0} (n : ℕ) (entry : X → Data) → ((x : X) → depth (entry x) ≤ n) → (xs : List X) → depth (list_data entry xs) ≤ suc n
+pub list_flat : {X : Type 0} (n : ℕ) (entry : X → Data) → ((x : X) → depth (entry x) ≤ n) → (xs : List X) → depth (list_data entry xs) ≤ suc n
 list_flat n entry h [] = omega arith
 list_flat n entry h (x ∷ xs) = omega (arith, h x, list_flat n entry h xs)
 
@@ -95,7 +95,7 @@ item_flat : (i : ItemPart) → depth (item_data i) ≤ 1
 item_flat i = omega arith
 
 -- a bucket nests three levels
-bucket_flat : (b : BucketPart) → depth (bucket_data b) ≤ 3
+pub bucket_flat : (b : BucketPart) → depth (bucket_data b) ≤ 3
 unfolding bucket_data
 bucket_flat b = omega (arith, list_flat 1 item_data item_flat b.items)
 
@@ -109,12 +109,12 @@ step_flat (Choose c) = omega arith
 step_flat Emit = omega arith
 
 -- a rule nests three levels at most
-rule_flat : (r : RulePart) → depth (rule_data r) ≤ 3
+pub rule_flat : (r : RulePart) → depth (rule_data r) ≤ 3
 unfolding rule_data
 rule_flat r = omega (arith, list_flat 1 step_data step_flat r.steps)
 
 -- a pool nests one level
-pool_flat : (p : PoolPart) → depth (pool_data p) ≤ 1
+pub pool_flat : (p : PoolPart) → depth (pool_data p) ≤ 1
 unfolding pool_data
 pool_flat p = omega arith
 
@@ -124,15 +124,15 @@ unfolding osd_data
 osd_flat o = omega arith
 
 -- a number nests no level
-number_flat : (z : ℤ) → depth (number_data z) ≤ 0
+pub number_flat : (z : ℤ) → depth (number_data z) ≤ 0
 number_flat z = omega arith
 
 -- a pair nests one level
-pair_flat : (p : PairPart) → depth (pair_data p) ≤ 1
+pub pair_flat : (p : PairPart) → depth (pair_data p) ≤ 1
 pair_flat p = omega arith
 
 -- an exception nests two levels more than its entries
-exception_flat : {X : Type 0} (n : ℕ) (entry : X → Data) → ((x : X) → depth (entry x) ≤ n) → (e : ExceptionPart X) → depth (exception_data entry e) ≤ suc (suc n)
+pub exception_flat : {X : Type 0} (n : ℕ) (entry : X → Data) → ((x : X) → depth (entry x) ≤ n) → (e : ExceptionPart X) → depth (exception_data entry e) ≤ suc (suc n)
 unfolding exception_data
 exception_flat n entry h e = omega (arith, list_flat n entry h e.entries)
 

@@ -2,3 +2,5 @@ pub mod MapTexts
 pub mod ChangeTexts
 pub mod LoadTexts
 pub mod Written
+pub mod PartsOfChange
+pub mod WrittenChanges

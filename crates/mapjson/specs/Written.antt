@@ -122,6 +122,10 @@ osd_data o = object_of (
 
 -- ---- exceptions
 
+-- a group
+abbrev pub group_data : PgParts → Data
+group_data g = string (group_text (pg_of g))
+
 -- the text of a group states that group
 abbrev pub IsNamed : PgParts → Type 0
 IsNamed g = parts_in (group_text (pg_of g)) ≡ Some g
@@ -136,7 +140,7 @@ pair_data p = list_data number_data (p.from ∷ p.to ∷ [])
 
 -- an exception: [group, [entry, ..]], by what is written of an entry
 unfoldable pub exception_data : {X : Type 0} → (X → Data) → ExceptionPart X → Data
-exception_data entry e = list_of (string (group_text (pg_of e.pg)) ∷ list_data entry e.entries ∷ [])
+exception_data entry e = list_of (group_data e.pg ∷ list_data entry e.entries ∷ [])
 
 -- ---- the map
 

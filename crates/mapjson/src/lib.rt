@@ -3,7 +3,10 @@
 //! - `change`: the change that the stated parts of one stand for, and why there is none
 //! - `change/limits`, `change/within`: the limits of stated parts, and the change of parts within them
 //! - `loads`: what OSDs carry, of the parts that a text states
-//! - `written`: what is written of a map, as JSON values
+//! - `written`, `written/value`: what is written of maps and changes, as JSON values
+//! - `written/forest`, `written/pools`, `written/exceptions`: of forests and rules, of pools and what they grow to, of
+//!   groups and their exceptions
+//! - `written/map`, `written/change`: of a map, and of a change with its base
 #![tactic(auto)]
 
 ghost use Rattle.std.specs.Prelude.{◌≡◌, Ok, IfOk};
@@ -12,19 +15,22 @@ ghost use Rattle.refusal.specs.Outcomes.{Makes};
 ghost use Rattle.osdmap.specs.PartsOf.{parts_of};
 ghost use Rattle.jsonstream.specs.Json.{stated_by};
 ghost use Rattle.partjson.specs.StatedMaps.{stated_map};
+ghost use Rattle.partjson.specs.StatedChanges.{stated_change};
 ghost use Rattle.mapjson.specs.MapTexts.{map_fault_in, map_text_fault, StatesMap};
 ghost use Rattle.osdmap.specs.Stated.{IsStated};
 ghost use Rattle.mapjson.specs.ChangeTexts.{change_text_fault, StatesChange};
 ghost use Rattle.mapjson.specs.LoadTexts.{load_text_fault, StatesLoads};
 ghost use Rattle.mapjson.specs.Written.{written};
+ghost use Rattle.mapjson.specs.PartsOfChange.{change_parts};
+ghost use Rattle.mapjson.specs.WrittenChanges.{written_change};
 
 mod change;
 mod loads;
 mod written;
 
 use crate::change::change_within;
-use crate::loads::{carried, stated};
-use crate::written::ToJson;
+use crate::loads::{list_loads, parse_loads};
+use crate::written::{ToJson, write_parts};
 use mapparts::{MapParts, Profile};
 use maptypes::Change;
 use osdmap::OsdMap;
@@ -94,8 +100,8 @@ pub fn read_change(alloc: Global, bytes: &[u8], profile: Profile) -> Result<(u64
 pub fn read_loads(alloc: Global, bytes: &[u8], most: u32) -> Result<Vec<i32>, Refusal>
     ensures { Makes result (load_text_fault most bytes.now) (λ list. StatesLoads most bytes.now list.items) }
 {
-    let loads = stated(alloc, bytes)?;
-    carried(alloc, most, &loads)
+    let loads = parse_loads(alloc, bytes)?;
+    list_loads(alloc, most, &loads)
 }
 
 /// The text of a map: compact JSON, each object with all its keys in byte order, buckets by id from -1 downwards,
@@ -111,5 +117,22 @@ pub fn write_map(alloc: Global, map: &OsdMap) -> Result<Vec<u8>, Memory>
     ensures reads_back { IfOk result (λ bytes. stated_by stated_map bytes.items ≡ Ok (parts_of map.now.map)) }
 {
     let value = map.to_json(alloc)?;
+    Ok(value.to_vec(alloc)?)
+}
+
+/// The text of a change with the epoch to which it applies: compact JSON, all keys in byte order, also those of empty
+/// lists, but without `new_crush` where the change has none. Pools, growths and OSDs stand by id upwards, groups and
+/// exceptions by group upwards, a CRUSH map as in the text of a map.
+///
+/// # Errors
+///
+/// `Memory` (30) where there is no memory for it.
+pub fn write_change(alloc: Global, base: u64, change: &Change) -> Result<Vec<u8>, Memory>
+    ensures text { IfOk result (λ bytes. bytes.items ≡ written_change base change.now) }
+    ensures utf8 { IfOk result (λ bytes. IsUtf8 bytes.items) }
+    ensures reads_back { IfOk result (λ bytes.
+        stated_by stated_change bytes.items ≡ Ok (change_parts base change.now)) }
+{
+    let value = write_parts(alloc, base, change.parts())?;
     Ok(value.to_vec(alloc)?)
 }

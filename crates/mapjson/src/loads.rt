@@ -10,7 +10,7 @@ ghost use Rattle.jsonstream.specs.Json.{stated_by};
 ghost use Rattle.partjson.specs.StatedLoads.{stated_loads};
 ghost use Rattle.mapjson.specs.LoadTexts.{load_fits, load_within, carried_of, carried_list, loads_fault};
 
-use keylist::{Entries, Keyed, entry_of, in_order};
+use keylist::{Entries, Keyed, entry_of, sort_distinct};
 use mapparts::numbers::{is_between, word};
 use partjson::{RawLoad, read_raw_loads};
 use refusal::{Memory, Refusal};
@@ -58,7 +58,7 @@ fn all_fit(most: u32, loads: &[RawLoad]) -> bool
 
 /// A number that has 32 bits.
 #[tactic(auto, unfolding(mapparts::specs::Parts::is_between))]
-fn small(number: i128) -> i32
+fn narrow_number(number: i128) -> i32
     requires { IsTrue (is_between (negsuc 2147483647) (pos 2147483647) number) }
     ensures { result ≡ number }
 {
@@ -67,22 +67,25 @@ fn small(number: i128) -> i32
 
 /// A load that fits.
 #[tactic(auto, unfolding(crate::specs::LoadTexts::load_fits))]
-fn within(most: u32, load: &RawLoad) -> Load
+fn narrow_load(most: u32, load: &RawLoad) -> Load
     requires { IsTrue (load_fits most load.now) }
     ensures { result ≡ load_within load.now }
 {
     Load {
         osd: word(load.osd),
-        carried: small(load.carried),
+        carried: narrow_number(load.carried),
     }
 }
 
 /// Loads that fit.
-fn all_within(alloc: Global, most: u32, loads: &[RawLoad]) -> Result<Vec<Load>, AllocError>
+fn narrow_loads(alloc: Global, most: u32, loads: &[RawLoad]) -> Result<Vec<Load>, AllocError>
     requires { All (λ l. IsTrue (load_fits most l)) loads.now }
     ensures { IfOk result (λ found. found.items ≡ map load_within loads.now) }
 {
-    loads.iter().map(|load| within(most, load)).collect(alloc)
+    loads
+        .iter()
+        .map(|load| narrow_load(most, load))
+        .collect(alloc)
 }
 
 /// What an OSD carries.
@@ -97,7 +100,7 @@ fn carried_of(loads: &[Load], osd: u32) -> i32
 }
 
 /// What so many OSDs carry, by number.
-fn carried_list(alloc: Global, loads: &[Load], most: u32) -> Result<Vec<i32>, AllocError>
+fn list_by_osd(alloc: Global, loads: &[Load], most: u32) -> Result<Vec<i32>, AllocError>
     requires { IsRising (λ l. l.osd) loads.now }
     ensures { IfOk result (λ list. list.items ≡ carried_list most loads.now) }
 {
@@ -109,20 +112,20 @@ fn carried_list(alloc: Global, loads: &[Load], most: u32) -> Result<Vec<i32>, Al
 }
 
 /// What so many OSDs carry, by number: `BadField` (11) where a load does not fit, or an OSD stands there twice.
-pub(crate) fn carried(alloc: Global, most: u32, loads: &[RawLoad]) -> Result<Vec<i32>, Refusal>
+pub(crate) fn list_loads(alloc: Global, most: u32, loads: &[RawLoad]) -> Result<Vec<i32>, Refusal>
     ensures { Makes result (loads_fault most loads.now)
         (λ list. list.items ≡ carried_list most (map load_within loads.now)) }
 {
     if !all_fit(most, loads) {
         return Err(Refusal::BadField);
     }
-    let loads = all_within(alloc, most, loads)?;
-    let loads = in_order(loads, Refusal::BadField)?;
-    Ok(carried_list(alloc, &loads, most)?)
+    let loads = narrow_loads(alloc, most, loads)?;
+    let loads = sort_distinct(loads, Refusal::BadField)?;
+    Ok(list_by_osd(alloc, &loads, most)?)
 }
 
 /// The loads that a text states: `BadField` (11) where it states none.
-pub(crate) fn stated(alloc: Global, bytes: &[u8]) -> Result<Entries<RawLoad>, Refusal>
+pub(crate) fn parse_loads(alloc: Global, bytes: &[u8]) -> Result<Entries<RawLoad>, Refusal>
     ensures { MatchResult result (λ loads. stated_by stated_loads bytes.now ≡ Ok loads)
         (λ e. (e ≡ Refusal.Memory) ⊎ ((e ≡ Refusal.BadField)
         × ((why : Refusal) × (stated_by stated_loads bytes.now ≡ Err why)))) }

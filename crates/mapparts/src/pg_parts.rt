@@ -21,7 +21,7 @@ pub struct PgParts {
 }
 
 /// A number of at most 32 bits.
-fn narrowed(number: Option<u64>) -> Option<u32>
+fn narrow(number: Option<u64>) -> Option<u32>
     ensures { result ≡ option_and_then within number }
 {
     u32::try_from(number?).ok()
@@ -34,7 +34,7 @@ fn part(base: u32, text: &[u8]) -> Option<Option<u32>>
     requires most { base ≤ 16 }
     ensures { result ≡ part_in base text.now }
 {
-    Some(narrowed(number(base, text)?))
+    Some(narrow(number(base, text)?))
 }
 
 /// The place of the first point.

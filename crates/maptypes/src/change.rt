@@ -12,7 +12,7 @@ use crate::exception::{Explicit, Items};
 use crate::grow::Grow;
 use crate::pg::Pg;
 use crate::pool::Pool;
-use keylist::{Entries, Keyed, ordered};
+use keylist::{Entries, Keyed, sort_entries};
 use mapparts::Profile;
 use refusal::Memory;
 use std::marker::Model;
@@ -88,7 +88,7 @@ fn both_ordered<K: Keyed, L: Keyed>(
     ensures some { IfOk result (λ both. SortsBy K.key_of some both.0) }
     ensures others { IfOk result (λ both. SortsBy L.key_of others both.1) }
 {
-    Ok((ordered(some)?, ordered(others)?))
+    Ok((sort_entries(some)?, sort_entries(others)?))
 }
 
 /// Each growth is within its limits: for a proof alone.
@@ -135,9 +135,9 @@ impl Change {
         ensures { IfOk result (IsOrdered parts) }
     {
         let (old_pools, new_pools) = both_ordered(parts.old_pools, parts.new_pools)?;
-        let grow_pool = ordered(parts.grow_pool)?;
+        let grow_pool = sort_entries(parts.grow_pool)?;
         let (down, up) = both_ordered(parts.down, parts.up)?;
-        let weight = ordered(parts.weight)?;
+        let weight = sort_entries(parts.weight)?;
         let (old_upmap, new_upmap) = both_ordered(parts.old_upmap, parts.new_upmap)?;
         let (old_items, new_items) = both_ordered(parts.old_items, parts.new_items)?;
         are_within_limits(&new_pools);

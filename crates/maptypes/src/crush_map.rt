@@ -18,7 +18,7 @@ use crate::forest_parts::buckets_of;
 use crate::rule_parts::steps_of;
 use crate::rules::NumberedRule;
 use crush::{Forest, Rule};
-use keylist::in_order;
+use keylist::sort_distinct;
 use mapparts::limits::{MAX_RULE_ID, MAX_RULES};
 use mapparts::numbers::{has_between, word};
 use mapparts::{BucketPart, RulePart};
@@ -101,7 +101,7 @@ fn rules_of(
         (λ rules. Rises (λ r. r.id) (map rule_of parts.now) rules.items) }
 {
     let rules = make_rules(alloc, parts, forest)?;
-    in_order(rules, Refusal::BadRule)
+    sort_distinct(rules, Refusal::BadRule)
 }
 
 /// Whether there are 1 to 256 rules, each of an id of at most 255.
@@ -136,7 +136,7 @@ fn rules_over(rules: Vec<NumberedRule>, forest: &Forest) -> Result<Vec<NumberedR
     if !are_over(&rules, forest) {
         return Err(Refusal::BadRule);
     }
-    in_order(rules, Refusal::BadRule)
+    sort_distinct(rules, Refusal::BadRule)
 }
 
 /// Each rule is within its limits: for a proof alone.

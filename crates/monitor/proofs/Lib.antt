@@ -2,3 +2,4 @@ pub mod Histories
 pub mod Followers
 pub mod Balancing
 pub mod Within
+mod Making

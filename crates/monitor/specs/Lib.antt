@@ -6,3 +6,4 @@ pub mod Followers
 pub mod Balances
 pub mod Sharing
 pub mod Questions
+pub mod Making

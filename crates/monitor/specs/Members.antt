@@ -1,5 +1,5 @@
 -- What callers see of a monitor, who its members are, and what a member that holds its lock knows.
-use Rattle.std.specs.Prelude.{◌≡◌, ◌⊎◌, ℕ, ◌+◌, Bool, true, [], IsSomeAnd, option_and_then, option_map, unwrap_or, Result, Err, IfErr, OnOk, OnErr, IfOk}
+use Rattle.std.specs.Prelude.{◌≡◌, ◌⊎◌, ℕ, ◌+◌, Bool, true, false, List, [], length, replicate, IsSomeAnd, option_and_then, option_map, unwrap_or, Result, Err, IfErr, OnOk, IfOk}
 use Rattle.std.specs.Option.{option_map_or}
 use Rattle.refusal.specs.declared.refused.Refusal.{Refusal}
 use Rattle.refusal.specs.declared.refused.Refusal.TheVariants.{SeatSpent}
@@ -51,16 +51,22 @@ pub record IsPassOf (monitor : Monitored) (pass : Seen) : Type 0 where
   pub lawful : IsLawful monitor.first pass.history
 
 -- the member has a seat of this monitor; its pass is of the monitor's row, with a history that is lawful from the first
--- map
+-- map; and it knows of each epoch of the row whether it has made it
 pub record IsMemberOf (monitor : Monitored) (member : Member) : Type 0 where
   pub seat : IsSomeAnd member.seat (λ seat. IsAt monitor.words seat.place)
   pub row : member.pass.row ≡ monitor.row
   pub lawful : IsLawful monitor.first member.pass.history
+  pub room : length member.own.items ≡ length monitor.row.cells
 
--- the member is one of this monitor that has seen nothing, and its seat has made no step
+-- no epoch of the monitor's row is a member's own
+abbrev pub none_own : Monitored → List Bool
+none_own monitor = replicate (length monitor.row.cells) false
+
+-- the member is one of this monitor that has seen nothing and made no epoch, and its seat has made no step
 abbrev pub IsNewMemberOf : Monitored → Member → Type 0
 IsNewMemberOf monitor member =
     IsMemberOf monitor member × (member.pass.history ≡ []) × IsSomeAnd member.seat (IsNewAt monitor.words)
+    × (member.own.items ≡ none_own monitor)
 
 -- how often a seat of the monitor may draw
 abbrev pub draws_of : Monitored → ℕ
@@ -72,37 +78,30 @@ draws_made member = option_map_or (λ seat. seat.place.draws) member.seat 0
 
 -- the member's seat has made its draws
 abbrev pub IsSpent : Monitored → Member → Type 0
-IsSpent monitor member = IsSomeAnd member.seat (λ seat. seat.place.draws ≡ draws_of monitor)
-
--- a call draws once for a member that has seen nothing, unless its draws were made: no lent state is behind it
-abbrev pub DrawsOnce : Monitored → Member → Member → Type 0
-DrawsOnce monitor before after =
-    before.pass.history ≡ [] → IsSpent monitor before ⊎ (draws_made after ≡ draws_made before + 1)
+IsSpent monitor member = draws_made member ≡ draws_of monitor
 
 -- a member that has none beside it sees no more than before
 abbrev pub StaysAlone : Monitored → Seen → Seen → Type 0
 StaysAlone monitor before now = monitor.alone ≡ true → now ≡ before
 
--- a member has taken a turn at the lock for a call, or was refused as its seat has made its draws, and else never for
--- that: it is still one of this monitor, and a turn of one that has seen nothing is one draw
+-- a member has taken a turn at the lock for a call, by one draw of its seat; or it was refused, as its seat had made
+-- its draws, and else never for that: it is still one of this monitor
 pub record TakesTurn {X : Type 0} (monitor : Monitored) (before after : Member) (r : Result X Refusal) : Type 0 where
   pub member : IsMemberOf monitor after
-  pub spent : IfErr r (λ e. e ≡ SeatSpent → IsSpent monitor after)
-  pub refused : IsSpent monitor before → r ≡ Err SeatSpent
-  pub once : DrawsOnce monitor before after
+  pub spent : IfErr r (λ e. e ≡ SeatSpent → IsSpent monitor before)
+  pub refused : IsSpent monitor before → (r ≡ Err SeatSpent) × (after ≡ before)
+  pub once : IsSpent monitor before ⊎ (draws_made after ≡ draws_made before + 1)
 
--- a member has drawn for a hold of the lock, and its history goes on to what the lent state has seen: the hold tells
--- how often its seat has drawn then, once more for one that had seen nothing; or it is refused, as its seat has made
--- its draws, and is as it was
+-- a member has drawn once for a hold of the lock, and its history goes on to what the lent state has seen: the hold
+-- tells how often its seat has drawn then; or it is refused, as its seat had made its draws, and is as it was
 pub record TakesHold {X : Type 0} (monitor : Monitored) (before after : Member) (draws : X → ℕ) (r : Result X Refusal) :
     Type 0 where
   pub goes_on : GoesOn monitor.first before.pass.history after.pass.history
+  pub own : after.own ≡ before.own
   pub alone : StaysAlone monitor before.pass after.pass
   pub unspent : OnOk r (IsSpent monitor before → ⊥)
-  pub once : IfOk r (λ hold. before.pass.history ≡ [] → draws hold ≡ draws_made before + 1)
-  pub spent : IfErr r (λ e. (e ≡ SeatSpent) × IsMemberOf monitor after × IsSpent monitor after)
-  pub same : OnErr r (after.pass ≡ before.pass)
-  pub spent_before : OnErr r (before.pass.history ≡ [] → IsSpent monitor before)
+  pub once : IfOk r (λ hold. draws hold ≡ draws_made before + 1)
+  pub spent : IfErr r (λ e. (e ≡ SeatSpent) × IsSpent monitor before × (after ≡ before))
 
 -- ---- who holds the lock
 

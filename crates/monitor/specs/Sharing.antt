@@ -1,5 +1,5 @@
 -- What callers see of a shared hold.
-use Rattle.std.specs.Prelude.{◌≡◌}
+use Rattle.std.specs.Prelude.{◌≡◌, length}
 use Rattle.osdmap.specs.Changes.{IsLawful}
 use Rattle.monitor.specs.declared.shared.Shared.{Shared}
 use Rattle.monitor.specs.declared.member.Member.{Member}
@@ -12,3 +12,4 @@ pub record IsSharing {K : Type 0} (monitor : Monitored) (shared : Shared K) (mem
   pub seen : (lent shared.guard).pass ≡ member.pass
   pub row : member.pass.row ≡ monitor.row
   pub lawful : IsLawful monitor.first member.pass.history
+  pub room : length member.own.items ≡ length monitor.row.cells

@@ -10,7 +10,8 @@ use refusal::Refusal;
 use std::sync::Wait;
 
 impl<K: Keeps + Drop> Monitor<K> {
-    ghost use Rattle.std.specs.Prelude.{IfOk, IsUtf8};
+    ghost use Rattle.std.specs.Prelude.{◌≢◌, IfOk, IfErr, IsUtf8};
+    ghost use Rattle.refusal.specs.declared.refused.Refusal.TheVariants.{SeatSpent};
     ghost use Rattle.osdmap.specs.Changes.{after};
     ghost use Rattle.state.specs.Answers.{FindsUp, FindsCount, FindsGroups};
     ghost use Rattle.monitor.specs.Members.{IsMemberOf};
@@ -29,7 +30,8 @@ impl<K: Keeps + Drop> Monitor<K> {
         question: Question,
     ) -> Result<Answer, Refusal>
         requires { IsSharing self.now shared.now member.now }
-        ensures { Finds (after self.now.first member.now.pass.history) question result }
+        ensures finds { Finds (after self.now.first member.now.pass.history) question result }
+        ensures unspent { IfErr result (λ e. e ≢ SeatSpent) }
     {
         find(self.shown(shared, member), question)
     }
@@ -38,7 +40,7 @@ impl<K: Keeps + Drop> Monitor<K> {
     ///
     /// # Errors
     ///
-    /// `SeatSpent` (31) once the member's seat has made its draws, and only then. Else, of a group `UnknownPool` (23)
+    /// `SeatSpent` (31) exactly where the member's seat has made its draws. Else, of a group `UnknownPool` (23)
     /// where the map has no such pool, or `UnknownGroup` (25) where the pool has no such group; of an OSD `UnknownOsd`
     /// (21) where it does not exist. Else, of groups and of the map's text, `Memory` (30) where there is no memory.
     pub fn ask<R: Wait>(

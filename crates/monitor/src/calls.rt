@@ -1,7 +1,7 @@
 //! What a member commits to its monitor.
 
 use crate::locked::{balance, commit};
-use crate::member::Member;
+use crate::member::{Member, mark_commit, mark_plan};
 use crate::monitor::Monitor;
 use balancer::Request;
 use keeping::Keeps;
@@ -11,19 +11,20 @@ use state::{Balance, Commit, State};
 use std::sync::Wait;
 
 impl<K: Keeps + Drop> Monitor<K> {
-    ghost use Rattle.std.specs.Prelude.{◌≡◌, true, length, IfErr};
+    ghost use Rattle.std.specs.Prelude.{◌≡◌, true, length, Some, IfErr};
     ghost use Rattle.refusal.specs.declared.refused.Refusal.TheVariants.{NotStored};
     ghost use Rattle.balancer.specs.Requests.{asked_aim};
     ghost use Rattle.monitor.specs.Histories.{AnswersCommit, AddsChange};
     ghost use Rattle.monitor.specs.Balances.{AnswersBalance, AddsPlan};
     ghost use Rattle.monitor.specs.Members.{IsMemberOf, TakesTurn};
+    ghost use Rattle.monitor.specs.Making.{HasMade, planned_epoch};
 
     /// Commits a change to the map of the epoch `base`: the new epoch, and for how many groups a rule was run, which
     /// are those whose placement it can alter. The member has the lock alone.
     ///
     /// # Errors
     ///
-    /// `SeatSpent` (31) once the member's seat has made its draws, and only then; else `StaleEpoch` (20) with the
+    /// `SeatSpent` (31) exactly where the member's seat has made its draws; else `StaleEpoch` (20) with the
     /// present epoch where `base` is another; else what [`osdmap::OsdMap::check`] refuses (21, 22, 23, 24, 13, 15, 25,
     /// 26, 27); else `JournalFull` (28) where the journal has its capacity; else `Memory` (30) where there is no memory
     /// for it, `NotStored` (35) where the store does not take it or has failed before, or `NotSealed` (32) where
@@ -39,6 +40,8 @@ impl<K: Keeps + Drop> Monitor<K> {
         ensures turn { TakesTurn self.now member.old member.new result }
         ensures commits { AnswersCommit self.now.first (length self.now.row.cells)
             member.old.pass.history member.new.pass.history base change result }
+        ensures own { HasMade self.now.first.epoch member.old.own.items member.new.own.items
+            (λ ok. Some ok.epoch) result }
         ensures stored { IfErr result (λ e. e ≡ NotStored → K.may_fail) }
         ensures alone { self.now.alone ≡ true →
             AddsChange member.old.pass.history member.new.pass.history change result }
@@ -47,6 +50,7 @@ impl<K: Keeps + Drop> Monitor<K> {
         let state: &mut State<K> = &mut guard.value_mut().state;
         let answer = commit(state, &self.row, &mut member.pass, base, change);
         self.put_back(guard, member);
+        mark_commit(&mut member.own, self.first.epoch(), &answer);
         answer
     }
 
@@ -56,7 +60,7 @@ impl<K: Keeps + Drop> Monitor<K> {
     ///
     /// # Errors
     ///
-    /// `SeatSpent` (31) once the member's seat has made its draws, and only then; else `UnknownPool` (23) where there
+    /// `SeatSpent` (31) exactly where the member's seat has made its draws; else `UnknownPool` (23) where there
     /// is no such pool; else `BalanceRule` (29) where the pool's rule has more than one block; else `Memory` (30) where
     /// there is no memory for it, or where a move is good `JournalFull` (28), `NotStored` (35) or `NotSealed` (32) as
     /// for [`Monitor::commit`].
@@ -71,6 +75,7 @@ impl<K: Keeps + Drop> Monitor<K> {
         ensures balances { AnswersBalance self.now.first
             (length self.now.row.cells) member.old.pass.history member.new.pass.history
             request.entry.pool (asked_aim request.entry) request.entry.limit result }
+        ensures own { HasMade self.now.first.epoch member.old.own.items member.new.own.items planned_epoch result }
         ensures stored { IfErr result (λ e. e ≡ NotStored → K.may_fail) }
         ensures alone { self.now.alone ≡ true →
             AddsPlan self.now.first member.old.pass.history member.new.pass.history
@@ -80,6 +85,7 @@ impl<K: Keeps + Drop> Monitor<K> {
         let state: &mut State<K> = &mut held.value_mut().state;
         let answer = balance(state, &self.row, &mut member.pass, request);
         self.put_back(held, member);
+        mark_plan(&mut member.own, self.first.epoch(), &answer);
         answer
     }
 }

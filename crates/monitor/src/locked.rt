@@ -1,6 +1,6 @@
 //! What lies under the lock of a monitor.
 
-ghost use Rattle.std.specs.Prelude.{◌≡◌, ◌≢◌, ◌≤◌, IfErr, length, nat_lt};
+ghost use Rattle.std.specs.Prelude.{◌≡◌, ◌≢◌, ◌≤◌, true, IfErr, length};
 ghost use Rattle.refusal.specs.declared.refused.Refusal.TheVariants.{SeatSpent, NotStored};
 ghost use Rattle.osdmap.specs.Changes.{IsLawful, after};
 ghost use Rattle.epochlog.specs.Epochs.{Begins};
@@ -32,14 +32,6 @@ impl<K: Keeps + Drop> Fact for Locked<K> {
         × (now.state.value.pass.row ≡ made.state.value.pass.row) };
 }
 
-/// Whether a pass has seen more than a state.
-pub(crate) fn is_behind<K: Keeps + Drop>(state: &State<K>, pass: &Pass) -> bool
-    requires { state.now.pass.row ≡ pass.now.row }
-    ensures { result ≡ nat_lt (length state.now.pass.history) (length pass.now.history) }
-{
-    state.pass().epoch() < pass.epoch()
-}
-
 /// A pass that has seen no more than a state sees all that it has.
 pub(crate) fn see<K: Keeps + Drop>(pass: &mut Pass, state: &State<K>)
     requires row { pass.old.row ≡ state.now.pass.row }
@@ -53,13 +45,22 @@ pub(crate) fn see<K: Keeps + Drop>(pass: &mut Pass, state: &State<K>)
     let _ = state.map();
 }
 
-/// Returns where a state that is not behind a pass has seen no more than it, and else never.
-pub(crate) fn wait_until_same<R: Wait, K: Keeps + Drop>(rt: &R, state: &State<K>, pass: &Pass)
+/// Returns where a state has seen all that a pass has, and where that is the pass of the only member no more; else
+/// never. Nobody else can have made a change, and none that a member has seen is lost, so it does not wait.
+pub(crate) fn wait_until_seen<R: Wait, K: Keeps + Drop>(
+    rt: &R,
+    state: &State<K>,
+    pass: &Pass,
+    alone: bool,
+)
     requires row { state.now.pass.row ≡ pass.now.row }
-    ensures { length pass.now.history ≡ length state.now.pass.history }
+    ensures seen { length pass.now.history ≤ length state.now.pass.history }
+    ensures alone { alone ≡ true → length pass.now.history ≡ length state.now.pass.history }
 {
     for _ in rt.forever() {
-        if state.pass().epoch() == pass.epoch() {
+        let seen = pass.epoch();
+        let now = state.pass().epoch();
+        if seen == now || (seen < now && !alone) {
             return;
         }
     }

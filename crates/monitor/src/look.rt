@@ -19,37 +19,37 @@ use ticketlock::ReadGuard;
 pub struct Look<'a, K: Keeps + Drop = Nothing> {
     pub(crate) guard: ReadGuard<'a, Locked<K>>,
     pub(crate) pass: Pass,
+    pub(crate) own: Vec<bool>,
     pub ghost seen: { (lent guard).pass ≡ pass },
 }
 
 impl<K: Keeps + Drop> Monitor<K> {
-    ghost use Rattle.std.specs.Prelude.{◌≡◌, [], ◌+◌, IfOk, IfErr, OnOk};
+    ghost use Rattle.std.specs.Prelude.{◌≡◌, ◌+◌, IfOk, IfErr, OnOk};
     ghost use Rattle.monitor.specs.Histories.{GoesOn};
     ghost use Rattle.monitor.specs.Members.{IsMemberOf, IsSpent, StaysAlone, draws_made};
     ghost use Rattle.monitor.specs.Looking.{IsLookOf};
 
-    /// Shares the lock, to look at the state. It takes no memory.
+    /// Shares the lock, to look at the state, by one draw. It takes no memory.
     ///
     /// # Errors
     ///
-    /// The member (31, `SeatSpent`), once its seat has made its draws and only then. What it has seen is as it was.
+    /// The member as it was (31, `SeatSpent`), exactly where its seat has made its draws.
     pub fn look<R: Wait>(&self, rt: &R, member: Member) -> Result<Look<'_, K>, Member>
         requires { IsMemberOf self.now member }
         ensures ok { IfOk result (λ look.
             IsLookOf self.now look × GoesOn self.now.first member.pass.history look.pass.history) }
-        ensures err { IfErr result (λ back.
-            IsMemberOf self.now back × IsSpent self.now back × (back.pass ≡ member.pass)) }
+        ensures own { IfOk result (λ look. look.own ≡ member.own) }
+        ensures err { IfErr result (λ back. (back ≡ member) × IsSpent self.now member) }
         ensures refused { OnOk result (¬ IsSpent self.now member) }
         ensures alone { IfOk result (λ look. StaysAlone self.now member.pass look.pass) }
-        ensures once { IfOk result (λ look.
-            member.pass.history ≡ [] → look.guard.turn.place.draws ≡ draws_made member + 1) }
-        ensures spent_before { IfErr result (λ _. member.pass.history ≡ [] → IsSpent self.now member) }
+        ensures once { IfOk result (λ look. look.guard.turn.place.draws ≡ draws_made member + 1) }
     {
         let mut member = member;
         match self.share(rt, &mut member) {
             Ok(Shared { guard }) => Ok(Look {
                 guard,
                 pass: member.pass,
+                own: member.own,
             }),
             Err(_) => Err(member),
         }
@@ -73,12 +73,14 @@ impl<'a, K: Keeps + Drop> Look<'a, K> {
     pub fn leave(self) -> Member
         ensures member { (monitor : Monitored) → IsLookOf monitor self.entry → IsMemberOf monitor result }
         ensures pass { result.pass ≡ self.entry.pass }
+        ensures own { result.own ≡ self.entry.own }
         ensures draws { draws_made result ≡ self.entry.guard.turn.place.draws }
     {
-        let Look { guard, pass } = self;
+        let Look { guard, pass, own } = self;
         Member {
             seat: Some(guard.leave()),
             pass,
+            own,
         }
     }
 }

@@ -41,6 +41,14 @@ impl<K: Keeps + Drop> Monitor<K> {
         self.row.is_sealed(epoch)
     }
 
+    /// The epoch of the first map.
+    pub fn first_epoch(&self) -> u64
+        ensures map { result ≡ self.now.first.epoch }
+        ensures row { result ≡ self.now.row.first }
+    {
+        self.first.epoch()
+    }
+
     /// This monitor, but that the texts of its changes are read by this profile.
     pub fn with_profile(self, profile: Profile) -> Self
         ensures { result ≡ record self { profile = profile } }

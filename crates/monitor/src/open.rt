@@ -88,9 +88,11 @@ impl<K: Keeps + Drop> Monitor<K> {
         ensures { IfOk result (IsNewMemberOf self.now) }
     {
         let pass = self.row.pass(alloc)?;
+        let own = vec![in alloc; false; self.row.capacity() as usize]?;
         Ok(Member {
             seat: Some(seat),
             pass,
+            own,
         })
     }
 
@@ -135,8 +137,8 @@ impl<K: Keeps + Drop> Monitor<K> {
     }
 
     /// A monitor that begins with this map, with this room and what keeps its journal, which holds the map and no
-    /// change yet; and its members. Each call of a member that takes the lock spends a draw of its seat, and a second
-    /// only where the lent state has not seen what the member has. The members have seen nothing.
+    /// change yet; and its members. Each call of a member that takes the lock spends a draw of its seat. The members
+    /// have seen nothing.
     ///
     /// # Errors
     ///

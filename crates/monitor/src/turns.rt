@@ -5,11 +5,10 @@ ghost use Rattle.ticketlock.specs.Guards.{first_of_read};
 ghost use Rattle.osdmap.specs.Changes.{after};
 ghost use Rattle.monitor.specs.Members.{lent};
 
-use crate::locked::{Locked, is_behind, see, wait_until_same};
+use crate::locked::{Locked, see, wait_until_seen};
 use crate::member::Member;
 use crate::monitor::Monitor;
 use crate::shared::Shared;
-use epochlog::Pass;
 use keeping::Keeps;
 use refusal::Refusal;
 use state::State;
@@ -29,59 +28,41 @@ pub(crate) fn state_of<'g, K: Keeps + Drop>(guard: &'g ReadGuard<'_, Locked<K>>)
 }
 
 impl<K: Keeps + Drop> Monitor<K> {
-    ghost use Rattle.std.specs.Prelude.{◌≡◌, ◌≤◌, ◌+◌, ◌-◌, [], true, length, IfOk, IfErr, IsSomeAnd, OnOk, OnErr};
+    ghost use Rattle.std.specs.Prelude.{◌≡◌, ◌-◌, length, IfOk, IsSomeAnd};
     ghost use Rattle.osdmap.specs.Changes.{after, IsLawful};
-    ghost use Rattle.refusal.specs.declared.refused.Refusal.TheVariants.{SeatSpent};
     ghost use Rattle.monitor.specs.Members.{IsMemberOf, IsStateOf, Holds, TakesHold, draws_made, draws_of};
     ghost use Rattle.monitor.specs.Sharing.{IsSharing};
 
-    /// Returns only where a member that has none beside it finds no more than it has seen: nobody else can have made
-    /// more, so it does not wait.
-    fn stay_alone<R: Wait>(&self, rt: &R, state: &State<K>, pass: &Pass)
-        requires row { state.now.pass.row ≡ pass.now.row }
-        ensures { self.now.alone ≡ true → length pass.now.history ≡ length state.now.pass.history }
-    {
-        if self.alone {
-            wait_until_same(rt, state, pass);
-        }
-    }
-
-    /// Shares the lock, for several questions to one state: [`Monitor::shown`] lends it, and [`Monitor::give_back`]
-    /// ends the hold. Until then the member has no seat, and asks nothing else. Where the lent state has not seen what
-    /// the member has, it draws again. It takes no memory.
+    /// Shares the lock, for several questions to one state, by one draw: [`Monitor::shown`] lends it, and
+    /// [`Monitor::give_back`] ends the hold. Until then the member has no seat, and asks nothing else. It takes no
+    /// memory.
     ///
     /// # Errors
     ///
-    /// `SeatSpent` (31), once the member's seat has made its draws and only then. The member then has its seat, and
-    /// what it has seen is as it was.
+    /// `SeatSpent` (31) exactly where the member's seat has made its draws. The member is then as it was.
     pub fn share<R: Wait>(&self, rt: &R, member: &mut Member) -> Result<Shared<'_, K>, Refusal>
         requires { IsMemberOf self.now member.old }
         ensures turn { TakesHold self.now member.old member.new (λ shared. shared.guard.turn.place.draws) result }
         ensures shares { IfOk result (λ shared. IsSharing self.now shared member.new) }
     {
-        let Some(mut seat) = member.seat.take() else {
+        let Some(seat) = member.seat.take() else {
             unreachable!()
         };
-        for _ in rt.forever() {
-            match self.lock.wait_read(rt, seat) {
-                Ok(guard) => {
-                    if !is_behind(state_of(&guard), &member.pass) {
-                        self.stay_alone(rt, state_of(&guard), &member.pass);
-                        see(&mut member.pass, state_of(&guard));
-                        return Ok(Shared { guard });
-                    }
-                    seat = guard.leave();
-                }
-                Err(back) => {
-                    member.seat = Some(back);
-                    return Err(Refusal::SeatSpent);
-                }
+        match self.lock.wait_read(rt, seat) {
+            Ok(guard) => {
+                let state = state_of(&guard);
+                wait_until_seen(rt, state, &member.pass, self.alone);
+                see(&mut member.pass, state);
+                Ok(Shared { guard })
+            }
+            Err(seat) => {
+                member.seat = Some(seat);
+                Err(Refusal::SeatSpent)
             }
         }
-        unreachable!()
     }
 
-    /// Takes the lock alone. Where the state has not seen what the member has, it draws again. `SeatSpent` (31).
+    /// Takes the lock alone, by one draw; or `SeatSpent` (31) exactly where the member's seat has made its draws.
     pub(crate) fn hold<R: Wait>(
         &self,
         rt: &R,
@@ -93,27 +74,21 @@ impl<K: Keeps + Drop> Monitor<K> {
         ensures holds { IfOk result (λ guard. Holds self.now guard
             × (guard.value.state.value.first ≡ self.now.first) × (guard.value.state.value.pass ≡ member.new.pass)) }
     {
-        let Some(mut seat) = member.seat.take() else {
+        let Some(seat) = member.seat.take() else {
             unreachable!()
         };
-        for _ in rt.forever() {
-            match self.lock.wait_write(rt, seat) {
-                Ok(guard) => {
-                    let state: &State<K> = &guard.value().state;
-                    if !is_behind(state, &member.pass) {
-                        self.stay_alone(rt, state, &member.pass);
-                        see(&mut member.pass, state);
-                        return Ok(guard);
-                    }
-                    seat = guard.leave();
-                }
-                Err(back) => {
-                    member.seat = Some(back);
-                    return Err(Refusal::SeatSpent);
-                }
+        match self.lock.wait_write(rt, seat) {
+            Ok(guard) => {
+                let state: &State<K> = &guard.value().state;
+                wait_until_seen(rt, state, &member.pass, self.alone);
+                see(&mut member.pass, state);
+                Ok(guard)
+            }
+            Err(seat) => {
+                member.seat = Some(seat);
+                Err(Refusal::SeatSpent)
             }
         }
-        unreachable!()
     }
 
     /// The state that a member shares, the same at each call: it has seen just what the member has.
@@ -129,6 +104,7 @@ impl<K: Keeps + Drop> Monitor<K> {
         requires { IsSharing self.now shared member.old }
         ensures member { IsMemberOf self.now member.new }
         ensures pass { member.new.pass ≡ member.old.pass }
+        ensures own { member.new.own ≡ member.old.own }
         ensures draws { draws_made member.new ≡ shared.entry.guard.turn.place.draws }
     {
         let Shared { guard } = shared;
@@ -152,8 +128,10 @@ impl<K: Keeps + Drop> Monitor<K> {
         requires state { IsStateOf self.now guard.value.state.value }
         requires row { member.old.pass.row ≡ self.now.row }
         requires lawful { IsLawful self.now.first member.old.pass.history }
+        requires room { length member.old.own.items ≡ length self.now.row.cells }
         ensures member { IsMemberOf self.now member.new }
         ensures pass { member.new.pass ≡ member.old.pass }
+        ensures own { member.new.own ≡ member.old.own }
         ensures draws { draws_made member.new ≡ guard.entry.turn.place.draws }
     {
         member.seat = Some(guard.leave());

@@ -1,16 +1,20 @@
 -- What members have seen, joined.
-use Rattle.std.proofs.Common.{◌≡◌, ◌∙◌, ◌++◌, ◌+◌, ◌<◌, ◌≤◌, ℕ, suc, Bool, true, false, nat_lt, if◌then◌else◌, List, [], ◌∷◌, length, take, get_or, All, sym, ap, subst, append_assoc}
+use Rattle.std.proofs.Common.{◌≡◌, ◌∙◌, ◌++◌, ◌+◌, ◌<◌, ◌≤◌, ℕ, suc, Bool, true, false, nat_lt, if◌then◌else◌, List, [], ◌∷◌, length, take, get_or, All, map, cond, count_by, slice_index_or, ◌==◌, inl, inr, arith, refl, sym, ap, subst, append_assoc}
+use Rattle.std.proofs.lemmas.Bool.{cases_Bool, eqb-true, ltb-true, ltb-false}
 use Rattle.std.proofs.lemmas.List.{take_all}
 use Rattle.std.proofs.lemmas.List.Elements.{All-nil, All-cons, All-head, All-tail, All-get_or, All-weaker, All-more}
 use Rattle.maptypes.specs.Incrementals.{Step}
+use Rattle.maptypes.proofs.Totals.{sum_by-map}
 use Rattle.osdmap.specs.Maps.{ClusterMap}
 use Rattle.osdmap.specs.Changes.{IsLawful}
 use Rattle.epochlog.specs.Epochs.{Seen, Begins, longer}
 use Rattle.monitor.specs.Members.{Monitored, IsMemberOf, IsPassOf}
+use Rattle.session.specs.Sessions.{basis_of, account}
+use Rattle.osdmapd.specs.Players.{made_by}
 use Rattle.osdmapd.specs.declared.part.Part.{Part}
 use Rattle.osdmapd.specs.declared.left.Left.{Left}
 use Rattle.osdmapd.specs.Pairs.{Pairs}
-use Rattle.osdmapd.specs.Serving.{facts_left, seen_left, IsLeftBy, IsLeftIn, AreLeftBy}
+use Rattle.osdmapd.specs.Serving.{LeftFacts, facts_left, seen_left, IsLeftBy, IsLeftIn, AreLeftBy}
 
 -- what begins a beginning begins the whole
 begins_on : {T : Type 0} (xs ys zs : List T) → Begins xs ys → Begins ys zs → Begins xs zs
@@ -75,18 +79,36 @@ member_at monitor lefts at left within is members =
 -- what is left of each session is of the history that was joined
 left_in : (monitor : Monitored) (all : List Step) (number : ℕ) (parts : List Part) (lefts : List Left) → Pairs (IsLeftBy monitor) number parts lefts
     → All (BeginsIn all) lefts
-    → Pairs (λ n part left. IsLeftIn monitor.first (length monitor.row.cells) monitor.profile monitor.alone all n part (facts_left left)) number parts lefts
+    → Pairs (λ n part left. IsLeftIn (basis_of monitor) all n part (facts_left left)) number parts lefts
 left_in monitor all number [] [] pairs begin = tt
 left_in monitor all number [] (left ∷ lefts) pairs begin = absurd pairs
 left_in monitor all number (part ∷ parts) [] pairs begin = absurd pairs
 left_in monitor all number (part ∷ parts) (left ∷ lefts) pairs begin =
     let one : Begins (seen_left left) all = All-head (BeginsIn all) left lefts begin in
     let others = All-tail (BeginsIn all) left lefts begin in
-    ((seen_left left, one, pairs.0.1), left_in monitor all (suc number) parts lefts pairs.1 others)
+    ((account left.member, one, refl, pairs.0.1), left_in monitor all (suc number) parts lefts pairs.1 others)
+
+-- one more epoch is made once
+pub made_more : (lefts : List Left) (at k : ℕ) → ((j : ℕ) → j < at → made_by lefts j ≡ 1) → (made_by lefts at == 1) ≡ true → k < at + 1
+    → made_by lefts k ≡ 1
+made_more lefts at k before here less = elim (cases_Bool (nat_lt k at)) [
+  | inl less-so ↦ before k (ltb-true k at less-so)
+  | inr not-so ↦
+      let same : k ≡ at = omega (arith, less, ltb-false k at not-so) in
+      rw same (eqb-true (made_by lefts at) 1 here)
+]
+
+-- what is made once is not found to be made otherwise
+pub not_once : (lefts : List Left) (at : ℕ) → made_by lefts at ≡ 1 → (made_by lefts at == 1) ≡ false → ⊥
+not_once lefts at once other = let none : (1 == 1) ≡ false = subst (λ n. (n == 1) ≡ false) once other in cc
+
+-- how many have made an epoch is the same without their members
+made_facts : (lefts : List Left) (at : ℕ) → count_by (λ left. slice_index_or left.own at false) (map facts_left lefts) ≡ made_by lefts at
+made_facts lefts at = sum_by-map (λ (left : LeftFacts). cond (slice_index_or left.own at false) 1 0) facts_left lefts
 
 -- and so of all sessions
 pub all_left : (monitor : Monitored) (pass : Seen) (parts : List Part) (lefts : List Left) → IsPassOf monitor pass
     → Pairs (IsLeftBy monitor) 1 parts lefts → All (BeginsIn pass.history) lefts
-    → AreLeftBy monitor parts lefts
-all_left monitor pass parts lefts of pairs begin =
-    (pass.history, of.lawful, left_in monitor pass.history 1 parts lefts pairs begin)
+    → ((at : ℕ) → at < length pass.history → made_by lefts at ≡ 1) → AreLeftBy monitor parts lefts
+all_left monitor pass parts lefts of pairs begin once =
+    (pass.history, of.lawful, (λ at inside. made_facts lefts at ∙ once at inside), left_in monitor pass.history 1 parts lefts pairs begin)

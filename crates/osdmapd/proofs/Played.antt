@@ -8,11 +8,12 @@ use Rattle.osdmap.specs.Maps.{ClusterMap}
 use Rattle.osdmap.specs.Changes.{IsLawful}
 use Rattle.mapparts.specs.declared.profile.Profile.{Profile}
 use Rattle.mapjson.specs.MapTexts.{map_text_fault, StatesMap}
-use Rattle.monitor.specs.Members.{Monitored}
+use Rattle.monitor.specs.Members.{Monitored, draws_of}
+use Rattle.monitor.specs.Opening.{max_draws}
 use Rattle.session.specs.declared.error.SessionError.{SessionError}
-use Rattle.session.specs.Answers.{Sight}
+use Rattle.session.specs.Answers.{Account, Sight}
 use Rattle.session.specs.Commands.{lines_in}
-use Rattle.session.specs.Sessions.{session_of}
+use Rattle.session.specs.Sessions.{session_of, basis_of}
 use Rattle.session.specs.Transcripts.{IsTranscript}
 use Rattle.session.specs.Sinks.{HasPut}
 use Rattle.std.specs.declared.thread.PromisedHandle.{PromisedHandle}
@@ -23,7 +24,7 @@ use Rattle.osdmapd.specs.declared.fault.Fault.{Fault}
 use Rattle.osdmapd.specs.declared.fault.Fault.TheVariants.{Output, Memory}
 use Rattle.osdmapd.specs.Players.{IsStartedFor, Keeps}
 use Rattle.osdmapd.specs.Pairs.{Pairs}
-use Rattle.osdmapd.specs.Serving.{LeftFacts, heading, facts_left, texts_of, text_left, unseen, lets_all, IsTextBy, IsLeftBy, IsLeftIn, AreLeftBy, AreLeftOf, Serves, has_output_failed}
+use Rattle.osdmapd.specs.Serving.{LeftFacts, heading, facts_left, texts_of, text_left, unseen, lets_all, IsTextBy, IsLeftBy, IsLeftIn, AreLeftBy, AreLeftOf, run_basis, Serves, has_output_failed}
 use Rattle.osdmapd.proofs.Paired.{pairs_made, pairs_through}
 
 -- what is left is of the same monitor, number and part
@@ -41,24 +42,21 @@ left_by monitor players parts lefts started kept =
     (λ number player part left begun keeps. left_for _ _ _ _ _ _ left begun.0 begun.1 begun.2 keeps)
     1 players parts lefts started kept
 
--- texts of a monitor with this first map, journal and profile
-texts_from : (monitor : Monitored) (m : ClusterMap) (journal : ℕ) (profile : Profile) (alone : Bool) (all : List Step) (parts : List Part) (lefts : List Left)
-    → monitor.first ≡ m → length monitor.row.cells ≡ journal → monitor.profile ≡ profile → monitor.alone ≡ alone
-    → Pairs (λ number part left. IsLeftIn monitor.first (length monitor.row.cells) monitor.profile monitor.alone all number part (facts_left left)) 1 parts lefts
-    → Pairs (IsLeftIn m journal profile alone all) 1 parts (map facts_left lefts)
-texts_from monitor m journal profile alone all parts lefts first room kinds one paired =
-    subst (λ b. Pairs (IsLeftIn m journal profile b all) 1 parts (map facts_left lefts)) one
-    (subst (λ p. Pairs (IsLeftIn m journal p monitor.alone all) 1 parts (map facts_left lefts)) kinds
-    (subst (λ k. Pairs (IsLeftIn m k monitor.profile monitor.alone all) 1 parts (map facts_left lefts)) room
-    (subst (λ f. Pairs (IsLeftIn f (length monitor.row.cells) monitor.profile monitor.alone all) 1 parts (map facts_left lefts)) first
-    (pairs_made (IsLeftIn monitor.first (length monitor.row.cells) monitor.profile monitor.alone all) facts_left 1 parts lefts paired))))
+-- the answers at a monitor that was opened for a run go by what those of the run do
+same_basis : (monitor : Monitored) (m : ClusterMap) (journal : ℕ) (profile : Profile) (parts : List Part)
+    → monitor.first ≡ m → length monitor.row.cells ≡ journal → draws_of monitor ≡ max_draws → monitor.profile ≡ profile
+    → monitor.alone ≡ (length parts == 1) → basis_of monitor ≡ run_basis m journal profile parts
+same_basis monitor m journal profile parts first room drawn kinds one = rw (first, room, drawn, kinds, one) refl
 
 -- the texts from the map that a text states
 pub lefts_of : (monitor : Monitored) (m : ClusterMap) (journal : ℕ) (profile : Profile) (stated : List ℕ) (parts : List Part) (lefts : List Left)
-    → StatesMap profile stated m → monitor.first ≡ m → length monitor.row.cells ≡ journal → monitor.profile ≡ profile
-    → monitor.alone ≡ (length parts == 1) → AreLeftBy monitor parts lefts → AreLeftOf journal profile stated parts (map facts_left lefts)
-lefts_of monitor m journal profile stated parts lefts states first room kinds one (all, lawful, paired) =
-    (m, states, all, subst (λ f. IsLawful f all) first lawful, texts_from monitor m journal profile (length parts == 1) all parts lefts first room kinds one paired)
+    → StatesMap profile stated m → monitor.first ≡ m → length monitor.row.cells ≡ journal → draws_of monitor ≡ max_draws
+    → monitor.profile ≡ profile → monitor.alone ≡ (length parts == 1) → AreLeftBy monitor parts lefts
+    → AreLeftOf journal profile stated parts (map facts_left lefts)
+lefts_of monitor m journal profile stated parts lefts states first room drawn kinds one (all, lawful, once, paired) =
+    let same = same_basis monitor m journal profile parts first room drawn kinds one in
+    let made = pairs_made (IsLeftIn (basis_of monitor) all) facts_left 1 parts lefts paired in
+    (m, states, all, subst (λ f. IsLawful f all) first lawful, once, subst (λ b. Pairs (IsLeftIn b all) 1 parts (map facts_left lefts)) same made)
 
 -- what is out where the output fails, at whatever error is told
 pub served_part : (r : Result Unit Fault) (journal : ℕ) (profile : Profile) (stated : List ℕ) (parts : List Part) (before after : List ℕ)
@@ -86,8 +84,8 @@ pub started_for : {T : Type 0} (monitor : Monitored) (number : ℕ) (player : Pr
 started_for monitor number player part same numbered played = (same, numbered, played)
 
 -- what a live session has put is its heading and its answers
-pub told_live : (monitor : Monitored) (number : ℕ) (seen : Sight) (ends : List Step) (old mid after : List ℕ) (known : Option (List ℕ))
-    (r : Result Unit SessionError) → seen ≡ unseen → mid ≡ old ++ heading number
+pub told_live : (monitor : Monitored) (number : ℕ) (seen : Sight) (ends : Account) (old mid after : List ℕ) (known : Option (List ℕ))
+    (r : Result Unit SessionError) → seen ≡ unseen (length monitor.row.cells) → mid ≡ old ++ heading number
     → OnOk r ((read : List ℕ) × (bytes : List ℕ) × (last : Sight) × IfSome known (λ xs. xs ≡ read)
     × IsTranscript (session_of monitor lets_all) 1 seen (lines_in read) bytes last × (last.member ≡ ends) × (after ≡ mid ++ bytes))
     → OnOk r ((read : List ℕ) × (text : List ℕ) × IfSome known (λ xs. xs ≡ read) × IsTextBy monitor number read text ends

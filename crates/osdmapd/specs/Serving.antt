@@ -1,5 +1,5 @@
 -- What a run of the program writes.
-use Rattle.std.specs.Prelude.{◌≡◌, ◌==◌, ℕ, Bool, true, false, List, [], ◌++◌, codes, length, map, Some, None, Result, Ok, Err}
+use Rattle.std.specs.Prelude.{◌≡◌, ◌==◌, ◌<◌, count_by, replicate, slice_index_or, ℕ, Bool, true, false, List, [], ◌++◌, codes, length, map, Some, None, Result, Ok, Err}
 use Rattle.std.specs.Fmt.{decimal}
 use Rattle.std.specs.List.{concat, list_any}
 use Rattle.maptypes.specs.Incrementals.{Step}
@@ -10,7 +10,9 @@ use Rattle.mapparts.specs.declared.profile.Profile.{Profile}
 use Rattle.mapjson.specs.MapTexts.{map_text_fault, StatesMap}
 use Rattle.monitor.specs.Members.{Monitored, IsMemberOf}
 use Rattle.session.specs.Commands.{lines_in}
-use Rattle.session.specs.Answers.{Sight, session_with}
+use Rattle.session.specs.Answers.{Basis, Account, Sight, session_by}
+use Rattle.session.specs.Sessions.{basis_of, account}
+use Rattle.monitor.specs.Opening.{max_draws}
 use Rattle.session.specs.Transcripts.{IsTranscript}
 use Rattle.session.specs.Sinks.{HasPut}
 use Rattle.osdmapd.specs.Pairs.{Pairs}
@@ -31,35 +33,38 @@ heading number = codes "session " ++ decimal number ++ codes "\n"
 abbrev pub lets_all : ℕ → Bool → Type 0
 lets_all number passes = passes ≡ true
 
--- what a session has seen before its first line
-abbrev pub unseen : Sight
-unseen = record { member = []; follower = record { history = []; seen = [] } }
+-- what a session has seen before its first line, and that it has made none of so many epochs
+abbrev pub unseen : ℕ → Sight
+unseen most = record {
+  member = record { history = []; draws = 0; own = replicate most false };
+  follower = record { history = []; seen = [] };
+}
 
--- the text of the session of a number: its heading, and the answers of its script, from this first map, with a
--- journal for so many changes, whose texts are read by this profile, of a member that is alone or not; the last of them
--- leaves its member with this history
-abbrev pub IsSessionText : ClusterMap → ℕ → Profile → Bool → ℕ → List ℕ → List ℕ → List Step → Type 0
-IsSessionText first journal profile alone number script text seen =
-    (answers : List ℕ) × (last : Sight) × IsTranscript (session_with first journal profile alone lets_all) 1 unseen
-    (lines_in script) answers last
-    × (last.member ≡ seen) × (text ≡ heading number ++ answers)
+-- the text of the session of a number: its heading, and the answers of its script, which go by these; the last of them
+-- leaves its member with this
+abbrev pub IsSessionText : Basis → ℕ → List ℕ → List ℕ → Account → Type 0
+IsSessionText basis number script text end =
+    (answers : List ℕ) × (last : Sight)
+    × IsTranscript (session_by basis lets_all) 1 (unseen basis.most) (lines_in script) answers last
+    × (last.member ≡ end) × (text ≡ heading number ++ answers)
 
 -- the text of the session of a number at this monitor
-abbrev pub IsTextBy : Monitored → ℕ → List ℕ → List ℕ → List Step → Type 0
-IsTextBy monitor number script text seen =
-    IsSessionText monitor.first (length monitor.row.cells) monitor.profile monitor.alone number script text seen
+abbrev pub IsTextBy : Monitored → ℕ → List ℕ → List ℕ → Account → Type 0
+IsTextBy monitor number script text end = IsSessionText (basis_of monitor) number script text end
 
--- what is left of a session that has ended: what is to be put out, and whether a file of it has failed, which it told
+-- what is left of a session that has ended: what is to be put out, whether a file of it has failed, which it told, and
+-- of each epoch of the journal whether its member has made it
 pub record LeftFacts : Type 0 where
   pub text : List ℕ
   pub told : Bool
+  pub own : List Bool
 
 -- what is left of the session of a part: the text of a script, which has no file that can fail; of a live session no
 -- text, as its answers are out
-abbrev pub IsLeftOf : ClusterMap → ℕ → Profile → Bool → ℕ → Part → LeftFacts → List Step → Type 0
-IsLeftOf first journal profile alone number (Script script) left seen =
-    IsSessionText first journal profile alone number script.items left.text seen × (left.told ≡ false)
-IsLeftOf first journal profile alone number (Live streams) left seen = left.text ≡ []
+abbrev pub IsLeftOf : Basis → ℕ → Part → LeftFacts → Account → Type 0
+IsLeftOf basis number (Script script) left end =
+    IsSessionText basis number script.items left.text end × (left.told ≡ false)
+IsLeftOf basis number (Live streams) left end = left.text ≡ []
 
 -- what is to be put out of what is left
 abbrev pub text_left : Left → List ℕ
@@ -67,7 +72,7 @@ text_left left = bytes_of left.text
 
 -- what is left, without its member
 abbrev pub facts_left : Left → LeftFacts
-facts_left left = record { text = text_left left; told = left.has_told }
+facts_left left = record { text = text_left left; told = left.has_told; own = left.member.own.items }
 
 -- what the member has seen that is left
 abbrev pub seen_left : Left → List Step
@@ -77,32 +82,39 @@ seen_left left = left.member.pass.history
 abbrev pub IsLeftBy : Monitored → ℕ → Part → Left → Type 0
 IsLeftBy monitor number part left =
     IsMemberOf monitor left.member
-    × IsLeftOf monitor.first (length monitor.row.cells) monitor.profile monitor.alone number part (facts_left left)
-    (seen_left left)
+    × IsLeftOf (basis_of monitor) number part (facts_left left) (account left.member)
 
 -- ---- all sessions
 
 -- what is left of a session whose last history begins this one
-abbrev pub IsLeftIn : ClusterMap → ℕ → Profile → Bool → List Step → ℕ → Part → LeftFacts → Type 0
-IsLeftIn first journal profile alone all number part left =
-    (seen : List Step) × Begins seen all × IsLeftOf first journal profile alone number part left seen
+abbrev pub IsLeftIn : Basis → List Step → ℕ → Part → LeftFacts → Type 0
+IsLeftIn basis all number part left =
+    (end : Account) × Begins end.history all × (end.own ≡ left.own) × IsLeftOf basis number part left end
+
+-- each epoch of a history is one that exactly one session has made
+abbrev pub AreMadeOnce : List Step → List LeftFacts → Type 0
+AreMadeOnce all lefts = (at : ℕ) → at < length all → count_by (λ left. slice_index_or left.own at false) lefts ≡ 1
 
 -- what is left of the sessions of these parts, numbered from 1, at one monitor: the last history of each begins one
--- that is lawful from the first map
+-- that is lawful from the first map, each of whose epochs exactly one of them has made
 abbrev pub AreLeftBy : Monitored → List Part → List Left → Type 0
 AreLeftBy monitor parts lefts =
-    (all : List Step) × IsLawful monitor.first all
-    × Pairs (λ number part left.
-    IsLeftIn monitor.first (length monitor.row.cells) monitor.profile monitor.alone all number part (facts_left left))
-    1 parts lefts
+    (all : List Step) × IsLawful monitor.first all × AreMadeOnce all (map facts_left lefts)
+    × Pairs (λ number part left. IsLeftIn (basis_of monitor) all number part (facts_left left)) 1 parts lefts
+
+-- what the answers of a run go by: its first map, a journal for so many changes, seats with the most draws, the profile
+-- by which texts are read, and whether there is one session
+abbrev pub run_basis : ClusterMap → ℕ → Profile → List Part → Basis
+run_basis m journal profile parts =
+    record { first = m; most = journal; draws = max_draws; profile = profile; alone = length parts == 1 }
 
 -- what is left of the sessions of these parts, numbered from 1, from the map that a text states: there is one history,
--- lawful from that map, which the last history of each session begins; a session that is the only one sees nothing but
--- what its own answers tell
+-- lawful from that map, which the last history of each session begins, and each of whose epochs exactly one session has
+-- made; a session that is the only one sees nothing but what its own answers tell
 abbrev pub AreLeftOf : ℕ → Profile → List ℕ → List Part → List LeftFacts → Type 0
 AreLeftOf journal profile stated parts lefts =
-    (m : ClusterMap) × StatesMap profile stated m × (all : List Step) × IsLawful m all
-    × Pairs (IsLeftIn m journal profile (length parts == 1) all) 1 parts lefts
+    (m : ClusterMap) × StatesMap profile stated m × (all : List Step) × IsLawful m all × AreMadeOnce all lefts
+    × Pairs (IsLeftIn (run_basis m journal profile parts) all) 1 parts lefts
 
 -- the texts that are left, one after the other
 abbrev pub texts_of : List LeftFacts → List ℕ

@@ -16,6 +16,17 @@ pub struct Left {
     pub has_told: bool,
 }
 
+impl Left {
+    ghost use Rattle.std.specs.Prelude.{◌≡◌, false, slice_index_or};
+
+    /// Whether its member has made the epoch at a place of the row.
+    pub fn has_made(&self, at: usize) -> bool
+        ensures { result ≡ slice_index_or self.now.member.own.items at false }
+    {
+        self.member.own().get(at).is_some_and(|made| *made)
+    }
+}
+
 /// A session, and what its thread promises: what is left to put out of it, and its member, unless memory was short.
 #[derive(Clone, Copy)]
 pub struct LeftOf<'a> {

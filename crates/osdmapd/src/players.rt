@@ -1,10 +1,10 @@
 //! The threads that play the sessions of a run: started, joined, and what they have seen made one history.
-ghost use Rattle.std.specs.Prelude.{◌≡◌, ◌+◌, All, IfOk, MatchOption, length, vec_len};
+ghost use Rattle.std.specs.Prelude.{◌≡◌, ◌↔◌, ◌==◌, ◌<◌, ◌+◌, ℕ, true, All, IfOk, MatchOption, length, vec_len};
 ghost use Rattle.epochlog.specs.Epochs.{Begins};
 ghost use Rattle.monitor.specs.Members.{IsMemberOf, IsNewMemberOf, IsPassOf};
 ghost use Rattle.osdmapd.specs.Pairs.{Pairs};
 ghost use Rattle.osdmapd.specs.Serving.{seen_left, IsLeftBy, AreLeftBy};
-ghost use Rattle.osdmapd.specs.Players.{IsStartedFor, Keeps};
+ghost use Rattle.osdmapd.specs.Players.{IsStartedFor, Keeps, made_by};
 
 use crate::left::{Left, LeftOf};
 use crate::part::Part;
@@ -129,10 +129,45 @@ fn join_seen(all: &mut Pass, monitor: &Monitor, lefts: &[Left])
     }
 }
 
+/// Whether exactly one member of those that are left has made the epoch at a place of the row.
+fn is_made_once(lefts: &[Left], at: usize) -> bool
+    ensures { result ≡ (made_by lefts.now at == 1) }
+{
+    lefts.iter().filter(|left| left.has_made(at)).count() == 1
+}
+
+/// Whether each epoch that a pass has seen is one that exactly one member of those that are left has made.
+fn are_made_once(all: &Pass, monitor: &Monitor, lefts: &[Left]) -> bool
+    requires { IsPassOf monitor.now all.now }
+    ensures { (result ≡ true) ↔ ((at : ℕ) → at < length all.now.history → made_by lefts.now at ≡ 1) }
+{
+    let count = (all.epoch() - monitor.first_epoch()) as usize;
+    for at in 0..count {
+        if !is_made_once(lefts, at) {
+            return false;
+        }
+    }
+    true
+}
+
+/// Returns where each epoch that a pass has seen is one that exactly one member of those that are left has made, and
+/// else never: nobody else commits, so it does not wait.
+fn wait_until_made<R: Wait>(rt: &R, all: &Pass, monitor: &Monitor, lefts: &[Left])
+    requires { IsPassOf monitor.now all.now }
+    ensures { (at : ℕ) → at < length all.now.history → made_by lefts.now at ≡ 1 }
+{
+    for _ in rt.forever() {
+        if are_made_once(all, monitor, lefts) {
+            return;
+        }
+    }
+    unreachable!()
+}
+
 /// What is left of the sessions of these parts, in their order, each played by a thread of its own, for which it takes
-/// one of the members, who have seen nothing. What the members have seen at the end is of one history. All threads are
-/// started before one is joined, and all have ended when it returns. The one error is that memory is short, or that a
-/// thread cannot be made.
+/// one of the members, who have seen nothing. What the members have seen at the end is of one history, each of whose
+/// epochs exactly one of them has made. All threads are started before one is joined, and all have ended when it
+/// returns. The one error is that memory is short, or that a thread cannot be made.
 pub fn play_all<R: Threads + Wait + Eprint + Sync>(
     system: &System<'_, R>,
     monitor: Monitor,
@@ -158,6 +193,7 @@ pub fn play_all<R: Threads + Wait + Eprint + Sync>(
             let players = start_all(scope, &System { rt, host }, shared, members, parts)?;
             let lefts = join_all(rt, alloc, players)?;
             join_seen(&mut all, shared, lefts.as_slice());
+            wait_until_made(rt, &all, shared, lefts.as_slice());
             Ok(lefts)
         },
     )

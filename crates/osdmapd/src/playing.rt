@@ -3,6 +3,7 @@ ghost use Rattle.std.specs.Prelude.{◌≡◌, ◌≢◌, ◌++◌, ℕ, List, f
 ghost use Rattle.monitor.specs.Members.{IsMemberOf, IsNewMemberOf};
 ghost use Rattle.session.specs.Buffers.{bytes_of, is_short};
 ghost use Rattle.session.specs.Ends.{has_sink_failed};
+ghost use Rattle.session.specs.Sessions.{account};
 ghost use Rattle.osdmapd.specs.Serving.{heading, IsTextBy, IsLeftBy};
 
 use crate::ending::Ending;
@@ -47,7 +48,7 @@ fn play_script<R: Wait>(
     requires { IsNewMemberOf desk.now.monitor.now member.old }
     ensures member { IsMemberOf desk.now.monitor.now member.new }
     ensures text { IfSome result (λ text.
-        IsTextBy desk.now.monitor.now number script.now (bytes_of text) member.new.pass.history) }
+        IsTextBy desk.now.monitor.now number script.now (bytes_of text) (account member.new)) }
 {
     let mut text = begin_text(desk.alloc, number)?;
     match desk.run(member, script, &mut text) {
@@ -74,7 +75,7 @@ fn play_live<R: Wait, B: Read, W: Sink>(
     ensures failed { W.has_failed out.new ≡ has_sink_failed result }
     ensures ok { OnOk result ((read : List ℕ) × (text : List ℕ)
         × IfSome (B.remaining reader.old) (λ xs. xs ≡ read)
-        × IsTextBy desk.now.monitor.now number read text member.new.pass.history
+        × IsTextBy desk.now.monitor.now number read text (account member.new)
         × (W.written out.new ≡ W.written out.old ++ text)) }
 {
     let Some(text) = begin_text(desk.alloc, number) else {

@@ -13,10 +13,10 @@ use Rattle.std.proofs.lemmas.List.Folds.{list_any_at, find_at}
 use Rattle.std.proofs.lemmas.List.FromFn.{length-range_with_len, length-map-range_with_len, get_or-range_with_len, get_or-map-range_with_len}
 use Rattle.std.proofs.lemmas.List.Sums.{length-filter, sum_by-cons}
 use Rattle.std.proofs.lemmas.Option.{slice_get_within, slice_get-get_or, get_or_from_slice_get}
-use Rattle.grouptable.specs.Sets.{GroupSets, changed}
+use Rattle.grouptable.specs.Sets.{GroupSets, sets_after}
 use Rattle.grouptable.specs.declared.table.GroupPatch.{GroupPatch}
 use Rattle.maptypes.specs.Sets.{Places}
-use Rattle.grouptable.proofs.Changes.{length-changed}
+use Rattle.grouptable.proofs.Changes.{length-sets_after}
 use Rattle.maptypes.specs.declared.change.ChangeParts.{ChangeParts}
 use Rattle.maptypes.specs.Pools.{PoolFacts}
 use Rattle.osdmap.specs.Maps.{ClusterMap, pool_at, HoldsTogether}
@@ -110,7 +110,7 @@ changes_fit n c p holds there =
     (λ k d inside. mapped_fits n p (get_or (concerned_numbers n c p) k d) holds there (omega (arith, concerned_within n c p k d inside, limits.groups_most)))
 
 -- each group that is not changed has its set already: then all have theirs after the changes
-all_set : (f : ℕ → Places) (ns : List ℕ) (sets : List Places) (k : ℕ) → k < length sets → (list_any (λ n. eqb n k) ns ≡ false → get_or sets k [] ≡ f k) → get_or (changed sets (map (λ n. (n, f n)) ns)) k [] ≡ f k
+all_set : (f : ℕ → Places) (ns : List ℕ) (sets : List Places) (k : ℕ) → k < length sets → (list_any (λ n. eqb n k) ns ≡ false → get_or sets k [] ≡ f k) → get_or (sets_after sets (map (λ n. (n, f n)) ns)) k [] ≡ f k
 all_set f [] sets k inside same = same refl
 all_set f (n ∷ ns) sets k inside same =
     all_set f ns (set sets n (f n)) k (omega (arith, length-set sets n (f n))) (λ others. elim (cases_Bool (eqb n k)) [
@@ -146,14 +146,14 @@ module _ (m after : ClusterMap) (c : ChangeParts) (p : PoolFacts) (leads : Leads
       let none : is_evaluated after c p k ≡ false = rw (touched, quiet) refl in
       rw leads.is (others_stay m (record { epoch = m.epoch + 1; change = c }) p k leads.holds leads.lawful (rw leads.is at there) inside (rw leads.is at none)).1
 
-  pub sets_kept : changed (sets_of m p) (changes_of after c p) ≡ sets_of after p
+  pub sets_kept : sets_after (sets_of m p) (changes_of after c p) ≡ sets_of after p
   sets_kept =
       let long = length-map-range_with_len (mapped_set m p) 0 p.pg_num in
       let after_long = length-map-range_with_len (mapped_set after p) 0 p.pg_num in
-      let changed_long = length-changed (sets_of m p) (changes_of after c p) in
-      same_lists (changed (sets_of m p) (changes_of after c p)) (sets_of after p) (changed_long ∙ long ∙ sym after_long) (λ k inside.
+      let changed_long = length-sets_after (sets_of m p) (changes_of after c p) in
+      same_lists (sets_after (sets_of m p) (changes_of after c p)) (sets_of after p) (changed_long ∙ long ∙ sym after_long) (λ k inside.
       let few : k < p.pg_num = omega arith in
-      slice_get-get_or (changed (sets_of m p) (changes_of after c p)) k [] inside
+      slice_get-get_or (sets_after (sets_of m p) (changes_of after c p)) k [] inside
       ∙ ap (λ x. Some x) (all_set (mapped_set after p) (concerned_numbers after c p) (sets_of m p) k (omega arith) (λ others.
       let quiet : concerns after c (group_of p k) ≡ false = false_from_ne_true _ (λ loud. absurd (false≢true (sym others ∙ among (λ n. concerns after c (group_of p n)) p.pg_num k few loud))) in
       get_or-map-range_with_len (mapped_set m p) 0 p.pg_num k k [] few (omega arith) ∙ stays_there k few quiet))
@@ -162,7 +162,7 @@ module _ (m after : ClusterMap) (c : ChangeParts) (p : PoolFacts) (leads : Leads
   -- a pool of which no group gets another set
   pub lead_none : (groups : GroupSets) (cs : List (ℕ × Places)) → groups ≡ (pool_table m p).groups → cs ≡ changes_of after c p → cs ≡ [] → LeadGroups after p groups None
   lead_none groups cs is made none =
-      let same : sets_of m p ≡ sets_of after p = subst (λ (xs : List (ℕ × Places)). changed (sets_of m p) xs ≡ sets_of after p) (sym made ∙ none) sets_kept in
+      let same : sets_of m p ≡ sets_of after p = subst (λ (xs : List (ℕ × Places)). sets_after (sets_of m p) xs ≡ sets_of after p) (sym made ∙ none) sets_kept in
       record { fits = tt; sets = is ∙ ap (λ sets. record { width = p.size; sets = sets }) same }
 
   -- a pool of which some do

@@ -6,7 +6,7 @@ use Rattle.osdmap.specs.Placement.{group_of, mapped_set}
 use Rattle.std.specs.Option.{option_map, option_map_or, option_or}
 use Rattle.buckets.specs.Limits.{max_devices}
 use Rattle.mapparts.specs.Limits.{max_pools}
-use Rattle.grouptable.specs.Sets.{GroupSets, changed_in}
+use Rattle.grouptable.specs.Sets.{GroupSets, groups_after}
 use Rattle.maptypes.specs.Sets.{Places}
 use Rattle.grouptable.specs.Tables.{IsPatchFor}
 use Rattle.grouptable.specs.declared.table.GroupPatch.{GroupPatch}
@@ -91,7 +91,7 @@ groups_at old at = option_map_or (λ q. q.groups) (slice_get old at) (record { w
 -- the sets of a pool with other sets for some groups, if any
 abbrev pub with_group_patch : GroupSets → Option GroupPatch → GroupSets
 with_group_patch groups None = groups
-with_group_patch groups (Some patch) = changed_in groups patch.changes.items
+with_group_patch groups (Some patch) = groups_after groups patch.changes.items
 
 -- a pool's table that stays in place, with other sets for some groups, if any
 abbrev pub with_patch : PoolTable → Option GroupPatch → PoolTable

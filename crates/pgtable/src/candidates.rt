@@ -1,13 +1,13 @@
 //! The groups that a change can concern.
 
-ghost use Rattle.std.specs.Prelude.{◌≡◌, None, IfOk, OnOk};
+ghost use Rattle.std.specs.Prelude.{◌≡◌, [], true, None, IfOk, OnOk};
 ghost use Rattle.keylist.specs.Order.{IsRising};
 ghost use Rattle.maptypes.specs.Exceptions.{pg_key, key_of};
 ghost use Rattle.osdmap.specs.Changes.{change_fault};
 ghost use Rattle.pgtable.specs.Candidates.{excepted_groups, union_of, NamedRise, IsCandidates, named_groups, candidates};
 
 use keylist::put_all;
-use maptypes::{Blank, Change, Exception, Pg};
+use maptypes::{Blank, Change, Exception, Explicit, Items, Pg};
 use osdmap::OsdMap;
 use refusal::Memory;
 use std::alloc::Global;
@@ -32,6 +32,9 @@ fn join(groups: &mut Vec<Pg>, others: &[Pg]) -> Result<(), Memory>
     ensures groups { OnOk result (groups.new.items ≡ union_of groups.old.items others.now) }
     ensures rising { OnOk result (IsRising pg_key groups.new.items) }
 {
+    if matches!(others, []) {
+        return Ok(());
+    }
     groups.reserve(others.len())?;
     put_all(groups, others);
     Ok(())
@@ -45,12 +48,30 @@ pub(crate) fn names_rise(_map: &OsdMap, change: &Change)
     let _ = change.parts();
 }
 
+/// Whether a change names no group.
+fn names_none(change: &Change) -> bool
+    ensures { result ≡ true → named_groups change.now ≡ [] }
+{
+    let parts = change.parts();
+    let old_upmap: &[Pg] = &parts.old_upmap;
+    let old_items: &[Pg] = &parts.old_items;
+    let new_upmap: &[Explicit] = &parts.new_upmap;
+    let new_items: &[Items] = &parts.new_items;
+    matches!(
+        (old_upmap, old_items, new_upmap, new_items),
+        ([], [], [], [])
+    )
+}
+
 /// The groups that a change names, in ascending order; or `Memory` (30).
 fn named_groups(alloc: Global, change: &Change) -> Result<Vec<Pg>, Memory>
     requires { NamedRise change.now }
     ensures named { IfOk result (λ groups. groups.items ≡ named_groups change.now) }
     ensures rising { IfOk result (λ groups. IsRising pg_key groups.items) }
 {
+    if names_none(change) {
+        return Ok(Vec::new(alloc));
+    }
     let parts = change.parts();
     let mut groups = Vec::from_slice(alloc, &parts.old_upmap)?;
     join(&mut groups, &parts.old_items)?;

@@ -159,11 +159,15 @@ impl Update<'_> {
             });
         }
         let numbers = concerned_numbers(alloc, self.teller, self.change, pool, &self.groups)?;
+        if numbers.is_empty() {
+            let _ = work.runs();
+            return Ok(PatchedGroups {
+                patch: None,
+                evals: 0,
+            });
+        }
         let changes = self.with_sets(alloc, pool, &numbers, work)?;
         let evals = changes.len();
-        if changes.is_empty() {
-            return Ok(PatchedGroups { patch: None, evals });
-        }
         let patch = groups.prepare(alloc, changes)?;
         Ok(PatchedGroups {
             patch: Some(patch),

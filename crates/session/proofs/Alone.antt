@@ -2,18 +2,16 @@
 use Rattle.std.proofs.Common.{◌≡◌, ◌∙◌, ◌++◌, ℕ, suc, Bool, true, List, [], ◌∷◌, inl, inr, refl, sym, ap, append-nil, append_assoc}
 use Rattle.std.specs.List.{concat}
 use Rattle.maptypes.specs.Incrementals.{Step}
-use Rattle.mapparts.specs.declared.profile.Profile.{Profile}
-use Rattle.osdmap.specs.Maps.{ClusterMap}
 use Rattle.session.specs.Transcripts.{IsTranscript, TakesLine}
-use Rattle.session.specs.Answers.{Sight, AddsTold, session_with}
+use Rattle.session.specs.Answers.{Basis, Sight, AddsTold, session_by}
 use Rattle.session.specs.Alone.{TellOf}
 
-module _ (first : ClusterMap) (most : ℕ) (profile : Profile) (lets : ℕ → Bool → Type 0) where
+module _ (basis : Basis) (alone : basis.alone ≡ true) (lets : ℕ → Bool → Type 0) where
   -- a line adds nothing, or what its answer tells of
   adds : (number : ℕ) (before : Sight) (line answer : List ℕ) (left : Sight)
-      → TakesLine (session_with first most profile true lets) number before line answer left → AddsTold before.member answer left.member
-  adds number before [] answer left (none, same) = inl (ap (λ (s : Sight). s.member) same)
-  adds number before (c ∷ cs) answer left (passed, answered) = answered.1 refl
+      → TakesLine (session_by basis lets) number before line answer left → AddsTold before.member.history answer left.member.history
+  adds number before [] answer left (none, same) = inl (ap (λ (s : Sight). s.member.history) same)
+  adds number before (c ∷ cs) answer left (passed, answered) = answered.1 alone
 
   -- what is left of a transcript: its answers, and the incrementals that they tell of, which are all that was added
   pub record Owns (before : List Step) (bytes : List ℕ) (last : List Step) : Type 0 where
@@ -44,15 +42,15 @@ module _ (first : ClusterMap) (most : ℕ) (profile : Profile) (lets : ℕ → B
 
   -- each incremental that the member has in the end beyond those of the beginning stands in an answer, by its epoch
   pub owns : (number : ℕ) (before : Sight) (lines : List (List ℕ)) (bytes : List ℕ) (last : Sight)
-      → IsTranscript (session_with first most profile true lets) number before lines bytes last → Owns before.member bytes last.member
+      → IsTranscript (session_by basis lets) number before lines bytes last → Owns before.member.history bytes last.member.history
   unfolding IsTranscript
   owns number before [] bytes last (none, same) = record {
     answers = [];
     steps = [];
     all = sym none;
-    ends = ap (λ (s : Sight). s.member) same ∙ sym (append-nil before.member);
+    ends = ap (λ (s : Sight). s.member.history) same ∙ sym (append-nil before.member.history);
     told = refl;
   }
   owns number before (line ∷ lines) bytes last (answer, rest, left, taken, then, out) =
-      more before.member left.member last.member answer rest bytes out (adds number before line answer left taken)
+      more before.member.history left.member.history last.member.history answer rest bytes out (adds number before line answer left taken)
       (owns (suc number) left lines rest last then)

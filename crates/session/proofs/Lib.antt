@@ -9,3 +9,4 @@ mod Coming
 mod Firsts
 mod Alone
 mod Fresh
+mod Spending

@@ -1,5 +1,5 @@
 -- What a line answers to a session of a monitor, by what its member and its follower have seen before and after it.
-use Rattle.std.specs.Prelude.{◌≡◌, ◌⊎◌, ℕ, ◌<◌, ◌≤◌, ℤ, Bool, true, List, length, slice_get, if◌then◌else◌, [], ◌∷◌, ◌++◌, codes, Option, Some, None, Result, Err, MatchResult, OnOk, IsSome}
+use Rattle.std.specs.Prelude.{◌≡◌, ◌⊎◌, ℕ, ◌+◌, ◌<◌, ◌≤◌, ℤ, Bool, true, List, length, slice_get, if◌then◌else◌, [], ◌∷◌, ◌++◌, codes, Option, Some, None, Result, Err, MatchResult, IfErr, OnOk, IsSome}
 use Rattle.maptypes.specs.declared.change.ChangeParts.{ChangeParts}
 use Rattle.maptypes.specs.Incrementals.{Step}
 use Rattle.refusal.specs.declared.refused.Refusal.{Refusal}
@@ -12,7 +12,7 @@ use Rattle.mapparts.specs.declared.profile.Profile.{Profile}
 use Rattle.mapparts.specs.Profiles.{is_stock}
 use Rattle.mapjson.specs.ChangeTexts.{change_text_fault, StatesChange}
 use Rattle.mapjson.specs.LoadTexts.{load_text_fault, StatesLoads}
-use Rattle.balancer.specs.Shares.{aim_of}
+use Rattle.balancer.specs.Shares.{Aim, aim_of}
 use Rattle.state.specs.declared.state.Commit.{Commit}
 use Rattle.state.specs.declared.balancing.Balance.{Balance}
 use Rattle.monitor.specs.declared.question.Answer.{Answer}
@@ -20,6 +20,7 @@ use Rattle.monitor.specs.declared.question.Question.{Question}
 use Rattle.monitor.specs.declared.question.Question.TheVariants.{Up, Epoch, Dump}
 use Rattle.monitor.specs.Histories.{GoesOn, Looks, AnswersCommit}
 use Rattle.monitor.specs.Questions.{Finds}
+use Rattle.monitor.specs.Making.{HasMade, planned_epoch}
 use Rattle.monitor.specs.Balances.{AnswersBalance}
 use Rattle.session.specs.declared.command.Task.{Task}
 use Rattle.session.specs.declared.command.Task.TheVariants as task
@@ -29,11 +30,12 @@ use Rattle.session.specs.Transcripts.{Manner}
 use Rattle.session.specs.Replies.{answer_text, changed_text, planned_text}
 use Rattle.session.specs.Texts.{epoch_text, ok_text, moved_text, refusal_text, line_of}
 
--- what the answers of a session go by: the first map, how many changes the journal has room for, the profile by which
--- texts are read, and whether its member has none beside it
+-- what the answers of a session go by: the first map, how many changes the journal has room for, how often the seat of
+-- its member may draw at the lock, the profile by which texts are read, and whether its member has none beside it
 pub record Basis : Type 0 where
   pub first : ClusterMap
   pub most : ℕ
+  pub draws : ℕ
   pub profile : Profile
   pub alone : Bool
 
@@ -42,9 +44,16 @@ pub record Track : Type 0 where
   pub history : List Step
   pub seen : List Step
 
--- what a session has seen: the history of its member; and by its follower, which has nothing where there is none yet
+-- what a session's member has: its history, how often its seat has drawn, and of each epoch of the journal whether the
+-- member has made it
+pub record Account : Type 0 where
+  pub history : List Step
+  pub draws : ℕ
+  pub own : List Bool
+
+-- what a session has seen: by its member; and by its follower, which has nothing where there is none yet
 pub record Sight : Type 0 where
-  pub member : List Step
+  pub member : Account
   pub follower : Track
 
 -- the line of what is answered so, or of its refusal
@@ -53,50 +62,76 @@ IsLineOf {X} answers text line = (r : Result X Refusal) × answers r × (line �
 
 -- ---- the member
 
+-- an answer takes a draw of the member's seat at most, and is 31 only where the seat had made its draws
+pub record DrawsFor {X : Type 0} (most before now : ℕ) (r : Result X Refusal) : Type 0 where
+  pub spent : IfErr r (λ e. e ≡ SeatSpent → before ≡ most)
+  pub no_less : before ≤ now
+  pub no_more : now ≤ before + 1
+
+-- what is answered to a member by its history before and then, in a turn at the lock; an answer may tell an epoch that
+-- the member has made, as `made` says, and it has made no other
+abbrev pub InTurn : {X : Type 0} → Basis → Account → Account → (List Step → List Step → Result X Refusal → Type 0)
+    → (X → Option ℕ) → Result X Refusal → Type 0
+InTurn basis before now answers made r =
+    answers before.history now.history r × DrawsFor basis.draws before.draws now.draws r
+    × HasMade basis.first.epoch before.own now.own made r
+
+-- an answer that tells no epoch of the member's own
+abbrev pub none_made : {X : Type 0} → X → Option ℕ
+none_made x = None
+
 -- what a question answers
-abbrev pub Asks : Basis → Question → List Step → List Step → List ℕ → Type 0
-Asks basis question before now line =
-    IsLineOf (Looks basis.first before now (λ m. Finds m question)) (answer_text speaker.Monitor) line
+abbrev pub Asks : Basis → Question → Account → Account → Result Answer Refusal → Type 0
+Asks basis question before now r =
+    InTurn basis before now (λ b n. Looks basis.first b n (λ m. Finds m question)) none_made r
 
 -- what a change answers, the new epoch and the evaluations: its text is read, where `Memory` may come in place of any
 -- answer; then what it states is committed; a text that is refused changes nothing, and nothing is looked at
-abbrev pub Changes : Basis → List ℕ → List Step → List Step → Result Commit Refusal → Type 0
+abbrev pub Changes : Basis → List ℕ → Account → Account → Result Commit Refusal → Type 0
 Changes basis text before now r =
     (read : Result (ℕ × ChangeParts) Refusal)
     × Makes read (change_text_fault basis.profile text) (StatesChange basis.profile text)
-    × MatchResult read (λ (base, parts). AnswersCommit basis.first basis.most before now base parts r)
+    × MatchResult read
+    (λ (base, parts). InTurn basis before now (λ b n. AnswersCommit basis.first basis.most b n base parts)
+    (λ ok. Some ok.epoch) r)
     (λ e. (r ≡ Err e) × (now ≡ before))
 
 -- why a text is refused as what OSDs carry: a script of plain maps knows none
 abbrev pub beside_fault : Profile → ℕ → List ℕ → Option Refusal
 beside_fault profile most text = if is_stock profile then load_text_fault most text else Some BadCommand
 
+-- what a plan for this aim answers, the epoch then and the moves
+abbrev pub PlansFor : Basis → ℕ → Aim → ℕ → Account → Account → Result Balance Refusal → Type 0
+PlansFor basis pool aim limit before now r =
+    InTurn basis before now (λ b n. AnswersBalance basis.first basis.most b n pool aim limit) planned_epoch r
+
 -- what a plan answers that counts what OSDs carry, the epoch then and the moves: the text is read, where `Memory` may
 -- come in place of any answer; then the plan is committed; a text that is refused changes nothing, and nothing is
 -- looked at
-abbrev pub PlansBeside : Basis → ℕ → ℕ → Beside → List Step → List Step → Result Balance Refusal → Type 0
+abbrev pub PlansBeside : Basis → ℕ → ℕ → Beside → Account → Account → Result Balance Refusal → Type 0
 PlansBeside basis pool limit beside before now r =
     (read : Result (List ℤ) Refusal)
     × Makes read (beside_fault basis.profile (length basis.first.presences) beside.loads)
     (StatesLoads (length basis.first.presences) beside.loads)
-    × MatchResult read
-    (λ carried. AnswersBalance basis.first basis.most before now pool (aim_of carried beside.apart) limit r)
+    × MatchResult read (λ carried. PlansFor basis pool (aim_of carried beside.apart) limit before now r)
     (λ e. (r ≡ Err e) × (now ≡ before))
 
 -- what a plan answers: of a pool by itself, or with what is to be counted beside it
-abbrev pub Plans : Basis → ℕ → ℕ → Option Beside → List Step → List Step → Result Balance Refusal → Type 0
-Plans basis pool limit None before now r =
-    AnswersBalance basis.first basis.most before now pool (aim_of [] 256) limit r
+abbrev pub Plans : Basis → ℕ → ℕ → Option Beside → Account → Account → Result Balance Refusal → Type 0
+Plans basis pool limit None before now r = PlansFor basis pool (aim_of [] 256) limit before now r
 Plans basis pool limit (Some beside) before now r = PlansBeside basis pool limit beside before now r
 
 -- what waiting for an epoch answers: one that is at least that, at the history that its member has seen then, which
 -- goes on from the one before; or that the looks are spent, at a history whose epoch is below it; or that its seat has
 -- made its draws
-abbrev pub Awaits : Basis → ℕ → List Step → List Step → Result ℕ Refusal → Type 0
-Awaits basis wanted before now r =
-    GoesOn basis.first before now
-    × MatchResult r (λ epoch. (epoch ≡ (after basis.first now).epoch) × (wanted ≤ epoch))
-    (λ e. (e ≡ SeatSpent) ⊎ ((e ≡ AwaitSpent) × ((after basis.first now).epoch < wanted)))
+abbrev pub Reaches : ClusterMap → ℕ → List Step → List Step → Result ℕ Refusal → Type 0
+Reaches first wanted before now r =
+    GoesOn first before now
+    × MatchResult r (λ epoch. (epoch ≡ (after first now).epoch) × (wanted ≤ epoch))
+    (λ e. (e ≡ SeatSpent) ⊎ ((e ≡ AwaitSpent) × ((after first now).epoch < wanted)))
+
+abbrev pub Awaits : Basis → ℕ → Account → Account → Result ℕ Refusal → Type 0
+Awaits basis wanted before now r = InTurn basis before now (Reaches basis.first wanted) none_made r
 
 -- ---- the follower
 
@@ -126,7 +161,8 @@ Tells first before now task.Dump r = (now.history ≡ before) × FindsThere (aft
 abbrev pub Does : Basis → Sight → Option Command → List ℕ → Sight → Type 0
 Does basis before None line now = (line ≡ refusal_text BadCommand) × (now ≡ before)
 Does basis before (Some (ask question)) line now =
-    Asks basis question before.member now.member line × (now.follower ≡ before.follower)
+    IsLineOf (Asks basis question before.member now.member) (answer_text speaker.Monitor) line
+    × (now.follower ≡ before.follower)
 Does basis before (Some (change text)) line now =
     IsLineOf (Changes basis text before.member now.member) changed_text line × (now.follower ≡ before.follower)
 Does basis before (Some (wait epoch)) line now =
@@ -137,7 +173,7 @@ Does basis before (Some (balance pool limit beside)) line now =
     × (now.follower ≡ before.follower)
 Does basis before (Some (follower t)) line now =
     IsLineOf (Tells basis.first before.follower.history now.follower t) (answer_text speaker.Follower) line
-    × (now.member ≡ before.member) × OneBegins now.follower.history now.member
+    × (now.member ≡ before.member) × OneBegins now.follower.history now.member.history
 
 -- a history stays, or is longer by one incremental, whose epoch an answer tells
 abbrev pub AddsTold : List Step → List ℕ → List Step → Type 0
@@ -154,13 +190,8 @@ AddsOwn alone before answer now = alone ≡ true → AddsTold before answer now
 -- what a line answers, and what the session has seen then
 abbrev pub IsAnswered : Basis → Sight → List ℕ → List ℕ → Sight → Type 0
 IsAnswered basis before line answer now =
-    Does basis before (command_in line) answer now × AddsOwn basis.alone before.member answer now.member
+    Does basis before (command_in line) answer now × AddsOwn basis.alone before.member.history answer now.member.history
 
 -- how a session goes behind a gate
 abbrev pub session_by : Basis → (ℕ → Bool → Type 0) → Manner Sight
 session_by basis lets = record { answers = IsAnswered basis; lets = lets }
-
--- how a session goes whose answers go by these
-abbrev pub session_with : ClusterMap → ℕ → Profile → Bool → (ℕ → Bool → Type 0) → Manner Sight
-session_with first most profile alone lets =
-    session_by (record { first = first; most = most; profile = profile; alone = alone }) lets

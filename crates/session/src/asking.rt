@@ -7,23 +7,23 @@ use crate::reply::{Reply, Speaker};
 use crate::watch::watch;
 use balancer::Request;
 use balancer::limits::LEAST_APART;
+use keeping::Keeps;
 use mapjson::{read_change, read_loads};
 use monitor::{Answer, Balance, Commit, Follower, Member};
 use refusal::Refusal;
 use std::sync::Wait;
 
-impl<'a, R: Wait, G> Desk<'a, R, G> {
+impl<'a, R: Wait, G, K: Keeps + Drop> Desk<'a, R, G, K> {
     ghost use Rattle.std.specs.Prelude.{◌≤◌, codes, length};
     ghost use Rattle.std.specs.Option.{option_map};
     ghost use Rattle.refusal.specs.Outcomes.{Makes};
     ghost use Rattle.mapjson.specs.LoadTexts.{StatesLoads};
     ghost use Rattle.balancer.specs.Shares.{aim_of};
     ghost use Rattle.monitor.specs.Members.{IsMemberOf};
-    ghost use Rattle.monitor.specs.Balances.{AnswersBalance};
     ghost use Rattle.session.specs.Texts.{line_of, epoch_text};
     ghost use Rattle.session.specs.Commands.{command_of, beside_of};
     ghost use Rattle.session.specs.Replies.{changed_text, planned_text, reply_text};
-    ghost use Rattle.session.specs.Answers.{Changes, beside_fault, Plans, PlansBeside, Awaits};
+    ghost use Rattle.session.specs.Answers.{Changes, beside_fault, Plans, PlansBeside, PlansFor, Awaits};
     ghost use Rattle.session.specs.Sessions.{IsFollowerOf, basis_of, AnswersMember, IsDone};
 
     /// Commits the change that a text states: the new epoch, and how many groups' placement was worked out anew.
@@ -76,8 +76,8 @@ impl<'a, R: Wait, G> Desk<'a, R, G> {
         requires member { IsMemberOf self.now.monitor.now member.old }
         requires least { 256 ≤ apart }
         ensures { AnswersMember self.now.monitor.now member.old member.new
-            (λ before now. AnswersBalance self.now.monitor.now.first (length self.now.monitor.now.row.cells)
-            before now plan.entry.pool (aim_of carried.now apart) plan.entry.limit) planned_text result }
+            (PlansFor (basis_of self.now.monitor.now) plan.entry.pool (aim_of carried.now apart) plan.entry.limit)
+            planned_text result }
     {
         let request = Request {
             pool: plan.pool,

@@ -9,15 +9,16 @@ ghost use Rattle.session.specs.Answers.{FindsThere, HasCaughtUp, Tells};
 ghost use Rattle.session.specs.Sessions.{track, track_of, IsFollowerOf};
 
 use crate::command::Task;
+use keeping::Keeps;
 use maptypes::Pg;
 use monitor::{Answer, Follower, Member, Monitor};
 use refusal::{Memory, Refusal};
 use std::alloc::Global;
 
 /// Makes the follower, where there is none yet.
-fn need_follower(
+fn need_follower<K: Keeps + Drop>(
     alloc: Global,
-    monitor: &Monitor,
+    monitor: &Monitor<K>,
     follower: &mut Option<Follower>,
 ) -> Result<(), Memory>
     requires { IsFollowerOf monitor.now follower.old }
@@ -32,7 +33,11 @@ fn need_follower(
 }
 
 /// Has the follower go on: the epoch that it has reached.
-fn catch_up(alloc: Global, monitor: &Monitor, follower: &mut Follower) -> Result<Answer, Refusal>
+fn catch_up<K: Keeps + Drop>(
+    alloc: Global,
+    monitor: &Monitor<K>,
+    follower: &mut Follower,
+) -> Result<Answer, Refusal>
     requires { Follows monitor.now follower.old }
     ensures follower { Follows monitor.now follower.new }
     ensures goes_on { GoesOn monitor.now.first follower.old.history follower.new.history }
@@ -63,9 +68,9 @@ fn find_text(alloc: Global, follower: &Follower) -> Result<Answer, Refusal>
 }
 
 /// What the follower answers to a task.
-fn tell(
+fn tell<K: Keeps + Drop>(
     alloc: Global,
-    monitor: &Monitor,
+    monitor: &Monitor<K>,
     follower: &mut Follower,
     task: Task,
 ) -> Result<Answer, Refusal>
@@ -82,9 +87,9 @@ fn tell(
 
 /// What the session's follower, which is made where there is none yet, answers to a task. After it the follower's
 /// history is known to begin the member's, or the member's the follower's.
-pub(crate) fn follow(
+pub(crate) fn follow<K: Keeps + Drop>(
     alloc: Global,
-    monitor: &Monitor,
+    monitor: &Monitor<K>,
     member: &mut Member,
     follower: &mut Option<Follower>,
     task: Task,

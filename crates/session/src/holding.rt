@@ -8,6 +8,7 @@ use crate::line::{Asking, first_asking};
 use crate::progress::Progress;
 use crate::sink::Sink;
 use crate::telling::tell_found;
+use keeping::Keeps;
 use monitor::{Member, Shared};
 use std::sync::Wait;
 
@@ -21,9 +22,9 @@ const BYTES_IN_A_LINE: usize = 64;
 const FEW_DRAWS: u64 = 1 << 32;
 
 /// A hold of the lock, and the member that shares it.
-#[derive(Clone, Copy)]
-struct Hold<'h, 's, 'm> {
-    shared: &'h Shared<'s>,
+#[derive(Drop)]
+struct Hold<'h, 's, 'm, K: Keeps + Drop> {
+    shared: &'h Shared<'s, K>,
     member: &'m Member,
 }
 
@@ -34,11 +35,11 @@ fn lines_of(answer: &str) -> usize
     1 + answer.len() / BYTES_IN_A_LINE
 }
 
-impl<'a, R: Wait, G: Gate> Desk<'a, R, G> {
+impl<'a, R: Wait, G: Gate, K: Keeps + Drop> Desk<'a, R, G, K> {
     ghost use Rattle.std.specs.Prelude.{◌≡◌, ◌<◌, ◌+◌, ◌^◌, ℕ, true, false, length, IfOk};
     ghost use Rattle.monitor.specs.Members.{IsMemberOf};
     ghost use Rattle.monitor.specs.Sharing.{IsSharing};
-    ghost use Rattle.session.specs.Sessions.{session_at, stand, asking_text, IsAtDesk};
+    ghost use Rattle.session.specs.Sessions.{session_at, stand, stand_in, asking_text, IsAtDesk};
     ghost use Rattle.session.specs.Readings.{IsLeft, IsAsking, AnswersLines};
     ghost use Rattle.session.specs.Ends.{has_sink_failed};
 
@@ -46,7 +47,7 @@ impl<'a, R: Wait, G: Gate> Desk<'a, R, G> {
     /// the lock has room for: what is left of the text. The text of an answer that counts already is in the progress.
     fn answer_more<'t, W: Sink>(
         &self,
-        hold: Hold<'_, '_, '_>,
+        hold: Hold<'_, '_, '_, K>,
         progress: &mut Progress,
         text: &'t [u8],
         sink: &mut W,
@@ -57,8 +58,9 @@ impl<'a, R: Wait, G: Gate> Desk<'a, R, G> {
         requires few { progress.old.number + length text.now < 2 ^ 64 }
         ensures follower { progress.new.follower ≡ progress.old.follower }
         ensures left { IfOk result (λ rest. IsLeft progress.old.number progress.new.number text.now rest.now) }
-        ensures answers { AnswersLines (session_at self.now G.lets) (stand hold.entry.member.now progress.old)
-            (stand hold.entry.member.now progress.new) text.now (λ rest. rest.now)
+        ensures answers { AnswersLines (session_at self.now G.lets)
+            (stand_in hold.entry.shared.now hold.entry.member.now progress.old)
+            (stand_in hold.entry.shared.now hold.entry.member.now progress.new) text.now (λ rest. rest.now)
             (W.written sink.old) (W.written sink.new) result }
         ensures failed { W.has_failed sink.new ≡ has_sink_failed result }
     {

@@ -8,10 +8,11 @@ use crate::line::{Asking, FirstLine, Line, cut, read_line};
 use crate::progress::Progress;
 use crate::sink::Sink;
 use crate::telling::{flush_if_full, tell};
+use keeping::Keeps;
 use monitor::Member;
 use std::sync::Wait;
 
-impl<'a, R: Wait, G: Gate> Desk<'a, R, G> {
+impl<'a, R: Wait, G: Gate, K: Keeps + Drop> Desk<'a, R, G, K> {
     ghost use Rattle.std.specs.Prelude.{◌≡◌, ◌<◌, ◌+◌, ◌^◌, false, length, IfOk};
     ghost use Rattle.session.specs.Sessions.{session_at, stand, text_from, IsAtDesk};
     ghost use Rattle.session.specs.Readings.{IsPart, IsLeft, AnswersLine, AnswersLines, AnswersAll};

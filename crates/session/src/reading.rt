@@ -9,6 +9,7 @@ use crate::line::{cut, read_line};
 use crate::progress::Progress;
 use crate::sink::Sink;
 use crate::telling::flush;
+use keeping::Keeps;
 use monitor::Member;
 use std::io;
 use std::io::Read;
@@ -72,11 +73,11 @@ fn keep_more(begun: &mut Vec<u8>, more: &[u8]) -> Result<(), SessionError>
         .map_err(|_| SessionError::Memory)
 }
 
-impl<'a, R: Wait, G: Gate> Desk<'a, R, G> {
+impl<'a, R: Wait, G: Gate, K: Keeps + Drop> Desk<'a, R, G, K> {
     ghost use Rattle.std.specs.Prelude.{◌≡◌, ◌++◌, ◌+◌, ◌<◌, ◌^◌, [], true, false, length, IfOk, OnOk, IfErr};
     ghost use Rattle.std.specs.Io.KnownBytes.{IsAtEnd};
     ghost use Rattle.monitor.specs.Members.{IsMemberOf};
-    ghost use Rattle.session.specs.Sessions.{session_at, sight_of, stand, reader_at, IsAtDesk, IsReadOut, IsCutShort};
+    ghost use Rattle.session.specs.Sessions.{session_at, sight_of, account, stand, reader_at, IsAtDesk, IsReadOut, IsCutShort};
     ghost use Rattle.session.specs.Readings.{IsPart, AnswersLine, AnswersLines, AnswersAll, TakesMore};
     ghost use Rattle.session.specs.Ends.{has_sink_failed};
 
@@ -210,9 +211,9 @@ impl<'a, R: Wait, G: Gate> Desk<'a, R, G> {
         ensures member { IsMemberOf self.now.monitor.now member.new }
         ensures out { OnOk result (W.holds_back sink.new ≡ false) }
         ensures ok { OnOk result (IsReadOut (session_at self.now G.lets) (B.remaining reader.old)
-            (sight_of member.old) member.new.pass.history (W.written sink.old) (W.written sink.new)) }
+            (sight_of member.old) (account member.new) (W.written sink.old) (W.written sink.new)) }
         ensures err { IfErr result (IsCutShort (session_at self.now G.lets) (B.remaining reader.old)
-            (B.remaining reader.new) (sight_of member.old) member.new.pass.history
+            (B.remaining reader.new) (sight_of member.old) (account member.new)
             (W.written sink.old) (W.written sink.new)) }
         ensures failed { W.has_failed sink.new ≡ has_sink_failed result }
     {

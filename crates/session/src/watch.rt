@@ -3,6 +3,7 @@ ghost use Rattle.std.specs.Prelude.{◌≡◌, ◌+◌, ◌<◌, ◌≤◌, true
 ghost use Rattle.session.specs.Watches.{max_looks, HasWatched};
 
 use crossbeam_utils::Backoff;
+use keeping::Keeps;
 use monitor::Monitor;
 use std::sync::Wait;
 use std::sync::atomic::AtomicU64;
@@ -32,7 +33,7 @@ pub(crate) struct Looks {
 }
 
 /// Looks once more whether a monitor has reached an epoch by now.
-fn look(monitor: &Monitor, wanted: u64, looks: Looks) -> Looks
+fn look<K: Keeps + Drop>(monitor: &Monitor<K>, wanted: u64, looks: Looks) -> Looks
     requires { looks.count < max_looks }
     ensures count { result.count ≡ looks.count + 1 }
     ensures first { wanted ≤ monitor.now.first.epoch → result.seen ≡ true }
@@ -46,7 +47,7 @@ fn look(monitor: &Monitor, wanted: u64, looks: Looks) -> Looks
 
 /// Looks until a monitor has reached an epoch, at most 1,000,000 times. Where the epoch is near it lets others run
 /// after each of the first looks; then it sleeps after some.
-pub(crate) fn watch<R: Wait>(rt: &R, monitor: &Monitor, wanted: u64) -> Looks
+pub(crate) fn watch<R: Wait, K: Keeps + Drop>(rt: &R, monitor: &Monitor<K>, wanted: u64) -> Looks
     ensures { HasWatched monitor.now wanted result }
 {
     let backoff = Backoff::new();

@@ -94,14 +94,14 @@ pub(super) fn crush_within(
     ensures { Makes result (new_crush_fault crush.now) (IsCrushStated crush.now) }
 {
     match crush {
-        Some(parts) => Ok(Some(crush_stated(alloc, parts)?)),
+        Some(parts) => Ok(Some(make_crush(alloc, parts)?)),
         None => Ok(None),
     }
 }
 
 /// The CRUSH map over 4,096 devices that parts within the limits state: `BadForest` (13), `BadRule` (14).
 #[tactic(auto, unfolding(mapparts::specs::Parts::crush_fits))]
-fn crush_stated(alloc: Global, parts: &CrushParts) -> Result<CrushMap, Refusal>
+fn make_crush(alloc: Global, parts: &CrushParts) -> Result<CrushMap, Refusal>
     requires { crush_fits parts.now ≡ true }
     ensures { Makes result (crush_fault parts.now.buckets parts.now.rules max_devices)
         (IsCrushOf parts.now.buckets parts.now.rules) }

@@ -1,7 +1,7 @@
 //! The exceptions of the map that parts state.
 
 use crate::map::OsdMap;
-use keylist::in_order;
+use keylist::sort_distinct;
 use mapparts::ExceptionPart;
 use maptypes::{Entry, Exception, StandsFor, exceptions_of};
 use refusal::Refusal;
@@ -63,6 +63,6 @@ impl OsdMap {
         if !self.are_exceptions(&exceptions) {
             return Err(Refusal::BadException);
         }
-        in_order(exceptions, Refusal::BadException)
+        sort_distinct(exceptions, Refusal::BadException)
     }
 }

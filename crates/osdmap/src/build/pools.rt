@@ -13,7 +13,7 @@ ghost use Rattle.refusal.specs.Outcomes.{refused_unless};
 ghost use Rattle.keylist.specs.Order.{Rises};
 ghost use Rattle.osdmap.specs.Built.{pools_fit};
 
-use keylist::in_order;
+use keylist::sort_distinct;
 use mapparts::PoolPart;
 use maptypes::{NumberedRule, Pool};
 use refusal::Refusal;
@@ -80,5 +80,5 @@ pub(crate) fn pools_of(
         (λ pools. Rises (λ p. p.id) (map pool_of parts.now) pools.items) }
 {
     let pools = make_pools(alloc, parts, rules)?;
-    in_order(pools, Refusal::BadPool)
+    sort_distinct(pools, Refusal::BadPool)
 }

@@ -8,4 +8,4 @@ use Rattle.maptypes.proofs.crush_map.rules_of.Goals as goal
 
 pub returns : goal.returns
 returns c =
-    ordered (λ v. v.items) rule_of (λ (r : RulePart). nat_abs r.id) (λ (r : NumberedRule). r.id) (λ r. refl) c.args.parts.now _ _ BadRule _ c.in_ok-rules.ensures.1 c.in_ok-rules.ensures.0 c.in_order.ensures
+    ordered (λ v. v.items) rule_of (λ (r : RulePart). nat_abs r.id) (λ (r : NumberedRule). r.id) (λ r. refl) c.args.parts.now _ _ BadRule _ c.in_ok-rules.ensures.1 c.in_ok-rules.ensures.0 c.sort_distinct.ensures

@@ -16,4 +16,4 @@ returns-then-not-are_over c =
 pub returns : goal.returns
 unfolding rules_over
 returns c =
-    ordered_itself (λ v. v.items) (λ (r : NumberedRule). r.id) c.args.rules.items (list_all (λ (r : NumberedRule). rule_ok r.rule.kind r.rule.steps c.args.forest.now) c.args.rules.items) BadRule _ (search rules) c.in_order.ensures
+    ordered_itself (λ v. v.items) (λ (r : NumberedRule). r.id) c.args.rules.items (list_all (λ (r : NumberedRule). rule_ok r.rule.kind r.rule.steps c.args.forest.now) c.args.rules.items) BadRule _ (search rules) c.sort_distinct.ensures

@@ -15,7 +15,7 @@ pub returns-clause-served : goal.returns-clause-served
 returns-clause-served g c =
     let opened = c.in-Ok-open_monitor.ensures in
     let texts = lefts_of c.in-Ok-open_monitor.monitor c.in-Ok.map.map c.args.terms.journal c.args.terms.profile c.args.map.now c.args.parts.now c.in_ok-lefts.lefts.items
-    c.in-Ok.ensures.1 opened.first opened.capacity opened.profile opened.alone c.in_ok-lefts.ensures in
+    c.in-Ok.ensures.1 opened.first opened.capacity opened.limit opened.profile opened.alone c.in_ok-lefts.ensures in
     let same : c.deref.result.now ≡ c.in_ok-lefts.lefts.items = search rules in
     let again : c.deref-2.result.now ≡ c.in_ok-lefts.lefts.items = search rules in
     let put = subst (λ list. AreLeftOf c.args.terms.journal c.args.terms.profile c.args.map.now c.args.parts.now (map facts_left list)) (sym same) texts in
@@ -25,7 +25,7 @@ pub returns-then-have_told-clause-served : goal.returns-then-have_told-clause-se
 returns-then-have_told-clause-served g c =
     let opened = c.in-Ok-open_monitor.ensures in
     let texts = lefts_of c.in-Ok-open_monitor.monitor c.in-Ok.map.map c.args.terms.journal c.args.terms.profile c.args.map.now c.args.parts.now c.in_ok-lefts.lefts.items
-    c.in-Ok.ensures.1 opened.first opened.capacity opened.profile opened.alone c.in_ok-lefts.ensures in
+    c.in-Ok.ensures.1 opened.first opened.capacity opened.limit opened.profile opened.alone c.in_ok-lefts.ensures in
     let same : c.deref.result.now ≡ c.in_ok-lefts.lefts.items = search rules in
     let again : c.deref-2.result.now ≡ c.in_ok-lefts.lefts.items = search rules in
     let put = subst (λ list. AreLeftOf c.args.terms.journal c.args.terms.profile c.args.map.now c.args.parts.now (map facts_left list)) (sym same) texts in
@@ -35,7 +35,7 @@ pub returns-in_err-put-clause-served : goal.returns-in_err-put-clause-served
 returns-in_err-put-clause-served g c =
     let opened = c.in-Ok-open_monitor.ensures in
     let texts = lefts_of c.in-Ok-open_monitor.monitor c.in-Ok.map.map c.args.terms.journal c.args.terms.profile c.args.map.now c.args.parts.now c.in_ok-lefts.lefts.items
-    c.in-Ok.ensures.1 opened.first opened.capacity opened.profile opened.alone c.in_ok-lefts.ensures in
+    c.in-Ok.ensures.1 opened.first opened.capacity opened.limit opened.profile opened.alone c.in_ok-lefts.ensures in
     let same : c.deref.result.now ≡ c.in_ok-lefts.lefts.items = search rules in
     let put = subst (λ list. AreLeftOf c.args.terms.journal c.args.terms.profile c.args.map.now c.args.parts.now (map facts_left list)) (sym same) texts in
     let (rest, out) = c.in_err-put.ensures.part in

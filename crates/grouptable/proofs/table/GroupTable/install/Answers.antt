@@ -1,5 +1,5 @@
 use Rattle.std.proofs.Common.{arith}
-use Rattle.grouptable.proofs.Changes.{length-changed}
+use Rattle.grouptable.proofs.Changes.{length-sets_after}
 use Rattle.grouptable.proofs.Drafts.{put_in}
 use Rattle.grouptable.proofs.table.GroupTable.install.Goals as goal
 
@@ -10,7 +10,7 @@ invariant_of-self c =
     let lists = rw (← c.self.view_is) at c.requires.lists in
     rw c.put_all.ensures (
     record {
-      few = omega (arith, length-changed sets changes, c.self.invariant.few);
+      few = omega (arith, length-sets_after sets changes, c.self.invariant.few);
       each = put_in sets changes c.self.inside.index.entries c.args.patch.fresh.entries c.install.new.index.entries c.self.invariant.each lists c.install.ensures;
     }
     )

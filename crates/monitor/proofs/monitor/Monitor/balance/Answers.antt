@@ -1,9 +1,14 @@
-use Rattle.std.proofs.Common.{◌≡◌, ◌∙◌, ap, length}
+use Rattle.std.proofs.Common.{◌≡◌, ◌∙◌, Bool, ap, sym, length}
+use Rattle.std.specs.declared.vec.Vec.{Vec}
+use Rattle.std.specs.declared.alloc.Global.{Global}
+use Rattle.epochlog.specs.Epochs.{Line}
+use Rattle.osdmap.specs.Maps.{ClusterMap}
 use Rattle.state.specs.States.{StateFacts}
 use Rattle.balancer.specs.Requests.{asked_aim}
 use Rattle.monitor.specs.Members.{Monitored}
 use Rattle.monitor.specs.declared.locked.Locked.{Locked}
 use Rattle.monitor.proofs.Balancing.{balances_from}
+use Rattle.monitor.proofs.Making.{plan_marks}
 use Rattle.monitor.proofs.monitor.Monitor.balance.Goals as goal
 
 pub returns-clause-balances : goal.returns-clause-balances
@@ -14,3 +19,14 @@ returns-clause-balances g c =
     let done = balances_from state.first (length c.self.inside.row.cells) c.args.member.now.pass.history c.hold.new.member.pass.history
     c.balance-answer.new.pass.history c.args.request.pool (asked_aim c.args.request) c.args.request.limit c.balance-answer.result c.hold.ensures.turn.goes_on.begins c.balance-answer.ensures.balances in
     rw (c.put_back.ensures.pass, ← rows, ← firsts) done
+
+pub mark_plan-requires : goal.mark_plan-requires
+mark_plan-requires g c =
+    let first = c.deref_mut-state.result.now.first in
+    let rows : c.self.inside.row ≡ c.args.self.now.row = ap (λ (m : Monitored). m.row) c.self.view_is in
+    let maps : c.self.inside.first.map ≡ c.args.self.now.first = ap (λ (m : Monitored). m.first) c.self.view_is in
+    let firsts : first ≡ c.args.self.now.first =
+    ap (λ (k : StateFacts). k.first) c.deref_mut-state.ensures.value ∙ ap (λ (l : Locked g.row.K.Denot). l.state.value.first) c.value_mut.ensures.value ∙ c.in_ok-held.ensures.holds.1 in
+    let long = ap (λ (own : Vec Bool Global). length own.items) (c.put_back.ensures.own ∙ c.hold.ensures.turn.own) ∙ c.requires.room ∙ ap (λ (row : Line). length row.cells) (sym rows) in
+    plan_marks _ _ first (length c.self.inside.row.cells) c.hold.new.member.pass.history c.balance-answer.new.pass.history c.args.request.pool (asked_aim c.args.request) c.args.request.limit c.balance-answer.result
+    (c.epoch.ensures ∙ ap (λ (m : ClusterMap). m.epoch) (maps ∙ sym firsts)) long c.balance-answer.ensures.balances

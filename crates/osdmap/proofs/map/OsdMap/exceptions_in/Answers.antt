@@ -12,4 +12,4 @@ returns-then-not-are_exceptions g c =
 pub returns : goal.returns
 returns g c =
     let answer = rw (c.deref.ensures.value, c.in_ok-exceptions.ensures) at c.are_exceptions.ensures in
-    ordered_itself (λ v. v.items) key_of _ _ BadException _ (sym answer ∙ c.if-not-are_exceptions.false) (rw c.in_ok-exceptions.ensures at c.in_order.ensures)
+    ordered_itself (λ v. v.items) key_of _ _ BadException _ (sym answer ∙ c.if-not-are_exceptions.false) (rw c.in_ok-exceptions.ensures at c.sort_distinct.ensures)

@@ -39,23 +39,28 @@ returns-then-is_empty-clause-lead c =
     let u = c.args.self.now in
     let p = c.args.pool.now in
     let numbers = told_concerned u.before.now.map u.teller.now.map u.change.now p u.is_made c.holds.ensures.told in
-    let changes = rw (c.deref-2.ensures.value ∙ c.in_ok-numbers.ensures ∙ numbers) at c.in_ok-changes.ensures.changes in
-    lead_none u.before.now.map (map_after u) u.change.now p c.holds.ensures.leads c.requires.there c.requires.untouched c.args.groups.now _ c.requires.groups changes (no_entries c.in_ok-changes.changes.items _ _ c.is_empty.ensures c.if-is_empty.true (omega (arith, c.in_ok-changes.changes.ok)))
+    let empty = no_entries c.in_ok-numbers.numbers.items _ _ c.is_empty.ensures c.if-is_empty.true (omega (arith, c.in_ok-numbers.numbers.ok)) in
+    let none = sym empty ∙ c.in_ok-numbers.ensures ∙ numbers in
+    lead_none u.before.now.map (map_after u) u.change.now p c.holds.ensures.leads c.requires.there c.requires.untouched c.args.groups.now [] c.requires.groups (ap (with_sets (map_after u) p) none) refl
 
 pub returns-then-is_empty-clause-evals : goal.returns-then-is_empty-clause-evals
 returns-then-is_empty-clause-evals c =
     let u = c.args.self.now in
     let p = c.args.pool.now in
     let numbers = told_concerned u.before.now.map u.teller.now.map u.change.now p u.is_made c.holds.ensures.told in
-    let changes = rw (c.deref-2.ensures.value ∙ c.in_ok-numbers.ensures ∙ numbers) at c.in_ok-changes.ensures.changes in
-    evals_changes (map_after u) u.change.now p c.in_ok-changes.changes.items _ c.requires.untouched changes (omega (arith, c.in_ok-changes.changes.ok))
+    let empty = no_entries c.in_ok-numbers.numbers.items _ _ c.is_empty.ensures c.if-is_empty.true (omega (arith, c.in_ok-numbers.numbers.ok)) in
+    let none = sym empty ∙ c.in_ok-numbers.ensures ∙ numbers in
+    evals_changes (map_after u) u.change.now p [] 0 c.requires.untouched (ap (with_sets (map_after u) p) none) refl
 
 pub returns-then-is_empty-clause-runs : goal.returns-then-is_empty-clause-runs
 returns-then-is_empty-clause-runs c =
     let u = c.args.self.now in
     let p = c.args.pool.now in
     let numbers = told_concerned u.before.now.map u.teller.now.map u.change.now p u.is_made c.holds.ensures.told in
-    rw (evals_concerned (map_after u) u.change.now p c.requires.untouched) (rw (c.deref-2.ensures.value ∙ c.in_ok-numbers.ensures ∙ numbers) at c.in_ok-changes.ensures.runs)
+    let empty = no_entries c.in_ok-numbers.numbers.items _ _ c.is_empty.ensures c.if-is_empty.true (omega (arith, c.in_ok-numbers.numbers.ok)) in
+    let none = sym empty ∙ c.in_ok-numbers.ensures ∙ numbers in
+    let evals = evals_changes (map_after u) u.change.now p [] 0 c.requires.untouched (ap (with_sets (map_after u) p) none) refl in
+    omega (arith, evals, c.runs-then-is_empty.ensures)
 
 pub returns-clause-lead : goal.returns-clause-lead
 returns-clause-lead c =

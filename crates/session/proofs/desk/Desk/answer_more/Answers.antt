@@ -4,7 +4,7 @@ use Rattle.session.specs.declared.reply.Speaker.TheVariants.{Monitor}
 use Rattle.session.specs.Answers.{IsAnswered}
 use Rattle.session.specs.Readings.{Passes, Halted, AnswersLines}
 use Rattle.session.specs.Replies.{answer_text}
-use Rattle.session.specs.Sessions.{sight_by, session_of, basis_of, stand}
+use Rattle.session.specs.Sessions.{sight_in, session_of, basis_of, stand_in}
 use Rattle.session.specs.Texts.{line_of}
 use Rattle.session.proofs.Asked.{asks_shared, answers_question, takes_question, some_line, own_same}
 use Rattle.session.proofs.Passing.{passes_none, passes_line, passes_more, told_line, halted_line, halted_behind, handed_on}
@@ -13,7 +13,7 @@ use Rattle.session.proofs.desk.Desk.answer_more.Goals as goal
 pub loop-left-init : goal.loop-left-init
 loop-left-init g c =
     let m = session_of c.args.self.now.monitor.now (g.G.Gate.lets c.args.self.now.gate.now) in (
-      ([], passes_none m c.args.progress.now.number (sight_by c.args.hold.member.now c.args.progress.now.follower) c.args.text.now, sym (append-nil _)),
+      ([], passes_none m c.args.progress.now.number (sight_in c.args.hold.shared.now c.args.hold.member.now c.args.progress.now.follower) c.args.text.now, sym (append-nil _)),
       c.requires.unfailed,
       c.requires.shares.1,
       refl,
@@ -33,7 +33,7 @@ loop-left-preserved g c =
     let m = session_of c.args.self.now.monitor.now (g.G.Gate.lets c.args.self.now.gate.now) in
     let basis = basis_of c.args.self.now.monitor.now in
     let number = c.args.progress.now.number in
-    let sight = sight_by c.args.hold.member.now c.args.progress.now.follower in
+    let sight = sight_in c.args.hold.shared.now c.args.hold.member.now c.args.progress.now.follower in
     let next = c.loop-left.progress.number in
     let (put, passed, out) = c.loop-left.invariant.0 in
     let line = c.in-Some.asking.line.now in
@@ -41,7 +41,7 @@ loop-left-preserved g c =
     let question = c.in-Some.asking.question in
     let (part, is) = c.in-Some.ensures.asks in
     let answer = line_of (answer_text Monitor) c.answer-found.result in
-    let asked = asks_shared basis sight.member question c.answer-found.result c.requires.shared.lawful c.answer-found.ensures in
+    let asked = asks_shared basis sight.member question c.answer-found.result c.requires.shared.lawful c.answer-found.ensures.finds c.answer-found.ensures.unspent in
     let own = own_same basis.alone c.args.hold.member.now.pass c.args.hold.member.now.pass answer (λ is. refl) in
     let answered : IsAnswered basis sight line answer sight = answers_question basis sight sight line question answer is asked refl own in
     let taken = takes_question basis (g.G.Gate.lets c.args.self.now.gate.now) next sight sight line question answer c.requires.shares.0 is answered in
@@ -65,7 +65,7 @@ returns-in_err-tell_found-clause-answers g c =
     let m = session_of c.args.self.now.monitor.now (g.G.Gate.lets c.args.self.now.gate.now) in
     let basis = basis_of c.args.self.now.monitor.now in
     let number = c.args.progress.now.number in
-    let sight = sight_by c.args.hold.member.now c.args.progress.now.follower in
+    let sight = sight_in c.args.hold.shared.now c.args.hold.member.now c.args.progress.now.follower in
     let next = c.loop-left.progress.number in
     let (put, passed, out) = c.loop-left.invariant.0 in
     let line = c.in-Some.asking.line.now in
@@ -73,7 +73,7 @@ returns-in_err-tell_found-clause-answers g c =
     let question = c.in-Some.asking.question in
     let (part, is) = c.in-Some.ensures.asks in
     let answer = line_of (answer_text Monitor) c.answer-found.result in
-    let asked = asks_shared basis sight.member question c.answer-found.result c.requires.shared.lawful c.answer-found.ensures in
+    let asked = asks_shared basis sight.member question c.answer-found.result c.requires.shared.lawful c.answer-found.ensures.finds c.answer-found.ensures.unspent in
     let own = own_same basis.alone c.args.hold.member.now.pass c.args.hold.member.now.pass answer (λ is. refl) in
     let answered : IsAnswered basis sight line answer sight = answers_question basis sight sight line question answer is asked refl own in
     let error = c.in_err-tell_found.field-0.0 in
@@ -84,7 +84,7 @@ returns-in_err-tell_found-clause-answers g c =
     let here : Halted m error next sight c.loop-left.rest.now cut sight =
     subst (λ t. Halted m error next sight t cut sight) (sym c.in-Some.ensures.text) (halted_line m error next sight sight line others cut part stopped) in
     rw c.loop-left.invariant.3
-    (handed_on (AnswersLines m (stand c.args.hold.member.now c.args.progress.now) (record { number = next; seen = sight }) c.args.text.now (λ rest. rest.now) before after)
+    (handed_on (AnswersLines m (stand_in c.args.hold.shared.now c.args.hold.member.now c.args.progress.now) (record { number = next; seen = sight }) c.args.text.now (λ rest. rest.now) before after)
     c.from_residual.result error c.from_residual.ensures.1 (
       put ++ cut,
       halted_behind m error number next sight sight sight c.args.text.now put c.loop-left.rest.now cut passed here,

@@ -1,5 +1,5 @@
 use Rattle.std.proofs.Common.{◌≡◌, ℕ, ◌+◌, ◌≤◌, List, ◌++◌, false, length}
-use Rattle.session.specs.Sessions.{sight_by, session_of}
+use Rattle.session.specs.Sessions.{sight_in, session_of}
 use Rattle.session.specs.Readings.{Passes}
 use Rattle.session.proofs.desk.Desk.answer_more.Given as goal
 
@@ -7,7 +7,7 @@ use Rattle.session.proofs.desk.Desk.answer_more.Given as goal
 abbrev pub invariant-loop-left : goal.invariant-loop-left
 invariant-loop-left g l =
     ((put : List ℕ) × Passes (session_of l.self.monitor.now (g.G.Gate.lets l.self.gate.now)) l.fn.progress.number
-    (sight_by l.hold.member.now l.fn.progress.follower) l.text put l.progress.number (sight_by l.hold.member.now l.fn.progress.follower) l.rest
+    (sight_in l.hold.shared.now l.hold.member.now l.fn.progress.follower) l.text put l.progress.number (sight_in l.hold.shared.now l.hold.member.now l.fn.progress.follower) l.rest
     × (g.W.Sink.written l.sink ≡ g.W.Sink.written l.fn.sink ++ put))
     × (g.W.Sink.has_failed l.sink ≡ false) × (g.W.Sink.waits l.sink ≡ false) × (l.progress.follower ≡ l.fn.progress.follower)
     × (l.progress.number + length l.rest ≤ l.fn.progress.number + length l.text) × (length l.rest ≤ length l.text)

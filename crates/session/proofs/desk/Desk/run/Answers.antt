@@ -1,7 +1,7 @@
 use Rattle.std.proofs.Common.{◌≡◌, ◌++◌, ℕ, List, refl, subst, IfErr}
 use Rattle.session.specs.Answers.{Sight}
 use Rattle.session.specs.Readings.{Stand, Passes, Halted}
-use Rattle.session.specs.Sessions.{sight_of, session_of, stand, IsStopped}
+use Rattle.session.specs.Sessions.{account, sight_of, session_of, stand, IsStopped}
 use Rattle.session.proofs.Fresh.{fresh_stand}
 use Rattle.session.proofs.Passing.{run_ok, run_err, halted_all, handed_on}
 use Rattle.session.proofs.desk.Desk.run.Goals as goal
@@ -12,7 +12,7 @@ returns-in_err-last-clause-err g c =
     let first = sight_of c.args.member.now in
     let to = stand c.answer_lines.new.member c.answer_lines.new.progress in
     let script = c.args.script.now in
-    let history = c.answer_lines.new.member.pass.history in
+    let history = account c.answer_lines.new.member in
     let error = c.in_err-last.field-0.0 in
     let before = g.W.Sink.written c.args.sink.now in
     let after = g.W.Sink.written c.answer_lines.new.sink in
@@ -34,7 +34,7 @@ returns-clause-ok g c =
     let (put, passed, out) = subst (λ (s : Stand Sight). (x : List ℕ) × Passes m s.number s.seen script x from.number from.seen rest × (mid ≡ before ++ x)) fresh
     c.in_ok-last.ensures.answers in
     run_ok m from (stand c.answer_last.new.member c.answer_last.new.progress) (sight_of c.args.member.now) script put rest before mid
-    (g.W.Sink.written c.answer_last.new.sink) (λ (l : Sight). l.member ≡ c.answer_last.new.member.pass.history) c.answer_last.result passed out refl
+    (g.W.Sink.written c.answer_last.new.sink) (λ (l : Sight). l.member ≡ account c.answer_last.new.member) c.answer_last.result passed out refl
     c.answer_last.ensures.answers
 
 pub returns-clause-err : goal.returns-clause-err
@@ -49,5 +49,5 @@ returns-clause-err g c =
     let (put, passed, out) = subst (λ (s : Stand Sight). (x : List ℕ) × Passes m s.number s.seen script x from.number from.seen rest × (mid ≡ before ++ x)) fresh
     c.in_ok-last.ensures.answers in
     run_err m from (stand c.answer_last.new.member c.answer_last.new.progress) (sight_of c.args.member.now) script put rest before mid
-    (g.W.Sink.written c.answer_last.new.sink) (λ (l : Sight). l.member ≡ c.answer_last.new.member.pass.history) c.answer_last.result passed out refl
+    (g.W.Sink.written c.answer_last.new.sink) (λ (l : Sight). l.member ≡ account c.answer_last.new.member) c.answer_last.result passed out refl
     c.answer_last.ensures.answers

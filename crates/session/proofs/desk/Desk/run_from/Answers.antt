@@ -2,7 +2,7 @@ use Rattle.std.proofs.Common.{◌≡◌, ◌∙◌, ◌++◌, [], IfErr, refl, s
 use Rattle.std.proofs.KnownBytes.{Consumes-nil, Consumes-trans}
 use Rattle.session.specs.Answers.{Sight}
 use Rattle.session.specs.Readings.{IsPart, Passes, Stand}
-use Rattle.session.specs.Sessions.{sight_of, session_of, stand, IsFollowerOf, IsCutShort}
+use Rattle.session.specs.Sessions.{account, sight_of, session_of, stand, IsFollowerOf, IsCutShort}
 use Rattle.session.proofs.Coming.{no_part, passes_on, stops_reading, told_reading, stopped_reading}
 use Rattle.session.proofs.Fresh.{fresh_stand}
 use Rattle.session.proofs.Passing.{passes_none, handed_on}
@@ -66,7 +66,7 @@ returns-in_err-take_more-clause-err g c =
     let error = c.in_err-take_more.field-0.0 in
     let (read, put, takes, passed, out) = c.loop.invariant.0 in
     let (more, stops, on) = c.in_err-take_more.ensures.takes in
-    handed_on (λ r. IfErr r (IsCutShort m known left first c.take_more.new.member.pass.history before after))
+    handed_on (λ r. IfErr r (IsCutShort m known left first (account c.take_more.new.member) before after))
     c.from_residual.result error c.from_residual.ensures.1 (
       put ++ more,
       to.seen,
@@ -92,7 +92,7 @@ returns-then-branch-clause-ok g c =
     let (text, gives, (more, on, then)) = c.in_ok-take_more.ensures.takes in
     let all = passes_on m 1 between.number from.number first between.seen from.seen read text put more c.loop.reading.begun.items begun passed on in
     told_reading m known left from to first (read ++ text) (put ++ more) begun before (g.W.Sink.written c.take_more.new.sink)
-    (g.W.Sink.written c.finish.new.sink) (λ (l : Sight). l.member ≡ c.finish.new.member.pass.history) c.finish.result
+    (g.W.Sink.written c.finish.new.sink) (λ (l : Sight). l.member ≡ account c.finish.new.member) c.finish.result
     (Consumes-trans known mid left read text takes gives) (c.in_ok-take_more.ensures.ended c.if-branch.true) all
     (then ∙ ap (λ o. o ++ more) out ∙ append_assoc before put more) refl c.finish.ensures.answers
 
@@ -112,6 +112,6 @@ returns-then-branch-clause-err g c =
     let (text, gives, (more, on, then)) = c.in_ok-take_more.ensures.takes in
     let all = passes_on m 1 between.number from.number first between.seen from.seen read text put more c.loop.reading.begun.items begun passed on in
     stopped_reading m known left from to first (read ++ text) (put ++ more) begun before (g.W.Sink.written c.take_more.new.sink)
-    (g.W.Sink.written c.finish.new.sink) (λ (l : Sight). l.member ≡ c.finish.new.member.pass.history) c.finish.result
+    (g.W.Sink.written c.finish.new.sink) (λ (l : Sight). l.member ≡ account c.finish.new.member) c.finish.result
     (Consumes-trans known mid left read text takes gives) (c.in_ok-take_more.ensures.ended c.if-branch.true) all
     (then ∙ ap (λ o. o ++ more) out ∙ append_assoc before put more) refl c.finish.ensures.answers

@@ -1,0 +1,206 @@
+-- The parts of a change state that change, and nothing is wrong with them where they are within the limits.
+use Rattle.std.proofs.Common.{◌≡◌, ◌∙◌, ℕ, ◌^◌, ◌<◌, pos, nat_abs, true, ◌||◌, List, map, Option, Some, None, refl, ap, arith}
+use Rattle.std.specs.Prelude.{IfSome, option_map}
+use Rattle.std.proofs.lemmas.Bool.Decides.{nat_tests}
+use Rattle.std.proofs.lemmas.List.Elements.{All-weaker}
+use Rattle.std.proofs.lemmas.List.Folds.{list_all-map}
+use Rattle.std.proofs.lemmas.List.Sorted.{IsPermutation-refl}
+use Rattle.std.proofs.lemmas.List.Sums.{list_all-from_AllPass}
+use Rattle.crush.specs.WellFormed.{forest_ok}
+use Rattle.keylist.specs.Keys.{is_distinct}
+use Rattle.keylist.proofs.Each.{all_more, map_twice}
+use Rattle.keylist.proofs.Distinct.{rising_distinct}
+use Rattle.mapparts.specs.declared.parts.RulePart.{RulePart}
+use Rattle.mapparts.specs.Parts.{has_enough_groups, grows_evenly}
+use Rattle.mapparts.specs.Profiles.{is_stock}
+use Rattle.maptypes.specs.declared.change.ChangeParts.{ChangeParts}
+use Rattle.maptypes.specs.declared.rules.NumberedRule.{NumberedRule}
+use Rattle.maptypes.specs.CrushMaps.{CrushFacts, is_rule_over, is_lawful, IsCrushMap, IsCrushOf}
+use Rattle.maptypes.specs.Exceptions.{pg_key, key_of}
+use Rattle.maptypes.specs.Growth.{Growth, IsGrowth}
+use Rattle.maptypes.specs.Ordered.{IsInOrder, IsChange, IsOrdered}
+use Rattle.maptypes.specs.Pools.{PoolFacts, IsWithinLimits}
+use Rattle.maptypes.specs.Values.{bucket_of, step_of, rule_of, pool_of, growth_of, pg_of, pair_of, exception_of}
+use Rattle.osdmap.specs.PartsOf.{bucket_part, step_part, rule_part, pool_part, pg_part, pair_part, exception_part}
+use Rattle.mapjson.specs.ChangeTexts.{change_is_plain, change_fits, reweight_within, parts_within, new_crush_fault, IsCrushStated, are_even, change_fault_in, IsChangeStated}
+use Rattle.mapjson.specs.PartsOfChange.{growth_part, reweight_part, crush_parts, change_parts}
+use Rattle.mapjson.proofs.OwnValues.{natural_fits, map_own, bucket_own, step_own, rule_own, pool_own, number_own, pair_own, exception_own}
+use Rattle.map_laws.proofs.OneMap.{one_rising, one_falling}
+use Rattle.map_laws.proofs.OneSort.{sorts_itself, sorts_alone}
+
+-- ---- the CRUSH map
+
+module _ (k : CrushFacts) where
+  -- the buckets of a CRUSH map's own parts are its buckets
+  buckets_own : map bucket_of (crush_parts k).buckets ≡ k.buckets
+  buckets_own = map_own bucket_of bucket_part bucket_own k.buckets
+
+  -- their rules are its rules
+  rules_own : map rule_of (crush_parts k).rules ≡ k.rules
+  rules_own = map_own rule_of rule_part rule_own k.rules
+
+  -- it is the one that its parts state
+  crush_own : IsCrushMap k → IsCrushOf (crush_parts k).buckets (crush_parts k).rules k
+  crush_own is = record {
+    buckets = rw buckets_own (record { same = IsPermutation-refl k.buckets; falling = is.forest.descending; found = λ id. refl });
+    rules = rw rules_own (record { same = IsPermutation-refl k.rules; rising = is.rules_rise });
+  }
+
+  -- and no other is
+  crush_alone : (j : CrushFacts) → IsCrushMap k → IsCrushOf (crush_parts k).buckets (crush_parts k).rules j → j ≡ k
+  crush_alone j is of =
+      let buckets = one_falling k.buckets j.buckets k.buckets (rw buckets_own at of.buckets.same) (IsPermutation-refl k.buckets) of.buckets.falling is.forest.descending in
+      let rules = one_rising (λ r. r.id) k.rules j.rules k.rules (rw rules_own at of.rules.same) (IsPermutation-refl k.rules) of.rules.rising is.rules_rise in
+      λ i. record { buckets = buckets i; rules = rules i }
+
+  -- a rule that is lawful over its buckets is so over those of its parts
+  one_rule : (r : NumberedRule) → is_rule_over k.buckets r ≡ true → is_lawful (map bucket_of (crush_parts k).buckets) (rule_part r) ≡ true
+  unfolding is_rule_over
+  one_rule r h = rw (map_own step_of step_part step_own r.rule.steps, buckets_own) (grind (arith, h))
+
+  -- nothing is wrong with its parts
+  crush_faultless : IsCrushMap k → new_crush_fault (Some (crush_parts k)) ≡ None
+  crush_faultless is =
+      let forest : forest_ok (map bucket_of (crush_parts k).buckets) 4096 ≡ true = rw buckets_own (grind (arith, is.forest.lawful)) in
+      let distinct = ap is_distinct (map_twice (λ (r : RulePart). nat_abs r.id) rule_part k.rules) ∙ rising_distinct (λ (r : NumberedRule). r.id) k.rules is.rules_rise in
+      let lawful = list_all-map (is_lawful (map bucket_of (crush_parts k).buckets)) rule_part k.rules ∙ all_more (is_rule_over k.buckets) _ k.rules one_rule is.rules_over in
+      rw (forest, distinct, lawful) refl
+
+-- where there is one
+crush_is_stated : (k : Option CrushFacts) → IfSome k IsCrushMap → IsCrushStated (option_map crush_parts k) k
+crush_is_stated None is = refl
+crush_is_stated (Some k) is = crush_own k is
+
+-- its parts state no other CRUSH map, and where there are none they state none
+one_crush : (k j : Option CrushFacts) → IfSome k IsCrushMap → IsCrushStated (option_map crush_parts k) j → j ≡ k
+one_crush None j is of = of
+one_crush (Some k) None is of = absurd of
+one_crush (Some k) (Some j) is of = ap (λ c. Some c) (crush_alone k j is of)
+
+-- nothing is wrong with the parts of a CRUSH map, or with none
+crush_is_faultless : (k : Option CrushFacts) → IfSome k IsCrushMap → new_crush_fault (option_map crush_parts k) ≡ None
+crush_is_faultless None is = refl
+crush_is_faultless (Some k) is = crush_faultless k is
+
+-- ---- pools and growths
+
+-- a pool within its limits has no more groups for placement than groups
+pool_enough : (p : PoolFacts) → IsWithinLimits p → has_enough_groups (pool_part p) ≡ true
+unfolding has_enough_groups
+pool_enough p within = grind (arith, nat_tests, within.groups_few)
+
+-- nor has a growth within its limits
+growth_even : (g : Growth) → IsGrowth g → grows_evenly (growth_part g) ≡ true
+unfolding grows_evenly
+growth_even g within = grind (arith, nat_tests, within.groups_few)
+
+-- so no pool that comes or grows by a change has more groups for placement than groups
+own_even : (base : ℕ) (c : ChangeParts) → IsChange c → are_even (change_parts base c) ≡ true
+own_even base c is =
+    let pools = list_all-map has_enough_groups pool_part c.new_pools
+    ∙ list_all-from_AllPass (λ p. has_enough_groups (pool_part p)) c.new_pools (All-weaker IsWithinLimits (λ p. has_enough_groups (pool_part p) ≡ true) pool_enough c.new_pools is.pools_within) in
+    let growths = list_all-map grows_evenly growth_part c.grow_pool
+    ∙ list_all-from_AllPass (λ g. grows_evenly (growth_part g)) c.grow_pool (All-weaker IsGrowth (λ g. grows_evenly (growth_part g) ≡ true) growth_even c.grow_pool is.growths_within) in
+    rw (pools, growths) refl
+
+-- ---- what is stated
+
+module _ (base : ℕ) (c : ChangeParts) where
+  -- natural numbers written as integers are read as the same numbers
+  numbers_own : (ns : List ℕ) → map nat_abs (map pos ns) ≡ ns
+  numbers_own ns = map_own nat_abs pos number_own ns
+
+  -- the parts state the change, beside its CRUSH map
+  parts_own : (k : Option CrushFacts) → parts_within c.profile (change_parts base c) k ≡ record c { new_crush = k }
+  parts_own k = rw (
+    numbers_own c.old_pools,
+    map_own pool_of pool_part pool_own c.new_pools,
+    map_own growth_of growth_part (λ g. refl) c.grow_pool,
+    numbers_own c.down,
+    numbers_own c.up,
+    map_own reweight_within reweight_part (λ w. refl) c.weight,
+    map_own pg_of pg_part (λ g. refl) c.old_upmap,
+    map_own pg_of pg_part (λ g. refl) c.old_items,
+    map_own (exception_of nat_abs) (exception_part pos) (exception_own nat_abs pos number_own) c.new_upmap,
+    map_own (exception_of pair_of) (exception_part pair_part) (exception_own pair_of pair_part pair_own) c.new_items,
+  ) refl
+
+  -- a change in order is put in order as it is
+  ordered_itself : IsInOrder c → IsOrdered c c
+  ordered_itself up = record {
+    profile = refl;
+    old_pools = sorts_itself (λ id. id) c.old_pools up.old_pools;
+    new_crush = refl;
+    new_pools = sorts_itself (λ p. p.id) c.new_pools up.new_pools;
+    grow_pool = sorts_itself (λ g. g.pool) c.grow_pool up.grow_pool;
+    down = sorts_itself (λ osd. osd) c.down up.down;
+    up = sorts_itself (λ osd. osd) c.up up.up;
+    weight = sorts_itself (λ w. w.osd) c.weight up.weight;
+    old_upmap = sorts_itself pg_key c.old_upmap up.old_upmap;
+    old_items = sorts_itself pg_key c.old_items up.old_items;
+    new_upmap = sorts_itself key_of c.new_upmap up.new_upmap;
+    new_items = sorts_itself key_of c.new_items up.new_items;
+  }
+
+  -- the parts state it
+  pub own_change_stated : IsChange c → IsChangeStated c.profile (change_parts base c) base c
+  own_change_stated is = record {
+    base_is = refl;
+    crush = crush_is_stated c.new_crush is.crush_map;
+    ordered = rw (parts_own c.new_crush) (ordered_itself is.in_order);
+  }
+
+  -- what is put in order of a change in order, beside its CRUSH map, is that change
+  one_ordered : (d : ChangeParts) → IsInOrder c → d.new_crush ≡ c.new_crush → IsOrdered (record c { new_crush = d.new_crush }) d → d ≡ c
+  one_ordered d up crush sorts =
+      let profile = sorts.profile in
+      let old_pools = sorts_alone (λ id. id) c.old_pools d.old_pools up.old_pools sorts.old_pools in
+      let new_pools = sorts_alone (λ p. p.id) c.new_pools d.new_pools up.new_pools sorts.new_pools in
+      let grow_pool = sorts_alone (λ g. g.pool) c.grow_pool d.grow_pool up.grow_pool sorts.grow_pool in
+      let down = sorts_alone (λ osd. osd) c.down d.down up.down sorts.down in
+      let ups = sorts_alone (λ osd. osd) c.up d.up up.up sorts.up in
+      let weight = sorts_alone (λ w. w.osd) c.weight d.weight up.weight sorts.weight in
+      let old_upmap = sorts_alone pg_key c.old_upmap d.old_upmap up.old_upmap sorts.old_upmap in
+      let old_items = sorts_alone pg_key c.old_items d.old_items up.old_items sorts.old_items in
+      let new_upmap = sorts_alone key_of c.new_upmap d.new_upmap up.new_upmap sorts.new_upmap in
+      let new_items = sorts_alone key_of c.new_items d.new_items up.new_items sorts.new_items in
+      λ i. record {
+        profile = profile i;
+        old_pools = old_pools i;
+        new_crush = crush i;
+        new_pools = new_pools i;
+        grow_pool = grow_pool i;
+        down = down i;
+        up = ups i;
+        weight = weight i;
+        old_upmap = old_upmap i;
+        old_items = old_items i;
+        new_upmap = new_upmap i;
+        new_items = new_items i;
+      }
+
+  -- and nothing else
+  pub own_change_alone : IsChange c → (other : ℕ × ChangeParts) → IsChangeStated c.profile (change_parts base c) other.0 other.1 → other ≡ (base, c)
+  own_change_alone is other stated =
+      let crush = one_crush c.new_crush other.1.new_crush is.crush_map stated.crush in
+      let change = one_ordered other.1 is.in_order crush (rw (parts_own other.1.new_crush) at stated.ordered) in
+      let number = stated.base_is in
+      λ i. (number i, change i)
+
+  -- ---- faults
+
+  -- the limits do not hang on the base
+  pub fits_with_base : base < 2 ^ 64 → change_fits (change_parts 0 c) ≡ true → change_fits (change_parts base c) ≡ true
+  unfolding change_fits
+  fits_with_base wide fits = grind (arith, fits, natural_fits 0 18446744073709551615 base (omega arith) (omega arith))
+
+  -- nor do those of plain clusters
+  plain_with_base : (is_stock c.profile || change_is_plain (change_parts 0 c)) ≡ true → (is_stock c.profile || change_is_plain (change_parts base c)) ≡ true
+  unfolding change_is_plain
+  plain_with_base fits = fits
+
+  -- a change that a text may state has no fault
+  pub own_change_faultless : base < 2 ^ 64 → IsChange c → (is_stock c.profile || change_is_plain (change_parts 0 c)) ≡ true → change_fits (change_parts 0 c) ≡ true
+      → change_fault_in c.profile (change_parts base c) ≡ None
+  own_change_faultless wide is plain fits =
+      rw (plain_with_base plain, fits_with_base wide fits, crush_is_faultless c.new_crush is.crush_map, own_even base c is) refl

@@ -1,0 +1,382 @@
+-- A change that a text states is one that a text may state.
+use Rattle.std.proofs.Common.{◌≡◌, ◌∙◌, ℕ, ℤ, pos, nat_abs, Bool, true, false, not, ◌&&◌, ◌||◌, List, [], ◌∷◌, map, IsPermutation, Option, Some, None, Ok, Err, refl, sym, ap, subst, if◌then◌else◌, arith}
+use Rattle.std.specs.Prelude.{⊤, nat_le, option_map, IfOk, Result}
+use Rattle.std.specs.List.{list_all}
+use Rattle.std.specs.Option.{option_map_or, option_or}
+use Rattle.std.proofs.lemmas.Bool.{and_parts}
+use Rattle.std.proofs.lemmas.List.Sorted.{IsPermutation-map, length_permutation}
+use Rattle.serde_json.specs.Data.{Data}
+use Rattle.buckets.specs.Kinds.{most_items}
+use Rattle.keylist.proofs.Distinct.{list_all-moved}
+use Rattle.refusal.specs.declared.refused.Refusal.{Refusal}
+use Rattle.refusal.specs.declared.refused.Refusal.TheVariants.{BadJson, BadLimit, BadPool}
+use Rattle.refusal.specs.Outcomes.{refused_unless}
+use Rattle.mapparts.specs.declared.profile.Profile.{Profile}
+use Rattle.mapparts.specs.declared.profile.Profile.TheVariants.{Plain, Stock}
+use Rattle.mapparts.specs.declared.parts.BucketPart.{BucketPart}
+use Rattle.mapparts.specs.declared.parts.ItemPart.{ItemPart}
+use Rattle.mapparts.specs.declared.parts.RulePart.{RulePart}
+use Rattle.mapparts.specs.declared.parts.StepPart.{StepPart}
+use Rattle.mapparts.specs.declared.parts.StepPart.TheVariants.{SetChooseTries, SetChooseleafTries, Take, Choose as Chooses, Emit}
+use Rattle.mapparts.specs.declared.parts.PoolPart.{PoolPart}
+use Rattle.mapparts.specs.declared.parts.GrowPart.{GrowPart}
+use Rattle.mapparts.specs.declared.parts.CrushParts.{CrushParts}
+use Rattle.mapparts.specs.declared.parts.ExceptionPart.{ExceptionPart}
+use Rattle.mapparts.specs.declared.parts.PairPart.{PairPart}
+use Rattle.mapparts.specs.declared.pg_parts.PgParts.{PgParts}
+use Rattle.mapparts.specs.Parts.{is_between, has_between, is_osd_id, item_fits, bucket_fits, step_fits, rule_fits, crush_fits, pool_fits, growth_fits, pg_fits, pair_fits, exception_fits, exceptions_fit}
+use Rattle.mapparts.specs.Profiles.{is_stock, is_plain_kind}
+use Rattle.mapparts.specs.Plain.{osd_is_plain, pool_is_plain, growth_is_plain, bucket_is_plain, step_is_plain, crush_is_plain, pair_is_plain, exception_is_plain}
+use Rattle.mapparts.proofs.Within.{natural_between, pool_fits_each, growth_fits_each}
+use Rattle.maptypes.specs.CrushMaps.{CrushFacts}
+use Rattle.maptypes.specs.Values.{item_of, bucket_of, step_of, rule_of, pool_of, growth_of, pg_of, pair_of, exception_of}
+use Rattle.maptypes.specs.declared.change.ChangeParts.{ChangeParts}
+use Rattle.osdmap.specs.PartsOf.{item_part, bucket_part, step_part, rule_part, pool_part, pg_part, pair_part, exception_part}
+use Rattle.jsonstream.specs.Json.{◌>>=◌, json_of, stated_by}
+use Rattle.partjson.specs.declared.change.RawChange.{RawChange}
+use Rattle.partjson.specs.declared.change.RawReweight.{RawReweight}
+use Rattle.partjson.specs.StatedChanges.{stated_change}
+use Rattle.partjson.specs.Profiles.{brings_kinds, change_allowed, change_in}
+use Rattle.mapjson.specs.ChangeTexts.{is_pool_id, reweight_fits, change_fits, change_is_plain, reweight_within, new_crush_fault, IsCrushStated, are_even, change_fault_in, fault_of_stated_change, IsChangeStated}
+use Rattle.mapjson.specs.PartsOfChange.{growth_part, reweight_part, crush_parts, change_parts}
+use Rattle.mapjson.specs.WrittenChanges.{fits_text}
+use Rattle.mapjson.proofs.ChangeFits.{change_fits_each}
+use Rattle.map_laws.specs.ChangeLaws.{FitsProfile, ReadChangesFit}
+use Rattle.mapjson.proofs.OwnValues.{natural_fits}
+use Rattle.map_laws.proofs.ReadBack.{kept_or}
+
+-- ---- lists that are put in order
+
+-- as many entries in another order
+count_moved : {X : Type 0} (low high : ℕ) (xs ys : List X) → IsPermutation xs ys → has_between low high ys ≡ has_between low high xs
+unfolding has_between
+count_moved low high xs ys moved = ap (λ n. nat_le low n && nat_le n high) (length_permutation xs ys moved)
+
+module _ {P E : Type 0} (value : P → E) (part : E → P) (fits : P → Bool) (back : (p : P) → fits p ≡ true → part (value p) ≡ p) where
+  -- parts that fit are those of their values
+  parts_back : (ps : List P) → list_all fits ps ≡ true → map part (map value ps) ≡ ps
+  parts_back [] h = refl
+  parts_back (p ∷ ps) h = let each = and_parts (fits p) (list_all fits ps) h in rw (back p each.0, parts_back ps each.1) refl
+
+  -- the parts of values in another order are the parts in another order
+  parts_moved : (ps : List P) (es : List E) → list_all fits ps ≡ true → IsPermutation (map value ps) es → IsPermutation ps (map part es)
+  parts_moved ps es fit moved = subst (λ qs. IsPermutation qs (map part es)) (parts_back ps fit) (IsPermutation-map part (map value ps) es moved)
+
+-- ---- parts that fit are those of their values
+
+-- a number between two natural ones is its own absolute value
+natural_back : (low high : ℕ) (z : ℤ) → is_between (pos low) (pos high) z ≡ true → pos (nat_abs z) ≡ z
+natural_back low high z h = sym (natural_between low high z h).is
+
+-- so is a number that an OSD may have
+osd_back : (z : ℤ) → is_osd_id z ≡ true → pos (nat_abs z) ≡ z
+unfolding is_osd_id
+osd_back z h = natural_back 0 4095 z h
+
+-- and one that a pool may have
+pool_id_back : (z : ℤ) → is_pool_id z ≡ true → pos (nat_abs z) ≡ z
+unfolding is_pool_id
+pool_id_back z h = natural_back 1 65535 z h
+
+-- an item whose weight is within its limits is the part of the item that it states
+item_back : (i : ItemPart) → item_fits i ≡ true → item_part (item_of i) ≡ i
+unfolding item_fits
+item_back i h =
+    let weight = natural_back 1 4294967295 i.weight (and_parts _ (is_between (pos 1) (pos 4294967295) i.weight) h).1 in
+    λ t. record { id = i.id; weight = weight t }
+
+-- so is a bucket with its level and items
+bucket_back : (b : BucketPart) → bucket_fits b ≡ true → bucket_part (bucket_of b) ≡ b
+unfolding bucket_fits
+bucket_back b h =
+    let items = and_parts _ (list_all item_fits b.items) h in
+    let many = and_parts _ (has_between 1 (most_items b.kind) b.items) items.0 in
+    let level = natural_back 1 15 b.level (and_parts _ (is_between (pos 1) (pos 15) b.level) many.0).1 in
+    let own = parts_back item_of item_part item_fits item_back b.items items.1 in
+    λ t. record { id = b.id; level = level t; kind = b.kind; items = own t }
+
+-- so is each step of a rule
+step_back : (s : StepPart) → step_fits s ≡ true → step_part (step_of s) ≡ s
+unfolding step_fits
+step_back (SetChooseTries n) h = ap (λ z. SetChooseTries z) (natural_back 1 200 n h)
+step_back (SetChooseleafTries n) h = ap (λ z. SetChooseleafTries z) (natural_back 1 200 n h)
+step_back (Take id) h = refl
+step_back (Chooses c) h =
+    let each = and_parts (is_between (pos 0) (pos 20) c.count) (is_between (pos 0) (pos 15) c.level) h in
+    let count = natural_back 0 20 c.count each.0 in
+    let level = natural_back 0 15 c.level each.1 in
+    λ t. Chooses (record { mode = c.mode; to_leaf = c.to_leaf; count = count t; level = level t })
+step_back Emit h = refl
+
+-- so is a rule with its number and steps
+rule_back : (r : RulePart) → rule_fits r ≡ true → rule_part (rule_of r) ≡ r
+unfolding rule_fits
+rule_back r h =
+    let steps = and_parts _ (list_all step_fits r.steps) h in
+    let id = natural_back 0 255 r.id (and_parts (is_between (pos 0) (pos 255) r.id) _ steps.0).0 in
+    let own = parts_back step_of step_part step_fits step_back r.steps steps.1 in
+    λ t. record { id = id t; kind = r.kind; steps = own t }
+
+-- so is a pool with its numbers
+pool_back : (p : PoolPart) → pool_fits p ≡ true → pool_part (pool_of p) ≡ p
+pool_back p h =
+    let each = pool_fits_each p h in
+    let id = natural_back 1 65535 p.id each.id in
+    let pg_num = natural_back 1 65536 p.pg_num each.pg_num in
+    let pgp_num = natural_back 1 65536 p.pgp_num each.pgp_num in
+    let rule = natural_back 0 255 p.rule each.rule in
+    let size = natural_back 1 20 p.size each.size in
+    λ t. record { id = id t; kind = p.kind; pg_num = pg_num t; pgp_num = pgp_num t; rule = rule t; size = size t }
+
+-- so is the growth of a pool
+growth_back : (g : GrowPart) → growth_fits g ≡ true → growth_part (growth_of g) ≡ g
+growth_back g h =
+    let each = growth_fits_each g h in
+    let pool = natural_back 1 65535 g.pool each.pool in
+    let pg_num = natural_back 1 65536 g.pg_num each.pg_num in
+    let pgp_num = natural_back 1 65536 g.pgp_num each.pgp_num in
+    λ t. record { pool = pool t; pg_num = pg_num t; pgp_num = pgp_num t }
+
+-- so is the new weight of an OSD
+reweight_back : (w : RawReweight) → reweight_fits w ≡ true → reweight_part (reweight_within w) ≡ w
+unfolding reweight_fits
+reweight_back w h =
+    let each = and_parts (is_osd_id w.osd) (is_between (pos 0) (pos 4294967295) w.weight) h in
+    let osd = osd_back w.osd each.0 in
+    let weight = natural_back 0 4294967295 w.weight each.1 in
+    λ t. record { osd = osd t; weight = weight t }
+
+-- a group that is named whole is the part of the group that it states
+whole_group : (pool number : Option ℕ) → pg_fits (record { pool = pool; number = number }) ≡ true → pg_part (pg_of (record { pool = pool; number = number })) ≡ record { pool = pool; number = number }
+unfolding pg_fits
+whole_group (Some pool) (Some number) h = refl
+whole_group (Some pool) None h = absurd (grind (arith, h))
+whole_group None number h = absurd (grind (arith, h))
+
+-- so each group within its limits is
+group_back : (g : PgParts) → pg_fits g ≡ true → pg_part (pg_of g) ≡ g
+group_back g h = whole_group g.pool g.number h
+
+-- so is a pair of OSDs
+pair_back : (p : PairPart) → pair_fits p ≡ true → pair_part (pair_of p) ≡ p
+unfolding pair_fits
+pair_back p h =
+    let each = and_parts (is_osd_id p.from) (is_osd_id p.to) h in
+    let from = osd_back p.from each.0 in
+    let to = osd_back p.to each.1 in
+    λ t. record { from = from t; to = to t }
+
+-- so is an exception, where it is so of each of its entries
+exception_back : {P E : Type 0} (value : P → E) (part : E → P) (fits : P → Bool) → ((p : P) → fits p ≡ true → part (value p) ≡ p)
+    → (e : ExceptionPart P) → exception_fits fits e ≡ true → exception_part part (exception_of value e) ≡ e
+unfolding exception_fits
+exception_back value part fits back e h =
+    let entries = and_parts _ (list_all fits e.entries) h in
+    let pg = group_back e.pg (and_parts (pg_fits e.pg) _ entries.0).0 in
+    let own = parts_back value part fits back e.entries entries.1 in
+    λ t. record { pg = pg t; entries = own t }
+
+-- ---- the CRUSH map
+
+-- the same buckets and rules in another order
+abbrev IsCrushMoved : Option CrushParts → Option CrushParts → Type 0
+IsCrushMoved None None = ⊤
+IsCrushMoved None (Some q) = ⊥
+IsCrushMoved (Some p) None = ⊥
+IsCrushMoved (Some p) (Some q) = IsPermutation p.buckets q.buckets × IsPermutation p.rules q.rules
+
+-- so are those of the CRUSH map that parts within the limits state
+crush_moved : (crush : Option CrushParts) (k : Option CrushFacts) → option_map_or crush_fits crush true ≡ true → IsCrushStated crush k → IsCrushMoved crush (option_map crush_parts k)
+unfolding crush_fits
+crush_moved None None fit is = tt
+crush_moved None (Some k) fit is = absurd (cc)
+crush_moved (Some p) None fit is = absurd is
+crush_moved (Some p) (Some k) fit is =
+    let rules = and_parts _ (list_all rule_fits p.rules) fit in
+    let buckets = and_parts _ (list_all bucket_fits p.buckets) rules.0 in (
+      parts_moved bucket_of bucket_part bucket_fits bucket_back p.buckets k.buckets buckets.1 is.buckets.same,
+      parts_moved rule_of rule_part rule_fits rule_back p.rules k.rules rules.1 is.rules.same,
+    )
+
+-- they are within the limits alike
+crush_limits : (a b : Option CrushParts) → IsCrushMoved a b → option_map_or crush_fits b true ≡ option_map_or crush_fits a true
+unfolding crush_fits
+crush_limits None None moved = refl
+crush_limits None (Some q) moved = absurd moved
+crush_limits (Some p) None moved = absurd moved
+crush_limits (Some p) (Some q) moved = rw (
+  count_moved 1 4096 p.buckets q.buckets moved.0,
+  count_moved 1 256 p.rules q.rules moved.1,
+  list_all-moved bucket_fits p.buckets q.buckets moved.0,
+  list_all-moved rule_fits p.rules q.rules moved.1,
+) refl
+
+-- also within those of plain clusters
+crush_plain : (a b : Option CrushParts) → IsCrushMoved a b → crush_is_plain b ≡ crush_is_plain a
+crush_plain None None moved = refl
+crush_plain None (Some q) moved = absurd moved
+crush_plain (Some p) None moved = absurd moved
+crush_plain (Some p) (Some q) moved = rw (
+  count_moved 0 512 p.buckets q.buckets moved.0,
+  count_moved 0 32 p.rules q.rules moved.1,
+  list_all-moved bucket_is_plain p.buckets q.buckets moved.0,
+  list_all-moved (λ (r : RulePart). list_all step_is_plain r.steps) p.rules q.rules moved.1,
+) refl
+
+-- and have kinds of a profile alike
+crush_kinds : (profile : Profile) (a b : Option CrushParts) → IsCrushMoved a b → brings_kinds profile b ≡ brings_kinds profile a
+crush_kinds profile None None moved = refl
+crush_kinds profile None (Some q) moved = absurd moved
+crush_kinds profile (Some p) None moved = absurd moved
+crush_kinds Plain (Some p) (Some q) moved = list_all-moved (λ (b : BucketPart). is_plain_kind b.kind) p.buckets q.buckets moved.0
+crush_kinds Stock (Some p) (Some q) moved = refl
+
+-- ---- the change
+
+-- the same parts, each list in another order
+record AreMoved (c d : RawChange) : Type 0 where
+  base : d.base ≡ c.base
+  old_pools : IsPermutation c.old_pools d.old_pools
+  new_crush : IsCrushMoved c.new_crush d.new_crush
+  new_pools : IsPermutation c.new_pools d.new_pools
+  grow_pool : IsPermutation c.grow_pool d.grow_pool
+  down : IsPermutation c.down d.down
+  up : IsPermutation c.up d.up
+  weight : IsPermutation c.weight d.weight
+  old_upmap : IsPermutation c.old_upmap d.old_upmap
+  old_items : IsPermutation c.old_items d.old_items
+  new_upmap : IsPermutation c.new_upmap d.new_upmap
+  new_items : IsPermutation c.new_items d.new_items
+
+-- they are within the limits alike
+limits_moved : (c d : RawChange) → AreMoved c d → change_fits d ≡ change_fits c
+unfolding change_fits exceptions_fit
+limits_moved c d m = rw (
+  m.base,
+  count_moved 0 1048576 c.old_pools d.old_pools m.old_pools,
+  list_all-moved is_pool_id c.old_pools d.old_pools m.old_pools,
+  crush_limits c.new_crush d.new_crush m.new_crush,
+  count_moved 0 1048576 c.new_pools d.new_pools m.new_pools,
+  list_all-moved pool_fits c.new_pools d.new_pools m.new_pools,
+  count_moved 0 1048576 c.grow_pool d.grow_pool m.grow_pool,
+  list_all-moved growth_fits c.grow_pool d.grow_pool m.grow_pool,
+  count_moved 0 1048576 c.down d.down m.down,
+  list_all-moved is_osd_id c.down d.down m.down,
+  count_moved 0 1048576 c.up d.up m.up,
+  list_all-moved is_osd_id c.up d.up m.up,
+  count_moved 0 1048576 c.weight d.weight m.weight,
+  list_all-moved reweight_fits c.weight d.weight m.weight,
+  count_moved 0 1048576 c.old_upmap d.old_upmap m.old_upmap,
+  list_all-moved pg_fits c.old_upmap d.old_upmap m.old_upmap,
+  count_moved 0 1048576 c.old_items d.old_items m.old_items,
+  list_all-moved pg_fits c.old_items d.old_items m.old_items,
+  count_moved 0 1048576 c.new_upmap d.new_upmap m.new_upmap,
+  list_all-moved (exception_fits is_osd_id) c.new_upmap d.new_upmap m.new_upmap,
+  count_moved 0 1048576 c.new_items d.new_items m.new_items,
+  list_all-moved (exception_fits pair_fits) c.new_items d.new_items m.new_items,
+) refl
+
+-- also within those of plain clusters
+plain_moved : (c d : RawChange) → AreMoved c d → change_is_plain d ≡ change_is_plain c
+unfolding change_is_plain
+plain_moved c d m = rw (
+  count_moved 0 131072 c.old_pools d.old_pools m.old_pools,
+  crush_plain c.new_crush d.new_crush m.new_crush,
+  count_moved 0 131072 c.new_pools d.new_pools m.new_pools,
+  list_all-moved pool_is_plain c.new_pools d.new_pools m.new_pools,
+  count_moved 0 131072 c.grow_pool d.grow_pool m.grow_pool,
+  list_all-moved growth_is_plain c.grow_pool d.grow_pool m.grow_pool,
+  count_moved 0 131072 c.down d.down m.down,
+  list_all-moved osd_is_plain c.down d.down m.down,
+  count_moved 0 131072 c.up d.up m.up,
+  list_all-moved osd_is_plain c.up d.up m.up,
+  count_moved 0 131072 c.weight d.weight m.weight,
+  list_all-moved (λ (w : RawReweight). osd_is_plain w.osd) c.weight d.weight m.weight,
+  count_moved 0 131072 c.old_upmap d.old_upmap m.old_upmap,
+  count_moved 0 131072 c.old_items d.old_items m.old_items,
+  count_moved 0 131072 c.new_upmap d.new_upmap m.new_upmap,
+  list_all-moved (exception_is_plain osd_is_plain) c.new_upmap d.new_upmap m.new_upmap,
+  count_moved 0 131072 c.new_items d.new_items m.new_items,
+  list_all-moved (exception_is_plain pair_is_plain) c.new_items d.new_items m.new_items,
+) refl
+
+-- the parts of the change that parts within the limits state are those parts
+parts_stated : (profile : Profile) (r : RawChange) (base : ℕ) (c : ChangeParts) → change_fits r ≡ true → IsChangeStated profile r base c → AreMoved r (change_parts base c)
+unfolding exceptions_fit
+parts_stated profile r base c limits is =
+    let fits = change_fits_each r limits in
+    record {
+      base = ap (λ n. pos n) is.base_is ∙ natural_back 0 18446744073709551615 r.base fits.base;
+      old_pools = parts_moved nat_abs pos is_pool_id pool_id_back r.old_pools c.old_pools fits.old_pools is.ordered.old_pools.same;
+      new_crush = crush_moved r.new_crush c.new_crush fits.new_crush is.crush;
+      new_pools = parts_moved pool_of pool_part pool_fits pool_back r.new_pools c.new_pools fits.new_pools is.ordered.new_pools.same;
+      grow_pool = parts_moved growth_of growth_part growth_fits growth_back r.grow_pool c.grow_pool fits.grow_pool is.ordered.grow_pool.same;
+      down = parts_moved nat_abs pos is_osd_id osd_back r.down c.down fits.down is.ordered.down.same;
+      up = parts_moved nat_abs pos is_osd_id osd_back r.up c.up fits.up is.ordered.up.same;
+      weight = parts_moved reweight_within reweight_part reweight_fits reweight_back r.weight c.weight fits.weight is.ordered.weight.same;
+      old_upmap = parts_moved pg_of pg_part pg_fits group_back r.old_upmap c.old_upmap fits.old_upmap is.ordered.old_upmap.same;
+      old_items = parts_moved pg_of pg_part pg_fits group_back r.old_items c.old_items fits.old_items is.ordered.old_items.same;
+      new_upmap = parts_moved (exception_of nat_abs) (exception_part pos) (exception_fits is_osd_id) (exception_back nat_abs pos is_osd_id osd_back) r.new_upmap c.new_upmap (and_parts _ (list_all (exception_fits is_osd_id) r.new_upmap) fits.new_upmap).1 is.ordered.new_upmap.same;
+      new_items = parts_moved (exception_of pair_of) (exception_part pair_part) (exception_fits pair_fits) (exception_back pair_of pair_part pair_fits pair_back) r.new_items c.new_items (and_parts _ (list_all (exception_fits pair_fits) r.new_items) fits.new_items).1 is.ordered.new_items.same;
+    }
+
+-- ---- the text
+
+-- what has no fault is within the limits
+faultless_fits : (profile : Profile) (r : RawChange) → change_fault_in profile r ≡ None → ((is_stock profile || change_is_plain r) ≡ true) × (change_fits r ≡ true)
+faultless_fits profile r h = by_tests (is_stock profile || change_is_plain r) (change_fits r) (option_or (new_crush_fault r.new_crush) (refused_unless (are_even r) BadPool)) h
+  where
+    by_tests : (plain fits : Bool) (other : Option Refusal) → (if plain then (if not fits then Some BadLimit else other) else Some BadLimit) ≡ None → (plain ≡ true) × (fits ≡ true)
+    by_tests true true other h = (refl, refl)
+    by_tests true false other h = absurd (cc)
+    by_tests false fits other h = absurd (cc)
+
+-- what a profile allows of a change has kinds of it
+kinds_allowed : (profile : Profile) (x r : RawChange) → kept_or (change_allowed profile x) ≡ Ok r → brings_kinds profile r.new_crush ≡ true
+kinds_allowed profile x r h = by_kinds (brings_kinds profile x.new_crush) refl h
+  where
+    by_kinds : (b : Bool) → brings_kinds profile x.new_crush ≡ b → kept_or (if b then Some x else None) ≡ Ok r → brings_kinds profile r.new_crush ≡ true
+    by_kinds true kinds e = let same : x ≡ r = cc in subst (λ y. brings_kinds profile y.new_crush ≡ true) same kinds
+    by_kinds false kinds e = absurd (cc)
+
+-- so has what is kept of a change, where there is one
+kinds_of_part : (profile : Profile) (o : Option RawChange) (r : RawChange) → kept_or (o >>= change_allowed profile) ≡ Ok r → brings_kinds profile r.new_crush ≡ true
+kinds_of_part profile None r h = absurd (cc)
+kinds_of_part profile (Some x) r h = kinds_allowed profile x r h
+
+-- so has what is kept of the change that a value states, where there is one
+kinds_of_value : (profile : Profile) (o : Option Data) (r : RawChange) → option_map_or (λ d. kept_or (stated_change d >>= change_allowed profile)) o (Err BadJson) ≡ Ok r → brings_kinds profile r.new_crush ≡ true
+kinds_of_value profile None r h = absurd (cc)
+kinds_of_value profile (Some d) r h = kinds_of_part profile (stated_change d) r h
+
+-- the limits do not hang on the base
+fits_at_zero : (base : ℕ) (c : ChangeParts) → change_fits (change_parts base c) ≡ true → change_fits (change_parts 0 c) ≡ true
+unfolding change_fits
+fits_at_zero base c fits = grind (arith, fits, natural_fits 0 18446744073709551615 0 (omega arith) (omega arith))
+
+-- nor do those of plain clusters
+plain_at_zero : (base : ℕ) (c : ChangeParts) → change_is_plain (change_parts 0 c) ≡ change_is_plain (change_parts base c)
+unfolding change_is_plain
+plain_at_zero base c = refl
+
+-- a change that is stated without a fault is one that a text may state
+stated_fits : (profile : Profile) (r : RawChange) (base : ℕ) (c : ChangeParts) → change_fault_in profile r ≡ None → brings_kinds profile r.new_crush ≡ true → IsChangeStated profile r base c → FitsProfile profile c
+unfolding fits_text
+stated_fits profile r base c faultless kinds is =
+    let within = faultless_fits profile r faultless in
+    let moved = parts_stated profile r base c within.1 is in
+    let own_kinds = crush_kinds profile r.new_crush (option_map crush_parts c.new_crush) moved.new_crush ∙ kinds in
+    let own_plain = ap (λ b. is_stock profile || b) (plain_at_zero base c ∙ plain_moved r (change_parts base c) moved) ∙ within.0 in
+    let own_limits = fits_at_zero base c (limits_moved r (change_parts base c) moved ∙ within.1) in
+    record { profile_is = is.ordered.profile; fits = rw (own_kinds, own_plain, own_limits) refl }
+
+-- so is one that a text states
+by_result : (profile : Profile) (bytes : List ℕ) (answer : ℕ × ChangeParts) (r : Result RawChange Refusal) → stated_by (change_in profile) bytes ≡ r
+    → fault_of_stated_change profile r ≡ None → IfOk r (λ c. IsChangeStated profile c answer.0 answer.1) → FitsProfile profile answer.1
+by_result profile bytes answer (Ok r) e faultless is = stated_fits profile r answer.0 answer.1 faultless (kinds_of_value profile (json_of bytes) r e) is
+by_result profile bytes answer (Err why) e faultless is = absurd (cc)
+
+-- each change that a text without a fault states has the profile by which it was read, and is one that a text may state
+-- by it
+pub read_changes_fit : ReadChangesFit
+read_changes_fit profile bytes answer faultless states = by_result profile bytes answer (stated_by (change_in profile) bytes) refl faultless states
