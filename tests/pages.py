@@ -40,6 +40,8 @@ OTHER_NAMES = {
     "to_float",
     "to_i64",
     "to_u64",
+    "Unknown",
+    "Wary",
     "i128",
     "always_out_of_memory",
     "hold_always_gives_back",
@@ -112,7 +114,7 @@ LISTS = {
 NOT_LOOKED_FOR = {"Memory"}
 # What the page of a crate has.
 PARTS_OF_PAGES = ["Parts", "A caller", "Proved", "Tested", "Not promised"]
-DIGITS = "one two three four five six seven eight nine ten".split()
+DIGITS = "one two three four five six seven eight nine ten eleven".split()
 RESULTS = TOP / "bench" / "results"
 NUMBERS = {word: str(number) for number, word in enumerate(DIGITS, 1)}
 NUMBER = r"\d(?:[\d,]*\d)?(?:\.\d+)?"

@@ -1,0 +1,78 @@
+use Rattle.std.proofs.Common.{◌≡◌, inl, true, refl, sym, subst, rules, arith, ap}
+use Rattle.sqlite.specs.Tree.{Trees}
+use Rattle.sqlite.specs.State.{HasCleanDisk, Survives}
+use Rattle.sqlite.specs.Held.{state}
+use Rattle.sqlite.proofs.StateLemmas.{survives_then}
+use Rattle.sqlite.proofs.Callers.{survives_begin}
+use Rattle.journalstore.specs.Texts.{Texts, begun_with, StandsFor}
+use Rattle.journalstore.specs.Stores.{IsInWriting, IsRunning, IsOf, HoldsIn, KeepsIn}
+use Rattle.journalstore.proofs.KeepLemmas.{failed_texts}
+use Rattle.journalstore.proofs.StoreLemmas.{leaves_held, crash_with}
+use Rattle.journalstore.proofs.checkpoint.checkpoint.Goals as goal
+
+pub returns-then-epoch-gt-LAST_EPOCH-clause-crash :
+    goal.returns-then-epoch-gt-LAST_EPOCH-clause-crash
+returns-then-epoch-gt-LAST_EPOCH-clause-crash g c t holds clean db may = inl (holds.2 clean db may)
+
+pub returns-in_err-write-clause-crash : goal.returns-in_err-write-clause-crash
+returns-in_err-write-clause-crash g c t holds =
+    let old = c.args.conn.now in
+    let last = c.write.new.tx.conn.now in
+    let P = λ (db : Trees). StandsFor db (begun_with c.args.epoch c.args.text.now) in
+    let inside : Survives (state g.S.Store (record old { in_transaction = true })) (state g.S.Store last) (λ _. ⊥) = rw c.transaction-tx.ensures.begun at c.write.ensures.survives in
+    let whole = survives_then (state g.S.Store old) (state g.S.Store last) (state g.S.Store c.drop-tx.new.self.0) _ _ P (λ _ db none. absurd none) (λ _ db none. absurd none)
+    (survives_begin g.S.Store old (state g.S.Store last) _ inside) c.drop-tx.ensures.survives in
+    let same : c.drop-tx.new.self.0 ≡ c.conn-1.given.0 = search rules in
+    crash_with (state g.S.Store old) (state g.S.Store c.conn-1.given.0) t (begun_with c.args.epoch c.args.text.now) holds.2 (subst (λ h. Survives (state g.S.Store old) (state g.S.Store h) P) same whole)
+
+pub returns-in_err-commit-clause-crash : goal.returns-in_err-commit-clause-crash
+returns-in_err-commit-clause-crash g c t holds =
+    let old = c.args.conn.now in
+    let last = c.write.new.tx.conn.now in
+    let more = begun_with c.args.epoch c.args.text.now in
+    let P = λ (db : Trees). StandsFor db more in
+    let writing : IsInWriting (state g.S.Store c.transaction-tx.result.conn.now) = subst (λ h. IsInWriting (state g.S.Store h)) (sym c.transaction-tx.ensures.begun) (λ clean. (refl, (holds.1 clean (holds.0 clean)).settled.schema)) in
+    let inside : Survives (state g.S.Store (record old { in_transaction = true })) (state g.S.Store last) (λ _. ⊥) = rw c.transaction-tx.ensures.begun at c.write.ensures.survives in
+    let whole = survives_then (state g.S.Store old) (state g.S.Store last) (state g.S.Store c.commit.new.self.0) _ _ P (λ _ db none. absurd none)
+    (λ clean db is. subst P (sym is) (c.in_ok-write.ensures.written writing (omega (arith, c.commit.ensures.survives.clean, clean))).stands) (survives_begin g.S.Store old (state g.S.Store last) _ inside) c.commit.ensures.survives in
+    let same : c.commit.new.self.0 ≡ c.conn-2-1.given.0 = search rules in
+    crash_with (state g.S.Store old) (state g.S.Store c.conn-2-1.given.0) t more holds.2 (subst (λ h. Survives (state g.S.Store old) (state g.S.Store h) P) same whole)
+
+pub returns-clause-crash : goal.returns-clause-crash
+returns-clause-crash g c t holds =
+    let old = c.args.conn.now in
+    let last = c.write.new.tx.conn.now in
+    let more = begun_with c.args.epoch c.args.text.now in
+    let P = λ (db : Trees). StandsFor db more in
+    let writing : IsInWriting (state g.S.Store c.transaction-tx.result.conn.now) = subst (λ h. IsInWriting (state g.S.Store h)) (sym c.transaction-tx.ensures.begun) (λ clean. (refl, (holds.1 clean (holds.0 clean)).settled.schema)) in
+    let inside : Survives (state g.S.Store (record old { in_transaction = true })) (state g.S.Store last) (λ _. ⊥) = rw c.transaction-tx.ensures.begun at c.write.ensures.survives in
+    let whole = survives_then (state g.S.Store old) (state g.S.Store last) (state g.S.Store c.commit.new.self.0) _ _ P (λ _ db none. absurd none)
+    (λ clean db is. subst P (sym is) (c.in_ok-write.ensures.written writing (omega (arith, c.commit.ensures.survives.clean, clean))).stands) (survives_begin g.S.Store old (state g.S.Store last) _ inside) c.commit.ensures.survives in
+    let same : c.commit.new.self.0 ≡ c.conn-2-1.given.0 = search rules in
+    crash_with (state g.S.Store old) (state g.S.Store c.conn-2-1.given.0) t more holds.2 (subst (λ h. Survives (state g.S.Store old) (state g.S.Store h) P) same whole)
+
+pub returns-in_err-commit-clause-kept : goal.returns-in_err-commit-clause-kept
+returns-in_err-commit-clause-kept g c =
+    let old = c.args.conn.now in
+    let last = c.write.new.tx.conn.now in
+    let end = c.commit.new.self.0 in
+    let begun = c.transaction-tx.ensures.begun in
+    let at : (t : Texts) → HoldsIn g.S.Store old t → KeepsIn g.S.Store end t = λ t holds clean now.
+    let late : HasCleanDisk (state g.S.Store last) = omega (arith, c.commit.ensures.survives.clean, clean) in
+    let middle : HasCleanDisk (state g.S.Store c.transaction-tx.result.conn.now) = omega (arith, c.write.ensures.survives.clean, late) in
+    let early : HasCleanDisk (state g.S.Store old) = subst (λ h. HasCleanDisk (state g.S.Store h)) begun middle in
+    let shows = holds.1 early (holds.0 early) in
+    let writing : IsInWriting (state g.S.Store c.transaction-tx.result.conn.now) = subst (λ h. IsInWriting (state g.S.Store h)) (sym begun) (λ _. (refl, shows.settled.schema)) in
+    failed_texts (state g.S.Store old) (state g.S.Store c.transaction-tx.result.conn.now) (state g.S.Store last) (state g.S.Store end) t c.in_err-commit.field-0.0 shows.settled shows.stands
+    (ap (λ h. (state g.S.Store h).is_open) begun) (ap (λ h. (state g.S.Store h).committed) begun) (c.in_ok-write.ensures.keeps writing late) (c.in_ok-write.ensures.written writing late).in_transaction
+    (c.in_err-commit.ensures.err clean) now in
+    let same : end ≡ c.conn-2-1.given.0 = search rules in
+    let kept : (t : Texts) → HoldsIn g.S.Store old t → KeepsIn g.S.Store c.conn-2-1.given.0 t = subst (λ h. (t : Texts) → HoldsIn g.S.Store old t → KeepsIn g.S.Store h t) same at in
+    search (rules, kept)
+
+pub returns-clause-cut : goal.returns-clause-cut
+returns-clause-cut g c t holds =
+    let new = state g.S.Store c.conn-2-1.given.0 in
+    let more = begun_with c.args.epoch c.args.text.now in
+    let both : IsRunning new × IsOf new more = search rules in
+    (both.0, both.1, leaves_held new more (g.met.S.Store.settled c.conn-2-1.given.0.store) both.0 both.1)

@@ -1,0 +1,24 @@
+-- The words of the errors.
+use Rattle.std.specs.Prelude.{◌≢◌, ℕ, List, codes}
+use Rattle.journalstore.specs.declared.error.StoreError.{StoreError}
+use Rattle.journalstore.specs.declared.error.StoreError.TheVariants.{Missing, Unopened, InUse, Foreign, Damaged, Begun, EpochTooLarge, EpochTaken, TextTooLong, Full, Disk, Memory, Shut}
+
+-- what an error says
+abbrev pub said : StoreError → List ℕ
+said Missing = codes "there is no store at this path"
+said Unopened = codes "the file cannot be opened"
+said InUse = codes "the store is in use"
+said Foreign = codes "the file is not a store"
+said Damaged = codes "the store is damaged"
+said Begun = codes "the store has a first map already"
+said EpochTooLarge = codes "the epoch is above 2^63 - 1"
+said EpochTaken = codes "the store has a change with this epoch or a later one"
+said TextTooLong = codes "the text is too long for a store"
+said Full = codes "the disk is full"
+said Disk = codes "the disk failed"
+said Memory = codes "memory is short"
+said Shut = codes "an earlier failure of the disk has shut the store"
+
+-- it comes from a file and what is in it: it is not that there is none, that it is begun, or that an epoch is too large
+abbrev pub IsOfFile : StoreError → Type 0
+IsOfFile e = (e ≢ EpochTooLarge) × (e ≢ Missing) × (e ≢ Begun)

@@ -1,0 +1,5 @@
+pub mod Tables
+pub mod Texts
+pub mod Read
+pub mod Faults
+pub mod Stores

@@ -1,0 +1,117 @@
+//! Why a store does not do what it is asked.
+
+ghost use Rattle.journalstore.specs.Faults.{IsOfFile};
+
+use sqlite::{Error, ErrorCode};
+use std::alloc::{AllocError, AllocFailed};
+use std::fmt;
+use thiserror::Error;
+
+/// Why a store does not do what it is asked.
+#[derive(Clone, Copy, Debug, PartialEq, Eq, Error)]
+pub enum StoreError {
+    /// There is no file, or an empty one.
+    Missing,
+    /// The file cannot be opened: its folder is missing, it is no plain file, or the system refuses it.
+    Unopened,
+    /// Another process or store has the file open.
+    InUse,
+    /// The file is no database, or not one of a store.
+    Foreign,
+    /// The file is damaged.
+    Damaged,
+    /// The file has a first map already.
+    Begun,
+    /// The epoch is above 2^63 - 1, the greatest that a file holds.
+    EpochTooLarge,
+    /// There is a change with this epoch or a later one.
+    EpochTaken,
+    /// The text is too long for a file.
+    TextTooLong,
+    /// The disk is full.
+    Full,
+    /// The disk failed.
+    Disk,
+    /// Memory is short.
+    Memory,
+    /// An earlier failure of the disk has shut the store.
+    Shut,
+}
+
+impl fmt::Display for StoreError {
+    ghost use Rattle.std.specs.Prelude.{Some};
+    ghost use Rattle.journalstore.specs.Faults.{said};
+
+    ghost output = { λ e. Some (said e) };
+
+    fn fmt<W: fmt::Write>(&self, f: &mut fmt::Formatter<W>) -> fmt::Result {
+        f.write_str(match self {
+            StoreError::Missing => "there is no store at this path",
+            StoreError::Unopened => "the file cannot be opened",
+            StoreError::InUse => "the store is in use",
+            StoreError::Foreign => "the file is not a store",
+            StoreError::Damaged => "the store is damaged",
+            StoreError::Begun => "the store has a first map already",
+            StoreError::EpochTooLarge => "the epoch is above 2^63 - 1",
+            StoreError::EpochTaken => "the store has a change with this epoch or a later one",
+            StoreError::TextTooLong => "the text is too long for a store",
+            StoreError::Full => "the disk is full",
+            StoreError::Disk => "the disk failed",
+            StoreError::Memory => "memory is short",
+            StoreError::Shut => "an earlier failure of the disk has shut the store",
+        })
+    }
+}
+
+/// The name of a failure of the database, as it comes from a file whose tables are those of a store.
+fn named(code: ErrorCode) -> StoreError
+    ensures { IsOfFile result }
+{
+    match code {
+        ErrorCode::CannotOpen => StoreError::Unopened,
+        ErrorCode::DatabaseBusy => StoreError::InUse,
+        ErrorCode::NotADatabase => StoreError::Foreign,
+        ErrorCode::ConstraintViolation(_) => StoreError::EpochTaken,
+        ErrorCode::TooBig => StoreError::TextTooLong,
+        ErrorCode::DiskFull => StoreError::Full,
+        ErrorCode::SystemIoFailure => StoreError::Disk,
+        ErrorCode::OutOfMemory => StoreError::Memory,
+        ErrorCode::Closed => StoreError::Shut,
+        _ => StoreError::Damaged,
+    }
+}
+
+impl From<Error> for StoreError {
+    ghost use Rattle.journalstore.specs.Faults.{IsOfFile};
+
+    ghost from_gives = { λ _ e. IsOfFile e };
+
+    fn from(error: Error) -> StoreError {
+        match error {
+            Error::SqliteFailure(code) => named(code),
+            _ => StoreError::Damaged,
+        }
+    }
+}
+
+impl From<AllocError> for StoreError {
+    ghost use Rattle.std.specs.Prelude.{◌≡◌};
+    ghost use Rattle.journalstore.specs.declared.error.StoreError.TheVariants.{Memory};
+
+    ghost from_gives = { λ _ e. e ≡ Memory };
+
+    fn from(_error: AllocError) -> StoreError {
+        StoreError::Memory
+    }
+}
+
+impl<T: Drop> From<AllocFailed<T>> for StoreError {
+    ghost use Rattle.std.specs.Prelude.{◌≡◌};
+    ghost use Rattle.journalstore.specs.declared.error.StoreError.TheVariants.{Memory};
+
+    ghost from_gives = { λ _ e. e ≡ Memory };
+
+    fn from(_error: AllocFailed<T>) -> StoreError {
+        StoreError::Memory
+    }
+}

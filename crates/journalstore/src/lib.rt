@@ -1,0 +1,32 @@
+//! The texts of a journal, kept in a SQLite file: a first map, and the changes since.
+//!
+//! - `opening`, `beginning`, `begun`: how a store is opened, how it is made, and what it then says
+//! - `store`: the store, and its two changes
+//! - `append`, `checkpoint`: how a change is appended, and how a new first map takes the place of the old one
+//! - `reading`: how the texts are read
+//! - `shape`: whether a database has the tables of a store
+//! - `exclusive`: a value that only its owner reaches
+//! - `error`: why a store does not do what it is asked
+//! - `tests`: a store that is begun, changed, cut and opened again, by an example
+#![tactic(auto)]
+
+mod append;
+mod beginning;
+mod begun;
+mod checkpoint;
+mod error;
+mod exclusive;
+mod opening;
+mod reading;
+mod shape;
+mod store;
+#[cfg(test)]
+mod tests;
+
+pub use append::LAST_EPOCH;
+pub use beginning::begin;
+pub use begun::is_begun;
+pub use error::StoreError;
+pub use opening::{FileTexts, open};
+pub use reading::{StoredText, StoredTexts};
+pub use store::TextStore;

@@ -1,0 +1,75 @@
+//! The store of a journal's texts.
+
+ghost use Rattle.std.specs.Prelude.{◌≡◌, ◌⊎◌, ◌≤◌, ◌^◌, IfErr, OnOk, OnErr, Err};
+ghost use Rattle.sqlite.specs.State.{HasCleanDisk};
+ghost use Rattle.sqlite.specs.Held.{state};
+ghost use Rattle.journalstore.specs.declared.error.StoreError.TheVariants.{EpochTooLarge};
+ghost use Rattle.journalstore.specs.Texts.{begun_with, with_change, IsAfter, StandsFor};
+ghost use Rattle.journalstore.specs.Stores.{Holds, Leaves, Keeps};
+
+use crate::append::append;
+use crate::checkpoint::checkpoint;
+use crate::error::StoreError;
+use crate::exclusive::Exclusive;
+use sqlite::{Alter, Connection, File, FileStore};
+use std::alloc::Global;
+
+/// The texts of a journal in a database: a first map, and the changes since.
+#[derive(Drop)]
+pub struct TextStore<S: Alter> {
+    pub(crate) conn: Exclusive<Connection<S>>,
+}
+
+impl<S: Alter> TextStore<S> {
+    /// Appends a change, with one sync of the disk. After `Ok` each crash leaves it. After an error the store holds
+    /// what it did before, unless a failure of the disk has shut it. Whatever a crash leaves holds the texts from
+    /// before, or those with the change.
+    ///
+    /// The clauses speak of an epoch above those of all changes; any other is the caller's fault.
+    ///
+    /// # Errors
+    ///
+    /// `EpochTooLarge` if the epoch is above 2^63 - 1, and then nothing is changed; `EpochTaken` if there is a change
+    /// with it; else the disk's, `TextTooLong`, `Memory` or `Shut`.
+    pub fn append(&mut self, epoch: u64, change: &str) -> Result<(), StoreError>
+        ensures appends { OnOk result ((t : _) → Holds S.Store self.old t → IsAfter t epoch
+            → Holds S.Store self.new (with_change t (epoch, change.now))) }
+        ensures kept { OnErr result ((t : _) → Holds S.Store self.old t → Keeps S.Store self.new t) }
+        ensures crash { (t : _) → Holds S.Store self.old t → IsAfter t epoch → Leaves S.Store self.new
+            (λ db. StandsFor db t ⊎ StandsFor db (with_change t (epoch, change.now))) }
+        ensures only { IfErr result (λ e. e ≡ EpochTooLarge → 2 ^ 63 ≤ epoch) }
+        ensures refused { 2 ^ 63 ≤ epoch → (result ≡ Err EpochTooLarge) × (self.new ≡ self.old) }
+    {
+        let conn = &mut self.conn;
+        append(&mut conn.value, epoch, change)
+    }
+
+    /// Makes a text of this epoch the first map, and takes the old one and the changes up to the epoch away, in one
+    /// transaction. After an error the store holds what it did before, unless a failure of the disk has shut it.
+    /// Whatever a crash leaves holds the texts from before, or the new first map alone.
+    ///
+    /// # Errors
+    ///
+    /// `EpochTooLarge` if the epoch is above 2^63 - 1, and then nothing is changed; `EpochTaken` if there is a change
+    /// with a later epoch; else the disk's, `TextTooLong`, `Memory` or `Shut`.
+    pub fn checkpoint(&mut self, alloc: Global, epoch: u64, text: &str) -> Result<(), StoreError>
+        ensures cut { OnOk result ((t : _) → Holds S.Store self.old t
+            → Holds S.Store self.new (begun_with epoch text.now)) }
+        ensures kept { OnErr result ((t : _) → Holds S.Store self.old t → Keeps S.Store self.new t) }
+        ensures crash { (t : _) → Holds S.Store self.old t → Leaves S.Store self.new
+            (λ db. StandsFor db t ⊎ StandsFor db (begun_with epoch text.now)) }
+        ensures clean { HasCleanDisk (state S.Store self.new.conn) → HasCleanDisk (state S.Store self.old.conn) }
+        ensures only { IfErr result (λ e. e ≡ EpochTooLarge → 2 ^ 63 ≤ epoch) }
+        ensures refused { 2 ^ 63 ≤ epoch → (result ≡ Err EpochTooLarge) × (self.new ≡ self.old) }
+    {
+        let conn = &mut self.conn;
+        checkpoint(alloc, &mut conn.value, epoch, text)
+    }
+}
+
+fn needs_sync<T: Send + Sync>(_value: &T) {}
+
+/// Threads may share a store in a file.
+pub fn may_be_shared(store: &TextStore<FileStore<File>>) {
+    needs_sync(store);
+}

@@ -1,0 +1,58 @@
+-- Journals whose texts state them are the same where their texts are.
+use Rattle.std.specs.Prelude.{◌≡◌, ◌-◌, ◌++◌, ◌==◌, ℕ, List, [], ◌∷◌, map, Ok, refl, drop, if◌then◌else◌}
+use Rattle.std.proofs.Common.{◌∙◌, sym, ap, subst}
+use Rattle.mapparts.specs.declared.profile.Profile.{Profile}
+use Rattle.mapparts.specs.declared.profile.Profile.TheVariants.{Plain, Stock}
+use Rattle.maptypes.specs.declared.change.ChangeParts.{ChangeParts}
+use Rattle.maptypes.specs.Incrementals.{Step}
+use Rattle.jsonstream.specs.Json.{stated_by}
+use Rattle.partjson.specs.StatedChanges.{stated_change}
+use Rattle.mapjson.specs.WrittenChanges.{written_change}
+use Rattle.mapjson.specs.PartsOfChange.{change_parts}
+use Rattle.mapjson.proofs.OneText.{one_each, one_map, one_change}
+use Rattle.keeping.specs.Journals.{Journal}
+use Rattle.journalstore.specs.Texts.{Entry, Texts}
+use Rattle.mapstore.specs.JournalTexts.{word_of, change_text, row_text, step_entry, journal_texts, IsTextedStep, IsTexted}
+
+-- the profile whose word a text begins with
+profile_in : List ℕ → Profile
+profile_in [] = Stock
+profile_in (code ∷ codes) = if code == 112 then Plain else Stock
+
+begins_with : (p : Profile) (xs : List ℕ) → profile_in (word_of p ++ xs) ≡ p
+unfolding profile_in
+begins_with Plain xs = refl
+begins_with Stock xs = refl
+
+-- what is behind the word
+pub stands_behind : (p : Profile) (xs : List ℕ) → drop 6 (word_of p ++ xs) ≡ xs
+stands_behind Plain xs = refl
+stands_behind Stock xs = refl
+
+-- what is written of a change with this base states it
+abbrev StatesItself : ℕ → ChangeParts → Type 0
+StatesItself base c = stated_by stated_change (written_change base c) ≡ Ok (change_parts base c)
+
+-- incrementals with one row are one
+one_step : (s t : Step) → IsTextedStep s → IsTextedStep t → step_entry s ≡ step_entry t → s ≡ t
+one_step s t first second e =
+    let epoch : s.epoch ≡ t.epoch = ap (λ (r : Entry). r.0) e in
+    let text : row_text s ≡ row_text t = ap (λ (r : Entry). r.1) e in
+    let begins = ap profile_in text ∙ begins_with t.change.profile (change_text t) in
+    let profile = sym (begins_with s.change.profile (change_text s)) ∙ begins in
+    let rest = ap (drop 6) text ∙ stands_behind t.change.profile (change_text t) in
+    let behind = sym (stands_behind s.change.profile (change_text s)) ∙ rest in
+    let same = behind ∙ ap (λ n. written_change (n - 1) t.change) (sym epoch) in
+    let also = subst (λ n. StatesItself (n - 1) t.change) (sym epoch) second in
+    let change = one_change (s.epoch - 1) s.change t.change profile first also same in
+    λ i. record { epoch = epoch i; change = change i }
+
+pub one_journal : (j k : Journal) → IsTexted j → IsTexted k → journal_texts j ≡ journal_texts k → j ≡ k
+one_journal j k first second e =
+    let text = ap (λ (t : Texts). t.first.1) e in
+    let changes = ap (λ (t : Texts). t.changes) e in
+    let held = first.first in
+    let also = second.first in
+    let map = one_map j.first k.first held.holds also.holds held.states also.states text in
+    let steps = one_each step_entry IsTextedStep one_step j.steps k.steps first.steps second.steps changes in
+    λ i. record { first = map i; steps = steps i }

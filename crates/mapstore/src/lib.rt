@@ -1,0 +1,22 @@
+//! The store of a monitor's journal, which outlives the process: a first map and the changes since, as texts in a file.
+//!
+//! - `row`, `first`: the text of an incremental, and of a first map
+//! - `store`: the store
+//! - `found`: the map that the texts of a store stand for
+//! - `opening`: how a store is begun and opened
+//! - `error`: why it is not
+//! - `tests`: a store that is opened again, by an example
+#![tactic(auto)]
+
+mod error;
+mod first;
+mod found;
+mod opening;
+mod row;
+mod store;
+#[cfg(test)]
+mod tests;
+
+pub use error::OpenError;
+pub use opening::{FileMaps, adopt, begin, open};
+pub use store::MapStore;

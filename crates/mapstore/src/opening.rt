@@ -1,0 +1,141 @@
+//! How a store is begun and opened.
+
+ghost use Rattle.std.specs.Prelude.{◌≡◌, ◌<◌, [], IfOk, IfErr, OnOk, IsErrAnd};
+ghost use Rattle.sqlite.specs.State.{HasCleanDisk};
+ghost use Rattle.sqlite.specs.Held.{state};
+ghost use Rattle.sqlite.specs.Files.{file_state, over_files, HoldsDatabase};
+ghost use Rattle.sqlite.specs.WalFiles.{image_at};
+ghost use Rattle.mapparts.specs.Limits.{max_first_epoch};
+ghost use Rattle.journalstore.specs.Texts.{Texts, StandsFor, begun_with};
+ghost use Rattle.journalstore.specs.Read.{texts_read};
+ghost use Rattle.journalstore.specs.Stores.{Holds};
+ghost use Rattle.mapstore.specs.declared.error.OpenError.TheVariants.{LateEpoch};
+ghost use Rattle.mapstore.specs.JournalTexts.{IsTextedMap, begun};
+ghost use Rattle.mapstore.specs.Stores.{HoldsJournal};
+ghost use Rattle.mapstore.specs.Openings.{IsMapOf, IsUnopened};
+ghost use Rattle.mapjson.specs.Written.{written};
+
+use crate::error::OpenError;
+use crate::first::write_first;
+use crate::found::find_map;
+use crate::store::MapStore;
+use journalstore::{StoreError, StoredTexts, TextStore, is_begun};
+use mapparts::limits::MAX_FIRST_EPOCH;
+use osdmap::OsdMap;
+use sqlite::{Alter, FileFrom, FileStore, Start};
+use std::alloc::Global;
+
+/// A store in files that held what `W` says.
+pub type FileMaps<W> = MapStore<FileStore<FileFrom<W>>>;
+
+/// Whether a first map may have this epoch.
+fn check_epoch(map: &OsdMap) -> Result<(), OpenError>
+    ensures { IfErr result (λ e. (e ≡ LateEpoch map.now.map.epoch) × (max_first_epoch < map.now.map.epoch)) }
+{
+    if i128::from(map.epoch()) > MAX_FIRST_EPOCH {
+        Err(OpenError::LateEpoch(map.epoch()))
+    } else {
+        Ok(())
+    }
+}
+
+/// Makes a text the first map, unless the texts that were found begin with it and have no change.
+fn settle<S: Alter>(
+    alloc: Global,
+    store: &mut TextStore<S>,
+    found: &StoredTexts,
+    epoch: u64,
+    text: &str,
+) -> Result<(), StoreError>
+    requires { Holds S.Store store.old (texts_read found.now) }
+    ensures holds { OnOk result (Holds S.Store store.new (begun_with epoch text.now)) }
+    ensures clean { HasCleanDisk (state S.Store store.new.conn) → HasCleanDisk (state S.Store store.old.conn) }
+{
+    if is_begun(found, epoch, text) {
+        return Ok(());
+    }
+    store.checkpoint(alloc, epoch, text)?;
+    Ok(())
+}
+
+/// The store of a map and no change, whose text is the first of these texts.
+fn hold_first<S: Alter>(alloc: Global, texts: TextStore<S>, map: &OsdMap) -> MapStore<S>
+    requires texted { IsTextedMap map.now.map }
+    requires holds { Holds S.Store texts (begun_with map.now.map.epoch (written map.now.map)) }
+    ensures holds { HoldsJournal S.Store result (begun map.now.map) }
+    ensures same { result.texts ≡ texts }
+{
+    MapStore {
+        texts,
+        last: map.epoch(),
+        alloc,
+    }
+}
+
+/// The store over an open one, in which these texts were found, with the map that they stand for as the first one and
+/// no change.
+///
+/// # Errors
+///
+/// `NoProfile` with the first epoch whose text begins with none; else `Journal` where the texts stand for no map; else
+/// `LateEpoch` if the map's epoch is above 2,147,483,648; or `Store` with what a checkpoint refuses, or with `Memory`.
+pub fn adopt<S: Alter + Drop>(
+    alloc: Global,
+    texts: TextStore<S>,
+    found: &StoredTexts,
+) -> Result<(MapStore<S>, OsdMap), OpenError>
+    requires { Holds S.Store texts (texts_read found.now) }
+    ensures holds { IfOk result (λ r. HoldsJournal S.Store r.0 (begun r.1.map)) }
+    ensures map { IfOk result (λ r. IsMapOf (texts_read found.now) r.1.map) }
+    ensures clean { IfOk result (λ r. HasCleanDisk (state S.Store r.0.texts.conn)
+        → HasCleanDisk (state S.Store texts.conn)) }
+    ensures unopened { IfErr result (IsUnopened (texts_read found.now)) }
+{
+    let map = find_map(alloc, found)?;
+    check_epoch(&map)?;
+    let text = write_first(alloc, &map)?;
+    let mut texts = texts;
+    settle(alloc, &mut texts, found, map.epoch(), text.as_str())?;
+    Ok((hold_first(alloc, texts, &map), map))
+}
+
+/// Makes a store with this first map and no change, where there is no file, an empty one, or a database with no table.
+///
+/// # Errors
+///
+/// `LateEpoch` if the map's epoch is above 2,147,483,648, and then nothing is written; `Store` with what
+/// [`journalstore::begin`] refuses, `Begun` where there is a store, or with `Memory`.
+pub fn begin<W: Start>(
+    rt: &HostRuntime,
+    path: &str,
+    start: W,
+    map: &OsdMap,
+) -> Result<FileMaps<W>, OpenError>
+    ensures holds { IfOk result (λ store. HoldsJournal over_files store (begun map.now.map)) }
+{
+    check_epoch(map)?;
+    let text = write_first(rt.alloc(), map)?;
+    let texts = journalstore::begin(rt, path, start, map.epoch(), text.as_str())?;
+    Ok(hold_first(rt.alloc(), texts, map))
+}
+
+/// Opens a store: the map that its texts stand for, which is then its first map, with no change. So it writes a
+/// checkpoint where there are changes.
+///
+/// # Errors
+///
+/// `Store` with what [`journalstore::open`] refuses, `Missing` where there is no file, or with what a checkpoint does;
+/// `NoProfile` with the first epoch whose text begins with none; `Journal` where the texts stand for no map;
+/// `LateEpoch` if the map's epoch is above 2,147,483,648.
+pub fn open<W: Start>(
+    rt: &HostRuntime,
+    path: &str,
+    start: W,
+) -> Result<(FileMaps<W>, OsdMap), OpenError>
+    ensures holds { IfOk result (λ r. HoldsJournal over_files r.0 (begun r.1.map)) }
+    ensures found { IfOk result (λ r. (db : _) (t : Texts) → HasCleanDisk (file_state r.0.texts.conn)
+        → HoldsDatabase (image_at W.Start) db → StandsFor db t → IsMapOf t r.1.map) }
+{
+    let (texts, found) = journalstore::open(rt, path, start)?;
+    adopt(rt.alloc(), texts, &found)
+}

@@ -1,0 +1,137 @@
+-- What the texts of a monitor's journal stand for.
+use Rattle.std.proofs.Common.{◌≡◌, ◌≢◌, ◌∙◌, ◌⊎◌, inl, inr, ℕ, zero, suc, ◌+◌, ◌-◌, ◌^◌, ◌<◌, ◌==◌, ◌&&◌, ◌++◌, Bool, true, List, [], ◌∷◌, map, drop, Option, Some, None, if◌then◌else◌, refl, sym, ap, subst, arith}
+use Rattle.std.specs.List.{All, AllZip, Contains}
+use Rattle.std.proofs.lemmas.Bool.Decides.{nat_tests}
+use Rattle.std.proofs.lemmas.List.Elements.{All-head, All-tail}
+use Rattle.refusal.specs.declared.refused.Refusal.{Refusal}
+use Rattle.refusal.specs.declared.refused.Refusal.TheVariants.{Memory as OutOfMemory}
+use Rattle.mapparts.specs.declared.profile.Profile.TheVariants.{Stock}
+use Rattle.maptypes.specs.declared.change.ChangeParts.{ChangeParts}
+use Rattle.maptypes.specs.Incrementals.{Step}
+use Rattle.osdmap.specs.Maps.{ClusterMap}
+use Rattle.osdmap.specs.Changes.{change_fault, apply, after, IsLawful}
+use Rattle.mapjson.specs.Written.{written}
+use Rattle.mapjson.specs.WrittenChanges.{written_change}
+use Rattle.mapjson.specs.ChangeTexts.{change_text_fault, StatesChange}
+use Rattle.replay.specs.declared.row.Row.{Row}
+use Rattle.replay.specs.declared.fault.Fault.TheVariants as fault
+use Rattle.replay.specs.Replays.{step_fault, MakesStep, IsRefused, StandFor}
+use Rattle.map_laws.specs.TextLaws.{IsTextOf}
+use Rattle.map_laws.specs.ChangeLaws.{IsTextOfChange, as_stock, IsJournalReadBack}
+use Rattle.keeping.specs.Journals.{Journal}
+use Rattle.journalstore.specs.Texts.{Entry}
+use Rattle.mapstore.specs.declared.error.OpenError.{OpenError}
+use Rattle.mapstore.specs.declared.error.OpenError.TheVariants.{Store, Journal as NoJournal, NoProfile, LateEpoch}
+use Rattle.mapstore.specs.JournalTexts.{change_text, row_text, step_entry, journal_texts}
+use Rattle.mapstore.specs.OneJournal.{stands_behind}
+use Rattle.mapstore.specs.Openings.{IsRow, IsWordless, IsMapOf, IsUnopened}
+use Rattle.mapstore_laws.specs.OpeningLaws.{IsOfMonitor, MayRefuse, IsOpenedBack}
+
+-- ---- one row
+
+-- the text of an incremental states it as a change of the stock profile, and nothing else
+abbrev IsStockText : Step → Type 0
+IsStockText step = (base : ℕ) → base < 2 ^ 64 → IsTextOfChange (written_change base step.change) base (as_stock step).change
+
+abbrev IsWord : Step → Type 0
+IsWord step = step.epoch < 2 ^ 64
+
+module _ (step : Step) (row : Row) (back : IsStockText step) (word : IsWord step) (is : IsRow (step_entry step) row) where
+  -- the row has the change of the incremental as its text
+  text_is : row.text.items ≡ change_text step
+  text_is = sym (stands_behind is.profile row.text.items) ∙ ap (drop 6) (sym is.text) ∙ stands_behind step.change.profile (change_text step)
+
+  own : IsTextOfChange (change_text step) (step.epoch - 1) (as_stock step).change
+  own = back (step.epoch - 1) (omega (arith, word))
+
+  -- and states it alone
+  states_alone : (base : ℕ) (change : ChangeParts) → StatesChange Stock row.text.items (base, change) → ◌≡◌ {A = ℕ × ChangeParts} (base, change) (step.epoch - 1, (as_stock step).change)
+  states_alone base change states = own.alone (base, change) (subst (λ text. StatesChange Stock text (base, change)) text_is states)
+
+  -- what the row makes of a map is the incremental, of the stock profile
+  makes_it : (m : ClusterMap) (made : Step) → MakesStep Stock m row made → made ≡ as_stock step
+  makes_it m made makes =
+      let epoch = makes.epoch ∙ is.epoch in
+      let change = ap (λ (p : ℕ × ChangeParts). p.1) (states_alone makes.base made.change makes.states) in
+      λ i. record { epoch = epoch i; change = change i }
+
+  -- no map refuses it where it is lawful
+  never_wrong : (m : ClusterMap) → step.epoch ≡ m.epoch + 1 → change_fault m (as_stock step).change ≡ None → step_fault m row.epoch (step.epoch - 1) (as_stock step).change ≡ None
+  never_wrong m next lawful =
+      let tests : (step.epoch - 1 == m.epoch && row.epoch == m.epoch + 1) ≡ true = grind (arith, nat_tests, next, is.epoch) in
+      rw tests lawful
+
+  not_refused : (m : ClusterMap) (e : Refusal) → step.epoch ≡ m.epoch + 1 → change_fault m (as_stock step).change ≡ None → IsRefused Stock m row e → e ≡ OutOfMemory
+  not_refused m e next lawful (inl short) = short
+  not_refused m e next lawful (inr (inl wrong)) =
+      let none : None ≡ Some e = sym own.faultless ∙ ap (change_text_fault Stock) (sym text_is) ∙ wrong in absurd (cc)
+  not_refused m e next lawful (inr (inr (base, change, states, wrong))) =
+      let is_it = states_alone base change states in
+      let none : None ≡ Some e = sym (never_wrong m next lawful) ∙ ap (λ (p : ℕ × ChangeParts). step_fault m row.epoch p.0 p.1) (sym is_it) ∙ wrong in
+      absurd (cc)
+
+-- ---- all rows
+
+-- what rows make are the incrementals, of the stock profile
+make_them : (m : ClusterMap) (steps : List Step) (rows : List Row) (made : List Step) → All IsStockText steps → All IsWord steps → AllZip IsRow (map step_entry steps) rows → StandFor Stock m rows made
+    → made ≡ map as_stock steps
+unfolding StandFor
+make_them m [] [] [] back words are stand = refl
+make_them m [] [] (x ∷ xs) back words are stand = absurd stand
+make_them m [] (r ∷ rows) made back words are stand = absurd are
+make_them m (s ∷ ss) [] made back words are stand = absurd are
+make_them m (s ∷ ss) (r ∷ rows) [] back words are stand = absurd stand
+make_them m (s ∷ ss) (r ∷ rows) (x ∷ xs) back words are stand =
+    let here = makes_it s r (All-head IsStockText s ss back) (All-head IsWord s ss words) are.0 m x stand.0 in
+    let rest = make_them (apply m x) ss rows xs (All-tail IsStockText s ss back) (All-tail IsWord s ss words) are.1 stand.1 in
+    λ i. here i ∷ rest i
+
+-- and none of them is refused
+none_broken : (m : ClusterMap) (steps : List Step) (whole : List Row) (row : Row) (others : List Row) (made : List Step) (e : Refusal) → All IsStockText steps → All IsWord steps
+    → IsLawful m (map as_stock steps) → AllZip IsRow (map step_entry steps) (whole ++ row ∷ others) → StandFor Stock m whole made → IsRefused Stock (after m made) row e → e ≡ OutOfMemory
+unfolding StandFor IsLawful
+none_broken m [] [] row others made e back words lawful are stand refused = absurd are
+none_broken m [] (w ∷ whole) row others made e back words lawful are stand refused = absurd are
+none_broken m (s ∷ ss) [] row others (x ∷ xs) e back words lawful are stand refused = absurd stand
+none_broken m (s ∷ ss) [] row others [] e back words lawful are stand refused =
+    not_refused s row (All-head IsStockText s ss back) (All-head IsWord s ss words) are.0 m e lawful.0 lawful.1 refused
+none_broken m (s ∷ ss) (w ∷ whole) row others [] e back words lawful are stand refused = absurd stand
+none_broken m (s ∷ ss) (w ∷ whole) row others (x ∷ xs) e back words lawful are stand refused =
+    let here = makes_it s w (All-head IsStockText s ss back) (All-head IsWord s ss words) are.0 m x stand.0 in
+    let rest = subst (λ t. IsLawful (apply m t) (map as_stock ss)) (sym here) lawful.2 in
+    none_broken (apply m x) ss whole row others xs e (All-tail IsStockText s ss back) (All-tail IsWord s ss words) rest are.1 stand.1 refused
+
+-- each row begins with a word
+word_there : (steps : List Step) (entry : Entry) → Contains (map step_entry steps) entry → (step : Step) × (step_entry step ≡ entry)
+word_there [] entry (i, within, is) = absurd (omega (arith, within))
+word_there (s ∷ ss) entry (zero, within, is) = (s, is)
+word_there (s ∷ ss) entry (suc i, within, is) = word_there ss entry (i, omega (arith, within), is)
+
+-- ---- the journal
+
+module _ (j : Journal) (of : IsOfMonitor j) (first : IsTextOf (written j.first) j.first) (back : IsJournalReadBack j.first j.steps) where
+  map_is : (m : ClusterMap) → IsMapOf (journal_texts j) m → m ≡ after j.first j.steps
+  map_is m stands =
+      let (begins, states, made, stand, is) = stands.stands in
+      let begin : begins ≡ j.first = first.alone begins states in
+      let them = make_them begins j.steps stands.rows made back.each of.numbers stands.are stand in
+      is ∙ ap (λ xs. after begins xs) them ∙ ap (λ n. after n (map as_stock j.steps)) begin ∙ back.leads
+
+  refused_by : (e : OpenError) → IsUnopened (journal_texts j) e → MayRefuse j e
+  refused_by (Store e) unopened = tt
+  refused_by (NoJournal (fault.First e)) unopened = elim unopened.stands [
+    | inl short ↦ short
+    | inr wrong ↦ let none : None ≡ Some e = sym first.faultless ∙ wrong in absurd (cc)
+  ]
+  refused_by (NoJournal (fault.Row epoch e)) unopened =
+      let (begins, states, (whole, row, others, made, rows, stand, number, refused)) = unopened.stands in
+      let begin : begins ≡ j.first = first.alone begins states in
+      let lawful = subst (λ n. IsLawful n (map as_stock j.steps)) (sym begin) back.lawful in
+      none_broken begins j.steps whole row others made e back.each of.numbers lawful (subst (AllZip IsRow (map step_entry j.steps)) rows unopened.are) stand refused
+  refused_by (NoProfile epoch) (text, there, none) =
+      let (step, is) = word_there j.steps (epoch, text) there in
+      none step.change.profile (change_text step) (ap (λ (e : Entry). e.1) (sym is))
+  refused_by (LateEpoch epoch) (m, stands, is, late) = (ap (λ (n : ClusterMap). n.epoch) (sym (map_is m stands)) ∙ is, late)
+
+  pub opened_back : IsOpenedBack j
+  opened_back = record { map = map_is; refused = refused_by }
