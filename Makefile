@@ -2,6 +2,8 @@
 # also Python 3.
 EXAMPLE = $(CURDIR)/examples
 PROGRAM = $(CURDIR)/crates/osdmapd/out/osdmapd
+# The program over a store. Where it is not built, its tests are told as NOT RUN.
+STORE = $(CURDIR)/crates/osdmapstore/out/osdmapstore
 # The map and the script that `try` and `run` answer, by their paths from here; the script may be /dev/stdin.
 MAP = $(EXAMPLE)/map.json
 SCRIPT = $(EXAMPLE)/script.txt
@@ -10,7 +12,7 @@ CPU =
 # Another build of the program, which `bench` puts beside this one, and the folder in which it keeps its tables (empty: in none).
 OTHER =
 RESULTS = $(CURDIR)/bench/results
-BENCHES = placements tables steps sessions live balancer reading cliffs tools wide whole_cluster
+BENCHES = placements tables steps sessions live store balancer reading cliffs tools wide whole_cluster
 
 .PHONY: help try prove run test gate runs bench
 
@@ -46,13 +48,13 @@ gate:
 	@bash .ci/gate
 
 runs:
-	@python3 tests/run.py $(PROGRAM)
+	@python3 tests/run.py $(PROGRAM) $(STORE)
 
 # What is there is measured; where there is no program yet, it is proved and built first. A table that cannot be made does not end the rest.
 bench:
 	@test -x $(PROGRAM) || $(MAKE) prove
 	@python3 bench/machine.py
-	@export RESULTS='$(RESULTS)'; failed=; for name in $(BENCHES); do \
+	@export RESULTS='$(RESULTS)' OSDMAPSTORE='$(STORE)'; failed=; for name in $(BENCHES); do \
 		python3 bench/$$name.py $(PROGRAM) || { printf '\nbench/%s.py has not come to its end.\n' $$name; failed=1; }; \
 	done; \
 	$(if $(OTHER),python3 bench/beside.py $(PROGRAM) '$(OTHER)' || failed=1;) \

@@ -64,6 +64,8 @@ class Case(unittest.TestCase):
     is_alone = False
     # Whether ROW chooses rows of the tests.
     has_rows = False
+    # The variables that name the programs which are tested.
+    PROGRAMS: tuple[str, ...] = ("OSDMAPD",)
 
     def __init_subclass__(cls) -> None:
         for name, test in list(vars(cls).items()):
@@ -77,7 +79,7 @@ class Case(unittest.TestCase):
 
     def alone(self, row: str | None = None) -> str:
         """The command that runs this test alone, or one row of it."""
-        given = {"OSDMAPD": os.environ.get("OSDMAPD"), "ROW": row}
+        given = {**{name: os.environ.get(name) for name in self.PROGRAMS}, "ROW": row}
         words = [f"{name}={shlex.quote(value)}" for name, value in given.items() if value]
         return " ".join(["alone:", *words, "python3 -m unittest", self.id()])
 

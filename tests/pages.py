@@ -16,6 +16,7 @@ OPTIONS_OF_OTHERS = {
     "--anew",
     "--format",
     "--jobs",
+    "--long",
     "--only",
     "--strict",
     "--table",

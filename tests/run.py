@@ -1,8 +1,9 @@
 #!/usr/bin/env python3
 """Runs all tests of this folder over the built program, as `make runs` does.
 
-    tests/run.py [--total] [--table NAME] [--only TEXT] PROGRAM
+    tests/run.py [--total] [--table NAME] [--only TEXT] [--long] PROGRAM [STORE]
 
+PROGRAM is `osdmapd`, and STORE `osdmapstore`, whose tests are told as NOT RUN where it is not there.
 A line is put out for each table and for each other module of tests: how many runs it had, how many passed and how many
 were not run, and how long they took. A run is a row of a test, or a test without rows. What is being run is told on
 standard error meanwhile. The tests of the tools are run four at a time. Behind them come, one by one, those that fill
@@ -185,6 +186,8 @@ def main() -> int:
     """Runs what the command line chooses; the status."""
     parser = argparse.ArgumentParser(description=__doc__, formatter_class=argparse.RawDescriptionHelpFormatter)
     parser.add_argument("program", type=pathlib.Path)
+    parser.add_argument("store", nargs="?", type=pathlib.Path, help="the program over a store")
+    parser.add_argument("--long", action="store_true", help="also the tests that take minutes")
     parser.add_argument("--total", action="store_true", help="end with a line 'N passed, M failed'")
     parser.add_argument("--only", default="", help="only tests and rows whose name has this text")
     parser.add_argument("--table", action="append", help="only this table or module")
@@ -193,6 +196,10 @@ def main() -> int:
     if not os.access(options.program, os.X_OK):
         parser.error(f"there is no program at {options.program}: `make run` proves and builds it")
     os.environ["OSDMAPD"] = str(options.program.resolve())
+    if options.store:
+        os.environ["OSDMAPSTORE"] = str(options.store.resolve())
+    if options.long:
+        os.environ["LONG"] = "1"
     found: Any = [*cases_of(unittest.defaultTestLoader.discover(str(TOP / "tests"), "*.py", str(TOP)))]
     unknown = set(options.table or ()) - {group_of(test.id()) for test in found}
     if unknown:

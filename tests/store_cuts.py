@@ -1,0 +1,141 @@
+"""Cuts of the power: the calls that the program makes on a store's file and on its log are noted (refuse_write.c), and
+what a cut may leave of them is opened.
+
+A cut comes behind any of the calls. What was synced is on the disk. Of what was written since, a cut leaves all, nothing,
+the last call alone, or any sectors; and past the old end of a file any bytes. Each change that was answered by then is in
+what is left, and at most one more; the map is that of `osdmapd`. Where the store is begun it may be none yet, and is then
+begun.
+"""
+
+import dataclasses
+import pathlib
+import random
+import tempfile
+from collections.abc import Iterator
+from concurrent.futures import ThreadPoolExecutor
+
+from tests.cases import EXAMPLE
+from tests.runs import AT_ONCE
+from tests.store_failures import Call, Talk, calls_in, change_at, refuser
+from tests.stores import Done, StoreCase, log_of
+
+SECTOR, CHANGES, AGAIN = 512, 8, 4
+WAYS = ("nothing", "all", "the last", "sectors", "other sectors", "garbage")
+
+
+@dataclasses.dataclass
+class Kept:
+    """A file: what is on the disk for sure, and the calls since."""
+
+    synced: bytes = b""
+    since: list[Call] = dataclasses.field(default_factory=list)
+
+    def take(self, call: Call) -> None:
+        """Takes a call in."""
+        if call.kind == "s":
+            self.synced, self.since = self.left("all", random.Random(0)), []
+        else:
+            self.since.append(call)
+
+    def left(self, way: str, rng: random.Random) -> bytes:
+        """What a cut leaves."""
+        content, calls = bytearray(self.synced), self.since
+        if way == "nothing":
+            return self.synced
+        for call in calls[-1:] if way == "the last" else calls:
+            if call.kind == "c":
+                if way == "all" or rng.random() < 0.5:
+                    del content[call.at :]
+                    content.extend(bytes(call.at - len(content)))
+                continue
+            for at in range(0, len(call.data), SECTOR):
+                if "sectors" not in way or rng.random() < 0.5:
+                    put(content, call.at + at, call.data[at : at + SECTOR])
+        if way == "garbage" and len(content) > len(self.synced):
+            content[len(self.synced) :] = rng.randbytes(len(content) - len(self.synced))
+        return bytes(content)
+
+
+def put(content: bytearray, at: int, data: bytes) -> None:
+    """Writes bytes at a place, behind zeros where that is past the end."""
+    content.extend(bytes(max(0, at - len(content))))
+    content[at : at + len(data)] = data
+
+
+@dataclasses.dataclass(frozen=True)
+class Cut:
+    """What a cut leaves: the two files, and how many changes were answered before; None where nothing was told."""
+
+    name: str
+    file: bytes
+    log: bytes
+    answered: int | None
+
+
+class StoreCuts(StoreCase):
+    """What is left when the power is cut."""
+
+    is_alone = True
+
+    def noted(self, words: list[object], first: int, count: int) -> tuple[list[Call], list[int]]:
+        """The calls of a run that makes changes from an epoch on, and how many calls were made when the epoch was told
+        and when each change was answered."""
+        path = self.folder / "noted"
+        path.unlink(missing_ok=True)
+        given = {"LD_PRELOAD": str(refuser(self.folder)), "REFUSE_PATH": str(self.store), "NOTED": str(path)}
+        talk, ends = Talk(words, given), list[int]()
+        for epoch in range(first, first + count):
+            ends.append(len([*calls_in(path.read_bytes())]))
+            self.assertStarts(talk.ask(change_at(epoch)) or "", "ok ")
+            talk.ask("up 1.0")
+        ends.append(len([*calls_in(path.read_bytes())]))
+        self.assertEqual(talk.end().done, Done(0, "", ""))
+        return [*calls_in(path.read_bytes())], ends
+
+    def cuts(self, calls: list[Call], ends: list[int], before: dict[str, bytes], made: int) -> Iterator[Cut]:
+        """What cuts behind each of the calls leave of the files that were there before."""
+        files = {name: Kept(before.get(name, b"")) for name in (self.store.name, log_of(self.store).name)}
+        for number in range(len(calls) + 1):
+            answered = sum(end <= number for end in ends) - 1
+            seen = set[tuple[bytes, bytes]]()
+            for way in WAYS:
+                rng = random.Random(f"{number}, {way}")
+                file, log = [kept.left(way, rng) for kept in files.values()]
+                if (file, log) not in seen:
+                    seen.add((file, log))
+                    is_told = made > 0 or answered >= 0
+                    yield Cut(f"call {number}, {way}", file, log, made + max(answered, 0) if is_told else None)
+            if number < len(calls) and calls[number].name in files:
+                files[calls[number].name].take(calls[number])
+
+    def fault(self, cut: Cut) -> str | None:
+        """What is wrong with opening what a cut has left, or None."""
+        with tempfile.TemporaryDirectory(dir=self.folder) as name:
+            store = pathlib.Path(name) / "store"
+            store.write_bytes(cut.file)
+            log_of(store).write_bytes(cut.log)
+            done = self.ran(store, "-", text="dump\n")
+            if cut.answered is None and done.status == 5:
+                done = self.ran("--begin", EXAMPLE, store, "-", text="dump\n")
+            answered = cut.answered or 0
+            wanted = self.opened[answered : answered + (1 if cut.answered is None else 2)]
+            return None if done in wanted else f"{answered} changes were answered: {str(done)[:400]}"
+
+    def judge(self, cuts: list[Cut]) -> None:
+        """Asks that what each cut leaves is opened as it should."""
+        with ThreadPoolExecutor(AT_ONCE) as pool:
+            for cut, fault in zip(cuts, pool.map(self.fault, cuts)):
+                with self.subTest(cut.name):
+                    self.assertIsNone(fault)
+
+    def test_cuts(self) -> None:
+        """The power is cut while a store is begun and changed, and while it is opened again and changed."""
+        lines = [change_at(epoch) for epoch in range(1, 1 + CHANGES + AGAIN)]
+        dumps = [self.played(EXAMPLE, lines[:count])[-1] for count in range(len(lines) + 1)]
+        self.opened = [Done(0, f"epoch {at}\nsession 1\ndump {dump}\n", "") for at, dump in enumerate(dumps, 1)]
+        calls, ends = self.noted([self.command, "--begin", EXAMPLE, self.store, "-"], 1, CHANGES)
+        self.judge([*self.cuts(calls, ends, {}, 0)])
+        before = {path.name: path.read_bytes() for path in (self.store, log_of(self.store)) if path.exists()}
+        calls, ends = self.noted([self.command, self.store, "-"], 1 + CHANGES, AGAIN)
+        self.judge([*self.cuts(calls, ends, before, CHANGES)])
+        self.assertGreater(len(calls), 10)

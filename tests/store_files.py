@@ -1,0 +1,467 @@
+"""Files that the program is given as a store: what is none, what is damaged, what another program has written, and what
+sqlite3 reads of one."""
+
+import contextlib
+import json
+import os
+import pathlib
+import random
+import re
+import shutil
+import sqlite3
+import subprocess
+import sys
+from collections.abc import Callable, Iterator
+from typing import Any
+
+from tests import model
+from tests.cases import EXAMPLE, example
+from tests.live_sessions import Live
+from tests.rows import written
+from tests.stores import (
+    RESERVED_AT,
+    SECONDS,
+    SUM_BYTES,
+    Done,
+    StoreCase,
+    copied,
+    files_of,
+    held,
+    log_of,
+    opened,
+    page_size,
+    pages_of,
+    settled,
+    sum_anew,
+    sum_of,
+    written_change,
+)
+
+# Changes of the example, each with what it says.
+CHANGES: list[dict[str, Any]] = [
+    {"down": [2]},
+    {"up": [2], "weight": [[3, 1], [0, 65536]]},
+    {"new_items": [["1.0", [[3, 1]]]]},
+    {"weight": [[1, 0]]},
+    {"old_items": ["1.0"], "down": [3, 0]},
+]
+LAST = 1 + len(CHANGES)
+LINES = "".join(f"change {json.dumps({'base': base, **change})}\n" for base, change in enumerate(CHANGES, 1))
+# The two tables, as the page of the format has them.
+TABLES = [
+    ("journal", "CREATE TABLE journal (epoch INTEGER PRIMARY KEY, change TEXT NOT NULL) STRICT"),
+    ("map", "CREATE TABLE map (epoch INTEGER PRIMARY KEY, text TEXT NOT NULL) STRICT"),
+]
+MISSING, FOREIGN = "there is no store at this path", "the file is not a store"
+UNOPENED, DAMAGED = "the file cannot be opened", "the store is damaged"
+NOBODY = 65534
+
+
+def row(epoch: int) -> str:
+    """The row of an epoch of the example, by its definition."""
+    return f"plain {written_change({'base': epoch - 1, **CHANGES[epoch - 2]})}"
+
+
+class StoreFiles(StoreCase):
+    """What the program does with files."""
+
+    def five(self) -> None:
+        """Makes the store of the example with five changes."""
+        answers = self.begun(LINES).output.splitlines()
+        self.assertEqual(answers[:2], ["epoch 1", "session 1"])
+        self.assertEqual(
+            [answer.split(" ")[:2] for answer in answers[2:]], [["ok", str(n)] for n in range(2, LAST + 1)]
+        )
+
+    def whole(self) -> str:
+        """The map after the changes, as plain `osdmapd` dumps it."""
+        return self.played(EXAMPLE, LINES.splitlines())[-1]
+
+    def refused(self, reason: str, *words: object) -> None:
+        """Asks that a run is refused for a reason, answers nothing, and leaves the file as it is."""
+        before = files_of(self.store)
+        self.assertEqual(self.ran(*(words or [self.store, "-"]), text="epoch\n"), Done(5, "", f"store: {reason}\n"))
+        kept = {name: before.get(name) for name in before if name == self.store.name}
+        self.assertEqual({name: files_of(self.store).get(name) for name in kept}, kept)
+
+    def answered(self, epoch: int, dump: str) -> None:
+        """Asks that the store is opened with a map."""
+        self.assertEqual(
+            self.ran(self.store, "-", text="dump\n"), Done(0, f"epoch {epoch}\nsession 1\ndump {dump}\n", "")
+        )
+
+    # What is no store
+
+    def test_missing(self) -> None:
+        """A file that is not there, and one that is empty, are no stores, and none is made of them."""
+        for text in (None, b""):
+            with self.subTest(text=text):
+                if text is not None:
+                    self.file("store", text)
+                self.refused(MISSING)
+                self.assertEqual(files_of(self.store), {} if text is None else {"store": b""})
+        self.refused(MISSING, self.folder / "no" / "store")
+        self.begun()
+        self.answered(1, model.Cluster(example()).written())
+
+    def test_not_opened(self) -> None:
+        """A folder, a file in a folder that is not there, a named pipe and a file with two names cannot be opened."""
+        (self.folder / "folder").mkdir()
+        os.mkfifo(self.folder / "pipe")
+        self.five()
+        os.link(self.store, self.folder / "other")
+        for name in ("folder", "pipe", "other", "store"):
+            with self.subTest(name=name):
+                self.refused(UNOPENED, self.folder / name, "-")
+        for name in ("folder", "pipe", "no/store"):
+            with self.subTest(begin=name):
+                self.refused(UNOPENED, "--begin", EXAMPLE, self.folder / name, "-")
+        os.unlink(self.folder / "other")
+        self.answered(LAST, self.whole())
+
+    def test_link(self) -> None:
+        """A link leads to the store: its log lies beside the file."""
+        (self.folder / "far").mkdir()
+        self.store.symlink_to(self.folder / "far" / "store")
+        self.begun(LINES)
+        self.assertTrue(self.store.is_symlink())
+        self.answered(LAST, self.whole())
+        self.store.unlink()
+        self.store = self.folder / "far" / "store"
+        self.answered(LAST, self.whole())
+
+    def test_read_only(self) -> None:
+        """A file that may not be written, or whose folder takes no log, cannot be opened."""
+        self.five()
+        shutil.copy(self.command, self.folder / "program")
+        log_of(self.store).unlink(missing_ok=True)
+        given: dict[str, Any] = {"user": NOBODY, "group": NOBODY, "extra_groups": []} if os.getuid() == 0 else {}
+        for file, folder in ((0o444, 0o777), (0o666, 0o555)):
+            with self.subTest(file=oct(file), folder=oct(folder)):
+                self.store.chmod(file)
+                self.folder.chmod(folder)
+                done = subprocess.run(
+                    [self.folder / "program", self.store, "-"],
+                    input=b"epoch\n",
+                    capture_output=True,
+                    timeout=SECONDS,
+                    **given,
+                )
+                self.folder.chmod(0o755)
+                self.assertEqual((done.returncode, done.stdout, done.stderr), (5, b"", f"store: {UNOPENED}\n".encode()))
+
+    def test_foreign(self) -> None:
+        """A text, and databases with other tables, are no stores, and no store is begun over them."""
+        kinds: dict[str, Callable[[], object]] = {
+            "a text": lambda: self.store.write_text("This is no database.\n" * 500),
+            "a short text": lambda: self.store.write_text("x"),
+            "zeros": lambda: self.store.write_bytes(bytes(8192)),
+        }
+        for name, make in {**kinds, **dict(self.foreign_databases())}.items():
+            with self.subTest(name=name):
+                for path in self.folder.glob("store*"):
+                    path.unlink()
+                make()
+                self.refused(FOREIGN)
+                self.refused(FOREIGN, "--begin", EXAMPLE, self.store, "-")
+
+    def foreign_databases(self) -> Iterator[tuple[str, Callable[[], object]]]:
+        """Databases that are no stores, by sqlite3."""
+        journal, map_ = (text for _, text in TABLES)
+        for name, texts in {
+            "another table": ["create table other (x)"],
+            "one table": [journal],
+            "tables that are not strict": [journal.removesuffix(" STRICT"), map_.removesuffix(" STRICT")],
+            "a third table": [journal, map_, "create table other (x)"],
+            "an index": [journal, map_, "create index of on journal (change)"],
+            "a view": [journal, map_, "create view of as select * from map"],
+            "a trigger": [journal, map_, "create trigger of after insert on map begin delete from journal; end"],
+            "another column": [journal.replace("change", "text"), map_],
+            "a text that may be null": [journal.replace(" NOT NULL", ""), map_],
+        }.items():
+            yield name, lambda texts=texts: self.made(*texts)  # type: ignore[misc]
+
+    def made(self, *texts: str) -> None:
+        """A database that sqlite3 makes by these texts."""
+        with opened(self.store) as database:
+            for text in texts:
+                database.execute(text)
+
+    def test_by_sqlite(self) -> None:
+        """A database that sqlite3 has made with the two tables is a store once it has a first map, whatever the size of
+        its pages; without one it is damaged."""
+        text = model.Cluster(example()).written()
+        for size in (512, 4096, 65536):
+            with self.subTest(size=size):
+                for path in self.folder.glob("store*"):
+                    path.unlink()
+                self.made(f"pragma page_size={size}", *(text for _, text in TABLES))
+                self.refused(DAMAGED)
+                with opened(self.store) as database:
+                    database.execute("insert into map values (1, ?)", (text,))
+                    database.executemany("insert into journal values (?, ?)", [(n, row(n)) for n in range(2, LAST + 1)])
+                self.answered(LAST, self.whole())
+
+    def test_begin_over(self) -> None:
+        """A store is not begun over one that is there."""
+        self.five()
+        self.refused("the store has a first map already", "--begin", EXAMPLE, self.store, "-")
+        self.answered(LAST, self.whole())
+
+    def test_begin_refused(self) -> None:
+        """Where the map of `--begin` is refused or not there, or the command line is wrong, no store is made."""
+        bad = self.file("bad", '{"version":1')
+        late = self.file("late", json.dumps({**example(), "epoch": 1 << 31 | 1}))
+        script = self.file("script", "epoch\n")
+        for words, wanted in (
+            (["--begin", bad, self.store, "-"], Done(2, "", "map: BadJson\n")),
+            (["--begin", late, self.store, "-"], Done(2, "", "map: BadLimit\n")),
+            (["--begin", "none", self.store, "-"], Done(3, "", "file: none\n")),
+            (["--begin", EXAMPLE, self.store, "none"], Done(3, "", "file: none\n")),
+            (["--begin", EXAMPLE, self.store, *[script] * 65], Done(1, "", "too many scripts\n")),
+            (["--begin", EXAMPLE, self.store, "-", "-"], Done(1, "", "standard input is given twice\n")),
+            (["--begin", EXAMPLE, self.store, "-", "--to=x", "--to=y"], Done(1, "", "not as many --to as scripts\n")),
+        ):
+            with self.subTest(words=[str(word) for word in words[2:6]]):
+                self.assertEqual(self.ran(*words), wanted)
+                self.assertEqual(files_of(self.store), {})
+        lines: list[list[object]] = [
+            [],
+            ["--begin", EXAMPLE],
+            ["--journal", 0, self.store],
+            ["--journal=65537", self.store],
+        ]
+        for line in lines:
+            with self.subTest(line=[str(word) for word in line]):
+                done = self.ran(*line)
+                self.assertEqual((done.status, done.output, bool(done.error)), (1, "", True))
+
+    def test_no_script(self) -> None:
+        """Without a script the epoch alone is told."""
+        self.assertEqual(self.ran("--begin", EXAMPLE, self.store), Done(0, "epoch 1\n", ""))
+        self.ran(self.store, "-", text=LINES)
+        self.assertEqual(self.ran(self.store), Done(0, f"epoch {LAST}\n", ""))
+        self.assertEqual(held(self.store).rows, [])
+        self.answered(LAST, self.whole())
+
+    # Two programs
+
+    def test_two_programs(self) -> None:
+        """While a program has the store, another has it not, nor has sqlite3; and the first goes on."""
+        self.five()
+        live = Live(self.command, self.store, "-")
+        self.assertEqual([live.line(), live.line()], [f"epoch {LAST}", "session 1"])
+        self.refused("the store is in use")
+        self.refused("the store is in use", "--begin", EXAMPLE, self.store, "-")
+        with opened(self.store) as database, self.assertRaisesRegex(sqlite3.OperationalError, "locked"):
+            database.execute("pragma busy_timeout=0")
+            database.execute("select * from map").fetchall()
+        self.assertEqual(live.ask(f'change {{"base":{LAST},"up":[0]}}'), f"ok {LAST + 1} evals 0")
+        self.assertEqual(live.end(), (0, "", ""))
+        self.assertEqual(self.ran(self.store).output, f"epoch {LAST + 1}\n")
+
+    def test_sqlite_has_it(self) -> None:
+        """While sqlite3 writes the store, or reads it, the program has it not."""
+        self.five()
+        for text in ("begin immediate", "begin; select * from map"):
+            with self.subTest(text=text), opened(self.store) as database:
+                for part in text.split("; "):
+                    database.execute(part).fetchall()
+                self.assertEqual(self.ran(self.store), Done(5, "", "store: the store is in use\n"))
+                database.execute("rollback")
+        self.answered(LAST, self.whole())
+
+    # What sqlite3 reads
+
+    def test_read_by_sqlite(self) -> None:
+        """sqlite3 finds the store sound, and in it the two tables, the first map and a row for each change; and no row
+        once it was opened again."""
+        self.five()
+        with opened(copied(self.store, self.folder / "copy")) as database:
+            self.assertEqual(database.execute("pragma integrity_check").fetchall(), [("ok",)])
+            self.assertEqual(database.execute("select name, sql from sqlite_schema order by name").fetchall(), TABLES)
+            self.assertEqual(database.execute("pragma journal_mode").fetchall(), [("wal",)])
+        found = held(self.store)
+        self.assertEqual(found.first, (1, model.Cluster(example()).written()))
+        self.assertEqual(found.rows, [(epoch, row(epoch)) for epoch in range(2, LAST + 1)])
+        self.answered(LAST, self.whole())
+        self.assertEqual((held(self.store).first, held(self.store).rows), ((LAST, self.whole()), []))
+
+    def test_sums(self) -> None:
+        """Each page ends in the sum that SQLite's extension cksumvfs makes."""
+        self.five()
+        self.ran(self.store)
+        settled(self.store)
+        pages = pages_of(self.store)
+        self.assertEqual(pages[0][RESERVED_AT], SUM_BYTES)
+        self.assertGreater(len(pages), 2)
+        self.assertEqual([page[-SUM_BYTES:] for page in pages], [sum_of(page) for page in pages])
+
+    def test_read_by_the_shell(self) -> None:
+        """SQLite's shell reads the store as any database."""
+        self.needs("sqlite3", shutil.which("sqlite3") is not None)
+        self.five()
+        text = "select count(*), min(epoch), max(epoch) from journal"
+        done = subprocess.run(
+            ["sqlite3", copied(self.store, self.folder / "copy"), text], capture_output=True, timeout=SECONDS
+        )
+        self.assertEqual((done.stdout, done.stderr), (f"{LAST - 1}|2|{LAST}\n".encode(), b""))
+
+    # What sqlite3 has written
+
+    def test_edited(self) -> None:
+        """A row that sqlite3 has made another is refused by its epoch, with the number and the name of what is wrong."""
+        for text, values, wanted in self.edits():
+            with self.subTest(text=text, values=values):
+                for path in self.folder.glob("store*"):
+                    path.unlink()
+                self.five()
+                with opened(settled(self.store)) as database:
+                    database.execute(text, values)
+                settled(self.store)
+                self.refused(DAMAGED)  # The sums of the pages that sqlite3 wrote are not right any more.
+                sum_anew(self.store)
+                self.refused(wanted)
+                self.assertEqual(held(self.store).first[0], 1)
+
+    def edits(self) -> Iterator[tuple[str, tuple[object, ...], str]]:
+        """What is put into a store, and the refusal that names it."""
+        set_, first = "update journal set change = ? where epoch = ?", "update map set text = ?"
+
+        def change(epoch: int, **parts: object) -> str:
+            return f"plain {written_change({'base': epoch - 1, **parts})}"
+
+        yield set_, (change(3, down=[9]), 3), "row 3: UnknownOsd"
+        yield set_, (change(3, weight=[[0, 65537]]), 3), "row 3: BadWeight"
+        yield set_, (change(3, new_items=[["1.1", [[3, 1]]]]), 3), "row 3: UnknownGroup"
+        yield set_, (change(4), 3), "row 3: StaleEpoch"
+        yield set_, ("plain {", 3), "row 3: BadJson"
+        yield set_, ("plain {}", 6), "row 6: BadField"
+        yield set_, ('plain {"base":-1}', 2), "row 2: BadLimit"
+        for text in ("", "plain", "Plain {}", ' plain {"base":2}', '{"base":2}', "stocks {}", "plain\t{}"):
+            yield set_, (text, 3), "row 3: no profile"
+        yield "delete from journal where epoch = ?", (3,), "row 4: StaleEpoch"
+        yield "delete from journal where epoch = ?", (2,), "row 3: StaleEpoch"
+        yield "update journal set epoch = 8 where epoch = ?", (6,), "row 8: StaleEpoch"
+        yield "update journal set epoch = 1 where epoch = ?", (2,), "row 1: StaleEpoch"
+        yield "insert into journal values (7, ?)", (change(7, up=[9]),), "row 7: UnknownOsd"
+        yield first, ("{",), "map: BadJson"
+        yield first, (written({**example(), "version": 3}),), "map: BadField"
+        yield first, (written({**example(), "epoch": 2}),), "row 2: StaleEpoch"
+
+    def test_epochs_that_are_none(self) -> None:
+        """A row of an epoch below 0, two first maps, and none, are damage."""
+        for text in (
+            "update journal set epoch = -1 where epoch = 2",
+            "insert into map values (2, 'x')",
+            "delete from map",
+            "update map set epoch = -1",
+        ):
+            with self.subTest(text=text):
+                for path in self.folder.glob("store*"):
+                    path.unlink()
+                self.five()
+                with opened(settled(self.store)) as database:
+                    database.execute(text)
+                settled(self.store)
+                sum_anew(self.store)
+                self.refused(DAMAGED)
+
+    def test_late_epoch(self) -> None:
+        """A map whose epoch is the last that a first map may have is changed once more, and the store then refused."""
+        late = 1 << 31
+        first = self.file("late", json.dumps({**example(), "epoch": late}))
+        done = self.begun(f'change {{"base":{late},"down":[2]}}\n', first)
+        self.assertEqual(done.output, f"epoch {late}\nsession 1\nok {late + 1} evals 0\n")
+        self.refused(f"the map has epoch {late + 1}, and the first at most {late}")
+        self.assertEqual(held(self.store).last, late + 1)
+
+    # Damage
+
+    def damaged(self, data: bytes, log: bytes = b"") -> Done:
+        """What comes of opening a store with these bytes."""
+        for path in self.folder.glob("store*"):
+            path.unlink()
+        self.store.write_bytes(data)
+        if log:
+            log_of(self.store).write_bytes(log)
+        return self.ran(self.store, "-", text="dump\n")
+
+    def is_refusal(self, done: Done) -> bool:
+        """Whether a run was refused in one line, and served nothing."""
+        return (done.status, done.output) == (5, "") and bool(re.fullmatch(r"store: [^\n]+\n", done.error))
+
+    def test_damaged_file(self) -> None:
+        """A store without a log, a byte of which is another: it is refused, and the file stays as it is."""
+        self.five()
+        data, rng = settled(self.store).read_bytes(), random.Random(1)
+        size = page_size(data)
+        places = [*range(100), *(size * page + at for page in range(len(data) // size) for at in (0, 3, 5, size - 1))]
+        for place in sorted({*places, *rng.sample(range(len(data)), 200)}):
+            with self.subTest(place=place):
+                changed = bytearray(data)
+                changed[place] ^= 1 << rng.randrange(8)
+                done = self.damaged(bytes(changed))
+                self.assertTrue(self.is_refusal(done), done)
+                self.assertEqual(self.store.read_bytes(), changed)
+
+    def test_torn_file(self) -> None:
+        """A store without a log that lacks its end is refused."""
+        self.five()
+        data, rng = settled(self.store).read_bytes(), random.Random(2)
+        size = page_size(data)
+        lengths = [
+            1,
+            15,
+            16,
+            99,
+            100,
+            512,
+            *(size * page + at for page in range(1, len(data) // size) for at in (-1, 0, 1)),
+        ]
+        for length in sorted({*lengths, len(data) - 1, *rng.sample(range(1, len(data)), 20)}):
+            with self.subTest(length=length):
+                done = self.damaged(data[:length])
+                self.assertTrue(self.is_refusal(done), done)
+                self.assertEqual(self.store.read_bytes(), data[:length])
+
+    def histories(self) -> dict[str, int]:
+        """What a store may answer that has lost its last changes, with the epoch of each."""
+        lines = LINES.splitlines()
+        dumps = [self.played(EXAMPLE, lines[:count])[-1] for count in range(len(lines) + 1)]
+        return {f"epoch {at}\nsession 1\ndump {dump}\n": at for at, dump in enumerate(dumps, 1)}
+
+    def with_log(self) -> tuple[bytes, bytes]:
+        """A store whose changes are in its log: of one that was settled, opened and changed, and then killed."""
+        self.begun()
+        settled(self.store)
+        live = Live(self.command, self.store, "-")
+        for line in LINES.splitlines():
+            live.put(line.encode() + b"\n")
+        for _ in range(2 + len(CHANGES)):
+            self.assertIsNotNone(live.line())
+        live.process.kill()
+        live.end()
+        return self.store.read_bytes(), log_of(self.store).read_bytes()
+
+    def judge_log(self, data: bytes, log: bytes, name: str, is_whole: bool = False) -> None:
+        """Asks that a store with a log that is damaged has lost last changes at most, or is refused."""
+        with self.subTest(name):
+            done = self.damaged(data, log)
+            is_one = (done.status, done.error) == (0, "") and done.output in self.histories_known
+            self.assertTrue(is_one or (self.is_refusal(done) and not is_whole), done)
+
+    def test_damaged_log(self) -> None:
+        """A store whose log has a byte that is another, or lacks its end, is one that has lost last changes, or is
+        refused."""
+        data, log = self.with_log()
+        self.histories_known = self.histories()
+        self.assertEqual(self.damaged(data, log).output.splitlines()[0], f"epoch {LAST}")
+        used, rng = len(log.rstrip(b"\0")), random.Random(3)
+        for place in sorted({*range(56), *rng.sample(range(used), 80)}):
+            changed = bytearray(log)
+            changed[place] ^= 1 << rng.randrange(8)
+            self.judge_log(data, bytes(changed), f"place {place}")
+        for length in sorted({1, 31, 32, 33, 55, 56, *rng.sample(range(used), 30), used - 1, used, len(log) - 1}):
+            self.judge_log(data, log[:length], f"length {length}", is_whole=True)
+        self.judge_log(data, b"", "no log", is_whole=True)

@@ -1,0 +1,55 @@
+"""200,000 changes of one store through three restarts, each run with as many as one may take. It waits for as many
+syncs, so it is run where LONG is set (`tests/run.py --long`)."""
+
+import os
+
+from tests.cases import EXAMPLE
+from tests.stores import StoreCase, held, written_change
+
+CHANGES, MOST, SECONDS = 200_000, 65_536, 1800
+RUNS = [range(first, min(first + MOST, CHANGES + 1)) for first in range(1, CHANGES + 1, MOST)]
+
+
+def weight_at(epoch: int) -> list[list[int]]:
+    """The reweight that the change of an epoch brings."""
+    return [[epoch % 4, epoch * 37 % 65536]]
+
+
+def line_at(epoch: int) -> str:
+    """The change of an epoch."""
+    return f'change {{"base":{epoch},"weight":{weight_at(epoch)}}}'
+
+
+class StoreRestarts(StoreCase):
+    """Many changes of one store."""
+
+    is_alone = True
+
+    def test_restarts(self) -> None:
+        """Each epoch of 200,000 changes is answered and has its row, and the map at the end is that of `osdmapd`; a run
+        takes 65,536 changes and no more."""
+        if not os.environ.get("LONG"):
+            self.skipTest("it takes minutes, and LONG is not set")
+        first, dump = EXAMPLE, self.played(EXAMPLE, [])[-1]
+        for epochs in RUNS:
+            begin = ["--begin", EXAMPLE] if epochs[0] == 1 else []
+            is_full = len(epochs) == MOST
+            lines = [line_at(epoch) for epoch in [*epochs, *[epochs[-1] + 1] * is_full]]
+            script = self.file("script", "".join(f"{line}\n" for line in lines))
+            done = self.ran("--journal", MOST, *begin, self.store, script, seconds=SECONDS)
+            self.assertEqual((done.status, done.error), (0, ""))
+            made = [f"ok {epoch + 1} evals 1" for epoch in epochs] + ["err 28 JournalFull"] * is_full
+            self.assertEqual(done.output.splitlines(), [f"epoch {epochs[0]}", "session 1", *made])
+            self.judge_rows(epochs, dump)
+            *_, dump = self.played(first, lines)
+            first = self.file("map", dump)
+        self.assertGreaterEqual(len(RUNS), 4)
+        done = self.ran(self.store, "-", text="dump\n", seconds=SECONDS)
+        self.assertEqual(done.output.splitlines(), [f"epoch {CHANGES + 1}", "session 1", f"dump {dump}"])
+
+    def judge_rows(self, epochs: range, dump: str) -> None:
+        """Asks that the store holds the map before some changes, and the row of each."""
+        found = held(self.store)
+        self.assertEqual(found.first, (epochs[0], dump))
+        rows = [(epoch + 1, written_change({"base": epoch, "weight": weight_at(epoch)})) for epoch in epochs]
+        self.assertEqual(found.rows, [(epoch, f"plain {row}") for epoch, row in rows])
