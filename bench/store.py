@@ -109,7 +109,7 @@ class Stores:
             for _ in range(ASKED):
                 begin = time.perf_counter()
                 os.write(process.stdin.fileno(), b"up 1.0\n")
-                answered(process.stdout)
+                answered(process.stdout.fileno())
                 times.append(time.perf_counter() - begin)
             is_whole = process.poll() is None
             late.cancel()

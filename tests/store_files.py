@@ -12,7 +12,7 @@ import sqlite3
 import subprocess
 import sys
 from collections.abc import Callable, Iterator
-from typing import Any
+from typing import Any, ClassVar
 
 from tests import model
 from tests.cases import EXAMPLE, example
@@ -55,6 +55,8 @@ TABLES = [
 MISSING, FOREIGN = "there is no store at this path", "the file is not a store"
 UNOPENED, DAMAGED = "the file cannot be opened", "the store is damaged"
 NOBODY = 65534
+# So many places of a store, and so many of its log, are damaged, and so many lengths cut, beside those at edges.
+PLACES, LOG_PLACES, LENGTHS = 200, 80, 20
 
 
 def row(epoch: int) -> str:
@@ -65,13 +67,21 @@ def row(epoch: int) -> str:
 class StoreFiles(StoreCase):
     """What the program does with files."""
 
+    # The files of the store with five changes, once the program has made them.
+    kept: ClassVar[dict[str, bytes]] = {}
+
     def five(self) -> None:
-        """Makes the store of the example with five changes."""
-        answers = self.begun(LINES).output.splitlines()
-        self.assertEqual(answers[:2], ["epoch 1", "session 1"])
-        self.assertEqual(
-            [answer.split(" ")[:2] for answer in answers[2:]], [["ok", str(n)] for n in range(2, LAST + 1)]
-        )
+        """Makes the store of the example with five changes; the program makes it once."""
+        for path in self.folder.glob("store*"):
+            path.unlink()
+        if not self.kept:
+            answers = self.begun(LINES).output.splitlines()
+            self.assertEqual(answers[:2], ["epoch 1", "session 1"])
+            numbers = [answer.split(" ")[:2] for answer in answers[2:]]
+            self.assertEqual(numbers, [["ok", str(epoch)] for epoch in range(2, LAST + 1)])
+            self.kept.update(files_of(self.store))
+        for name, data in self.kept.items():
+            self.file(name, data)
 
     def whole(self) -> str:
         """The map after the changes, as plain `osdmapd` dumps it."""
@@ -93,27 +103,31 @@ class StoreFiles(StoreCase):
     # What is no store
 
     def test_missing(self) -> None:
-        """A file that is not there, and one that is empty, are no stores, and none is made of them."""
+        """A file that is not there, one that is empty and a named pipe are no stores, and none is made of them."""
         for text in (None, b""):
             with self.subTest(text=text):
                 if text is not None:
                     self.file("store", text)
                 self.refused(MISSING)
                 self.assertEqual(files_of(self.store), {} if text is None else {"store": b""})
+        os.mkfifo(self.folder / "pipe")
         self.refused(MISSING, self.folder / "no" / "store")
+        self.refused(MISSING, self.folder / "pipe")
         self.begun()
         self.answered(1, model.Cluster(example()).written())
 
     def test_not_opened(self) -> None:
-        """A folder, a file in a folder that is not there, a named pipe and a file with two names cannot be opened."""
+        """A folder, and a file with two names, cannot be opened; nor is a store begun there, in a named pipe or in a
+        folder that is not there, or at the end of a link that leads nowhere."""
         (self.folder / "folder").mkdir()
         os.mkfifo(self.folder / "pipe")
         self.five()
         os.link(self.store, self.folder / "other")
-        for name in ("folder", "pipe", "other", "store"):
+        (self.folder / "link").symlink_to(self.folder / "nowhere")
+        for name in ("folder", "other", "store"):
             with self.subTest(name=name):
                 self.refused(UNOPENED, self.folder / name, "-")
-        for name in ("folder", "pipe", "no/store"):
+        for name in ("folder", "pipe", "no/store", "link"):
             with self.subTest(begin=name):
                 self.refused(UNOPENED, "--begin", EXAMPLE, self.folder / name, "-")
         os.unlink(self.folder / "other")
@@ -121,12 +135,14 @@ class StoreFiles(StoreCase):
 
     def test_link(self) -> None:
         """A link leads to the store: its log lies beside the file."""
+        self.five()
         (self.folder / "far").mkdir()
+        for path in (self.store, log_of(self.store)):
+            path.rename(self.folder / "far" / path.name)
         self.store.symlink_to(self.folder / "far" / "store")
-        self.begun(LINES)
-        self.assertTrue(self.store.is_symlink())
         self.answered(LAST, self.whole())
-        self.store.unlink()
+        self.assertTrue(self.store.is_symlink())
+        self.assertFalse(log_of(self.store).exists())
         self.store = self.folder / "far" / "store"
         self.answered(LAST, self.whole())
 
@@ -244,6 +260,27 @@ class StoreFiles(StoreCase):
         self.assertEqual(held(self.store).rows, [])
         self.answered(LAST, self.whole())
 
+    def test_closed_streams(self) -> None:
+        """Where standard streams are closed or full, nothing that is meant for them lands in the store."""
+        self.five()
+        for count, (streams, status) in enumerate(
+            [(">&-", 3), (">/dev/full", 3), ("<&- >&-", 3), ("<&- >&- 2>&-", 3), ("<&- 2>&-", 3), ("2>&-", 0)]
+        ):
+            with self.subTest(streams=streams):
+                done = subprocess.run(
+                    ["sh", "-c", f'exec "$0" "$@" {streams}', self.command, self.store, "-"],
+                    input=f'change {{"base":{LAST},"down":[9]}}\n'.encode(),
+                    capture_output=True,
+                    timeout=SECONDS,
+                )
+                self.assertEqual(done.returncode, status, done)
+                self.answered(LAST, self.whole())
+                fresh = self.folder / f"begun-{count}"
+                words = ["--begin", str(EXAMPLE), str(fresh), "-"]
+                begin: list[str] = ["sh", "-c", f'exec "$0" "$@" {streams}', str(self.command), *words]
+                subprocess.run(begin, capture_output=True, timeout=SECONDS)
+                self.assertEqual(self.ran(fresh), Done(0, "epoch 1\n", ""))
+
     # Two programs
 
     def test_two_programs(self) -> None:
@@ -313,16 +350,23 @@ class StoreFiles(StoreCase):
         """A row that sqlite3 has made another is refused by its epoch, with the number and the name of what is wrong."""
         for text, values, wanted in self.edits():
             with self.subTest(text=text, values=values):
-                for path in self.folder.glob("store*"):
-                    path.unlink()
                 self.five()
                 with opened(settled(self.store)) as database:
                     database.execute(text, values)
                 settled(self.store)
-                self.refused(DAMAGED)  # The sums of the pages that sqlite3 wrote are not right any more.
                 sum_anew(self.store)
                 self.refused(wanted)
                 self.assertEqual(held(self.store).first[0], 1)
+
+    def test_edited_without_sums(self) -> None:
+        """A store that sqlite3 has written to is damaged, where the sums of its pages were not made anew."""
+        self.five()
+        with opened(settled(self.store)) as database:
+            database.execute("update journal set change = change || ' ' where epoch = 3")
+        settled(self.store)
+        self.refused(DAMAGED)
+        sum_anew(self.store)
+        self.answered(LAST, self.whole())
 
     def edits(self) -> Iterator[tuple[str, tuple[object, ...], str]]:
         """What is put into a store, and the refusal that names it."""
@@ -346,7 +390,7 @@ class StoreFiles(StoreCase):
         yield "update journal set epoch = 1 where epoch = ?", (2,), "row 1: StaleEpoch"
         yield "insert into journal values (7, ?)", (change(7, up=[9]),), "row 7: UnknownOsd"
         yield first, ("{",), "map: BadJson"
-        yield first, (written({**example(), "version": 3}),), "map: BadField"
+        yield first, (written({**example(), "version": 3}),), "map: BadLimit"
         yield first, (written({**example(), "epoch": 2}),), "row 2: StaleEpoch"
 
     def test_epochs_that_are_none(self) -> None:
@@ -358,8 +402,6 @@ class StoreFiles(StoreCase):
             "update map set epoch = -1",
         ):
             with self.subTest(text=text):
-                for path in self.folder.glob("store*"):
-                    path.unlink()
                 self.five()
                 with opened(settled(self.store)) as database:
                     database.execute(text)
@@ -397,7 +439,7 @@ class StoreFiles(StoreCase):
         data, rng = settled(self.store).read_bytes(), random.Random(1)
         size = page_size(data)
         places = [*range(100), *(size * page + at for page in range(len(data) // size) for at in (0, 3, 5, size - 1))]
-        for place in sorted({*places, *rng.sample(range(len(data)), 200)}):
+        for place in sorted({*places, *rng.sample(range(len(data)), PLACES)}):
             with self.subTest(place=place):
                 changed = bytearray(data)
                 changed[place] ^= 1 << rng.randrange(8)
@@ -419,7 +461,7 @@ class StoreFiles(StoreCase):
             512,
             *(size * page + at for page in range(1, len(data) // size) for at in (-1, 0, 1)),
         ]
-        for length in sorted({*lengths, len(data) - 1, *rng.sample(range(1, len(data)), 20)}):
+        for length in sorted({*lengths, len(data) - 1, *rng.sample(range(1, len(data)), LENGTHS)}):
             with self.subTest(length=length):
                 done = self.damaged(data[:length])
                 self.assertTrue(self.is_refusal(done), done)
@@ -458,10 +500,10 @@ class StoreFiles(StoreCase):
         self.histories_known = self.histories()
         self.assertEqual(self.damaged(data, log).output.splitlines()[0], f"epoch {LAST}")
         used, rng = len(log.rstrip(b"\0")), random.Random(3)
-        for place in sorted({*range(56), *rng.sample(range(used), 80)}):
+        for place in sorted({*range(56), *rng.sample(range(used), LOG_PLACES)}):
             changed = bytearray(log)
             changed[place] ^= 1 << rng.randrange(8)
             self.judge_log(data, bytes(changed), f"place {place}")
-        for length in sorted({1, 31, 32, 33, 55, 56, *rng.sample(range(used), 30), used - 1, used, len(log) - 1}):
+        for length in sorted({1, 31, 32, 33, 55, 56, *rng.sample(range(used), LENGTHS), used - 1, used, len(log) - 1}):
             self.judge_log(data, log[:length], f"length {length}", is_whole=True)
         self.judge_log(data, b"", "no log", is_whole=True)

@@ -41,7 +41,7 @@ class StoreRestarts(StoreCase):
             made = [f"ok {epoch + 1} evals 1" for epoch in epochs] + ["err 28 JournalFull"] * is_full
             self.assertEqual(done.output.splitlines(), [f"epoch {epochs[0]}", "session 1", *made])
             self.judge_rows(epochs, dump)
-            *_, dump = self.played(first, lines)
+            *_, dump = self.played(first, lines[: len(epochs)])
             first = self.file("map", dump)
         self.assertGreaterEqual(len(RUNS), 4)
         done = self.ran(self.store, "-", text="dump\n", seconds=SECONDS)
