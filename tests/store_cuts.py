@@ -16,10 +16,12 @@ from concurrent.futures import ThreadPoolExecutor
 
 from tests.cases import EXAMPLE
 from tests.runs import AT_ONCE
-from tests.store_failures import Call, Talk, calls_in, change_at, refuser
+from tests.store_failures import LONG, Call, Talk, calls_in, change_at, refuser, with_rows
 from tests.stores import Done, StoreCase, log_of
 
 SECTOR, CHANGES, AGAIN = 512, 8, 4
+# So many of the cuts are tried while a long log is copied into its file.
+TRIED = 100
 WAYS = ("nothing", "all", "the last", "sectors", "other sectors", "garbage")
 
 
@@ -118,7 +120,7 @@ class StoreCuts(StoreCase):
             if cut.answered is None and done.status == 5:
                 done = self.ran("--begin", EXAMPLE, store, "-", text="dump\n")
             answered = cut.answered or 0
-            wanted = self.opened[answered : answered + (1 if cut.answered is None else 2)]
+            wanted = [self.opened.get(count) for count in range(answered, answered + 1 + (cut.answered is not None))]
             return None if done in wanted else f"{answered} changes were answered: {str(done)[:400]}"
 
     def judge(self, cuts: list[Cut]) -> None:
@@ -128,14 +130,33 @@ class StoreCuts(StoreCase):
                 with self.subTest(cut.name):
                     self.assertIsNone(fault)
 
+    def files(self) -> dict[str, bytes]:
+        """The store's file and its log."""
+        return {path.name: path.read_bytes() for path in (self.store, log_of(self.store))}
+
+    def know(self, lines: list[str]) -> None:
+        """Takes in what opening tells behind each of some lines."""
+        self.opened = {}
+        for count in range(max(0, len(lines) - CHANGES - AGAIN), len(lines) + 1):
+            dump = self.played(EXAMPLE, lines[:count])[-1]
+            self.opened[count] = Done(0, f"epoch {count + 1}\nsession 1\ndump {dump}\n", "")
+
     def test_cuts(self) -> None:
         """The power is cut while a store is begun and changed, and while it is opened again and changed."""
-        lines = [change_at(epoch) for epoch in range(1, 1 + CHANGES + AGAIN)]
-        dumps = [self.played(EXAMPLE, lines[:count])[-1] for count in range(len(lines) + 1)]
-        self.opened = [Done(0, f"epoch {at}\nsession 1\ndump {dump}\n", "") for at, dump in enumerate(dumps, 1)]
+        self.know([change_at(epoch) for epoch in range(1, 1 + CHANGES + AGAIN)])
         calls, ends = self.noted([self.command, "--begin", EXAMPLE, self.store, "-"], 1, CHANGES)
         self.judge([*self.cuts(calls, ends, {}, 0)])
-        before = {path.name: path.read_bytes() for path in (self.store, log_of(self.store)) if path.exists()}
+        before = self.files()
         calls, ends = self.noted([self.command, self.store, "-"], 1 + CHANGES, AGAIN)
         self.judge([*self.cuts(calls, ends, before, CHANGES)])
         self.assertGreater(len(calls), 10)
+
+    def test_long_log(self) -> None:
+        """The power is cut while a store is opened whose log is copied into its file, and while it is changed."""
+        lines = with_rows(self, LONG)
+        self.know(lines + [change_at(epoch) for epoch in range(1 + LONG, 1 + LONG + AGAIN)])
+        before = self.files()
+        calls, ends = self.noted([self.command, self.store, "-"], 1 + LONG, AGAIN)
+        cuts = [*self.cuts(calls, ends, before, LONG)]
+        self.assertIn((self.store.name, "w"), {(call.name, call.kind) for call in calls}, "the log was not copied")
+        self.judge(random.Random(3).sample(cuts, min(TRIED, len(cuts))))

@@ -132,6 +132,17 @@ class Talk:
         return Talked(self.head, self.pairs, Done(self.process.returncode, told, error.decode()))
 
 
+def with_rows(case: StoreCase, count: int) -> list[str]:
+    """Makes the store of a test with so many changes, and kills the program behind them."""
+    lines = [change_at(epoch) for epoch in range(1, 1 + count)]
+    talk = Talk([case.command, "--journal", "65536", "--begin", EXAMPLE, case.store, "-"], {})
+    for line in lines:
+        case.assertStarts(talk.ask(line) or "", "ok ")
+    talk.process.kill()
+    talk.end()
+    return lines
+
+
 @dataclasses.dataclass
 class Sweep:
     """Runs over copies of a store, in each of which a call is refused in some way. They begin the store where there is
@@ -226,16 +237,6 @@ class StoreFailures(StoreCase):
                             self.assertIsNone(wrong)
                 self.assertGreater(count, 5, "calls that were refused")
 
-    def with_rows(self, count: int) -> list[str]:
-        """Makes the store with so many changes, and kills the program behind them."""
-        lines = [change_at(epoch) for epoch in range(1, 1 + count)]
-        talk = Talk([self.command, "--journal", "65536", "--begin", EXAMPLE, self.store, "-"], {})
-        for line in lines:
-            self.assertStarts(talk.ask(line) or "", "ok ")
-        talk.process.kill()
-        talk.end()
-        return lines
-
     # Calls that are refused
 
     def test_begin(self) -> None:
@@ -244,11 +245,11 @@ class StoreFailures(StoreCase):
 
     def test_open(self) -> None:
         """A store with three changes that is opened and changed, with each call refused."""
-        self.sweeps(self.with_rows(3))
+        self.sweeps(with_rows(self, 3))
 
     def test_long_log(self) -> None:
         """A store whose log is copied into its file as it is opened, with some calls refused."""
-        self.sweeps(self.with_rows(LONG), stride=7, changes=2)
+        self.sweeps(with_rows(self, LONG), stride=7, changes=2)
 
     def test_one_sync(self) -> None:
         """Before a change is answered it is written and then synced, once but for the first of a run; and nothing is

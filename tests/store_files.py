@@ -170,7 +170,7 @@ class StoreFiles(StoreCase):
         """A text, and databases with other tables, are no stores, and no store is begun over them."""
         kinds: dict[str, Callable[[], object]] = {
             "a text": lambda: self.store.write_text("This is no database.\n" * 500),
-            "a short text": lambda: self.store.write_text("x"),
+            "a short text": lambda: self.store.write_text("S\n"),
             "zeros": lambda: self.store.write_bytes(bytes(8192)),
         }
         for name, make in {**kinds, **dict(self.foreign_databases())}.items():
@@ -180,6 +180,20 @@ class StoreFiles(StoreCase):
                 make()
                 self.refused(FOREIGN)
                 self.refused(FOREIGN, "--begin", EXAMPLE, self.store, "-")
+
+    def test_one_byte(self) -> None:
+        """A file of one byte, as SQLite's port leaves one that it had begun to make, is no store and stays as it is; a
+        store is begun there."""
+        for text in ("S", "x"):
+            with self.subTest(text=text):
+                for path in self.folder.glob("store*"):
+                    path.unlink()
+                self.file("store", text)
+                done = self.ran(self.store, "-", text="epoch\n")
+                self.assertTrue(self.is_refusal(done), done)
+                self.assertEqual(self.store.read_bytes(), text.encode())
+                self.begun(LINES)
+                self.answered(LAST, self.whole())
 
     def foreign_databases(self) -> Iterator[tuple[str, Callable[[], object]]]:
         """Databases that are no stores, by sqlite3."""
@@ -259,6 +273,16 @@ class StoreFiles(StoreCase):
         self.assertEqual(self.ran(self.store), Done(0, f"epoch {LAST}\n", ""))
         self.assertEqual(held(self.store).rows, [])
         self.answered(LAST, self.whole())
+
+    def test_journal(self) -> None:
+        """A run takes as many changes as its journal has room for, and the next run as many again."""
+        for first in (1, 3):
+            lines = "".join(f'change {{"base":{epoch},"down":[2]}}\n' for epoch in range(first, first + 3))
+            begin = ["--begin", EXAMPLE] if first == 1 else []
+            done = self.ran("--journal", 2, *begin, self.store, "-", text=lines)
+            told = [f"epoch {first}", "session 1", f"ok {first + 1} evals 0", f"ok {first + 2} evals 0"]
+            self.assertEqual(done, Done(0, "\n".join([*told, "err 28 JournalFull", ""]), ""))
+        self.assertEqual(self.ran(self.store).output, "epoch 5\n")
 
     def test_closed_streams(self) -> None:
         """Where standard streams are closed or full, nothing that is meant for them lands in the store."""
@@ -453,7 +477,7 @@ class StoreFiles(StoreCase):
         data, rng = settled(self.store).read_bytes(), random.Random(2)
         size = page_size(data)
         lengths = [
-            1,
+            2,
             15,
             16,
             99,
@@ -461,7 +485,7 @@ class StoreFiles(StoreCase):
             512,
             *(size * page + at for page in range(1, len(data) // size) for at in (-1, 0, 1)),
         ]
-        for length in sorted({*lengths, len(data) - 1, *rng.sample(range(1, len(data)), LENGTHS)}):
+        for length in sorted({*lengths, len(data) - 1, *rng.sample(range(2, len(data)), LENGTHS)}):
             with self.subTest(length=length):
                 done = self.damaged(data[:length])
                 self.assertTrue(self.is_refusal(done), done)
