@@ -20,19 +20,21 @@ import threading
 import time
 
 from tests import soak
+from tests.cases import EXAMPLE
 from tests.clusters import Json
 from tests.live_sessions import Lines, limited
 from tests.soak import epoch_of, is_made
-from tests.stores import SECONDS, StoreCase, held, written_change
+from tests.store_failures import LONG, with_rows
+from tests.stores import SECONDS, Done, StoreCase, copied, held, written_change
 
 POOLS, GROUPS = 6, 16
 # The OSDs whose reweights tell changes apart. No rule reaches them.
 MARKS, WORD = (25, 26), 65537
 # So many epochs a script tries to make, and so many lines a live session puts, at most.
-BASES, LIVE_LINES = 120, 300
+BASES, LIVE_LINES = 250, 400
 # How a run is killed, and how often one in so many.
 WAYS = {"while it opens": 5, "one live session": 4, "sessions": 11}
-DELAYS = (0.01, 0.05, 0.2, 0.4)
+DELAYS = (0.01, 0.03, 0.1, 0.3)
 # Refusals that nothing here gives cause for: out of memory, no seat, not sealed, not stored.
 NEVER = re.compile(r"err 3[0125] ")
 
@@ -347,6 +349,24 @@ class Kills(StoreCase):
     def test_stock(self) -> None:
         """50 kills under `--stock`."""
         self.kills(2, 50, is_stock=True)
+
+    def test_long_log(self) -> None:
+        """12 kills while a store is opened whose log is copied into its file."""
+        dump = self.played(EXAMPLE, with_rows(self, LONG))[-1]
+        whole = Done(0, f"epoch {1 + LONG}\nsession 1\ndump {dump}\n", "")
+        kept, rng, begin = copied(self.store, self.folder / "kept"), random.Random(3), time.monotonic()
+        self.assertEqual(self.ran(self.store, "-", text="dump\n"), whole)
+        opening = time.monotonic() - begin
+        for number in range(12):
+            with self.subTest(f"kill {number}"):
+                copied(kept, self.store)
+                with subprocess.Popen([self.command, self.store], stdout=subprocess.DEVNULL) as process:
+                    time.sleep(rng.uniform(0, opening))
+                    process.kill()
+                found = held(self.store)
+                self.assertEqual(found.last, 1 + LONG)
+                self.assertIn(len(found.rows), (0, LONG))
+                self.assertEqual(self.ran(self.store, "-", text="dump\n"), whole)
 
 
 def is_of(line: str, change: Json) -> bool:
