@@ -16,7 +16,7 @@ from concurrent.futures import ThreadPoolExecutor
 
 from tests.cases import EXAMPLE
 from tests.runs import AT_ONCE
-from tests.store_failures import LONG, Call, Talk, calls_in, change_at, refuser, with_rows
+from tests.store_failures import Call, Talk, calls_in, change_at, refuser, with_long_log
 from tests.stores import Done, StoreCase, log_of
 
 SECTOR, CHANGES, AGAIN = 512, 8, 4
@@ -153,10 +153,11 @@ class StoreCuts(StoreCase):
 
     def test_long_log(self) -> None:
         """The power is cut while a store is opened whose log is copied into its file, and while it is changed."""
-        lines = with_rows(self, LONG)
-        self.know(lines + [change_at(epoch) for epoch in range(1 + LONG, 1 + LONG + AGAIN)])
+        lines = with_long_log(self)
+        made = len(lines)
+        self.know(lines + [change_at(epoch) for epoch in range(1 + made, 1 + made + AGAIN)])
         before = self.files()
-        calls, ends = self.noted([self.command, self.store, "-"], 1 + LONG, AGAIN)
-        cuts = [*self.cuts(calls, ends, before, LONG)]
+        calls, ends = self.noted([self.command, self.store, "-"], 1 + made, AGAIN)
+        cuts = [*self.cuts(calls, ends, before, made)]
         self.assertIn((self.store.name, "w"), {(call.name, call.kind) for call in calls}, "the log was not copied")
         self.judge(random.Random(3).sample(cuts, min(TRIED, len(cuts))))

@@ -32,8 +32,8 @@ WAYS: dict[str, tuple[str, ...]] = {
 REASONS = {"the disk failed", "the disk is full", "the file cannot be opened"}
 NOT_STORED = "err 35 NotStored"
 LOOKS = ("up 1.0", "count 3", "groups 1", "epoch")
-# So many changes a swept run makes; and so many a store has whose log is to be copied into its file.
-CHANGES, LONG = 6, 1100
+# So many changes a swept run makes; and so many are made at most until a log is copied into its file.
+CHANGES, MOST = 6, 5000
 KIB = 1 << 10
 
 
@@ -143,6 +143,20 @@ def with_rows(case: StoreCase, count: int) -> list[str]:
     return lines
 
 
+def with_long_log(case: StoreCase) -> list[str]:
+    """Makes the store of a test with so many changes that its log is copied into its file before the next one."""
+    talk = Talk([case.command, "--journal", "65536", "--begin", EXAMPLE, case.store, "-"], {})
+    data = case.store.read_bytes()
+    while case.store.read_bytes() == data and talk.epoch < MOST:
+        talk.epoch += 1
+        case.assertEqual(talk.ask(change_at(talk.epoch - 1)), f"ok {talk.epoch} evals 1")
+    talk.process.kill()
+    talk.end()
+    for path in case.folder.glob("store*"):
+        path.unlink()
+    return with_rows(case, talk.epoch - 2)
+
+
 @dataclasses.dataclass
 class Sweep:
     """Runs over copies of a store, in each of which a call is refused in some way. They begin the store where there is
@@ -249,7 +263,7 @@ class StoreFailures(StoreCase):
 
     def test_long_log(self) -> None:
         """A store whose log is copied into its file as it is opened, with some calls refused."""
-        self.sweeps(with_rows(self, LONG), stride=7, changes=2)
+        self.sweeps(with_long_log(self), stride=7, changes=2)
 
     def test_one_sync(self) -> None:
         """Before a change is answered it is written and then synced, once but for the first of a run; and nothing is

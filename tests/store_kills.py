@@ -24,7 +24,7 @@ from tests.cases import EXAMPLE
 from tests.clusters import Json
 from tests.live_sessions import Lines, limited
 from tests.soak import epoch_of, is_made
-from tests.store_failures import LONG, with_rows
+from tests.store_failures import with_long_log
 from tests.stores import SECONDS, Done, StoreCase, copied, held, written_change
 
 POOLS, GROUPS = 6, 16
@@ -352,8 +352,9 @@ class Kills(StoreCase):
 
     def test_long_log(self) -> None:
         """12 kills while a store is opened whose log is copied into its file."""
-        dump = self.played(EXAMPLE, with_rows(self, LONG))[-1]
-        whole = Done(0, f"epoch {1 + LONG}\nsession 1\ndump {dump}\n", "")
+        lines = with_long_log(self)
+        epoch, dump = 1 + len(lines), self.played(EXAMPLE, lines)[-1]
+        whole = Done(0, f"epoch {epoch}\nsession 1\ndump {dump}\n", "")
         kept, rng, begin = copied(self.store, self.folder / "kept"), random.Random(3), time.monotonic()
         self.assertEqual(self.ran(self.store, "-", text="dump\n"), whole)
         opening = time.monotonic() - begin
@@ -364,8 +365,8 @@ class Kills(StoreCase):
                     time.sleep(rng.uniform(0, opening))
                     process.kill()
                 found = held(self.store)
-                self.assertEqual(found.last, 1 + LONG)
-                self.assertIn(len(found.rows), (0, LONG))
+                self.assertEqual(found.last, epoch)
+                self.assertIn(len(found.rows), (0, len(lines)))
                 self.assertEqual(self.ran(self.store, "-", text="dump\n"), whole)
 
 
