@@ -181,6 +181,20 @@ class StoreFiles(StoreCase):
                 self.refused(FOREIGN)
                 self.refused(FOREIGN, "--begin", EXAMPLE, self.store, "-")
 
+    def test_foreign_log(self) -> None:
+        """Another program's database whose rows are still in its log is no store, and keeps them."""
+        other = self.folder / "other"
+        with opened(other) as database:
+            database.execute("pragma journal_mode=wal")
+            database.execute("create table numbers (number)")
+            database.executemany("insert into numbers values (?)", [(number,) for number in range(50)])
+            copied(other, self.store)
+        for words in ([self.store, "-"], ["--begin", EXAMPLE, self.store, "-"]):
+            self.refused(FOREIGN, *words)
+        with opened(self.store) as database:
+            found = database.execute("select count(*), min(number), max(number) from numbers").fetchall()
+            self.assertEqual(found, [(50, 0, 49)])
+
     def test_one_byte(self) -> None:
         """A file of one byte, as SQLite's port leaves one that it had begun to make, is no store and stays as it is; a
         store is begun there."""
