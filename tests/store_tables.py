@@ -39,5 +39,5 @@ class StoreTables(StoreCase, RowCase):
 
     def test_rows_over_a_store(self) -> None:
         """Histories of changes, plans, sessions beside one another."""
-        for name in ("worked", "changes", "growth", "sessions", "balance", "stock"):
-            self.check_runs(stored(table(name)))
+        names = ("worked", "changes", "growth", "sessions", "balance", "stock")
+        self.check_runs(run for name in names for run in stored(table(name)))
