@@ -311,25 +311,32 @@ class Histories(ToolCase):
                 self.is_told(self.tools.run("history", self.path(name)), 1, f"{self.path(name)}: {told}", name)
 
     def test_stores_that_do_not_hold_together(self) -> None:
-        """A first map or a row that is refused, or out of its order, is told."""
+        """A first map or a row that is refused, or out of its order, is told; so is one that the program refuses where
+        a map is asked for."""
         down = '{"base":1,"down":[2]}'
-        cases: list[tuple[str, object, list[tuple[int, str]], str]] = [
-            ("map", "x.json", [], "map: BadJson"),
-            ("form", "{}", [], "map: BadField"),
-            ("epoch", dict(example(), epoch=3), [], "map: its epoch is 3, and that of its row 1"),
-            ("word", example(), [(2, f"other {down}")], "row 2: no profile"),
-            ("text", example(), [(2, "plain {")], "row 2: BadJson"),
-            ("key", example(), [(2, 'stock {"base":1,"x":1}')], "row 2: BadField"),
-            ("base", example(), [(2, 'plain {"base":2}')], "row 2: StaleEpoch"),
-            ("osd", example(), [(2, f"plain {down}"), (3, 'plain {"base":2,"up":[9]}')], "row 3: UnknownOsd"),
-            ("gap", example(), [(2, f"plain {down}"), (4, 'plain {"base":3}')], "row 4: the epoch before it is 2"),
-            ("early", example(), [(1, 'plain {"base":0}')], "row 1: the epoch before it is 1"),
+        cases: list[tuple[str, object, list[tuple[int, str]], str, str]] = [
+            ("map", "x.json", [], "map: no JSON", "map: BadJson"),
+            ("form", "{}", [], "map: version: missing (11 BadField)", "map: BadField"),
+            ("epoch", dict(example(), epoch=3), [], *["map: its epoch is 3, and that of its row 1"] * 2),
+            ("word", example(), [(2, f"other {down}")], *["row 2: no profile"] * 2),
+            ("text", example(), [(2, "plain {")], "row 2: no JSON", "row 2: BadJson"),
+            ("key", example(), [(2, 'stock {"base":1,"x":1}')], "row 2: x: an unknown key (11", "row 2: BadField"),
+            ("base", example(), [(2, 'plain {"base":2}')], "row 2: its base is 2", "row 2: StaleEpoch"),
+            ("osd", example(), [(2, 'plain {"base":1,"up":[9]}')], "row 2: no osd.9", "row 2: UnknownOsd"),
+            ("weight", example(), [(2, 'plain {"base":1,"weight":[[9,0]]}')], "row 2: no osd.9", "row 2: UnknownOsd"),
+            ("old", example(), [(2, 'plain {"base":1,"old_pools":[7]}')], "row 2: no pool 7", "row 2: UnknownPool"),
+            ("grow", example(), [(2, 'plain {"base":1,"grow_pool":[[7,8,8]]}')], "row 2: no pool 7", "row 2: Unknown"),
+            ("gap", example(), [(2, f"plain {down}"), (4, "plain {}")], *["row 4: the epoch before it is 2"] * 2),
+            ("early", example(), [(1, 'plain {"base":0}')], *["row 1: the epoch before it is 1"] * 2),
         ]
-        for name, first, found, told in cases:
+        for name, first, found, told, refused in cases:
             with self.subTest(name=name):
-                with store_at(self.path(name), *TABLES) as database:
+                path = self.path(name)
+                with store_at(path, *TABLES) as database:
                     fill(database, first, found)
-                self.is_told(self.tools.run("history", self.path(name)), 1, f"{self.path(name)}: {told}", name)
+                self.is_told(self.tools.run("history", path), 1, f"{path}: {told}", name)
+                at = 1 + len(found) * (not found or found[0][0] == 2)
+                self.is_told(self.tools.run("history", path, "--at", at), 1, f"{path}: {refused}", name)
         for name, count in (("none", 0), ("two", 2)):
             with self.subTest(name=name):
                 with store_at(self.path(name), *TABLES) as database:

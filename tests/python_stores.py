@@ -192,8 +192,8 @@ class PythonStores(ToolCase):
         first = "epoch 1: the first map, with 4 OSDs, 1 pool, 1 group and 0 exceptions"
         wanted = [f"epoch {epoch}: {line}" for epoch, (_, line) in enumerate(CHANGES, 2)]
         self.assertEqual(self.output("history", folder / "store").splitlines(), [first, *wanted])
-        for epoch, text in enumerate(maps, 1):
-            self.assertEqual(self.output("history", folder / "store", "--at", epoch), text + "\n")
+        for epoch in (1, 2, 14, len(maps)):
+            self.assertEqual(self.output("history", folder / "store", "--at", epoch), maps[epoch - 1] + "\n")
         self.assertEqual(held(folder), before)
         with self.monitor(name="folder/store") as monitor:
             self.assertEqual(monitor.found_epoch, len(maps))

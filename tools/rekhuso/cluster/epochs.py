@@ -1,21 +1,57 @@
-"""What is other from epoch to epoch, by a first map and the changes since, each of which the program has accepted.
+"""What is other from epoch to epoch, by a first map and the changes since.
 
 The maps themselves are the program's. Here stands only what tells whether a part of a change does something: who is up,
-reweights, pools and exceptions.
+reweights, pools and exceptions. So all changes of a long journal are told in little time: no group is placed.
 """
 
 from __future__ import annotations
 
 import json
 from collections.abc import Iterator
+from typing import Any
 
+from ..faults import Unopened
 from ..output.json_forms import EpochParts, ExceptionChangeParts, GrowthParts
+from ..program.defects import map_defects
+from ..program.map_forms import change_form
 from ..program.maps import Change, Map, Pool, altered, entries_of, group_key
-from ..program.stores import StoredJournal
+from ..program.stores import StoredChange, StoredJournal
 
 # The exceptions of a map, and the word that the parts of a change have for each.
 EXCEPTIONS = {"pg_upmap": "upmap", "pg_upmap_items": "items"}
 FULL_WEIGHT = 65536
+# The form of a change of a store, whose program reads all of them under `--stock`.
+FORM = change_form(True)
+
+
+def json_in(journal: StoredJournal, what: str, text: str) -> Any:
+    """The value of a text of a store. `Unopened` where it is none."""
+    try:
+        return json.loads(text)
+    except (ValueError, RecursionError):
+        raise Unopened(journal.path, f"{what}: no JSON") from None
+
+
+def first_of(journal: StoredJournal) -> Map:
+    """The first map of a store. `Unopened` where it is not lawful."""
+    found: Map = json_in(journal, "map", journal.text)
+    defects = map_defects(found, True)
+    if defects:
+        raise Unopened(journal.path, f"map: {defects[0]}")
+    if found["epoch"] != journal.epoch:
+        raise Unopened(journal.path, f"map: its epoch is {found['epoch']}, and that of its row {journal.epoch}")
+    return found
+
+
+def change_of(journal: StoredJournal, row: StoredChange) -> Change:
+    """The change of a row. `Unopened` where it has not the form of one to the map before."""
+    found: Change = json_in(journal, f"row {row.epoch}", row.text)
+    defect = next(FORM(found, ""), None)
+    if defect is not None:
+        raise Unopened(journal.path, f"row {row.epoch}: {defect}")
+    if found["base"] != row.epoch - 1:
+        raise Unopened(journal.path, f"row {row.epoch}: its base is {found['base']}")
+    return found
 
 
 def is_growth(parts: GrowthParts) -> bool:
@@ -47,7 +83,7 @@ class Before:
 
     def take_pools(self, change: Change) -> list[GrowthParts]:
         """The pools that grow; those that go and come are told by the change itself."""
-        for number in entries_of(change, "old_pools"):
+        for number in set(entries_of(change, "old_pools")):
             del self.pools[number]
         self.pools.update({pool["id"]: pool for pool in entries_of(change, "new_pools")})
         grown = [self.growth(*entry) for entry in entries_of(change, "grow_pool")]
@@ -57,7 +93,8 @@ class Before:
         """The OSDs that go down, and those that come up."""
         down = [osd for osd in entries_of(change, "down") if osd in self.up]
         up = [osd for osd in entries_of(change, "up") if osd not in self.up]
-        self.up = (self.up - set(down)) | set(up)
+        self.up.difference_update(down)
+        self.up.update(up)
         return down, up
 
     def take_weights(self, change: Change) -> list[tuple[int, int, int]]:
@@ -70,8 +107,9 @@ class Before:
     def take_exceptions(self, change: Change, key: str) -> ExceptionChangeParts:
         """The exceptions of one kind that come, become others and go."""
         table, gone = self.tables[key], set(entries_of(change, "old_pools"))
-        removed = [group for group in table if gone and group_key(group)[0] in gone]
-        removed += [group for group in entries_of(change, f"old_{EXCEPTIONS[key]}") if group in table]
+        removed = {group for group in entries_of(change, f"old_{EXCEPTIONS[key]}") if group in table}
+        if gone:
+            removed |= {group for group in table if group_key(group)[0] in gone}
         for group in removed:
             del table[group]
         new = entries_of(change, f"new_{EXCEPTIONS[key]}")
@@ -79,6 +117,16 @@ class Before:
         changed = [[group, own] for group, own in new if group in table and table[group] != own]
         table.update(dict(new))
         return {"added": added, "changed": changed, "removed": sorted(removed, key=group_key)}
+
+    def unknown(self, change: Change) -> list[str]:
+        """The OSDs and pools that a change names and the map does not have."""
+        osds = [*entries_of(change, "down"), *entries_of(change, "up"), *dict(entries_of(change, "weight"))]
+        old, new = set(entries_of(change, "old_pools")), {pool["id"] for pool in entries_of(change, "new_pools")}
+        gone = old - self.pools.keys()
+        grown = {entry[0] for entry in entries_of(change, "grow_pool")} - (self.pools.keys() - old | new)
+        return [f"no osd.{osd}" for osd in osds if osd not in self.weights] + [
+            f"no pool {number}" for number in sorted(gone | grown)
+        ]
 
     def take(self, epoch: int, profile: str, change: Change) -> EpochParts:
         """What is other after a change, which makes the map of an epoch."""
@@ -102,7 +150,13 @@ class Before:
 
 
 def epochs_of(first: Map, journal: StoredJournal) -> Iterator[EpochParts]:
-    """What is other in each epoch of a store than in the one before."""
+    """What is other in each epoch of a store than in the one before. `Unopened` at the first row that is no change to
+    the map before.
+    """
     before = Before(first)
     for row in journal.changes:
-        yield before.take(row.epoch, row.profile, json.loads(row.text))
+        change = change_of(journal, row)
+        unknown = before.unknown(change)
+        if unknown:
+            raise Unopened(journal.path, f"row {row.epoch}: {', '.join(unknown)}")
+        yield before.take(row.epoch, row.profile, change)

@@ -2,21 +2,21 @@
 
 A store is the file in which `osdmapstore` keeps a map and its changes. It tells of what came since the program was last
 started: a start makes the map that it finds the first one, and begins the changes anew. The file is read, and nothing
-is written into it or beside it; while a program has it open it cannot be read.
+is written into it or beside it; while a program has it open it cannot be read. The map of an epoch is made by the
+program, change by change.
 """
 
 from __future__ import annotations
 
 import argparse
-import json
 from dataclasses import dataclass
 
-from ..cluster.epochs import epochs_of
+from ..cluster.epochs import epochs_of, first_of
 from ..cluster.names import Names, names_in
 from ..faults import Fault, Misuse
 from ..output.history_words import epoch_line, first_line
 from ..output.json_forms import put_json
-from ..program.maps import Map, Program
+from ..program.maps import Program
 from ..program.stores import StoredJournal, journal_in, map_at
 from .arguments import Arguments, Commands, add_json, set_work
 
@@ -52,13 +52,13 @@ def put_map(journal: StoredJournal, epoch: int, program: Program) -> None:
 
 
 def put_history(journal: StoredJournal, names: Names, is_json: bool) -> None:
-    """Puts out what changed, once the program has accepted all of it."""
-    first: Map = json.loads(journal.text)
+    """Puts out what changed."""
+    first = first_of(journal)
+    changes = list(epochs_of(first, journal))
     if is_json:
-        changes = list(epochs_of(first, journal))
         put_json("history", journal.last, first_epoch=journal.epoch, changes=changes)
-        return
-    print("\n".join([first_line(first), *(epoch_line(parts, names) for parts in epochs_of(first, journal))]))
+    else:
+        print("\n".join([first_line(first), *(epoch_line(parts, names) for parts in changes)]))
 
 
 def work(options: HistoryOptions) -> None:
@@ -67,8 +67,7 @@ def work(options: HistoryOptions) -> None:
     if options.at is not None:
         put_map(journal, options.at, options.program)
         return
-    with map_at(journal, journal.last, options.program):
-        put_history(journal, names, options.is_json)
+    put_history(journal, names, options.is_json)
 
 
 def epoch_number(word: str) -> int:

@@ -75,7 +75,7 @@ def map_words(parts: EpochParts, names: Names) -> list[str]:
 def entry_words(entry: Entry) -> str:
     """An exception: a group and its explicit set, or its pairs."""
     group, own = entry
-    pairs = [f"{was} to {now}" for was, now in own] if isinstance(own[0], list) else []
+    pairs = [f"{part[0]} to {part[1]}" for part in own if isinstance(part, list)]
     return f"{group} ({', '.join(pairs)})" if pairs else f"{group} {set_words(own)}"
 
 
