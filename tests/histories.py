@@ -175,7 +175,7 @@ class Histories(ToolCase):
             "pg_upmap_items": {"added": [], "changed": [], "removed": []},
         }
         grown = {"id": 2, "pg_num": 16, "pgp_num": 8, "pg_num_before": 8, "pgp_num_before": 8}
-        for epoch, parts in (
+        cases: list[tuple[int, Json]] = [
             (2, {"went_down": [2]}),
             (5, {"went_out": [1], "reweighted": [[3, 1.0, 0.5]]}),
             (6, {"went_down": [0], "went_out": [3], "came_in": [[1, 1.0]]}),
@@ -199,7 +199,8 @@ class Histories(ToolCase):
                 },
             ),
             (19, {}),
-        ):
+        ]
+        for epoch, parts in cases:
             with self.subTest(epoch=epoch):
                 profile = "plain" if epoch % 2 else "stock"
                 self.assertEqual(found[epoch], {"epoch": epoch, "profile": profile, **nothing, **parts})
@@ -314,11 +315,13 @@ class Histories(ToolCase):
         """A first map or a row that is refused, or out of its order, is told; so is one that the program refuses where
         a map is asked for."""
         down = '{"base":1,"down":[2]}'
+        late, gap = "map: its epoch is 3, and that of its row 1", "row 4: the epoch before it is 2"
+        word, early = "row 2: no profile", "row 1: the epoch before it is 1"
         cases: list[tuple[str, object, list[tuple[int, str]], str, str]] = [
             ("map", "x.json", [], "map: no JSON", "map: BadJson"),
             ("form", "{}", [], "map: version: missing (11 BadField)", "map: BadField"),
-            ("epoch", dict(example(), epoch=3), [], *["map: its epoch is 3, and that of its row 1"] * 2),
-            ("word", example(), [(2, f"other {down}")], *["row 2: no profile"] * 2),
+            ("epoch", dict(example(), epoch=3), [], late, late),
+            ("word", example(), [(2, f"other {down}")], word, word),
             ("text", example(), [(2, "plain {")], "row 2: no JSON", "row 2: BadJson"),
             ("key", example(), [(2, 'stock {"base":1,"x":1}')], "row 2: x: an unknown key (11", "row 2: BadField"),
             ("base", example(), [(2, 'plain {"base":2}')], "row 2: its base is 2", "row 2: StaleEpoch"),
@@ -326,8 +329,8 @@ class Histories(ToolCase):
             ("weight", example(), [(2, 'plain {"base":1,"weight":[[9,0]]}')], "row 2: no osd.9", "row 2: UnknownOsd"),
             ("old", example(), [(2, 'plain {"base":1,"old_pools":[7]}')], "row 2: no pool 7", "row 2: UnknownPool"),
             ("grow", example(), [(2, 'plain {"base":1,"grow_pool":[[7,8,8]]}')], "row 2: no pool 7", "row 2: Unknown"),
-            ("gap", example(), [(2, f"plain {down}"), (4, "plain {}")], *["row 4: the epoch before it is 2"] * 2),
-            ("early", example(), [(1, 'plain {"base":0}')], *["row 1: the epoch before it is 1"] * 2),
+            ("gap", example(), [(2, f"plain {down}"), (4, "plain {}")], gap, gap),
+            ("early", example(), [(1, 'plain {"base":0}')], early, early),
         ]
         for name, first, found, told, refused in cases:
             with self.subTest(name=name):
@@ -335,7 +338,7 @@ class Histories(ToolCase):
                 with store_at(path, *TABLES) as database:
                     fill(database, first, found)
                 self.is_told(self.tools.run("history", path), 1, f"{path}: {told}", name)
-                at = 1 + len(found) * (not found or found[0][0] == 2)
+                at = 2 if found else 1
                 self.is_told(self.tools.run("history", path, "--at", at), 1, f"{path}: {refused}", name)
         for name, count in (("none", 0), ("two", 2)):
             with self.subTest(name=name):

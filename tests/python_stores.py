@@ -20,7 +20,7 @@ from rekhuso import Fault, Monitor, Refused, Session, Unopened
 
 from tests import model
 from tests.cases import EXAMPLE, TOP, example
-from tests.histories import CHANGES, CRUSH, TABLES, fill, held, rows, store_at
+from tests.histories import CHANGES, TABLES, fill, held, rows, store_at
 from tests.tool_cases import TOOLS, ToolCase
 
 BUILT = TOP / "crates" / "osdmapstore" / "out" / "osdmapstore"
@@ -50,7 +50,7 @@ class PythonStores(ToolCase):
     PROGRAMS = ("OSDMAPD", "OSDMAPSTORE")
 
     def setUp(self) -> None:
-        self.needs("osdmapstore, which OSDMAPSTORE names", os.access(store_program(), os.X_OK))
+        self.needs(f"program {store_program()} (OSDMAPSTORE names another)", os.access(store_program(), os.X_OK))
         super().setUp()
 
     def path(self, name: str = "store") -> pathlib.Path:
@@ -90,7 +90,8 @@ class PythonStores(ToolCase):
     def test_ways_to_name_a_map_and_a_store(self) -> None:
         """The map may be a value, its text or a path, and the store the path of a file from here; nothing at all is an
         error of use."""
-        values = {"value": example(), "text": json.dumps(example()), "path": EXAMPLE, "word": str(EXAMPLE)}
+        text = json.dumps(example())
+        values: dict[str, Any] = {"value": example(), "text": text, "path": EXAMPLE, "word": str(EXAMPLE)}
         self.addCleanup(os.chdir, os.getcwd())
         os.chdir(self.tools.folder)
         for name, value in values.items():

@@ -152,7 +152,7 @@ class Monitor(Session):
         doing("the program opens a map" if self._store is None else "the program opens a store")
         folder, lines, answers = pathlib.Path(self._folder.name), self._process.stdin, self._process.stdout
         if self._store is not None and answers:
-            self.found_epoch = int(self._heading(answers, rb"epoch ([0-9]+)\n"))
+            self.found_epoch = self._heading(answers, rb"epoch ([0-9]+)\n")
         pipes: list[tuple[IO[bytes], IO[bytes]]] = [(lines, answers)] if lines and answers else []
         pipes += [(self._writer(folder / one), self._reader(folder / other)) for one, other in names]
         super().__init__(*pipes[0], self._ended, self._patience)
@@ -160,12 +160,12 @@ class Monitor(Session):
         for number, session in enumerate(self.sessions, 1):
             self._heading(session._answers, rb"session (%d)\n" % number)
 
-    def _heading(self, answers: IO[bytes], form: bytes) -> bytes:
+    def _heading(self, answers: IO[bytes], form: bytes) -> int:
         """The number in a heading of a form. A fault where the program has ended or puts out another line."""
         line = answers.readline(80)
         found = re.fullmatch(form, line)
         if found is not None:
-            return found[1]
+            return int(found[1])
         if line:
             raise Fault(f"{self.program}: another program: its output begins with {line[:20]!r}")
         self._ended()

@@ -141,7 +141,8 @@ def journal_of(database: sqlite3.Connection, path: str) -> StoredJournal:
     maps = database.execute("SELECT epoch, text FROM map").fetchall()
     if len(maps) != 1:
         raise Unopened(path, DAMAGED)
-    (epoch, text), changes = maps[0], []
+    epoch, text = maps[0]
+    changes: list[StoredChange] = []
     for number, (own, change) in enumerate(database.execute("SELECT epoch, change FROM journal ORDER BY epoch"), 1):
         if own != epoch + number:
             raise Unopened(path, f"row {own}: the epoch before it is {epoch + number - 1}")
