@@ -21,6 +21,7 @@ from rekhuso import Fault, Monitor, Refused, Session, Unopened
 from tests import model
 from tests.cases import EXAMPLE, TOP, example
 from tests.histories import CHANGES, TABLES, fill, held, rows, store_at
+from tests.terminals import Terminal
 from tests.tool_cases import TOOLS, ToolCase
 
 BUILT = TOP / "crates" / "osdmapstore" / "out" / "osdmapstore"
@@ -246,6 +247,17 @@ class PythonStores(ToolCase):
         told = f"{osd}: this is an OSD dump, and no map"
         self.is_told(self.shell(osd, "--store", "dump", typed=""), 1, told, "dump")
         self.is_told(self.shell("--store", path, "--pools", "1", typed=""), 2, "go with two dumps alone", "pools")
+
+    def test_shell_at_a_terminal(self) -> None:
+        """At a terminal the shell first tells the epoch that it has found."""
+        with store_at(self.path(), *TABLES) as database:
+            fill(database, example(), rows()[:4])
+        words = self.tools.words("shell", "--store", self.path(), "--store-program", store_program())
+        with mock.patch.dict(os.environ, {"HOME": str(self.tools.folder)}):
+            shell = Terminal(words, self.tools.folder)
+        self.assertIn("epoch 5; help tells the commands\r\n", shell.type("", "osdmap> "))
+        self.assertIn("\r\nok 6 evals 0\r\n", shell.type('change {"base":5,"down":[0]}\n', "osdmap> "))
+        self.assertEqual(shell.close(), 0)
 
     def test_words_of_a_shell(self) -> None:
         """A shell over nothing, or with a program of stores and no store, is used wrongly."""
