@@ -11,7 +11,7 @@ from collections.abc import Iterator
 from typing import Any
 
 from ..faults import Unopened
-from ..output.json_forms import EpochParts, ExceptionChangeParts, GrowthParts
+from ..output.json_forms import CrushParts, EpochParts, ExceptionChangeParts, GrowthParts
 from ..program.defects import map_defects
 from ..program.map_forms import change_form
 from ..program.maps import Change, Map, Pool, altered, entries_of, group_key
@@ -57,6 +57,11 @@ def change_of(journal: StoredJournal, row: StoredChange) -> Change:
 def is_growth(parts: GrowthParts) -> bool:
     """Whether a pool has other numbers of groups than before."""
     return parts["pg_num"] != parts["pg_num_before"] or parts["pgp_num"] != parts["pgp_num_before"]
+
+
+def counts_of(crush: Any) -> CrushParts:
+    """How many buckets and rules a new CRUSH map has."""
+    return {"buckets": len(crush["buckets"]), "rules": len(crush["rules"])}
 
 
 class Before:
@@ -143,7 +148,7 @@ class Before:
             "pools_removed": entries_of(change, "old_pools"),
             "pools_created": entries_of(change, "new_pools"),
             "pools_grown": grown,
-            "new_crush": crush and {"buckets": len(crush["buckets"]), "rules": len(crush["rules"])},
+            "new_crush": None if crush is None else counts_of(crush),
             "pg_upmap": self.take_exceptions(change, "pg_upmap"),
             "pg_upmap_items": self.take_exceptions(change, "pg_upmap_items"),
         }
