@@ -18,6 +18,7 @@ from collections.abc import Iterable
 
 from tests.cases import EXAMPLE, TOP, Case, example
 from tests.clusters import CLUSTERS
+from tests.histories import TABLES, fill, rows, store_at
 
 TOOLS = TOP / "tools"
 SECONDS = 120
@@ -87,9 +88,11 @@ def files_in(archive: pathlib.Path) -> dict[str, bytes]:
 
 
 def commands_over(place: pathlib.Path) -> list[list[object]]:
-    """Each command with its words, over files that are put into a folder: a map, another, and the dumps of a
-    cluster."""
+    """Each command with its words, over files that are put into a folder: a map, another, the dumps of a cluster, and
+    a store."""
     own, value = CLUSTERS["002-built"], example()
+    with store_at(place / "store", *TABLES) as database:
+        fill(database, value, rows())
     for name, what in (
         ("osd", own["osd_dump"]),
         ("crush", own["crush_dump"]),
@@ -112,6 +115,7 @@ def commands_over(place: pathlib.Path) -> list[list[object]]:
         ["picture", EXAMPLE, other],
         ["report", EXAMPLE],
         ["shell", EXAMPLE],
+        ["history", place / "store"],
     ]
 
 

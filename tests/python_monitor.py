@@ -129,6 +129,7 @@ class PythonMonitor(Case):
                 "counts",
                 "dump",
                 "epoch",
+                "found_epoch",
                 "groups",
                 "is_stock",
                 "one",

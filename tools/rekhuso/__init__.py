@@ -5,10 +5,10 @@ pools, weights, and what a Ceph monitor does with them; `plans/` what the balanc
 program's maps, sessions and answers; `output/` tables, JSON forms, pictures, scripts and the page.
 """
 
-from .faults import Closed, Fault, Refused
+from .faults import Closed, Fault, Refused, Unopened
 from .program.answers import Made, Moved, Up
 from .program.monitor import Monitor
 from .program.session import Session
 
-__all__ = ["Closed", "Fault", "Made", "Monitor", "Moved", "Refused", "Session", "Up", "__version__"]
+__all__ = ["Closed", "Fault", "Made", "Monitor", "Moved", "Refused", "Session", "Unopened", "Up", "__version__"]
 __version__ = "0.1.0"

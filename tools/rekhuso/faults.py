@@ -35,3 +35,12 @@ class Refused(Fault):
         """Takes the name of the refusal and its number, as docs/FORMATS.md has them."""
         super().__init__(f"refused: {name}" if number is None else f"refused: {number} {name}")
         self.name, self.number = name, number
+
+
+class Unopened(Fault):
+    """A store that is not begun or opened: its path, and the reason in the words of the program."""
+
+    def __init__(self, path: str, reason: str) -> None:
+        """Takes the path of the store and the reason, as `the store is in use`."""
+        super().__init__(f"{path}: {reason}")
+        self.path, self.reason = path, reason

@@ -65,12 +65,12 @@ def map_of(cluster: Cluster) -> Map:
     }
 
 
-def monitor_of(value: Map, program: Program, stock: bool | None = None) -> Monitor:
-    """A session over a map that nothing was found against. A fault where the program refuses it: its own name for
-    it, and the places.
+def monitor_of(value: Map, program: Program, stock: bool | None = None, store: str | None = None) -> Monitor:
+    """A session over a map that nothing was found against; with the path of a store, over the store that begins with
+    it. A fault where the program refuses the map: its own name for it, and the places.
     """
     try:
-        return Monitor(value, program, stock=stock)
+        return Monitor(value, program, stock=stock, store=store)
     except Refused as refused:
         raise Fault(
             f"the program refuses the map: {refused.name}", *map(str, map_defects(value, has_straw2(value)))

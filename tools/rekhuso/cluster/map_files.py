@@ -20,13 +20,15 @@ def dump_in(text: str) -> str | None:
         return None
 
 
-def map_monitor(path: str, program: Program, stock: bool | None = None) -> tuple[str, Monitor]:
-    """The text of a map in a file, and a session over it, which is to be closed. A fault where the file has a dump,
-    and `Refused` where its map is not lawful.
+def map_monitor(
+    path: str, program: Program, stock: bool | None = None, store: str | None = None
+) -> tuple[str, Monitor]:
+    """The text of a map in a file, and a session over it, which is to be closed; with the path of a store, over the
+    store that begins with it. A fault where the file has a dump, and `Refused` where its map is not lawful.
     """
     text = text_of(path)
     try:
-        return text, Monitor(text, program, stock=stock)
+        return text, Monitor(text, program, stock=stock, store=store)
     except Refused:
         dump = dump_in(text)
         if dump is None:

@@ -13,10 +13,11 @@
 | `picture` | `picture.py` | the OSDs and their shares as SVG          |
 | `report`  | `report.py`  | one HTML page of a map                    |
 | `shell`   | `shell.py`   | a prompt over a live session              |
+| `history` | `history.py` | what changed in a store, epoch by epoch   |
 
 `arguments.py` has what several of them take, and `whatif_words.py` the words of `whatif`.
 """
 
-from . import check, df, diff, explain, import_, net, picture, plan, report, shell, whatif
+from . import check, df, diff, explain, history, import_, net, picture, plan, report, shell, whatif
 
-COMMANDS = [import_, check, plan, net, df, diff, whatif, explain, picture, report, shell]
+COMMANDS = [import_, check, plan, net, df, diff, whatif, explain, picture, report, shell, history]

@@ -2,6 +2,9 @@
 
 The lines are those of a script; beside them `help`, `help COMMAND`, `save FILE` and `quit`. At a terminal the lines
 that were typed are kept in ~/.rekhuso_history, and sets are told by the names that dumps or --names have.
+
+With --store the map and its changes are kept in a file, by `osdmapstore`, so that they are there again at the next
+start. With a map a new store is begun, and without one the store that is there is opened.
 """
 
 from __future__ import annotations
@@ -23,8 +26,10 @@ from ..cluster.names import Names, named, names_in
 from ..cluster.sources import Source
 from ..faults import Misuse
 from ..program.answers import up_of
+from ..program.maps import Program
 from ..program.monitor import Monitor
-from .arguments import Arguments, Commands, add_files, set_work, source_of
+from ..program.process import built
+from .arguments import ABOUT_FILES, FILES, Arguments, Commands, Files, add_names, set_work, source_of, usage
 
 HELP = {
     "up": "up PG: the up set of a group and its primary, as up 1.0",
@@ -211,7 +216,8 @@ def history() -> Iterator[None]:
 
 def prompted(live: LiveMap) -> None:
     """Reads lines from a terminal until they end."""
-    print("help tells the commands", file=sys.stderr)
+    found = live.monitor.found_epoch
+    print("help tells the commands" if found is None else f"epoch {found}; help tells the commands", file=sys.stderr)
     with history(), Prompt() as prompt:
         while True:
             try:
@@ -233,26 +239,44 @@ def piped(live: LiveMap) -> None:
 
 @dataclass(frozen=True)
 class ShellOptions:
-    """What the shell is over: a map, or the dumps of a cluster that one map holds."""
+    """What the shell is over: a map, or the dumps of a cluster that one map holds; or a store, if one is given, which
+    these begin. The program of a store, if one is named.
+    """
 
-    __slots__ = ("source",)
+    __slots__ = ("source", "store", "store_program")
     source: Source
+    store: str | None
+    store_program: Program
+
+    def program(self) -> Program:
+        """The program that is run: that of a store may stand beside the one that is named."""
+        if self.store is None:
+            return self.source.program
+        return self.store_program or built("osdmapstore", self.source.program)
 
 
 def options_of(arguments: Arguments) -> ShellOptions:
-    """The options of the command line."""
-    return ShellOptions(source_of(arguments))
+    """The options of the command line. An error of use where there is neither a map nor a store."""
+    own = arguments
+    if own.store is None and not own.files:
+        raise Misuse("one map, or two dumps, or --store STORE")
+    if own.store is None and own.store_program is not None:
+        raise Misuse("--store-program goes with --store alone")
+    return ShellOptions(source_of(own), own.store, own.store_program)
 
 
-def live_map(source: Source) -> LiveMap:
+def live_map(options: ShellOptions) -> LiveMap:
     """A session over what the shell is over. A fault where a cluster stays out, or takes several maps."""
+    source, program, store = options.source, options.program(), options.store
     if source.has_dumps:
         found = imported(source.dumps(), True)
         names = names_in(source.names) if source.names else found.cluster.all_names()
-        return LiveMap(monitor_of(found.maps[0], source.program), names)
+        return LiveMap(monitor_of(found.maps[0], program, store=store), names)
     source.check_map()
-    _, monitor = map_monitor(source.paths[0], source.program)
-    return LiveMap(monitor, names_in(source.names))
+    names = names_in(source.names)
+    if not source.paths:
+        return LiveMap(Monitor(program=program, store=store), names)
+    return LiveMap(map_monitor(source.paths[0], program, store=store)[1], names)
 
 
 def work(options: ShellOptions) -> None:
@@ -261,13 +285,32 @@ def work(options: ShellOptions) -> None:
         raise Misuse("shell reads lines from standard input, so the map must be a file")
     if isinstance(sys.stdin, io.TextIOWrapper):
         sys.stdin.reconfigure(errors="surrogateescape")
-    live = live_map(options.source)
+    live = live_map(options)
     with live.monitor:
         (prompted if sys.stdin.isatty() else piped)(live)
+
+
+class Begun(Files):
+    """No file, one or two; an error of use where there are more."""
+
+    counts, words = (0, 1, 2), "one map, or two dumps"
 
 
 def add_to(commands_of: Commands) -> None:
     """The subcommand."""
     own = commands_of.add_parser("shell", help="a prompt over a live session", description=__doc__)
-    add_files(own)
+    words = "--store STORE [--store-program FILE]"
+    own.usage = f"{usage(f'[{words}]')}\n       %(prog)s {words} [--names FILE]"
+    own.add_argument("files", metavar=FILES, nargs="*", action=Begun, help=ABOUT_FILES)
+    own.add_argument(
+        "--store",
+        metavar="STORE",
+        help="the file in which the map and its changes are kept: a new one with a map or dumps, else the one there is",
+    )
+    own.add_argument(
+        "--store-program",
+        metavar="FILE",
+        help="the built osdmapstore (else that beside --program, that of this repository, or of PATH)",
+    )
+    add_names(own)
     set_work(own, options_of, work)

@@ -5,7 +5,7 @@ from __future__ import annotations
 import json
 from typing import TypedDict
 
-from ..program.maps import Entry
+from ..program.maps import Entry, Pool
 
 
 class ItemParts(TypedDict):
@@ -192,6 +192,56 @@ class FlowParts(TypedDict):
     notes: list[str]
     unbalanced: list[Entry]
     flows: list[list[int]]
+
+
+# What changes from epoch to epoch
+
+
+class GrowthParts(TypedDict):
+    """The numbers of groups of a pool that grows, and those that it had."""
+
+    id: int
+    pg_num: int
+    pgp_num: int
+    pg_num_before: int
+    pgp_num_before: int
+
+
+class CrushParts(TypedDict):
+    """How many buckets and rules a CRUSH map has."""
+
+    buckets: int
+    rules: int
+
+
+class ExceptionChangeParts(TypedDict):
+    """The exceptions of one kind that come, each with its group; those that become others; and the groups whose
+    exceptions go, also with their pools.
+    """
+
+    added: list[Entry]
+    changed: list[Entry]
+    removed: list[str]
+
+
+class EpochParts(TypedDict):
+    """What is other in the map of an epoch than in the one before. Reweights are from 0 to 1: those with which OSDs
+    came in, and of OSDs that are in before and after, the two.
+    """
+
+    epoch: int
+    profile: str
+    went_down: list[int]
+    came_up: list[int]
+    went_out: list[int]
+    came_in: list[Entry]
+    reweighted: list[Entry]
+    pools_removed: list[int]
+    pools_created: list[Pool]
+    pools_grown: list[GrowthParts]
+    new_crush: CrushParts | None
+    pg_upmap: ExceptionChangeParts
+    pg_upmap_items: ExceptionChangeParts
 
 
 def put_json(command: str, epoch: int | None, **parts: object) -> None:

@@ -15,7 +15,17 @@
     with Monitor(value, stock=True) as monitor:
         monitor.change(new_crush=crush)
 
+    with Monitor(value, store="cluster.store") as monitor:
+        monitor.change(down=[2])
+
+    with Monitor(store="cluster.store") as monitor:
+        monitor.found_epoch
+
 A map with a straw2 bucket is read under `--stock`, and any other without it unless `stock` says so.
+
+With a store the program is `osdmapstore`, which keeps the map and its changes in that file: with a map it begins a new
+store, and without one it opens the store that is there, under `--stock` unless `stock` says otherwise. A change that is
+answered is on the disk.
 
 The program runs until the monitor is closed, or until it lets a question wait for longer than `timeout` seconds. Each
 question is put to it as a line, and its answer is there before the next is asked; many lines at once go by `raw`, `ask`
@@ -28,17 +38,18 @@ from __future__ import annotations
 import errno
 import os
 import pathlib
+import re
 import select
 import subprocess
 import tempfile
 import time
 from typing import IO, NoReturn
 
-from ..faults import Fault, Refused
+from ..faults import Fault, Refused, Unopened
 from ..files import text_of
 from ..progress import doing
 from .maps import Map, Program, has_straw2, written
-from .process import Held, Patience, built, unblocked
+from .process import Held, Patience, chosen, unblocked
 from .session import Session
 
 
@@ -58,38 +69,41 @@ class Monitor(Session):
     """A run of the program over a map: a value as JSON has it, its text, or the path of its file; itself the first of
     its sessions. A text begins with a brace, or names no file. It is closed by `with`, or by `close`. Where a timeout
     is given, a start, a question or an end that takes more seconds ends the program. Under `stock` the map and its
-    changes may have straw2 buckets; where nothing is said, the map tells it.
+    changes may have straw2 buckets; where nothing is said, the map tells it. With the path of a store, a run of the
+    program that keeps one: it begins the store with the map, or without a map opens it. `found_epoch` is then the epoch
+    of the map that it began with, else None.
     """
 
     def __init__(
         self,
-        value: Map | str | os.PathLike[str],
+        value: Map | str | os.PathLike[str] | None = None,
         program: Program = None,
         journal: int = 65536,
         sessions: int = 1,
         timeout: float | None = None,
         stock: bool | None = None,
+        store: str | os.PathLike[str] | None = None,
     ) -> None:
         """Starts the program (that of the repository, or of the path, where none is given) with 1 to 64 sessions and
-        a journal of so many changes, 1 to 65,536. ValueError for another number of sessions; a fault where there is
-        no program or it does not start, and `Refused` where it refuses the map.
+        a journal of so many changes, 1 to 65,536. ValueError for another number of sessions, and where there is neither
+        a map nor a store; a fault where there is no program or it does not start, `Refused` where it refuses the map,
+        and `Unopened` where it does not begin or open the store.
         """
         if not 1 <= sessions <= 64:
             raise ValueError("1 to 64 sessions")
-        self.program = pathlib.Path(program or built()).resolve()
-        if not self.program.is_file() or not os.access(self.program, os.X_OK):
-            raise Fault(
-                f"{program or self.program}: no program; `make run` proves and builds it, or --program names another"
-            )
-        text = map_text(value)
-        self.is_stock, self._is_closed = has_straw2(text) if stock is None else stock, False
+        if value is None and store is None:
+            raise ValueError("a map or a store")
+        self.program = chosen(program, "osdmapd" if store is None else "osdmapstore")
+        text = None if value is None else map_text(value)
+        self.is_stock = stock if stock is not None else text is None or has_straw2(text)
+        self.found_epoch: int | None = None
+        self._store, self._is_closed = None if store is None else os.path.abspath(store), False
         self._errors = tempfile.TemporaryFile()
         self._folder = tempfile.TemporaryDirectory()
         self.sessions: list[Session] = []
-        pathlib.Path(self._folder.name, "map.json").write_text(text, encoding="utf-8")
         names = [(f"lines-{k}", f"answers-{k}") for k in range(1, sessions + 1)] if sessions > 1 else []
         with Held() as held:
-            self._process = self._started(journal, names)
+            self._process = self._started(self._words(text, journal, names), names)
             self._patience = Patience(self._process, timeout)
             try:
                 held.let_go()
@@ -100,20 +114,28 @@ class Monitor(Session):
                 self.close()
                 raise
 
-    def _started(self, journal: int, names: list[tuple[str, str]]) -> subprocess.Popen[bytes]:
+    def _words(self, text: str | None, journal: int, names: list[tuple[str, str]]) -> list[str]:
+        """The words of the program's command, behind its name; a map is put into its folder."""
+        if text is not None:
+            pathlib.Path(self._folder.name, "map.json").write_text(text, encoding="utf-8")
+        files = ["map.json"]
+        if self._store is not None:
+            files = [self._store] if text is None else ["--begin", "map.json", self._store]
+        sessions = [lines for lines, _ in names] + [word for _, answers in names for word in ("--to", answers)]
+        return [*(["--stock"] if self.is_stock else []), "--journal", str(journal), *files, *(sessions or ["-"])]
+
+    def _started(self, words: list[str], names: list[tuple[str, str]]) -> subprocess.Popen[bytes]:
         """The program in its folder, over named pipes for lines and answers, or where there are none over its
         standard input and output. It stands in a session of its own, so that Ctrl-C at a terminal ends who asks and
         not the program. A fault where it does not start.
         """
         for name in (name for pair in names for name in pair):
             os.mkfifo(os.path.join(self._folder.name, name))
-        words = [lines for lines, _ in names] + [word for _, answers in names for word in ("--to", answers)]
-        end, option = subprocess.DEVNULL if names else subprocess.PIPE, ["--stock"] if self.is_stock else []
         try:
             return subprocess.Popen(
-                [str(self.program), *option, "--journal", str(journal), "map.json", *(words or ["-"])],
-                stdin=end,
-                stdout=end,
+                [str(self.program), *words],
+                stdin=subprocess.DEVNULL if names else subprocess.PIPE,
+                stdout=subprocess.DEVNULL if names and self._store is None else subprocess.PIPE,
                 stderr=self._errors,
                 cwd=self._folder.name,
                 start_new_session=True,
@@ -124,23 +146,26 @@ class Monitor(Session):
             raise Fault(f"{self.program}: no program: {fault.strerror}") from None
 
     def _open(self, names: list[tuple[str, str]]) -> None:
-        """Opens the sessions over their pipes and reads their headings. A fault where the program has ended, or is
-        another.
+        """Reads the epoch of a store, opens the sessions over their pipes and reads their headings. A fault where the
+        program has ended, or is another.
         """
-        doing("the program opens a map")
+        doing("the program opens a map" if self._store is None else "the program opens a store")
         folder, lines, answers = pathlib.Path(self._folder.name), self._process.stdin, self._process.stdout
+        if self._store is not None and answers:
+            self.found_epoch = self._heading(answers, rb"epoch ([0-9]+)\n")
         pipes: list[tuple[IO[bytes], IO[bytes]]] = [(lines, answers)] if lines and answers else []
         pipes += [(self._writer(folder / one), self._reader(folder / other)) for one, other in names]
         super().__init__(*pipes[0], self._ended, self._patience)
         self.sessions = [self, *(Session(*pair, self._ended, self._patience) for pair in pipes[1:])]
         for number, session in enumerate(self.sessions, 1):
-            self._greeted(session, f"session {number}\n")
+            self._heading(session._answers, rb"session (%d)\n" % number)
 
-    def _greeted(self, session: Session, heading: str) -> None:
-        """Reads the heading of a session. A fault where the program has ended or puts out another."""
-        line = session._answers.readline(80)
-        if line == heading.encode():
-            return
+    def _heading(self, answers: IO[bytes], form: bytes) -> int:
+        """The number in a heading of a form. A fault where the program has ended or puts out another line."""
+        line = answers.readline(80)
+        found = re.fullmatch(form, line)
+        if found is not None:
+            return int(found[1])
         if line:
             raise Fault(f"{self.program}: another program: its output begins with {line[:20]!r}")
         self._ended()
@@ -180,6 +205,8 @@ class Monitor(Session):
         self.close()
         if status == 2:
             raise Refused(error.removeprefix("map: "))
+        if status == 5 and self._store is not None:
+            raise Unopened(self._store, error.removeprefix("store: "))
         raise Fault(": ".join([f"the program ended with status {status}", *error.splitlines()]))
 
     def close(self) -> None:

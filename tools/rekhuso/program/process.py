@@ -13,26 +13,43 @@ from collections.abc import Callable
 from types import FrameType
 
 from ..faults import Fault
+from .maps import Program
 
-# The crate of the program, where the tools stand in its repository, and what `make run` builds there.
-CRATE = pathlib.Path(__file__).resolve().parents[3] / "crates" / "osdmapd"
-BUILT = CRATE / "out" / "osdmapd"
+# The crates, where the tools stand in their repository. A program is built in its crate, below `out`.
+CRATES = pathlib.Path(__file__).resolve().parents[3] / "crates"
+# The programs, and the options that name them.
+OPTIONS = {"osdmapd": "--program", "osdmapstore": "--store-program"}
 
 
-def built() -> pathlib.Path:
-    """The program where none is named: that of the repository in which the tools stand, else `osdmapd` on the path.
-    A fault that tells where it was looked for.
+def built(name: str, beside: Program = None) -> pathlib.Path:
+    """A program where none is named: that beside another, if one is given, else that of the repository in which the
+    tools stand, else the one of this name on the path. A fault that tells where it was looked for.
     """
-    found = str(BUILT) if BUILT.exists() else shutil.which("osdmapd")
+    crate = CRATES / name
+    near = [pathlib.Path(beside).resolve().parent / name] if beside else []
+    own = [crate / "out" / name] if crate.is_dir() else []
+    found = next((str(path) for path in near + own if path.exists()), None) or shutil.which(name)
     if found is None:
-        places = ([f"{BUILT} is not there"] if CRATE.is_dir() else []) + [
-            f"no folder of PATH has osdmapd ({os.environ.get('PATH', '')})"
+        places = [f"{path} is not there" for path in near + own] + [
+            f"no folder of PATH has {name} ({os.environ.get('PATH', '')})"
         ]
         raise Fault(
-            f"no program: {', and '.join(places)}; `make run` in its repository proves and builds it, and --program "
-            f"FILE names it"
+            f"no program: {', and '.join(places)}; `make run` in its repository proves and builds it, and "
+            f"{OPTIONS[name]} FILE names it"
         )
     return pathlib.Path(found)
+
+
+def chosen(program: Program, name: str) -> pathlib.Path:
+    """The program that is run: the one that is given, else the one of this name that is found. A fault where it is
+    none.
+    """
+    found = pathlib.Path(program or built(name)).resolve()
+    if not found.is_file() or not os.access(found, os.X_OK):
+        raise Fault(
+            f"{program or found}: no program; `make run` proves and builds it, or {OPTIONS[name]} names another"
+        )
+    return found
 
 
 class Patience:

@@ -1,0 +1,87 @@
+"""`history`: what changed in a store from epoch to epoch, or with --at the map of one of its epochs.
+
+A store is the file in which `osdmapstore` keeps a map and its changes. It tells of what came since the program was last
+started: a start makes the map that it finds the first one, and begins the changes anew. The file is read, and nothing
+is written into it or beside it; while a program has it open it cannot be read. The map of an epoch is made by the
+program, change by change.
+"""
+
+from __future__ import annotations
+
+import argparse
+from dataclasses import dataclass
+
+from ..cluster.epochs import epochs_of, first_of
+from ..cluster.names import Names, names_in
+from ..faults import Fault, Misuse
+from ..output.history_words import epoch_line, first_line
+from ..output.json_forms import put_json
+from ..program.maps import Program
+from ..program.stores import StoredJournal, journal_in, map_at
+from .arguments import Arguments, Commands, add_json, set_work
+
+
+@dataclass(frozen=True)
+class HistoryOptions:
+    """The file of a store, the epoch whose map is asked for, if one is, a file of names, the program, and whether it is
+    told as JSON.
+    """
+
+    __slots__ = ("store", "at", "names", "program", "is_json")
+    store: str
+    at: int | None
+    names: str | None
+    program: Program
+    is_json: bool
+
+
+def options_of(arguments: Arguments) -> HistoryOptions:
+    """The options of the command line. An error of use for what would be passed over."""
+    own = arguments
+    if own.at is not None and (own.json or own.names is not None):
+        raise Misuse("--at puts out a map as it is: --json and --names do not go with it")
+    return HistoryOptions(own.store, own.at, own.names, own.program, own.json)
+
+
+def put_map(journal: StoredJournal, epoch: int, program: Program) -> None:
+    """Puts out the map of an epoch. A fault where the store does not tell of it."""
+    if not journal.epoch <= epoch <= journal.last:
+        raise Fault(f"{journal.path}: epoch {epoch}: the store tells of {journal.epoch} to {journal.last}")
+    with map_at(journal, epoch, program) as monitor:
+        print(monitor.text())
+
+
+def put_history(journal: StoredJournal, names: Names, is_json: bool) -> None:
+    """Puts out what changed."""
+    first = first_of(journal)
+    changes = list(epochs_of(first, journal))
+    if is_json:
+        put_json("history", journal.last, first_epoch=journal.epoch, changes=changes)
+    else:
+        print("\n".join([first_line(first), *(epoch_line(parts, names) for parts in changes)]))
+
+
+def work(options: HistoryOptions) -> None:
+    """Tells what changed in a store, or the map of an epoch."""
+    journal, names = journal_in(options.store), names_in(options.names)
+    if options.at is not None:
+        put_map(journal, options.at, options.program)
+        return
+    put_history(journal, names, options.is_json)
+
+
+def epoch_number(word: str) -> int:
+    """An epoch; an error of use where a word is none."""
+    if not (word.isascii() and word.isdecimal()):
+        raise argparse.ArgumentTypeError(f"{word}: no epoch")
+    return int(word)
+
+
+def add_to(commands: Commands) -> None:
+    """The subcommand."""
+    own = commands.add_parser("history", help="what changed in a store, epoch by epoch", description=__doc__)
+    own.add_argument("store", metavar="STORE", help="the file in which osdmapstore keeps a map and its changes")
+    own.add_argument("--at", metavar="EPOCH", type=epoch_number, help="instead: the map of this epoch")
+    own.add_argument("--names", metavar="FILE", help="names, as `import --names` wrote them")
+    add_json(own)
+    set_work(own, options_of, work)

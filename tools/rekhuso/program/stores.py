@@ -1,0 +1,199 @@
+"""The file of a store, which `osdmapstore` keeps: the text of a first map, and a row for each change since.
+
+It is a SQLite database, whose newest rows may stand in the log beside it (`-wal`). Both are copied and read there, so
+that nothing is written into them or beside them.
+"""
+
+from __future__ import annotations
+
+import contextlib
+import errno
+import fcntl
+import os
+import shutil
+import sqlite3
+import tempfile
+from collections.abc import Iterator
+from dataclasses import dataclass
+from typing import IO
+
+from ..faults import Fault, Refused, Unopened
+from ..progress import doing
+from ..words import counted
+from .maps import Program
+from .monitor import Monitor
+from .page_sums import wrong_page
+
+# The bytes of a database that its readers lock together, and whoever has it for himself alone.
+SHARED, SHARED_BYTES = (1 << 30) + 2, 510
+# The first SQLite that reads the tables of a store.
+LEAST = (3, 37)
+# The tables of a store, and the column that each has beside the epoch.
+TABLES = {"journal": "change", "map": "text"}
+PROFILES = ("plain", "stock")
+
+# What is told of a file that is not read, as the program tells it.
+MISSING = "there is no store at this path"
+FOREIGN = "the file is not a store"
+DAMAGED = "the store is damaged"
+IN_USE = "the store is in use; it is read once the program that has it open has ended"
+
+
+@dataclass(frozen=True)
+class StoredChange:
+    """A row of the journal: the epoch of the map after it, the profile of the change, and the change as JSON."""
+
+    __slots__ = ("epoch", "profile", "text")
+    epoch: int
+    profile: str
+    text: str
+
+
+@dataclass(frozen=True)
+class StoredJournal:
+    """What a store holds: the epoch and the text of its first map, and the changes since, each of the next epoch."""
+
+    __slots__ = ("path", "epoch", "text", "changes")
+    path: str
+    epoch: int
+    text: str
+    changes: list[StoredChange]
+
+    @property
+    def last(self) -> int:
+        """The epoch of the map after all changes."""
+        return self.epoch + len(self.changes)
+
+
+# The files of a store
+
+
+def share(file: IO[bytes], path: str) -> None:
+    """Locks a database as a reader does, until the file is closed. `Unopened` where a program has it open."""
+    try:
+        fcntl.lockf(file, fcntl.LOCK_SH | fcntl.LOCK_NB, SHARED_BYTES, SHARED)
+    except OSError as fault:
+        if fault.errno in (errno.EACCES, errno.EAGAIN):
+            raise Unopened(path, IN_USE) from None
+        raise
+
+
+def copy_files(path: str, place: str) -> None:
+    """Copies a store, and what SQLite has beside it, while no program has it open."""
+    real = os.path.realpath(path)
+    with open(real, "rb") as file, open(place, "wb") as copy:
+        share(file, path)
+        # The lock would go if the file were opened and closed once more.
+        shutil.copyfileobj(file, copy)
+        for end in ("-wal", "-journal"):
+            with contextlib.suppress(FileNotFoundError):
+                shutil.copyfile(real + end, place + end)
+
+
+@contextlib.contextmanager
+def copied(path: str) -> Iterator[str]:
+    """The path of a copy of a store, in a folder of its own. `Unopened` where there is no store or it is in use, and a
+    fault where it cannot be read.
+    """
+    if not os.path.exists(path) or (os.path.isfile(path) and os.path.getsize(path) == 0):
+        raise Unopened(path, MISSING)
+    if not os.path.isfile(path):
+        raise Unopened(path, FOREIGN)
+    with tempfile.TemporaryDirectory() as folder:
+        place = os.path.join(folder, "store")
+        try:
+            copy_files(path, place)
+        except OSError as fault:
+            raise Fault(f"{path}: {fault.strerror}") from None
+        yield place
+
+
+# The tables of a store
+
+
+def has_tables(database: sqlite3.Connection) -> bool:
+    """Whether a database has the two tables of a store, and nothing else."""
+    if database.execute("SELECT type, name FROM sqlite_master ORDER BY name").fetchall() != [
+        ("table", name) for name in TABLES
+    ]:
+        return False
+    forms = database.execute("SELECT name, wr, strict FROM pragma_table_list WHERE schema = 'main' ORDER BY name")
+    if [form for form in forms if form[0] in TABLES] != [(name, 0, 1) for name in TABLES]:
+        return False
+    columns = 'SELECT name, type, "notnull", dflt_value, pk, hidden FROM pragma_table_xinfo(?)'
+    return all(
+        database.execute(columns, (name,)).fetchall()
+        == [("epoch", "INTEGER", 0, None, 1, 0), (text, "TEXT", 1, None, 0, 0)]
+        for name, text in TABLES.items()
+    )
+
+
+def change_of_row(path: str, epoch: int, text: str) -> StoredChange:
+    """The change of a row. `Unopened` where it has no profile."""
+    profile, _, change = text.partition(" ")
+    if profile not in PROFILES:
+        raise Unopened(path, f"row {epoch}: no profile")
+    return StoredChange(epoch, profile, change)
+
+
+def journal_of(database: sqlite3.Connection, path: str) -> StoredJournal:
+    """What the tables hold. `Unopened` where there is not one first map, or a row is not the next."""
+    maps = database.execute("SELECT epoch, text FROM map").fetchall()
+    if len(maps) != 1:
+        raise Unopened(path, DAMAGED)
+    epoch, text = maps[0]
+    changes: list[StoredChange] = []
+    for number, (own, change) in enumerate(database.execute("SELECT epoch, change FROM journal ORDER BY epoch"), 1):
+        if own != epoch + number:
+            raise Unopened(path, f"row {own}: the epoch before it is {epoch + number - 1}")
+        changes.append(change_of_row(path, own, change))
+    return StoredJournal(path, epoch, text, changes)
+
+
+def journal_in(path: str) -> StoredJournal:
+    """What a store holds. `Unopened` where there is no store, it is in use, or its file is another or was changed by
+    another program.
+    """
+    if sqlite3.sqlite_version_info < LEAST:
+        raise Fault(f"{path}: the SQLite of this Python is {sqlite3.sqlite_version}, and 3.37 the first that reads it")
+    doing("reading the store")
+    with copied(path) as place, contextlib.closing(sqlite3.connect(place, isolation_level=None)) as database:
+        try:
+            if not has_tables(database):
+                raise Unopened(path, FOREIGN)
+            database.execute("PRAGMA wal_checkpoint(TRUNCATE)").fetchall()
+            with open(place, "rb") as file:
+                page = wrong_page(file)
+            if page is not None:
+                raise Unopened(path, f"{DAMAGED}, or another program has written it: the sum of page {page} is wrong")
+            if database.execute("PRAGMA quick_check(1)").fetchall() != [("ok",)]:
+                raise Unopened(path, DAMAGED)
+            return journal_of(database, path)
+        except sqlite3.Error as fault:
+            raise Unopened(path, FOREIGN if "not a database" in str(fault) else DAMAGED) from None
+
+
+# The maps of a store
+
+
+@contextlib.contextmanager
+def map_at(journal: StoredJournal, epoch: int, program: Program) -> Iterator[Monitor]:
+    """A session over the map of an epoch: the program makes the changes up to it of the first map. `Unopened` where it
+    refuses the map or one of them.
+    """
+    path, rows = journal.path, journal.changes[: epoch - journal.epoch]
+    if not journal.text.lstrip().startswith("{"):
+        raise Unopened(path, "map: BadJson")
+    try:
+        monitor = Monitor(journal.text, program, stock=True)
+    except Refused as refused:
+        raise Unopened(path, f"map: {refused.name}") from None
+    doing(f"making {counted(len(rows), 'change')}")
+    with monitor:
+        if monitor.epoch() != journal.epoch:
+            raise Unopened(path, f"map: its epoch is {monitor.epoch()}, and that of its row {journal.epoch}")
+        answers = monitor.raw(["change " + row.text.replace("\n", " ") for row in rows])
+        for row, answer in zip(rows, answers):
+            if answer.startswith("err "):
+                raise Unopened(path, f"row {row.epoch}: {answer.split(' ')[2]}")
+        yield monitor
