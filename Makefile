@@ -14,13 +14,14 @@ OTHER =
 RESULTS = $(CURDIR)/bench/results
 BENCHES = placements tables steps sessions live store balancer reading cliffs tools wide whole_cluster
 
-.PHONY: help try prove run test gate runs bench
+.PHONY: help try prove run store test gate runs bench
 
 help:
 	@echo 'make try    the example answered before any proof, by a program built with checks in place of proofs, which is not kept'
 	@echo '            MAP=my.json SCRIPT=my.txt runs your map and script once; SCRIPT=/dev/stdin reads what you type up to Ctrl-D'
 	@echo 'make run    the program proved and built, then the example answered by it (slow the first time: every proof below it)'
 	@echo '            MAP= and SCRIPT= as above; CPU=x86-64-v3 (or another of LLVM) builds it for that processor'
+	@echo 'make store  the program whose map a file keeps, proved and built: crates/osdmapstore/out/osdmapstore'
 	@echo 'make test   the gate: every proof (from nothing the first time, later only what changed), the edits that must not prove,'
 	@echo '            the tests, then runs of the built program'
 	@echo 'make gate   the gate without the runs'
@@ -41,6 +42,9 @@ prove:
 run: prove
 	@echo 'The proved program answers:' >&2
 	@$(PROGRAM) '$(MAP)' '$(SCRIPT)'
+
+store:
+	@cd crates/osdmapstore && rt run $(if $(CPU),--cpu $(CPU)) -- --help
 
 test: gate runs
 

@@ -1,6 +1,6 @@
 #!/usr/bin/env python3
-"""What a store costs: changes with and without one, beside a sync of the disk; look-ups beside changes; opening; and the
-size of the programs.
+"""What a store costs: changes with and without one, beside a sync of the disk; look-ups beside changes; opening; and
+the size of the programs.
 
     store.py PROGRAM [STORE]
 

@@ -18,6 +18,7 @@ from rekhuso.commands.shell import put_whole
 from tests.cases import EXAMPLE, HERE, Case
 from tests.clusters import STOCK, copied
 from tests.live_sessions import ran
+from tests.stores import StoreCase, store_program
 from tests.tool_cases import TOOLS
 
 SECONDS = 60
@@ -41,12 +42,18 @@ def dialogues(page: str) -> Iterator[tuple[list[str], list[str], list[str]]]:
             ]
 
 
-def in_a_shell(program: pathlib.Path, commands: list[str], typed: list[str]) -> str:
-    """What commands put out, in a folder with the examples and with the program as `osdmapd`. What they leave behind is
-    ended."""
+def of_program(name: str, page: str) -> Iterator[tuple[list[str], list[str], list[str]]]:
+    """The dialogues of a page in which a program is called, and no other."""
+    return (found for found in dialogues(page) if any(command.startswith(f"{name} ") for command in found[0]))
+
+
+def in_a_shell(programs: dict[str, pathlib.Path], commands: list[str], typed: list[str]) -> str:
+    """What commands put out, in a folder with the examples and with the programs by these names. What they leave behind
+    is ended."""
     with tempfile.TemporaryDirectory() as name:
         folder = pathlib.Path(name)
-        (folder / "osdmapd").symlink_to(program)
+        for word, program in programs.items():
+            (folder / word).symlink_to(program)
         (folder / "examples").symlink_to(HERE.parent / "examples")
         words = ["bash", "-c", "".join([*commands, "kill $! 2> /dev/null\n"])]
         shell = subprocess.Popen(
@@ -133,11 +140,24 @@ class Dialogues(Case):
             self.assertEqual((os.listdir(folder), after.read_text()), (["after"], held))
 
     def test_dialogues_of_the_pages(self) -> None:
-        """Every block of README.md and of docs/LIVE.md that shows a dialogue in a shell."""
-        found = [*dialogues("README.md"), *dialogues("docs/LIVE.md")]
+        """Every block of README.md and of docs/LIVE.md that shows a dialogue with `osdmapd` in a shell."""
+        found = [*of_program("osdmapd", "README.md"), *of_program("osdmapd", "docs/LIVE.md")]
         self.assertEqual(len(found), 3)
         for commands, typed, answers in found:
-            self.assertEqual(in_a_shell(self.program, commands, typed), "".join(answers))
+            self.assertEqual(in_a_shell({"osdmapd": self.program}, commands, typed), "".join(answers))
+
+
+class StoreDialogues(StoreCase):
+    """Those over a store."""
+
+    is_alone = True
+
+    def test_dialogues_over_a_store(self) -> None:
+        """Every block of README.md and of docs/LIVE.md that shows a dialogue with `osdmapstore` in a shell."""
+        found = [*of_program("osdmapstore", "README.md"), *of_program("osdmapstore", "docs/LIVE.md")]
+        self.assertEqual(len(found), 2)
+        for commands, typed, answers in found:
+            self.assertEqual(in_a_shell({"osdmapstore": store_program()}, commands, typed), "".join(answers))
 
     def test_guide(self) -> None:
         """Every block of docs/CEPH.md that shows a dialogue, in their order in one folder, over clusters that a monitor

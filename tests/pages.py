@@ -324,8 +324,9 @@ class Pages(Case):
         self.assertFalse(unknown)
 
     def test_options(self) -> None:
-        """Each option that a page names is one of the program, of the tools, or of others"""
-        own = re.findall(r'\.long\("([\w-]+)"\)', text("crates", "osdmapd", "src", "line.rt"))
+        """Each option that a page names is one of the programs, of the tools, or of others"""
+        lines = [text("crates", "cli", "src", "arguments.rt"), text("crates", "osdmapstore", "src", "line.rt")]
+        own = re.findall(r'\.long\("([\w-]+)"\)', "".join(lines))
         known = OF_PARSERS | {f"--{name}" for name in own}
         for path in sorted((TOP / "tools" / "rekhuso").rglob("*.py")):
             known.update(re.findall(r'"(--[a-z][\w-]*)"', path.read_text(encoding="utf-8")))
@@ -334,7 +335,7 @@ class Pages(Case):
         }
         unknown = {named for named in said if named[1] not in known | OPTIONS_OF_OTHERS}
         idle = OPTIONS_OF_OTHERS - {option for _, option in said}
-        self.assertEqual(len(own), 3, (unknown, idle))
+        self.assertEqual(len(own), 4, (unknown, idle))
         self.assertFalse(unknown, (unknown, idle))
         self.assertFalse(idle, (unknown, idle))
 

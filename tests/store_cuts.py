@@ -1,10 +1,10 @@
-"""Cuts of the power: the calls that the program makes on a store's file and on its log are noted (refuse_write.c), and
-what a cut may leave of them is opened.
+"""Cuts of the power: the calls that the program makes on a store's file and on its log are noted (refuse_write.c),
+and what a cut may leave of them is opened.
 
-A cut comes behind any of the calls. What was synced is on the disk. Of what was written since, a cut leaves all, nothing,
-the last call alone, or any sectors; and past the old end of a file any bytes. Each change that was answered by then is in
-what is left, and at most one more; the map is that of `osdmapd`. Where the store is begun it may be none yet, and is then
-begun.
+A cut comes behind any of the calls. What was synced is on the disk. Of what was written since, a cut leaves all,
+nothing, the last call alone, or any sectors; and past the old end of a file any bytes. Each change that was
+answered by then is in what is left, and at most one more; the map is that of `osdmapd`. Where the store is begun it
+may be none yet, and is then begun.
 """
 
 import dataclasses

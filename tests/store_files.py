@@ -385,7 +385,7 @@ class StoreFiles(StoreCase):
     # What sqlite3 has written
 
     def test_edited(self) -> None:
-        """A row that sqlite3 has made another is refused by its epoch, with the number and the name of what is wrong."""
+        """A row that sqlite3 has made another is refused by its epoch, with the name of what is wrong."""
         for text, values, wanted in self.edits():
             with self.subTest(text=text, values=values):
                 self.five()

@@ -1,5 +1,5 @@
-"""The program `osdmapstore` and its store, as tests see them: runs of the program, what a store's file holds by Python's
-own sqlite3, and what a row of it is by its definition."""
+"""The program `osdmapstore` and its store, as tests see them: runs of the program, what a store's file holds by
+Python's own sqlite3, and what a row of it is by its definition."""
 
 import contextlib
 import dataclasses

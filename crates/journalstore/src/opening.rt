@@ -25,11 +25,21 @@ pub(crate) type FileConnection<W> = Connection<FileStore<FileFrom<W>>>;
 /// A store in files that held what `W` says.
 pub type FileTexts<W> = TextStore<FileStore<FileFrom<W>>>;
 
-/// Whether there is no file at the path, or an empty one.
-fn is_missing(rt: &HostRuntime, path: &str) -> bool {
+/// The bytes of the smallest page of a database (SQLite, database file format).
+const SMALLEST_PAGE: u64 = 512;
+
+/// Tests that there is a file at the path, and that it has the length of a page: the port would make a database of a
+/// shorter one.
+///
+/// # Errors
+///
+/// `Missing` where there is no file, or an empty one; `Foreign` where it is shorter than any page.
+fn check_length(rt: &HostRuntime, path: &str) -> Result<(), StoreError> {
     match fs::metadata(rt, path) {
-        Ok(found) => found.len() == 0,
-        Err(error) => error.kind() == ErrorKind::NotFound,
+        Ok(found) if found.len() == 0 => Err(StoreError::Missing),
+        Ok(found) if found.len() < SMALLEST_PAGE => Err(StoreError::Foreign),
+        Err(error) if error.kind() == ErrorKind::NotFound => Err(StoreError::Missing),
+        _ => Ok(()),
     }
 }
 
@@ -80,9 +90,7 @@ pub fn open<W: Start>(
     ensures found { IfOk result (λ r. (db : _) (t : Texts) → HasCleanDisk (file_state r.0.conn)
         → HoldsDatabase (image_at W.Start) db → StandsFor db t → texts_read r.1 ≡ t) }
 {
-    if is_missing(rt, path) {
-        return Err(StoreError::Missing);
-    }
+    check_length(rt, path)?;
     let mut conn = find(rt, path, start)?;
     let texts = read(rt.alloc(), &mut conn)?;
     let conn = Exclusive::new(conn);

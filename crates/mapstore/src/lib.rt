@@ -5,7 +5,6 @@
 //! - `found`: the map that the texts of a store stand for
 //! - `opening`: how a store is begun and opened
 //! - `error`: why it is not
-//! - `tests`: a store that is opened again, by an example
 #![tactic(auto)]
 
 mod error;
@@ -14,8 +13,6 @@ mod found;
 mod opening;
 mod row;
 mod store;
-#[cfg(test)]
-mod tests;
 
 pub use error::OpenError;
 pub use opening::{FileMaps, adopt, begin, open};

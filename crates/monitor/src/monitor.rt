@@ -8,6 +8,7 @@ use keeping::{Keeps, Nothing};
 use mapparts::Profile;
 use osdmap::OsdMap;
 use refusal::Memory;
+use state::State;
 use std::alloc::Global;
 use std::marker::Model;
 use ticketlock::{Fact, Lock};
@@ -28,8 +29,8 @@ where
 }
 
 impl<K: Keeps + Drop> Monitor<K> {
-    ghost use Rattle.std.specs.Prelude.{◌≡◌, ◌+◌, ◌<◌, ◌≤◌, [], length, true, false, IfOk};
-    ghost use Rattle.monitor.specs.Members.{IsPassOf};
+    ghost use Rattle.std.specs.Prelude.{◌≡◌, ◌+◌, ◌<◌, ◌≤◌, [], length, true, false, IfOk, IfSome};
+    ghost use Rattle.monitor.specs.Members.{IsPassOf, IsStateOf};
 
     /// Whether the monitor has reached an epoch by now: it is the first map's or one before it, or the row shows it. It
     /// takes no turn at the lock, no memory, and waits for no one. Who then shares the lock finds the state there, or
@@ -54,6 +55,16 @@ impl<K: Keeps + Drop> Monitor<K> {
         ensures { result ≡ record self { profile = profile } }
     {
         Monitor { profile, ..self }
+    }
+
+    /// The state, with which the monitor ends. `None` only where a writer at the lock has lost it, as
+    /// [`ticketlock::Lock::into_value`] says.
+    pub fn into_state(self) -> Option<Box<State<K>>>
+        ensures { IfSome result (λ state. IsStateOf self state.value) }
+    {
+        let Monitor { lock, .. } = self;
+        let Locked { state } = lock.into_value()?;
+        Some(state)
     }
 
     /// By which profile the texts of its changes are read: which kinds of buckets they may state, by whose limits.

@@ -1,9 +1,2 @@
-mod CommandLines
-mod Joined
-mod Opened
-mod Paired
-mod Outs
 mod PlainWords
-mod Played
-mod Put
 mod UsualLines

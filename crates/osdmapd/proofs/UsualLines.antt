@@ -23,11 +23,13 @@ use Rattle.clap.proofs.OnLiterals.{clap_on_literals}
 use Rattle.clap.proofs.ValueTestLemmas.{Accepts-accepts}
 use Rattle.epochlog.specs.Epochs.{max_capacity}
 use Rattle.osdmapd.specs.declared.choices.Options.{Options}
-use Rattle.osdmapd.specs.declared.choices.LineError.{LineError}
-use Rattle.osdmapd.specs.declared.choices.LineError.TheVariants.{Help, Usage, TooMany, Unpaired, Memory}
+use Rattle.cli.specs.declared.choices.LineError.{LineError}
+use Rattle.cli.specs.declared.choices.LineError.TheVariants.{Help, Usage, TooMany, Unpaired, Memory}
 use Rattle.mapparts.specs.declared.profile.Profile.{Profile}
 use Rattle.mapparts.specs.declared.profile.Profile.TheVariants.{Plain, Stock}
-use Rattle.osdmapd.specs.CommandLine.{app, found_in, faults_of, is_plain, max_scripts, stock_rule, stock_word, ArePlain, AreUsual, IsJournalIn, GivesOptions, ReadsLine, ReadsUsual}
+use Rattle.serving.specs.Serving.{max_scripts}
+use Rattle.cli.specs.Arguments.{found_by, faults_by, stock_rule, stock_word, script_paths_in, IsJournalIn}
+use Rattle.osdmapd.specs.CommandLine.{app, is_plain, ArePlain, AreUsual, GivesOptions, ReadsLine, ReadsUsual}
 use Rattle.osdmapd.proofs.PlainWords.{at, at_option, no_option, plain_argument, plain_given, plain_more, plain_option, plain_option_behind, plain_option_more, plain_value, plain_walked}
 
 -- the command as the parser builds it
@@ -125,12 +127,12 @@ settles rows (script ∷ more) some few = ap₂ or_else (enough (length (script 
 
 -- what the options are made of
 record Finds (words : List Text) (profile : Profile) (journal map_word : Text) (scripts : List Text) : Type 0 where
-  profile_is : one_of (codes "stock") (found_in words) ≡ Some (stock_word profile)
-  journal_is : one_of (codes "journal") (found_in words) ≡ Some journal
-  map_is : first_of (codes "MAP") (found_in words) ≡ Some map_word
-  scripts_are : all_of (codes "SCRIPT") (found_in words) ≡ Some scripts
-  answers_are : all_of (codes "to") (found_in words) ≡ None
-  passes : faults_of words ≡ []
+  profile_is : one_of (codes "stock") (found_by app words) ≡ Some (stock_word profile)
+  journal_is : one_of (codes "journal") (found_by app words) ≡ Some journal
+  map_is : first_of (codes "MAP") (found_by app words) ≡ Some map_word
+  scripts_are : all_of (codes "SCRIPT") (found_by app words) ≡ Some scripts
+  answers_are : all_of (codes "to") (found_by app words) ≡ None
+  passes : faults_by app words ≡ []
 
 -- what is held against the words where nothing is against the scripts
 abbrev else_at_end : Held → Kinds → Kinds
@@ -179,8 +181,8 @@ module _ (name map_word script : Text) (more : List Text) (m : is_plain map_word
   abbrev two_rows : List Row
   two_rows = map_rows [] map_word script more m s plain
 
-  found_two : found_in (name ∷ map_word ∷ script ∷ more) ≡ finished rules (scripts_held two_rows (script ∷ more))
-  unfolding found_in
+  found_two : found_by app (name ∷ map_word ∷ script ∷ more) ≡ finished rules (scripts_held two_rows (script ∷ more))
+  unfolding found_by
   found_two = ap (λ (w : Walk). finished rules w.held) (all_words [] map_word script more m s plain)
 
   abbrev two_held : Held
@@ -193,8 +195,8 @@ module _ (name map_word script : Text) (more : List Text) (m : is_plain map_word
   unfolding defaults_fault
   no_end = ap (else_at_end (scripts_held two_rows (script ∷ more))) (settles two_rows (script ∷ more) (omega arith) few)
 
-  passes_two : faults_of (name ∷ map_word ∷ script ∷ more) ≡ []
-  unfolding faults_of
+  passes_two : faults_by app (name ∷ map_word ∷ script ∷ more) ≡ []
+  unfolding faults_by
   passes_two = ap₂ at_end (all_words [] map_word script more m s plain) (no_turn [] map_word script more m s plain second_turn) ∙ no_end
 
   finds_two : Finds (name ∷ map_word ∷ script ∷ more) Plain (codes "1024") map_word (script ∷ more)
@@ -232,8 +234,8 @@ module _ (name map_word script : Text) (more : List Text) (m : is_plain map_word
   all_three =
       ap (λ w. fold (walked rules []) w (map_word ∷ script ∷ more)) flags ∙ all_words stock_rows map_word script more m s plain
 
-  found_three : found_in (name ∷ codes "--stock" ∷ map_word ∷ script ∷ more) ≡ finished rules (scripts_held three_rows (script ∷ more))
-  unfolding found_in
+  found_three : found_by app (name ∷ codes "--stock" ∷ map_word ∷ script ∷ more) ≡ finished rules (scripts_held three_rows (script ∷ more))
+  unfolding found_by
   found_three = ap (λ (w : Walk). finished rules w.held) all_three
 
   abbrev three_held : Held
@@ -251,8 +253,8 @@ module _ (name map_word script : Text) (more : List Text) (m : is_plain map_word
   unfolding defaults_fault
   no_end_three = ap (else_at_end (scripts_held three_rows (script ∷ more))) (settles three_rows (script ∷ more) (omega arith) few)
 
-  passes_three : faults_of (name ∷ codes "--stock" ∷ map_word ∷ script ∷ more) ≡ []
-  unfolding faults_of
+  passes_three : faults_by app (name ∷ codes "--stock" ∷ map_word ∷ script ∷ more) ≡ []
+  unfolding faults_by
   passes_three = ap₂ at_end all_three no_turn_three ∙ no_end_three
 
   finds_three : Finds (name ∷ codes "--stock" ∷ map_word ∷ script ∷ more) Stock (codes "1024") map_word (script ∷ more)
@@ -309,8 +311,8 @@ module _ (name number map_word script : Text) (more : List Text) (j : is_plain n
       ∙ ap (λ w. fold (walked rules []) (walked rules [] w script) more) their_map
       ∙ ap (λ w. fold (walked rules []) w more) their_script ∙ all_scripts given_rows (script ∷ []) more plain
 
-  found_four : found_in (name ∷ codes "--journal" ∷ number ∷ map_word ∷ script ∷ more) ≡ finished rules (scripts_held given_rows (script ∷ more))
-  unfolding found_in
+  found_four : found_by app (name ∷ codes "--journal" ∷ number ∷ map_word ∷ script ∷ more) ≡ finished rules (scripts_held given_rows (script ∷ more))
+  unfolding found_by
   found_four = ap (λ (w : Walk). finished rules w.held) all_four
 
   number_turn : turn_fault top [] (at_option asked (codes "journal") 1) number ≡ []
@@ -335,8 +337,8 @@ module _ (name number map_word script : Text) (more : List Text) (j : is_plain n
   unfolding defaults_fault
   no_end_four = ap (else_at_end (scripts_held given_rows (script ∷ more))) (settles given_rows (script ∷ more) (omega arith) few)
 
-  passes_four : faults_of (name ∷ codes "--journal" ∷ number ∷ map_word ∷ script ∷ more) ≡ []
-  unfolding faults_of
+  passes_four : faults_by app (name ∷ codes "--journal" ∷ number ∷ map_word ∷ script ∷ more) ≡ []
+  unfolding faults_by
   passes_four = ap₂ at_end all_four no_turn_four ∙ no_end_four
 
   finds_four : Finds (name ∷ codes "--journal" ∷ number ∷ map_word ∷ script ∷ more) Plain number map_word (script ∷ more)
@@ -406,24 +408,22 @@ gives_options : (words : List Text) (profile : Profile) (journal map_word : Text
     → Finds words profile journal map_word scripts → length scripts ≤ max_scripts → digits_value 10 (without_leading_plus journal) ≡ n
     → (r : Result Options LineError) → ReadsLine words r → GivesOptions r n profile map_word scripts
 gives_options words profile journal map_word scripts n finds few number (Ok o) (none, chosen) =
-    let found = chosen.0 in
-    let map_same : Some (string_bytes o.map) ≡ Some map_word = sym found.map_found ∙ finds.map_is in
-    let script_same : Some (map string_bytes o.scripts.items) ≡ Some scripts = sym found.scripts_found ∙ finds.scripts_are in (
-      journal_of (found_in words) o.journal journal finds.journal_is found.journal_found ∙ number,
-      found.profile_found profile finds.profile_is,
+    let sessions = chosen.0.sessions_found in
+    let map_same : Some (string_bytes o.map) ≡ Some map_word = sym chosen.0.map_found ∙ finds.map_is in (
+      journal_of (found_by app words) o.sessions.journal journal finds.journal_is sessions.journal_found ∙ number,
+      sessions.profile_found profile finds.profile_is,
       cc,
-      cc,
-      no_answers o.answers.items (sym found.answers_found ∙ ap (λ (a : Option (List Text)). unwrap_or a []) finds.answers_are),
+      sym sessions.scripts_found ∙ ap (λ (a : Option (List Text)). unwrap_or a []) finds.scripts_are,
+      no_answers o.sessions.answers.items (sym sessions.answers_found ∙ ap (λ (a : Option (List Text)). unwrap_or a []) finds.answers_are),
     )
 gives_options words profile journal map_word scripts n finds few number (Err (Help text)) (kind, among, is) =
-    absurd (none_among kind (faults_of words) finds.passes among)
+    absurd (none_among kind (faults_by app words) finds.passes among)
 gives_options words profile journal map_word scripts n finds few number (Err (Usage text)) (kind, among, is) =
-    absurd (none_among kind (faults_of words) finds.passes among)
-gives_options words profile journal map_word scripts n finds few number (Err TooMany) (none, (paths, found, many)) =
-    let one : Some paths ≡ Some scripts = sym found ∙ finds.scripts_are in
-    let paths_are : paths ≡ scripts = cc in
-    absurd (omega (arith, ap length paths_are))
-gives_options words profile journal map_word scripts n finds few number (Err Unpaired) (none, (paths, found, unpaired)) =
+    absurd (none_among kind (faults_by app words) finds.passes among)
+gives_options words profile journal map_word scripts n finds few number (Err TooMany) (none, many) =
+    let paths_are : script_paths_in (found_by app words) ≡ scripts = ap (λ (a : Option (List Text)). unwrap_or a []) finds.scripts_are in
+    absurd (omega (arith, ap length paths_are, many))
+gives_options words profile journal map_word scripts n finds few number (Err Unpaired) (none, unpaired) =
     absurd (unpaired (λ some. absurd (some (ap (λ (a : Option (List Text)). length (unwrap_or a [])) finds.answers_are))))
 gives_options words profile journal map_word scripts n finds few number (Err Memory) reads = refl
 

@@ -1,6 +1,1 @@
 pub mod CommandLine
-pub mod Endings
-pub mod Pairs
-pub mod Serving
-pub mod Players
-pub mod Outs

@@ -1,50 +1,11 @@
-//! What a command line asks for.
-use mapparts::Profile;
-use std::alloc::AllocError;
-use thiserror::Error;
+//! What the command line asks for.
+use cli::SessionOptions;
 
 /// What the command line asks for.
 #[derive(Debug, Drop)]
 pub struct Options {
-    /// How many changes the journal holds: 1 to 65,536.
-    pub journal: u32,
-    /// Which maps and changes texts may state: those of stock clusters, or plain ones alone.
-    pub profile: Profile,
     /// The path of the map.
     pub map: String,
-    /// The paths of the scripts.
-    pub scripts: Vec<String>,
-    /// The paths of their answers, one for each script, or none.
-    pub answers: Vec<String>,
-}
-
-/// Why there are no options.
-#[derive(Debug, Drop, Error)]
-pub enum LineError {
-    /// Help was asked for: its text.
-    #[error("{0}")]
-    Help(String),
-    /// The words are no command line: the parser's text.
-    #[error("{0}")]
-    Usage(String),
-    /// More scripts than can be run.
-    #[error("too many scripts")]
-    TooMany,
-    /// There are files for answers, but not one for each script.
-    #[error("not as many --to as scripts")]
-    Unpaired,
-    /// The parser found no memory.
-    #[error("memory")]
-    Memory,
-}
-
-impl From<AllocError> for LineError {
-    ghost use Rattle.std.specs.Prelude.{◌≡◌};
-    ghost use Rattle.osdmapd.specs.declared.choices.LineError.TheVariants.{Memory as OutOfMemory};
-
-    ghost from_gives = { λ _ e. e ≡ OutOfMemory };
-
-    fn from(_error: AllocError) -> LineError {
-        LineError::Memory
-    }
+    /// How its sessions are to be run.
+    pub sessions: SessionOptions,
 }

@@ -1,15 +1,18 @@
 //! The state of a monitor: the first map, what its pass has seen of the row of epochs, the present map and its table,
 //! and what keeps its journal.
 
-ghost use Rattle.std.specs.Prelude.{◌≡◌, ◌+◌, ◌^◌, ◌<◌, IfOk, None};
+ghost use Rattle.std.specs.Prelude.{◌≡◌, ◌+◌, ◌^◌, ◌<◌, ◌++◌, ◌∷◌, [], length, false, IfOk, OnErr, None};
+ghost use Rattle.epochlog.specs.Epochs.{epoch_of};
+ghost use Rattle.keeping.specs.Journals.{with_step};
+ghost use Rattle.keeping.specs.Stores.{IsKeptBy};
 ghost use Rattle.osdmap.specs.Changes.{change_fault, apply};
 ghost use Rattle.pgtable.specs.Tables.{IsTableOf, RunsMore};
 ghost use Rattle.pgtable.specs.Patches.{LeadsTo};
 ghost use Rattle.osdmap.specs.Stored.{HasRoomFor};
-ghost use Rattle.state.specs.States.{IsReady};
+ghost use Rattle.state.specs.States.{IsReady, journal};
 
 use crush::Work;
-use epochlog::{Pass, Row};
+use epochlog::{NotSealed, Pass, Row};
 use keeping::{Keeper, Keeps, Nothing};
 use maptypes::{Change, Incremental};
 use osdmap::OsdMap;
@@ -73,6 +76,35 @@ fn prepare(
     let patch = table.prepare(alloc, map, &change, work)?;
     let step = Box::new(alloc, Incremental::new(map.epoch() + 1, change))?;
     Ok((patch, step))
+}
+
+/// Seals an incremental in the row, so that everybody can see it, which the keeper holds behind the journal that the
+/// pass has seen since a first map.
+///
+/// # Errors
+///
+/// As [`Row::seal`].
+fn seal<K: Keeps + Drop>(
+    keeper: &Keeper<K>,
+    first: &OsdMap,
+    row: &Row,
+    pass: &mut Pass,
+    step: Box<Incremental>,
+) -> Result<u64, (Box<Incremental>, NotSealed)>
+    requires kept { IsKeptBy K.holds K.may_leave K.may_fail keeper.now
+        (with_step (journal first.now.map pass.old.history) step.value) }
+    requires sound { keeper.now.has_failed ≡ false }
+    requires row { pass.old.row ≡ row.now }
+    requires room { length pass.old.history < length row.now.cells }
+    requires next { step.value.epoch ≡ epoch_of pass.old + 1 }
+    ensures row { pass.new.row ≡ pass.old.row }
+    ensures epoch { IfOk result (λ epoch. epoch ≡ step.value.epoch) }
+    ensures sealed { IfOk result (λ _. pass.new.history ≡ pass.old.history ++ step.value ∷ []) }
+    ensures unchanged { OnErr result (pass.new ≡ pass.old) }
+{
+    let _ = keeper;
+    let _ = first;
+    row.seal(pass, step)
 }
 
 /// Makes the map and its table those after an incremental, for which all is ready. It takes no memory and cannot fail.
@@ -201,7 +233,7 @@ impl<K: Keeps + Drop> State<K> {
             change,
         )?;
         self.keeper.keep(&step)?;
-        let Ok(epoch) = row.seal(pass, step) else {
+        let Ok(epoch) = seal(&self.keeper, &self.first, row, pass, step) else {
             self.keeper.forget();
             return Err(Refusal::NotSealed);
         };

@@ -1,5 +1,5 @@
 //! The lock, and its seats.
-ghost use Rattle.std.specs.Prelude.{◌≡◌, ◌<◌, ◌≤◌, ◌^◌, IfOk, IfErr, All, vec_len};
+ghost use Rattle.std.specs.Prelude.{◌≡◌, ◌<◌, ◌≤◌, ◌^◌, IfOk, IfErr, IfSome, All, vec_len};
 ghost use Rattle.ticketlock.specs.Rule.{newcomer};
 ghost use Rattle.ticketlock.specs.Places.{opener};
 ghost use Rattle.ticketlock.specs.Standing.{IsAt, view_of};
@@ -85,5 +85,14 @@ impl<T: Fact + Drop> Lock<T> {
         let slots = Slots::new(value);
         slots.open();
         Ok((Lock { words, slots }, all))
+    }
+
+    /// The value, with which the lock ends. `None` only where a writer has lost what it took out: a guard cannot be
+    /// dropped, and while one is there the lock does not end.
+    pub fn into_value(self) -> Option<T>
+        ensures { IfSome result (T.fact (first_of self)) }
+    {
+        let Lock { slots, .. } = self;
+        slots.into_value()
     }
 }

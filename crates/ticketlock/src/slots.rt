@@ -122,6 +122,18 @@ impl<T: Fact + Drop> Slots<T> {
         }
     }
 
+    /// The value, with which the slots end. `None` only where a caller has lost what it took out.
+    pub fn into_value(self) -> Option<T>
+        ensures { IfSome result (T.fact self.left.value) }
+    {
+        let Slots { left, right } = self;
+        let kept = match left.into_inner() {
+            Some(kept) => kept,
+            None => right.into_inner()?,
+        };
+        Some(kept.value)
+    }
+
     /// Takes the value out, and gives with it the right to put one back.
     pub fn take(&self) -> Option<(T, Hold<'_, T>)>
         ensures { IfSome result (λ r. T.fact self.now.left.value r.0 × (r.1.right ≡ 2) × (r.1.tag ≡ self.now.left)) }

@@ -1,10 +1,10 @@
-use Rattle.std.proofs.Common.{◌≡◌, ◌∙◌, ◌+◌, [], ◌∷◌, ◌++◌, ap, sym, subst, refl, ℕ, Bool, false, None, rules, arith}
+use Rattle.std.proofs.Common.{List, ◌≡◌, ◌∙◌, ◌+◌, [], ◌∷◌, ◌++◌, ap, sym, subst, refl, ℕ, Bool, false, None, rules, arith}
 use Rattle.osdmap.specs.Maps.{ClusterMap}
 use Rattle.osdmap.specs.Evals.{evals_of}
 use Rattle.osdmap.specs.Changes.{apply}
 use Rattle.maptypes.specs.Incrementals.{Step}
 use Rattle.epochlog.specs.Epochs.{Seen, epoch_of}
-use Rattle.keeping.specs.Journals.{Journal}
+use Rattle.keeping.specs.Journals.{Journal, with_step}
 use Rattle.keeping.specs.Stores.{IsKeptBy}
 use Rattle.state.specs.States.{StateFacts, facts, journal, fault_in, counted, ran, committed, next_step, longer_by}
 use Rattle.state.proofs.Journals.{IsAccepted, accepted, IsKept-committed, IsKept-ran, pass-epoch, with_parts}
@@ -18,6 +18,16 @@ prepare-requires-clause-lawful g c =
 
 pub prepare-requires-clause-early : goal.prepare-requires-clause-early
 prepare-requires-clause-early g c = rw (← c.self.view_is) at (early_fits c.args.self.now.map.epoch c.in_ok-accepts.ensures.early)
+
+pub seal-requires-clause-kept : goal.seal-requires-clause-kept
+seal-requires-clause-kept g c =
+    let mine : c.args.pass.now.history ≡ c.self.inside.pass.history =
+    ap (λ (s : Seen). s.history) c.requires.pass ∙ ap (λ (s : StateFacts). s.pass.history) (sym c.self.view_is) in
+    let kept = subst (λ (step : Step). IsKeptBy g.K.Keeps.holds g.K.Keeps.may_leave g.K.Keeps.may_fail c.keep.new.self (with_step (journal c.self.inside.first.map c.self.inside.pass.history) step))
+    c.deref.ensures
+    (c.in_ok-keep.ensures.kept.2 (journal c.self.inside.first.map c.self.inside.pass.history) c.self.invariant.1) in
+    subst (λ (h : List Step). IsKeptBy g.K.Keeps.holds g.K.Keeps.may_leave g.K.Keeps.may_fail c.keep.new.self (with_step (journal c.self.inside.first.map h) c.in_ok-patch.step.value))
+    (sym mine) kept
 
 pub seal-requires-clause-room : goal.seal-requires-clause-room
 seal-requires-clause-room g c =

@@ -1,7 +1,0 @@
-use Rattle.std.proofs.Common.{◌≡◌, map, take, string_bytes, vec_len}
-use Rattle.osdmapd.proofs.line.copies_of.Given as goal
-
--- the copies so far are of the words so far
-abbrev pub invariant-loop-word : goal.invariant-loop-word
-invariant-loop-word l =
-    (map string_bytes l.copies.items ≡ map (λ word. word.now) (take l.word-index l.words)) × (vec_len l.copies ≡ l.word-index)

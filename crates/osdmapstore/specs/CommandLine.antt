@@ -1,0 +1,59 @@
+-- What the words of the program's command line ask for, by the parser's own definitions of what it finds in words.
+use Rattle.std.specs.Prelude.{◌≡◌, true, List, codes, Option, Some, option_map, Result, string_bytes}
+use Rattle.clap.specs.declared.builder.action.ArgAction.TheVariants.{Set, Append}
+use Rattle.clap.specs.Lexer.{usize_max}
+use Rattle.clap.specs.Walk.{Row, Rule, Text, first_of}
+use Rattle.clap.specs.Simple.{App, new_app, new_rule, on_top, with_rule}
+use Rattle.cli.specs.declared.choices.LineError.{LineError}
+use Rattle.cli.specs.Arguments.{journal_rule, stock_rule, to_rule, AreFoundSessions, ReadsBy}
+use Rattle.osdmapstore.specs.declared.choices.Options.{Options}
+
+-- ---- the command
+
+-- `--begin MAP`
+abbrev pub begin_rule : Rule
+begin_rule = record (new_rule (codes "begin")) { long = Some (codes "begin"); action = Some Set; value_names = 1 }
+
+-- STORE, one word that must be there
+abbrev pub store_rule : Rule
+store_rule = record (new_rule (codes "STORE")) { action = Some Set; required = true }
+
+-- SCRIPT, any number of words
+abbrev pub any_scripts_rule : Rule
+any_scripts_rule = record (new_rule (codes "SCRIPT")) {
+  action = Some Append;
+  range = Some (record { start_inclusive = 0; end_inclusive = usize_max });
+}
+
+-- the program's name, and that it has a version
+abbrev pub store_program : App
+store_program = on_top (λ s. record s { has_version = true }) (new_app (codes "osdmapstore"))
+
+-- with its options
+abbrev pub store_program_with_options : App
+store_program_with_options =
+    with_rule (with_rule (with_rule (with_rule store_program journal_rule) stock_rule) to_rule) begin_rule
+
+-- `osdmapstore [--journal N] [--stock] [--to ANSWERS].. [--begin MAP] STORE [SCRIPT..]`
+abbrev pub store_app : App
+store_app = with_rule (with_rule store_program_with_options store_rule) any_scripts_rule
+
+-- ---- the options
+
+-- the path that was found of the map to begin with
+abbrev pub begin_path_in : List Row → Option Text
+begin_path_in rows = first_of (codes "begin") rows
+
+-- the store's path that was found
+abbrev pub store_path_in : List Row → Option Text
+store_path_in rows = first_of (codes "STORE") rows
+
+-- the options are what was found for the map to begin with, the store and the sessions
+pub record AreStoreFound (rows : List Row) (o : Options) : Type 0 where
+  pub begin_found : begin_path_in rows ≡ option_map string_bytes o.begin
+  pub store_found : store_path_in rows ≡ Some (string_bytes o.store)
+  pub sessions_found : AreFoundSessions rows o.sessions
+
+-- the options of words against which the parser has nothing; or why there are none
+abbrev pub ReadsStoreLine : List Text → Result Options LineError → Type 0
+ReadsStoreLine words r = ReadsBy store_app AreStoreFound words r

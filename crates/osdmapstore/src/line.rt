@@ -1,0 +1,137 @@
+//! The command line.
+
+ghost use Rattle.std.specs.Prelude.{◌≡◌, ◌≤◌, IfOk, map, option_map, string_bytes, vec_len};
+ghost use Rattle.clap.specs.Matches.{found_of};
+ghost use Rattle.clap.specs.Simple.{app_of};
+ghost use Rattle.clap.specs.Walk.{rows_of};
+ghost use Rattle.epochlog.specs.Epochs.{max_capacity};
+ghost use Rattle.serving.specs.Serving.{max_scripts};
+ghost use Rattle.cli.specs.Arguments.{ArePaired, Chooses, IsReadBy};
+ghost use Rattle.osdmapstore.specs.CommandLine.{begin_rule, store_rule, any_scripts_rule, store_program, store_program_with_options, store_app};
+ghost use Rattle.osdmapstore.specs.CommandLine.{begin_path_in, AreStoreFound, ReadsStoreLine};
+
+use crate::choices::Options;
+use clap::{Arg, ArgAction, ArgMatches, Command};
+use cli::{
+    LineError, journal_option, line_error, path_in, session_options, stock_option, to_option,
+};
+use std::alloc::{AllocError, Global};
+
+/// What `--version` tells beside the program's name.
+const VERSION: &str = "0.1.0";
+
+/// What the program says of itself where help is asked for.
+const ABOUT: &str =
+    "Keeps the OSDMap of a Ceph-like cluster in a file that outlives it: makes or opens the store, tells its epoch, \
+answers the lines of scripts over it, one line each, all scripts at once, and ends. Each change is in the file before \
+it is answered. Statuses: 0 done, 1 command line, 2 map refused, 3 file or output, 4 memory, 5 store. The formats of \
+stores, maps, changes, scripts and answers are in docs/FORMATS.md.";
+
+/// `--begin MAP`.
+fn begin_option<'a>(alloc: Global) -> Arg<'a>
+    ensures { IsReadBy begin_rule result }
+{
+    Arg::new(alloc, "begin")
+        .long("begin")
+        .value_name("MAP")
+        .help("Makes the store first, with the map of this file, as JSON")
+        .action(ArgAction::Set)
+}
+
+/// STORE.
+fn store_word<'a>(alloc: Global) -> Arg<'a>
+    ensures { IsReadBy store_rule result }
+{
+    Arg::new(alloc, "STORE")
+        .help("The file of the store")
+        .required(true)
+        .action(ArgAction::Set)
+}
+
+/// SCRIPT, of which the parser takes any number, so that more than 64 are told by a text of ours.
+fn script_words<'a>(alloc: Global) -> Arg<'a>
+    ensures { IsReadBy any_scripts_rule result }
+{
+    Arg::new(alloc, "SCRIPT")
+        .help(
+            "The file of a script: lines such as up 1.0, groups 2, epoch, await 3, dump, change {..}; at most 64 \
+scripts; - is standard input, answered line by line",
+        )
+        .num_args(0..)
+        .action(ArgAction::Append)
+}
+
+/// The program by itself.
+fn program<'a>(alloc: Global) -> Command<'a>
+    ensures { app_of result ≡ store_program }
+{
+    Command::new(alloc, "osdmapstore")
+        .about(ABOUT)
+        .version(VERSION)
+}
+
+/// The program with its options.
+fn program_with_options<'a>(alloc: Global) -> Result<Command<'a>, AllocError>
+    ensures { IfOk result (λ c. app_of c ≡ store_program_with_options) }
+{
+    program(alloc)
+        .arg(journal_option(alloc))?
+        .arg(stock_option(alloc))?
+        .arg(to_option(alloc))?
+        .arg(begin_option(alloc))
+}
+
+/// The command line that the program takes.
+fn command<'a>(alloc: Global) -> Result<Command<'a>, AllocError>
+    ensures { IfOk result (λ c. app_of c ≡ store_app) }
+{
+    program_with_options(alloc)?
+        .arg(store_word(alloc))?
+        .arg(script_words(alloc))
+}
+
+/// A copy of the path of the map to begin with, where there is one.
+fn begin_in(alloc: Global, matches: &ArgMatches<'_>) -> Result<Option<String>, AllocError>
+    ensures { IfOk result (λ path. option_map string_bytes path ≡ begin_path_in (rows_of (found_of matches.now))) }
+{
+    match path_in(matches, "begin") {
+        Some(path) => Ok(Some(String::from_str(alloc, path)?)),
+        None => Ok(None),
+    }
+}
+
+/// The options of words that the parser took. A value that it had to find and did not is told as out of memory.
+fn options_in(alloc: Global, matches: &ArgMatches<'_>) -> Result<Options, LineError>
+    ensures least { IfOk result (λ o. 1 ≤ o.sessions.journal) }
+    ensures most { IfOk result (λ o. o.sessions.journal ≤ max_capacity) }
+    ensures few { IfOk result (λ o. vec_len o.sessions.scripts ≤ max_scripts) }
+    ensures paired { IfOk result (λ o. ArePaired (vec_len o.sessions.scripts) (vec_len o.sessions.answers)) }
+    ensures taken { Chooses AreStoreFound (rows_of (found_of matches.now)) result }
+{
+    let store = path_in(matches, "STORE").ok_or(LineError::Memory)?;
+    let sessions = session_options(alloc, matches)?;
+    Ok(Options {
+        begin: begin_in(alloc, matches)?,
+        store: String::from_str(alloc, store)?,
+        sessions,
+    })
+}
+
+/// What a command line asks for, the program's name first: `[--journal N] [--stock] [--to ANSWERS].. [--begin MAP]
+/// STORE [SCRIPT..]`, N from 1 to 65,536 and 1,024 where it is not given, at most 64 scripts, and as many files of
+/// answers or none. The options are those that the parser finds in the words, exactly where it has nothing against
+/// them and the numbers are so; `Help` where help was asked for, `Usage` for what else the parser has against the
+/// words, `TooMany` where there are more scripts, `Unpaired` where there are files of answers but another number of
+/// them, else `Memory`.
+pub fn options(alloc: Global, words: &[String]) -> Result<Options, LineError>
+    ensures least { IfOk result (λ o. 1 ≤ o.sessions.journal) }
+    ensures most { IfOk result (λ o. o.sessions.journal ≤ max_capacity) }
+    ensures few { IfOk result (λ o. vec_len o.sessions.scripts ≤ max_scripts) }
+    ensures paired { IfOk result (λ o. ArePaired (vec_len o.sessions.scripts) (vec_len o.sessions.answers)) }
+    ensures read { ReadsStoreLine (map string_bytes words.now) result }
+{
+    match command(alloc)?.try_get_matches_from(words) {
+        Ok(matches) => options_in(alloc, &matches),
+        Err(error) => Err(line_error(alloc, &error)),
+    }
+}

@@ -1,0 +1,6 @@
+mod Joined
+mod Opened
+mod Paired
+mod Outs
+mod Played
+mod Put

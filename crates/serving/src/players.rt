@@ -1,0 +1,266 @@
+//! The threads that play the sessions of a run: started, joined, and what they have seen made one history, which the
+//! store has kept.
+ghost use Rattle.std.specs.Prelude.{◌≡◌, ◌↔◌, ◌==◌, ◌<◌, ◌+◌, ℕ, true, All, IfOk, MatchOption, length, vec_len};
+ghost use Rattle.epochlog.specs.Epochs.{Begins};
+ghost use Rattle.monitor.specs.Members.{IsMemberOf, IsNewMemberOf, IsPassOf, IsStateOf};
+ghost use Rattle.serving.specs.Pairs.{Pairs};
+ghost use Rattle.serving.specs.Serving.{journal_of, seen_left, KeepsAll, IsLeftBy, AreLeftBy};
+ghost use Rattle.serving.specs.Players.{IsStartedFor, KeepsPromise, IsSeenBy, made_by};
+
+use crate::left::{Left, LeftOf};
+use crate::part::Part;
+use crate::playing::{Stage, play};
+use crate::system::System;
+use epochlog::Pass;
+use keeping::Keeps;
+use monitor::{Member, Monitor, State};
+use refusal::Memory;
+use session::{Desk, Open};
+use std::alloc::{AllocError, Global};
+use std::sync::Wait;
+use std::thread;
+use std::thread::{PromisedHandle, Scope, Threads};
+
+/// A thread that plays a session.
+type Player<'a, K> = PromisedHandle<Result<Left, Memory>, LeftOf<'a, K>>;
+
+/// Takes one of the members.
+pub fn take_member<K: Keeps + Drop>(
+    monitor: &Monitor<K>,
+    members: &mut Vec<Member>,
+) -> Option<Member>
+    requires { All (IsNewMemberOf monitor.now) members.old.items }
+    ensures rest { All (IsNewMemberOf monitor.now) members.new.items }
+    ensures next { MatchOption result (vec_len members.old ≡ 0)
+        (λ member. IsNewMemberOf monitor.now member × (vec_len members.new + 1 ≡ vec_len members.old)) }
+{
+    let _ = monitor;
+    members.pop()
+}
+
+/// Starts the thread of a session, which opens files where its part names one. The one error is that memory is short,
+/// or that a thread cannot be made.
+fn start<'s, E, R: Wait + Eprint + Sync, K: Keeps + Drop + Send + Sync>(
+    scope: &'s Scope<'s, E>,
+    system: &System<'s, R>,
+    alloc: Global,
+    member: Member,
+    promise: LeftOf<'s, K>,
+) -> Result<Player<'s, K>, AllocError>
+    requires { IsNewMemberOf promise.monitor.now member }
+    ensures { IfOk result (λ player. player.promise ≡ promise.entry) }
+{
+    let LeftOf {
+        monitor,
+        number,
+        part,
+    } = promise;
+    let rt = system.rt;
+    let host = system.host;
+    let player = scope.spawn_with(
+        promise,
+        move || -> Result<Left, Memory>
+            requires { IsNewMemberOf monitor.now member }
+            ensures { IfOk result (IsLeftBy monitor.entry.now number part.entry.now) }
+        {
+            let desk = Desk {
+                alloc,
+                rt,
+                monitor,
+                gate: &Open,
+            };
+            play(&Stage { desk, host }, member, number, part)
+        },
+    )?;
+    Ok(player)
+}
+
+/// Starts the threads of the sessions of these parts, in their order. The one error is that memory is short, or that a
+/// thread cannot be made.
+fn start_all<'s, E, R: Wait + Eprint + Sync, K: Keeps + Drop + Send + Sync>(
+    scope: &'s Scope<'s, E>,
+    system: &System<'s, R>,
+    monitor: &'s Monitor<K>,
+    members: Vec<Member>,
+    parts: &'s [Part],
+) -> Result<Vec<Player<'s, K>>, AllocError>
+    requires members { All (IsNewMemberOf monitor.now) members.items }
+    requires count { vec_len members ≡ length parts.now }
+    ensures { IfOk result (λ players. Pairs (IsStartedFor monitor.now) 1 players.items parts.now) }
+{
+    let alloc = *members.allocator();
+    let mut players = Vec::with_capacity(alloc, parts.len())?;
+    let mut free = members;
+    for part in parts {
+        let member = take_member(monitor, &mut free).unwrap();
+        let number = players.len() + 1;
+        let promise = LeftOf {
+            monitor,
+            number,
+            part,
+        };
+        let player = start(scope, system, alloc, member, promise)?;
+        players.push(player)?;
+    }
+    Ok(players)
+}
+
+/// Waits for the end of each thread: what is left of its session, in the threads' order.
+fn join_all<'s, R: Threads, K: Keeps + Drop>(
+    rt: &R,
+    alloc: Global,
+    players: Vec<Player<'s, K>>,
+) -> Result<Vec<Left>, Memory>
+    ensures { IfOk result (λ lefts. Pairs KeepsPromise 1 players.entry.items lefts.items) }
+{
+    let mut lefts = Vec::with_capacity(alloc, players.len())?;
+    for player in players {
+        let left = player.join(rt)?;
+        lefts.push(left)?;
+    }
+    Ok(lefts)
+}
+
+/// Joins what the members have seen that are left: after it each of their histories begins the one of the pass.
+fn join_seen<K: Keeps + Drop>(all: &mut Pass, monitor: &Monitor<K>, lefts: &[Left])
+    requires pass { IsPassOf monitor.now all.old }
+    requires members { All (λ left. IsMemberOf monitor.now left.member) lefts.now }
+    ensures pass { IsPassOf monitor.now all.new }
+    ensures begin { All (λ left. Begins (seen_left left) all.new.history) lefts.now }
+{
+    let _ = monitor;
+    for left in lefts {
+        all.join(left.member.pass());
+    }
+}
+
+/// Whether exactly one member of those that are left has made the epoch at a place of the row.
+fn is_made_once(lefts: &[Left], at: usize) -> bool
+    ensures { result ≡ (made_by lefts.now at == 1) }
+{
+    lefts.iter().filter(|left| left.has_made(at)).count() == 1
+}
+
+/// Whether each epoch after a first one that a pass has seen is one that exactly one member of those that are left has
+/// made.
+fn are_made_once(all: &Pass, first: u64, lefts: &[Left]) -> bool
+    requires { first ≡ all.now.row.first }
+    ensures { (result ≡ true) ↔ ((at : ℕ) → at < length all.now.history → made_by lefts.now at ≡ 1) }
+{
+    let count = (all.epoch() - first) as usize;
+    for at in 0..count {
+        if !is_made_once(lefts, at) {
+            return false;
+        }
+    }
+    true
+}
+
+/// Returns where each epoch after a first one that a pass has seen is one that exactly one member of those that are
+/// left has made, and else never: nobody else commits, so it does not wait.
+fn wait_until_made<R: Wait>(rt: &R, all: &Pass, first: u64, lefts: &[Left])
+    requires { first ≡ all.now.row.first }
+    ensures { (at : ℕ) → at < length all.now.history → made_by lefts.now at ≡ 1 }
+{
+    for _ in rt.forever() {
+        if are_made_once(all, first, lefts) {
+            return;
+        }
+    }
+    unreachable!()
+}
+
+/// The state, with which a monitor ends; nobody at its lock has lost it, so it does not wait.
+fn end<R: Wait, K: Keeps + Drop>(rt: &R, monitor: Monitor<K>) -> Box<State<K>>
+    ensures { IsStateOf monitor result.value }
+{
+    if let Some(state) = monitor.into_state() {
+        return state;
+    }
+    for _ in rt.forever() {}
+    unreachable!()
+}
+
+/// Returns where a pass that has seen what a state has seen has seen no more, and else never: no change is lost, so it
+/// does not wait.
+fn wait_until_all<R: Wait, K: Keeps + Drop>(rt: &R, all: &Pass, state: &State<K>)
+    requires row { state.now.pass.row ≡ all.now.row }
+    requires begins { Begins state.now.pass.history all.now.history }
+    ensures { all.now.history ≡ state.now.pass.history }
+{
+    for _ in rt.forever() {
+        if state.pass().epoch() == all.epoch() {
+            return;
+        }
+    }
+    unreachable!()
+}
+
+/// Ends a monitor, and joins what its state has seen: that is all, and whatever a crash leaves of the store is all of
+/// it, and at most one change more.
+fn join_state<R: Wait, K: Keeps + Drop>(rt: &R, monitor: Monitor<K>, all: &mut Pass)
+    requires { IsPassOf monitor all.old }
+    ensures pass { IsPassOf monitor all.new }
+    ensures begins { Begins all.old.history all.new.history }
+    ensures kept { KeepsAll K.may_leave (journal_of monitor.first all.new.history) }
+{
+    let state = end(rt, monitor);
+    all.join(state.pass());
+    wait_until_all(rt, all, &state);
+    let _ = state.store();
+    let _ = state.map();
+}
+
+/// What is left of the sessions of these parts, in their order, each played by a thread of its own, for which it takes
+/// one of the members, who have seen nothing; and a pass that has seen what the members have. All threads are started
+/// before one is joined, and all have ended when it returns. The one error is that memory is short, or that a thread
+/// cannot be made.
+fn play_in_threads<R: Threads + Wait + Eprint + Sync, K: Keeps + Drop + Send + Sync>(
+    system: &System<'_, R>,
+    monitor: &Monitor<K>,
+    members: Vec<Member>,
+    parts: &[Part],
+) -> Result<(Vec<Left>, Pass), Memory>
+    requires members { All (IsNewMemberOf monitor.now) members.items }
+    requires count { vec_len members ≡ length parts.now }
+    ensures { IfOk result (λ r. IsSeenBy monitor.now parts.now r.0.items r.1) }
+{
+    let rt = system.rt;
+    let host = system.host;
+    let alloc = *members.allocator();
+    thread::scope(
+        thread::scope_env(),
+        rt,
+        move |scope| -> Result<(Vec<Left>, Pass), Memory>
+            requires { All (IsNewMemberOf monitor.now) members.items × (vec_len members ≡ length parts.now) }
+            ensures { IfOk result (λ r. IsSeenBy monitor.entry.now parts.entry.now r.0.items r.1) }
+        {
+            let mut all = monitor.pass(alloc)?;
+            let players = start_all(scope, &System { rt, host }, monitor, members, parts)?;
+            let lefts = join_all(rt, alloc, players)?;
+            join_seen(&mut all, monitor, lefts.as_slice());
+            Ok((lefts, all))
+        },
+    )
+}
+
+/// What is left of the sessions of these parts, in their order, each played by a thread of its own at a monitor, which
+/// ends with them. What their members have seen at the end is of one history, each of whose epochs exactly one of them
+/// has made, and all of which the store has kept. The one error is that memory is short, or that a thread cannot be
+/// made.
+pub fn play_all<R: Threads + Wait + Eprint + Sync, K: Keeps + Drop + Send + Sync>(
+    system: &System<'_, R>,
+    monitor: Monitor<K>,
+    members: Vec<Member>,
+    parts: &[Part],
+) -> Result<Vec<Left>, Memory>
+    requires members { All (IsNewMemberOf monitor) members.items }
+    requires count { vec_len members ≡ length parts.now }
+    ensures { IfOk result (λ lefts. AreLeftBy K.may_leave monitor parts.now lefts.items) }
+{
+    let (lefts, mut all) = play_in_threads(system, &monitor, members, parts)?;
+    let first = monitor.first_epoch();
+    join_state(system.rt, monitor, &mut all);
+    wait_until_made(system.rt, &all, first, lefts.as_slice());
+    Ok(lefts)
+}
