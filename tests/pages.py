@@ -399,7 +399,7 @@ class Pages(Case):
         self.assertFalse(missing)
         rows = [row.split("|") for row in re.findall(r"^\|.*results/.*$", text("docs", "SPEEDS.md"), re.MULTILINE)]
         numbers = {number for row in rows for number in re.findall(NUMBER, row[2])}
-        self.assertEqual(len(rows), 13, numbers - kept)
+        self.assertEqual(len(rows), 15, numbers - kept)
         self.assertGreater(len(numbers), 20, numbers - kept)
         self.assertLessEqual(numbers, kept, numbers - kept)
 
