@@ -19,19 +19,14 @@ from unittest import mock
 from rekhuso import Fault, Monitor, Refused, Session, Unopened
 
 from tests import model
-from tests.cases import EXAMPLE, TOP, example
+from tests.cases import EXAMPLE, example
 from tests.histories import CHANGES, TABLES, fill, held, rows, store_at
+from tests.stores import store_program
 from tests.terminals import Terminal
 from tests.tool_cases import TOOLS, ToolCase
 
-BUILT = TOP / "crates" / "osdmapstore" / "out" / "osdmapstore"
 SECONDS = 60
 STOCK_BUCKET = dict(example()["buckets"][0], kind="straw2")
-
-
-def store_program() -> pathlib.Path:
-    """Where the program that keeps stores is, if it is there."""
-    return pathlib.Path(os.environ.get("OSDMAPSTORE", BUILT)).resolve()
 
 
 def last_change(session: Session) -> int:

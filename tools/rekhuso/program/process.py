@@ -17,8 +17,9 @@ from .maps import Program
 
 # The crates, where the tools stand in their repository. A program is built in its crate, below `out`.
 CRATES = pathlib.Path(__file__).resolve().parents[3] / "crates"
-# The programs, and the options that name them.
+# The programs, the options that name them, and the targets of the repository that prove and build them.
 OPTIONS = {"osdmapd": "--program", "osdmapstore": "--store-program"}
+TARGETS = {"osdmapd": "make run", "osdmapstore": "make store"}
 
 
 def built(name: str, beside: Program = None) -> pathlib.Path:
@@ -34,7 +35,7 @@ def built(name: str, beside: Program = None) -> pathlib.Path:
             f"no folder of PATH has {name} ({os.environ.get('PATH', '')})"
         ]
         raise Fault(
-            f"no program: {', and '.join(places)}; `make run` in its repository proves and builds it, and "
+            f"no program: {', and '.join(places)}; `{TARGETS[name]}` in its repository proves and builds it, and "
             f"{OPTIONS[name]} FILE names it"
         )
     return pathlib.Path(found)
@@ -47,7 +48,7 @@ def chosen(program: Program, name: str) -> pathlib.Path:
     found = pathlib.Path(program or built(name)).resolve()
     if not found.is_file() or not os.access(found, os.X_OK):
         raise Fault(
-            f"{program or found}: no program; `make run` proves and builds it, or {OPTIONS[name]} names another"
+            f"{program or found}: no program; `{TARGETS[name]}` proves and builds it, or {OPTIONS[name]} names another"
         )
     return found
 
