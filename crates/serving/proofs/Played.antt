@@ -9,7 +9,8 @@ use Rattle.osdmap.specs.Changes.{IsLawful}
 use Rattle.mapparts.specs.declared.profile.Profile.{Profile}
 use Rattle.mapjson.specs.MapTexts.{map_text_fault, StatesMap}
 use Rattle.monitor.specs.Members.{Monitored, draws_of}
-use Rattle.monitor.specs.Opening.{can_open, max_draws}
+use Rattle.monitor.specs.declared.member.Member.{Member}
+use Rattle.monitor.specs.Opening.{can_open, max_draws, IsOpening}
 use Rattle.keeping.specs.Journals.{Journal}
 use Rattle.session.specs.declared.error.SessionError.{SessionError}
 use Rattle.session.specs.Answers.{Account, Sight}
@@ -50,7 +51,7 @@ same_basis : (monitor : Monitored) (m : ClusterMap) (journal : ℕ) (profile : P
 same_basis monitor m journal profile parts first room drawn kinds one = rw (first, room, drawn, kinds, one) refl
 
 -- what is left at a monitor that was opened for a run is left of that run
-pub lefts_of : {K : Type 0} (may_leave : K → Journal → Type 0) (monitor : Monitored) (m : ClusterMap) (journal : ℕ) (profile : Profile)
+lefts_of : {K : Type 0} (may_leave : K → Journal → Type 0) (monitor : Monitored) (m : ClusterMap) (journal : ℕ) (profile : Profile)
     (parts : List Part) (lefts : List Left)
     → monitor.first ≡ m → length monitor.row.cells ≡ journal → draws_of monitor ≡ max_draws
     → monitor.profile ≡ profile → monitor.alone ≡ (length parts == 1) → AreLeftBy may_leave monitor parts lefts
@@ -64,6 +65,15 @@ lefts_of may_leave monitor m journal profile parts lefts first room drawn kinds 
       subst (λ f. KeepsAll may_leave (journal_of f all)) first kept,
       subst (λ b. Pairs (IsLeftIn b all) 1 parts (map facts_left lefts)) same made,
     )
+
+-- the same of a list that is shown, at a monitor that was opened with so many seats
+pub run_left : {K : Type 0} (may_leave : K → Journal → Type 0) (monitor : Monitored) (members : List Member) (m : ClusterMap) (journal : ℕ)
+    (profile : Profile) (parts : List Part) (lefts shown : List Left)
+    → IsOpening m journal (length parts) max_draws profile monitor members → AreLeftBy may_leave monitor parts lefts → shown ≡ lefts
+    → AreLeftFrom (λ all. KeepsAll may_leave (journal_of m all)) m journal profile parts (map facts_left shown)
+run_left may_leave monitor members m journal profile parts lefts shown opened left same =
+    subst (λ list. AreLeftFrom (λ all. KeepsAll may_leave (journal_of m all)) m journal profile parts (map facts_left list)) (sym same)
+    (lefts_of may_leave monitor m journal profile parts lefts opened.first opened.capacity opened.limit opened.profile opened.alone left)
 
 -- what is out where the output fails, at whatever error is told
 pub served_part : (IsKept : List Step → Type 0) (r : Result Unit Fault) (m : ClusterMap) (journal : ℕ) (profile : Profile) (parts : List Part)

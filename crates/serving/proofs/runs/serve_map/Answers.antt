@@ -1,19 +1,17 @@
-use Rattle.std.proofs.Common.{◌≡◌, ◌∙◌, ◌++◌, List, ap, sym, subst, map, rules}
+use Rattle.std.proofs.Common.{◌≡◌, ◌∙◌, ◌++◌, List, ap, sym, map, rules}
 use Rattle.std.specs.List.{list_any}
 use Rattle.maptypes.specs.Incrementals.{Step}
 use Rattle.serving.specs.declared.left.Left.{Left}
-use Rattle.serving.specs.Serving.{facts_left, journal_of, KeepsAll, AreLeftFrom}
-use Rattle.serving.proofs.Played.{lefts_of, texts_left, told_left, served_part}
+use Rattle.serving.specs.Serving.{facts_left, journal_of, KeepsAll}
+use Rattle.serving.proofs.Played.{run_left, texts_left, told_left, served_part}
 use Rattle.serving.proofs.runs.serve_map.Goals as goal
 
 pub returns-clause-served : goal.returns-clause-served
 returns-clause-served g c =
-    let opened = c.in-Ok.ensures.1 in
     let m = c.args.first.map.map in
-    let left = lefts_of g.K.Keeps.may_leave c.in-Ok.made.0 m c.args.terms.journal c.args.terms.profile c.args.parts.now c.in_ok-lefts.lefts.items
-    opened.first opened.capacity opened.limit opened.profile opened.alone c.in_ok-lefts.ensures in
     let same : c.deref.result.now ≡ c.in_ok-lefts.lefts.items = search rules in
-    let put = subst (λ (list : List Left). AreLeftFrom (λ (all : List Step). KeepsAll g.K.Keeps.may_leave (journal_of m all)) m c.args.terms.journal c.args.terms.profile c.args.parts.now (map facts_left list)) (sym same) left in
+    let put = run_left g.K.Keeps.may_leave c.in-Ok.made.0 c.in-Ok.made.1.items m c.args.terms.journal c.args.terms.profile c.args.parts.now
+    c.in_ok-lefts.lefts.items c.deref.result.now c.in-Ok.ensures.1 c.in_ok-lefts.ensures same in
     let again : c.deref-2.result.now ≡ c.in_ok-lefts.lefts.items = search rules in (
       map facts_left c.deref.result.now,
       put,
@@ -23,12 +21,10 @@ returns-clause-served g c =
 
 pub returns-then-have_told-clause-served : goal.returns-then-have_told-clause-served
 returns-then-have_told-clause-served g c =
-    let opened = c.in-Ok.ensures.1 in
     let m = c.args.first.map.map in
-    let left = lefts_of g.K.Keeps.may_leave c.in-Ok.made.0 m c.args.terms.journal c.args.terms.profile c.args.parts.now c.in_ok-lefts.lefts.items
-    opened.first opened.capacity opened.limit opened.profile opened.alone c.in_ok-lefts.ensures in
     let same : c.deref.result.now ≡ c.in_ok-lefts.lefts.items = search rules in
-    let put = subst (λ (list : List Left). AreLeftFrom (λ (all : List Step). KeepsAll g.K.Keeps.may_leave (journal_of m all)) m c.args.terms.journal c.args.terms.profile c.args.parts.now (map facts_left list)) (sym same) left in
+    let put = run_left g.K.Keeps.may_leave c.in-Ok.made.0 c.in-Ok.made.1.items m c.args.terms.journal c.args.terms.profile c.args.parts.now
+    c.in_ok-lefts.lefts.items c.deref.result.now c.in-Ok.ensures.1 c.in_ok-lefts.ensures same in
     let again : c.deref-2.result.now ≡ c.in_ok-lefts.lefts.items = search rules in (
       map facts_left c.deref.result.now,
       put,
@@ -38,12 +34,10 @@ returns-then-have_told-clause-served g c =
 
 pub returns-in_err-put-clause-served : goal.returns-in_err-put-clause-served
 returns-in_err-put-clause-served g c =
-    let opened = c.in-Ok.ensures.1 in
     let m = c.args.first.map.map in
-    let left = lefts_of g.K.Keeps.may_leave c.in-Ok.made.0 m c.args.terms.journal c.args.terms.profile c.args.parts.now c.in_ok-lefts.lefts.items
-    opened.first opened.capacity opened.limit opened.profile opened.alone c.in_ok-lefts.ensures in
     let same : c.deref.result.now ≡ c.in_ok-lefts.lefts.items = search rules in
-    let put = subst (λ (list : List Left). AreLeftFrom (λ (all : List Step). KeepsAll g.K.Keeps.may_leave (journal_of m all)) m c.args.terms.journal c.args.terms.profile c.args.parts.now (map facts_left list)) (sym same) left in
+    let put = run_left g.K.Keeps.may_leave c.in-Ok.made.0 c.in-Ok.made.1.items m c.args.terms.journal c.args.terms.profile c.args.parts.now
+    c.in_ok-lefts.lefts.items c.deref.result.now c.in-Ok.ensures.1 c.in_ok-lefts.ensures same in
     let (rest, out) = c.in_err-put.ensures.part in
     served_part (λ (all : List Step). KeepsAll g.K.Keeps.may_leave (journal_of m all)) c.from_residual-in_err-put.result m c.args.terms.journal c.args.terms.profile c.args.parts.now _ _ c.from_residual-in_err-put.ensures.1
     (map facts_left c.deref.result.now, rest, put, rw (texts_left c.deref.result.now) at out)
