@@ -7,6 +7,7 @@ pub mod Leaving
 pub mod Steps
 pub mod Runs
 pub mod Traced
+pub mod KnownRuns
 pub mod Moves
 pub mod Splitting
 pub mod Cutting
