@@ -6,6 +6,8 @@ pub mod Entering
 pub mod Leaving
 pub mod Steps
 pub mod Runs
+pub mod Traced
 pub mod Moves
+pub mod Splitting
 pub mod Cutting
 pub mod Made

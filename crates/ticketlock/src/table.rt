@@ -3,6 +3,7 @@ ghost use Rattle.std.specs.Prelude.{◌≡◌, ◌≤◌, ◌^◌};
 ghost use Rattle.ticketlock.specs.declared.view.Kind.TheVariants.{Read, Write};
 ghost use Rattle.ticketlock.specs.Rule.{drawn_for, looked_at, gone_in, gone_out, newcomer};
 ghost use Rattle.ticketlock.specs.Places.{one_cut};
+ghost use Rattle.ticketlock.specs.Traces.{StandsIn};
 
 use crate::view::View;
 use atomic_table::{Play, Seat, Split, Table, TableRule};
@@ -27,9 +28,10 @@ pub(crate) struct Place {
 pub(crate) struct InOrder;
 
 impl TableRule<u8, View, u32> for InOrder {
-    ghost use Rattle.ticketlock.specs.Places.{IsRuled, opener};
+    ghost use Rattle.ticketlock.specs.Places.{opener};
+    ghost use Rattle.ticketlock.specs.Traces.{IsTraced};
 
-    ghost holds = { λ _. IsRuled };
+    ghost holds = { IsTraced };
 
     ghost first = { opener };
 }
@@ -52,21 +54,21 @@ impl Play<u8, View> for DrawWrite {
 pub(crate) struct Look;
 
 impl Play<u8, View> for Look {
-    ghost then = { λ _ me n you. you ≡ (looked_at n me.0, me.1) };
+    ghost then = { λ _ me n you. (you ≡ (looked_at n me.0, me.1)) × StandsIn you.0 };
 }
 
 /// An add to the reader word.
 pub(crate) struct Enter;
 
 impl Play<u8, View> for Enter {
-    ghost then = { λ _ me _ you. you ≡ (gone_in me.0, me.1) };
+    ghost then = { λ _ me _ you. (you ≡ (gone_in me.0, me.1)) × StandsIn you.0 };
 }
 
 /// An add to the writer word.
 pub(crate) struct Leave;
 
 impl Play<u8, View> for Leave {
-    ghost then = { λ _ me _ you. you ≡ (gone_out me.0, me.1) };
+    ghost then = { λ _ me _ you. (you ≡ (gone_out me.0, me.1)) × StandsIn you.0 };
 }
 
 /// Another seat is cut off.
@@ -84,5 +86,6 @@ pub(crate) struct Words {
     pub(crate) table: Table<u8, View, u32, InOrder, Global>,
     pub(crate) limit: u64,
     pub ghost three_words: { table.shared.table_id.words ≡ 3 },
+    pub ghost no_slots: { table.shared.table_id.slots ≡ 0 },
     pub ghost limited: { limit ≤ 2 ^ 40 },
 }

@@ -5,6 +5,7 @@ ghost use Rattle.ticketlock.specs.declared.view.Kind.TheVariants.{Read, Write};
 ghost use Rattle.ticketlock.specs.Rule.{drawn_for, looked_at, gone_in, gone_out, newcomer};
 ghost use Rattle.ticketlock.specs.Places.{opener, one_cut};
 ghost use Rattle.ticketlock.specs.Standing.{IsAt, Becomes, stage_of, view_of};
+ghost use Rattle.ticketlock.specs.Traces.{StandsIn, EndsIn};
 ghost use Rattle.ticketlock.specs.Taking.{IsDraw, IsReaderLook, IsWriterLook, IsEntry, IsReaderLeave, IsWriterClose, IsWriterLeave};
 
 use crate::slots::Back;
@@ -34,6 +35,23 @@ impl Words {
         let Place { token, draws: _ } = place;
         let token = self.table.shared.split_seat::<Cut>(token);
         Place { token, draws: 0 }
+    }
+
+    /// The three words at the end, which a list of steps and cuts has led to, with the place as it stands.
+    pub fn close_at(self, place: Place) -> (u64, u64, u64)
+        requires own { IsAt self place }
+        ensures { EndsIn result.0 result.1 result.2 (view_of place) }
+    {
+        let Words { table, limit: _ } = self;
+        let Place { token, draws: _ } = place;
+        let closed = table.close_with(token);
+        let found = (
+            closed.word(DRAW_WORD),
+            closed.word(READER_WORD),
+            closed.word(WRITER_WORD),
+        );
+        closed.free();
+        found
     }
 
     /// Whether the seat has made its draws.
@@ -87,6 +105,7 @@ impl Words {
         requires waits { (t : ℕ) × (stage_of place.old ≡ Waiting t Read) }
         ensures becomes { Becomes place.old place.new (looked_at result (view_of place.old)) }
         ensures takes { IsReaderLook result place.old place.new }
+        ensures stands { StandsIn (view_of place.new) }
     {
         let Place { token, draws: _ } = place;
         self.table.shared.load::<Look>(token, READER_WORD)
@@ -98,6 +117,7 @@ impl Words {
         requires waits { (t : ℕ) × (stage_of place.old ≡ Waiting t Write) }
         ensures becomes { Becomes place.old place.new (looked_at result (view_of place.old)) }
         ensures takes { IsWriterLook result place.old place.new }
+        ensures stands { StandsIn (view_of place.new) }
     {
         let Place { token, draws: _ } = place;
         self.table.shared.load::<Look>(token, WRITER_WORD)
@@ -109,6 +129,7 @@ impl Words {
         requires next { (t : ℕ) × (stage_of place.old ≡ Next t) }
         ensures becomes { Becomes place.old place.new (gone_in (view_of place.old)) }
         ensures takes { IsEntry place.old place.new }
+        ensures stands { StandsIn (view_of place.new) }
     {
         let Place { token, draws: _ } = place;
         self.table.shared.fetch_add::<Enter>(token, READER_WORD, 1);

@@ -3,6 +3,7 @@ ghost use Rattle.std.specs.Prelude.{◌≡◌, ◌≢◌, ◌<◌, IfOk, IfErr, 
 ghost use Rattle.ticketlock.specs.declared.view.Kind.TheVariants.{Write};
 ghost use Rattle.ticketlock.specs.Rule.{drawn_for};
 ghost use Rattle.ticketlock.specs.Standing.{Becomes, Notes, view_of};
+ghost use Rattle.ticketlock.specs.Traces.{StandsIn};
 ghost use Rattle.ticketlock.specs.Callers.{IsSeatOf, IsQueuedWriteOf, IsTurnWriteOf, IsWriteOf, first_of, limit_of};
 
 use crate::fact::Fact;
@@ -48,6 +49,7 @@ impl<T: Fact + Drop> Lock<T> {
         ensures ok { IfOk result (λ t. Notes queued.ticket queued.place t.place) }
         ensures err { IfErr result (λ q. Notes (view_of q.place).noted queued.place q.place) }
         ensures noted { IfErr result (λ q. (view_of q.place).noted ≢ q.ticket) }
+        ensures alone { IfOk result (λ t. StandsIn (view_of t.place)) }
     {
         let QueuedWrite {
             mut place,
