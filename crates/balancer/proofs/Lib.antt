@@ -4,7 +4,6 @@ pub mod WeightsOfCandidates
 pub mod GroupsOnOsds
 pub mod FirstPlaceReplaced
 pub mod DeviationsSmall
-pub mod Ancestors
 pub mod MovesCompare
 pub mod AllowedByTests
 pub mod MarksHold

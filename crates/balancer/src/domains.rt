@@ -1,23 +1,11 @@
 //! What stands above OSDs.
 
-ghost use Rattle.std.specs.Prelude.{◌≡◌, ◌==◌, pos};
+ghost use Rattle.std.specs.Prelude.{◌≡◌, ◌==◌};
 ghost use Rattle.std.specs.List.{list_any, list_all, count_by};
 ghost use Rattle.maptypes.specs.Sets.{is_of, stands};
-ghost use Rattle.balancer.specs.Moves.{ancestor_of, domain_of, are_under_same, is_in_way, has_way};
+ghost use Rattle.balancer.specs.Moves.{domain_of, are_under_same, is_in_way, has_way};
 
-use crush::Forest;
 use osdmap::OsdMap;
-
-/// The bucket of a type above an OSD.
-fn ancestor_of(forest: &Forest, osd: u32, level: u8) -> Option<i32>
-    ensures { result ≡ ancestor_of forest.now (pos osd) level }
-{
-    let _ = forest.buckets();
-    match i32::try_from(osd) {
-        Ok(device) => forest.ancestor(device, level),
-        Err(_) => None,
-    }
-}
 
 /// The failure domain of an OSD: the bucket of a type above it, and for type 0 the OSD itself.
 #[tactic(auto, unfolding(crate::specs::Moves::domain_of))]
@@ -27,7 +15,7 @@ pub(crate) fn domain_of(map: &OsdMap, level: u8, osd: u32) -> Option<i64>
     if level == 0 {
         return Some(i64::from(osd));
     }
-    let bucket = ancestor_of(map.forest(), osd, level)?;
+    let bucket = map.forest().ancestor_of_device(osd, level)?;
     Some(i64::from(bucket))
 }
 
@@ -35,7 +23,8 @@ pub(crate) fn domain_of(map: &OsdMap, level: u8, osd: u32) -> Option<i64>
 pub(crate) fn are_under_same(map: &OsdMap, some: u32, other: u32, level: u8) -> bool
     ensures { result ≡ are_under_same map.now.map some other level }
 {
-    ancestor_of(map.forest(), some, level) == ancestor_of(map.forest(), other, level)
+    let forest = map.forest();
+    forest.ancestor_of_device(some, level) == forest.ancestor_of_device(other, level)
 }
 
 /// Whether a place has an OSD, but not the one that goes, in a failure domain.

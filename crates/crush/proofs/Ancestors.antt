@@ -10,11 +10,10 @@ use Rattle.keylist.proofs.Counts.{find-place}
 use Rattle.keylist.proofs.KeyedFinds.{find-none}
 use Rattle.buckets.specs.declared.bucket.Bucket.{Bucket}
 use Rattle.crush.specs.Forest.{bucket_at, level_of}
-use Rattle.crush.specs.Paths.{has_item, is_above, IsAncestor}
+use Rattle.crush.specs.Paths.{has_item, is_above, is_ancestor, ancestor_of, IsAncestor}
 use Rattle.crush.specs.WellFormed.{IsForest}
 use Rattle.crush.proofs.Above.{IsPath, some-and, above-found}
 use Rattle.crush.proofs.Climbs.{above-far}
-use Rattle.balancer.specs.Moves.{is_ancestor, ancestor_of}
 
 -- where a search finds nothing, nothing passes
 pub none_passes : {X : Type 0} (p : X → Bool) (xs : List X) (k : ℕ) (x : X) → find p xs ≡ None → k < length xs → get_or xs k x ≡ x → p x ≡ false
