@@ -1,16 +1,15 @@
 //! Whether a Ceph monitor keeps the exceptions of a group (Ceph 16.2, OSDMap.cc: `check_pg_upmaps`).
 
-ghost use Rattle.std.specs.Prelude.{◌≡◌, true, Some, pos, not, length, IfSome};
+ghost use Rattle.std.specs.Prelude.{◌≡◌, true, Some, pos, not, length};
 ghost use Rattle.std.specs.List.{list_any, list_all};
 ghost use Rattle.std.specs.Option.{option_map_or, option_copied};
 ghost use Rattle.refusal.specs.Outcomes.{Gives};
 ghost use Rattle.crush.specs.Paths.{reaches, takes_above};
 ghost use Rattle.maptypes.specs.Exceptions.{said_of};
 ghost use Rattle.maptypes.specs.Sets.{is_of};
-ghost use Rattle.osdmap.specs.Maps.{pool_at};
 ghost use Rattle.osdmap.specs.Mapped.{is_weightless};
 ghost use Rattle.osdmap.specs.Placement.{group_fault, group_of, steps_of, raw_set, mapped_set, RunsOnce};
-ghost use Rattle.cleanup.specs.Kept.{is_weighed, is_lawful, says_more, serves, acts, remnant_of};
+ghost use Rattle.cleanup.specs.Kept.{is_weighed, is_lawful, says_more, serves, acts, remnant_at};
 
 use crate::reading::Reading;
 use crush::{Forest, Step, Work};
@@ -203,8 +202,7 @@ impl Judge<'_> {
 /// `Memory` (30) where there is no memory for the run. No run is counted then.
 #[tactic(auto, unfolding(crate::specs::Kept::remnant_of, crate::specs::Kept::keeps, crate::specs::Kept::all_act))]
 pub fn remnant_of(map: &OsdMap, pg: Pg, work: &mut Work) -> Result<Remnant, Refusal>
-    ensures left { Gives result (group_fault map.now.map pg)
-        (λ left. IfSome (pool_at map.now.map.pools pg.pool) (λ p. left ≡ remnant_of map.now.map p pg.number)) }
+    ensures left { Gives result (group_fault map.now.map pg) (λ left. Some left ≡ remnant_at map.now.map pg) }
     ensures run { RunsOnce work.old work.new result }
 {
     let GroupSets { raw, mapped } = map.sets_of(pg, work)?;
