@@ -42,8 +42,7 @@ def main() -> None:
     running.heading("Processor minutes of a gate, by crate")
     whole = [sum(column) for column in zip(*(minutes for _, minutes in rows))]
     running.table(
-        ["crate", *parts, "together"],
-        [[crate, *minutes, sum(minutes)] for crate, minutes in [*rows, ("all", whole)]],
+        ["crate", *parts, "together"], [[crate, *minutes, sum(minutes)] for crate, minutes in [*rows, ("all", whole)]]
     )
 
 
