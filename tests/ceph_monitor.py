@@ -50,7 +50,7 @@ class CephMonitor(StockCase):
         options = options_of(parser().parse_args(given))
         question = Question(view_of(options.source), options.source.program)
         found, now = question.result(commands_of(options, question))
-        after = all_with_affinity(now.pools, sets_of_maps(now.maps, self.tools.program).ups, question.affinities)
+        after = all_with_affinity(now.pools, sets_of_maps(now.maps, self.tools.program), question.affinities)
         before, now_up = (
             {group: [up.places, -1 if up.primary is None else up.primary] for group, up in sets.items()}
             for sets in (question.before, after)

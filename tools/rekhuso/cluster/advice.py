@@ -94,7 +94,6 @@ ADVICES = (
         r"the CRUSH dump does not list",
         "take both dumps at one time; --unmatched takes it as out of reach of every rule",
     ),
-    Advice(r"^pg_upmap_primaries", "`ceph osd rm-pg-upmap-primary PG` takes each away"),
     Advice(r"not in the grammar|from two buckets|is of the unknown type| takes osd\.\d+, which is no bucket$", POOLS),
     Advice(
         r"which is not below it$",

@@ -41,7 +41,7 @@ OSD_DUMP = {
     "?osd_xinfo": [object],
     "?pg_temp": [object],
     "?primary_temp": [object],
-    "?pg_upmap_primaries": [object],
+    "?pg_upmap_primaries": [dict(GROUP_KEYS, primary_osd=int)],
 }
 CRUSH_DUMP = {
     "devices": [{"id": int, "name": str, "?class": str}],

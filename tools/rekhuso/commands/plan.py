@@ -19,7 +19,7 @@ import argparse
 import json
 import sys
 from contextlib import ExitStack
-from dataclasses import dataclass
+from dataclasses import dataclass, replace
 from fractions import Fraction
 
 from ..cluster.conversion import monitor_of
@@ -29,12 +29,14 @@ from ..cluster.map_files import map_monitor
 from ..cluster.names import Names, names_in, pools_named
 from ..cluster.outage import check_outage
 from ..cluster.pool_data import Data, data_in
+from ..cluster.primaries import rested_words
 from ..cluster.sources import Source
-from ..cluster.view import NO_PLAN, has_other_weights, tree_in
+from ..cluster.view import ClusterView, NO_PLAN, has_other_weights, tree_in
 from ..faults import Fault, Misuse
 from ..output.json_forms import put_json
 from ..output.plan_scripts import Script, part_file, put_batches
 from ..output.plan_words import plan_lines, refusal_words
+from ..plans.after_plan import rested_after
 from ..plans.movement import PlaceBytes, place_bytes
 from ..plans.plan import ALL, Outcome, Wish, outage_in, planned
 from ..plans.rounds import Live, MOST_MOVES
@@ -52,14 +54,17 @@ LEAST, FARTHEST = Fraction(1, 2), 65536
 
 @dataclass(frozen=True)
 class ToldPlan:
-    """What is told of plans: the epoch of the map, what the plans are, what the groups weigh, and names."""
+    """What is told of plans: the epoch of the map, what the plans are, what the groups weigh, names, and the groups
+    whose named primary does nothing any more afterwards.
+    """
 
-    __slots__ = ("epoch", "outcome", "weights", "names")
+    __slots__ = ("epoch", "outcome", "weights", "names", "rested")
 
     epoch: int
     outcome: Outcome
     weights: PlaceBytes
     names: Names
+    rested: list[str]
 
 
 @dataclass(frozen=True)
@@ -130,7 +135,7 @@ def told_by(lives: list[Live], options: PlanOptions, names: Names, data: Data | 
     if refused and options.pools:
         raise Fault(*(f"{parts['name']}: {refusal_words(parts['refused'] or '')}" for parts in refused))
     weighed = [pool for pool in pools if pool["id"] in {parts["id"] for parts in outcome.pools}]
-    return ToldPlan(epoch, outcome, place_bytes(weighed, data), names)
+    return ToldPlan(epoch, outcome, place_bytes(weighed, data), names, [])
 
 
 def plan_of_map(options: PlanOptions, data: Data | None) -> ToldPlan:
@@ -172,7 +177,8 @@ def plan_of_dumps(options: PlanOptions, data: Data | None) -> ToldPlan:
             for part, value in zip(found.parts, found.maps)
         ]
         told = told_by(lives, options, names, data, found.cluster.epoch)
-    return told
+    whole = ClusterView(found.maps, names, found)
+    return replace(told, rested=rested_after(whole, told.outcome.steps, source.program))
 
 
 # What is put out
@@ -192,6 +198,7 @@ def put_plan_json(told: ToldPlan) -> None:
         undo=[line for step in steps for line in step.undo],
         cluster={"before": outcome.before, "after": outcome.after, "largest": outcome.largest},
         taken_out=outcome.taken_out,
+        idle_primaries=told.rested,
         moving=weights.moving(steps),
         osds=weights.by_osd(steps),
         pools=pools,
@@ -224,7 +231,8 @@ def work(options: PlanOptions) -> None:
     """Asks the program for its plans, in one session a map, and tells them."""
     data = data_in(options.df)
     told = plan_of_dumps(options, data) if options.source.has_dumps else plan_of_map(options, data)
-    print("\n".join(plan_lines(told.outcome, told.names, options.deviation)), file=sys.stderr)
+    lines = plan_lines(told.outcome, told.names, options.deviation)
+    print("\n".join(lines + ([rested_words(told.rested)] if told.rested else [])), file=sys.stderr)
     if options.is_json:
         put_plan_json(told)
         return
