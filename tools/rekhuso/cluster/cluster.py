@@ -325,7 +325,7 @@ class Cluster:
     # Some pools alone
 
     def of_pools(self, chosen: set[int]) -> Cluster:
-        """The cluster with some of its pools alone, their exceptions and the primaries that are named for their groups."""
+        """The cluster with some of its pools alone, their exceptions, and the primaries named for their groups."""
         others = {str(pool) for pool in self.sizes.keys() - chosen}
         parts = {
             key: [entry for entry in entries_of(self.osd_dump, key) if entry["pgid"].split(".")[0] not in others]
