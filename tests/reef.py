@@ -5,6 +5,7 @@ out; records of commands that it was given, with the exceptions that it then too
 and rows of single groups with a named primary, as its `osdmaptool` placed them.
 """
 
+import base64
 import json
 import pathlib
 from typing import Any
@@ -16,12 +17,13 @@ from rekhuso.cluster.primaries import idle_words, with_first
 from rekhuso.cluster.view import view_of
 from rekhuso.command_line import parser
 from rekhuso.commands.whatif import commands_of, options_of
-from rekhuso.plans.question import Question, sets_of
+from rekhuso.plans.question import Balance, Question, balanced_sets, sets_of
 from rekhuso.program.answers import Up
 from rekhuso.program.maps import Pool
 
 from tests.cases import Case
 from tests.clusters import Json, commands, copied, kept
+from tests.reef_tools import ReefMonitor, reef_tools
 from tests.tool_cases import StockCase
 
 DATA = kept("reef.json.gz")
@@ -61,8 +63,8 @@ class NamedPrimaries(Case):
                 self.assertEqual([up.places, up.primary], [row["up"], row["up_primary"]])
 
 
-class Reef(StockCase):
-    """What the tools say of clusters of Reef."""
+class ReefCase(StockCase):
+    """Tests over clusters of Reef."""
 
     def files(self, name: str) -> tuple[pathlib.Path, pathlib.Path]:
         """The dumps of a cluster as files."""
@@ -81,9 +83,13 @@ class Reef(StockCase):
         self.assertEqual((len(unlike), unlike[:3]), (0, []), what)
         self.assertEqual(found.keys(), wanted.keys(), what)
 
+
+class Reef(ReefCase):
+    """What the tools say of clusters of Reef."""
+
     def test_up_sets(self) -> None:
-        """Every up set and primary is Reef's, also where primaries are named; in an erasure pool such an entry, which no
-        command takes, acts too."""
+        """Every up set and primary is Reef's, also where primaries are named; in an erasure pool such an entry, which
+        no command takes, acts too."""
         for name in REEF.keys() - OUT:
             with self.subTest(name=name):
                 words = ["--pools", SOME[name]] if name in SOME else []
@@ -95,8 +101,8 @@ class Reef(StockCase):
                 self.is_as_in_reef(question.before, wanted, name)
 
     def test_commands(self) -> None:
-        """The up sets and primaries after commands are Reef's, and so are the exceptions that go. The groups whose entry
-        then does nothing are told."""
+        """The up sets and primaries after commands are Reef's, and so are the exceptions that go. The groups whose
+        entry then does nothing are told."""
         for record in RECORDS:
             name = record["cluster"]
             with self.subTest(name=name, words=record["words"]):
@@ -144,8 +150,8 @@ class Reef(StockCase):
         self.assertNotIn("the primary named", self.output("explain", *files, "2.4"))
 
     def test_idle_entries(self) -> None:
-        """An entry of a pool or a group that is not there, or of an OSD that does not exist or stands elsewhere, changes
-        nothing and keeps nobody out."""
+        """An entry of a pool or a group that is not there, or of an OSD that does not exist or stands elsewhere,
+        changes nothing and keeps nobody out."""
         own = copied(REEF["plain"])
         own["osd_dump"]["pg_upmap_primaries"] = [
             {"pgid": group, "primary_osd": osd} for group, osd in (("9.0", 1), ("2.fff", 1), ("2.0", 99), ("2.1", -1))
@@ -206,3 +212,54 @@ class Reef(StockCase):
         self.assertEqual(set(told["idle_primaries"]), left)
         self.assertIn("named by pg_upmap_primaries", error)
         self.assertLessEqual(set(moved["idle_primaries"]), left)
+
+    def test_clients(self) -> None:
+        """The head of a plan has clients know upmap where the dump says that older ones may come, and where it says
+        nothing, then with a caution; not where it would lower what the dump says."""
+        line, own = "ceph osd set-require-min-compat-client luminous", copied(REEF["plain"])
+        for release, is_told, is_cautious in (("jewel", True, False), ("reef", False, False), (None, True, True)):
+            with self.subTest(release=release):
+                own["osd_dump"]["require_min_compat_client"] = release
+                output = self.output("plan", *self.dumps("clients", own), "--max", "1")
+                self.assertEqual(line in output, is_told)
+                self.assertEqual("get-require-min-compat-client" in output, is_cautious)
+
+    def test_own_balancer(self) -> None:
+        """Where it can be worked out, `plan` tells from which number on Ceph's own balancer leaves the plan alone: not
+        while OSDs are down that are in, nor for some pools alone."""
+        output, error = self.ran("plan", *self.files("plain"))
+        told = self.json("plan", *self.files("plain"))
+        self.assertEqual(told["upmap_max_deviation"], 2)  # as osdmaptool 18.2.7 says of it after the plan
+        self.assertIn("with upmap_max_deviation 2 or more, it leaves the whole plan alone", output)
+        self.assertIn("its upmap_max_deviation is 2 or more (5 where nobody sets it)", error)
+        for words in (["primaries_pairs", "--anyway"], ["plain", "--pool", "2"]):
+            name, *more = words
+            told = self.json("plan", *self.files(name), *more)
+            self.assertIsNone(told["upmap_max_deviation"], words)
+            self.assertNotIn("upmap_max_deviation", self.output("plan", *self.files(name), *more))
+
+
+class ByReef(ReefCase):
+    """What the tools say beside what a monitor of Reef does now, which runs where REEF names its tools."""
+
+    def monitor(self, name: str) -> ReefMonitor:
+        """A monitor over a cluster."""
+        tools = reef_tools()
+        self.needs("Ceph 18.2 (REEF names a folder with its tools in bin)", tools is not None)
+        assert tools is not None
+        return ReefMonitor(tools, base64.b64decode(REEF[name]["osdmap"]))
+
+    def test_plans_by_reef(self) -> None:
+        """Reef takes each command of a plan, and then has the sets and primaries that `whatif --balance` finds; its
+        own balancer wants nothing at the number that is told, and something below it."""
+        for name, quiet in (("plain", 2), ("stretch", 2), ("read_primaries", None), ("primaries_pairs", None)):
+            with self.subTest(name=name), self.monitor(name) as monitor:
+                told = self.json("plan", *self.files(name), "--anyway")
+                self.assertEqual(monitor.refused(told["commands"]), [])
+                question, _ = self.question(*self.files(name), "--balance", "--anyway")
+                answers = balanced_sets(question.whole, self.tools.program, Balance(True))
+                self.is_as_in_reef(question.as_in_ceph(question.whole, answers), monitor.sets(), name)
+                number = told["upmap_max_deviation"]
+                if quiet is not None:
+                    self.assertEqual(number, quiet)
+                    self.assertEqual((monitor.balanced(quiet), monitor.balanced(quiet - 1) > 0), (0, True))

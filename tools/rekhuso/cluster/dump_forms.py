@@ -42,6 +42,7 @@ OSD_DUMP = {
     "?pg_temp": [object],
     "?primary_temp": [object],
     "?pg_upmap_primaries": [dict(GROUP_KEYS, primary_osd=int)],
+    "?require_min_compat_client": object,
 }
 CRUSH_DUMP = {
     "devices": [{"id": int, "name": str, "?class": str}],

@@ -30,13 +30,14 @@ from ..cluster.names import Names, names_in, pools_named
 from ..cluster.outage import check_outage
 from ..cluster.pool_data import Data, data_in
 from ..cluster.primaries import rested_words
+from ..cluster.releases import least_client
 from ..cluster.sources import Source
 from ..cluster.view import ClusterView, NO_PLAN, has_other_weights, tree_in
 from ..faults import Fault, Misuse
 from ..output.json_forms import put_json
-from ..output.plan_scripts import Script, part_file, put_batches
-from ..output.plan_words import plan_lines, refusal_words
-from ..plans.after_plan import rested_after
+from ..output.plan_scripts import Script, WATCH, balancer_words, client_words, part_file, put_batches
+from ..output.plan_words import plan_lines, quiet_words, refusal_words
+from ..plans.after_plan import quiet_deviation, rested_after
 from ..plans.movement import PlaceBytes, place_bytes
 from ..plans.plan import ALL, Outcome, Wish, outage_in, planned
 from ..plans.rounds import Live, MOST_MOVES
@@ -54,17 +55,25 @@ LEAST, FARTHEST = Fraction(1, 2), 65536
 
 @dataclass(frozen=True)
 class ToldPlan:
-    """What is told of plans: the epoch of the map, what the plans are, what the groups weigh, names, and the groups
-    whose named primary does nothing any more afterwards.
+    """What is told of plans: the epoch of the map, what the plans are, what the groups weigh, names, from which number
+    on Ceph's own balancer leaves the plan alone, if that is known; and of dumps the groups whose named primary does
+    nothing any more afterwards, and the release that clients must have at least.
     """
 
-    __slots__ = ("epoch", "outcome", "weights", "names", "rested")
+    __slots__ = ("epoch", "outcome", "weights", "names", "quiet", "rested", "client")
 
     epoch: int
     outcome: Outcome
     weights: PlaceBytes
     names: Names
+    quiet: int | None
     rested: list[str]
+    client: str | None
+
+    def lines(self, deviation: Fraction | None) -> list[str]:
+        """All that is told of plans on standard error."""
+        found = plan_lines(self.outcome, self.names, deviation) + quiet_words(self.quiet)
+        return found + ([rested_words(self.rested)] if self.rested else [])
 
 
 @dataclass(frozen=True)
@@ -135,7 +144,7 @@ def told_by(lives: list[Live], options: PlanOptions, names: Names, data: Data | 
     if refused and options.pools:
         raise Fault(*(f"{parts['name']}: {refusal_words(parts['refused'] or '')}" for parts in refused))
     weighed = [pool for pool in pools if pool["id"] in {parts["id"] for parts in outcome.pools}]
-    return ToldPlan(epoch, outcome, place_bytes(weighed, data), names, [])
+    return ToldPlan(epoch, outcome, place_bytes(weighed, data), names, quiet_deviation(lives, outcome), [], None)
 
 
 def plan_of_map(options: PlanOptions, data: Data | None) -> ToldPlan:
@@ -178,7 +187,8 @@ def plan_of_dumps(options: PlanOptions, data: Data | None) -> ToldPlan:
         ]
         told = told_by(lives, options, names, data, found.cluster.epoch)
     whole = ClusterView(found.maps, names, found)
-    return replace(told, rested=rested_after(whole, told.outcome.steps, source.program))
+    rested = rested_after(whole, told.outcome.steps, source.program)
+    return replace(told, rested=rested, client=least_client(found.cluster.osd_dump))
 
 
 # What is put out
@@ -199,6 +209,7 @@ def put_plan_json(told: ToldPlan) -> None:
         cluster={"before": outcome.before, "after": outcome.after, "largest": outcome.largest},
         taken_out=outcome.taken_out,
         idle_primaries=told.rested,
+        upmap_max_deviation=told.quiet,
         moving=weights.moving(steps),
         osds=weights.by_osd(steps),
         pools=pools,
@@ -208,14 +219,15 @@ def put_plan_json(told: ToldPlan) -> None:
 def script_of(told: ToldPlan, options: PlanOptions, number: int = 1, count: int = 1) -> Script:
     """What stands round the commands of a plan or of one of several parts of it, or of what takes these back."""
     part = f", part {number} of {count}" if options.batch is not None else ""
+    before = balancer_words(None if options.is_undo else told.quiet) + client_words(told.client) + WATCH
     if options.is_undo:
         title = f"The way back from a plan over epoch {told.epoch}{part}"
         end = "after:  these groups have the exceptions of that epoch again, whichever part of the plan was run"
-        return Script(title, [end], told.weights, told.names)
+        return Script(title, [*before, end], told.weights, told.names)
     order = [f"order:  part {number - 1} is run before, and its groups have moved"] if number > 1 else []
     undo = UNDO + (f", write {part_file('undo', number, count)}" if part else "")
     notes = [*order, undo] if part else [PARTS, undo]
-    return Script(f"A plan over epoch {told.epoch}{part}", notes, told.weights, told.names)
+    return Script(f"A plan over epoch {told.epoch}{part}", before + notes, told.weights, told.names)
 
 
 def put_parts(told: ToldPlan, options: PlanOptions) -> None:
@@ -231,8 +243,7 @@ def work(options: PlanOptions) -> None:
     """Asks the program for its plans, in one session a map, and tells them."""
     data = data_in(options.df)
     told = plan_of_dumps(options, data) if options.source.has_dumps else plan_of_map(options, data)
-    lines = plan_lines(told.outcome, told.names, options.deviation)
-    print("\n".join(lines + ([rested_words(told.rested)] if told.rested else [])), file=sys.stderr)
+    print("\n".join(told.lines(options.deviation)), file=sys.stderr)
     if options.is_json:
         put_plan_json(told)
         return

@@ -2,10 +2,14 @@
 
 from __future__ import annotations
 
+import math
+
 from ..cluster.cluster import Cluster
 from ..cluster.effects import with_change
 from ..cluster.view import ClusterView, view_of_cluster
 from ..program.maps import Change, Program
+from .plan import Outcome
+from .rounds import Live
 from .steps import PlanStep
 
 
@@ -35,3 +39,16 @@ def rested_after(whole: ClusterView, steps: list[PlanStep], program: Program) ->
     """The groups whose named primary does nothing any more after some steps."""
     before = whole.primaries(program)
     return before.rested(after_steps(whole, steps).primaries(program)) if before.osds else []
+
+
+def quiet_deviation(lives: list[Live], outcome: Outcome) -> int | None:
+    """The least `upmap_max_deviation` with which Ceph's own balancer has nothing to do after a plan: it plans each pool
+    by itself until no OSD is farther from its share (OSDMap.cc `calc_pg_upmaps`). None where that is not known: of
+    pools that were not planned, and while OSDs are down that are in, whose groups it does not count.
+    """
+    several = {number for live in lives for number, pool in live.pools.items() if pool["pg_num"] > 1}
+    if several - {parts["id"] for parts in outcome.pools}:
+        return None
+    if any(osd["exists"] and osd["weight"] and not osd["up"] for live in lives for osd in live.value["osds"]):
+        return None
+    return max(1, math.ceil(max((parts["after"]["farthest"] for parts in outcome.pools), default=0.0)))
