@@ -226,17 +226,35 @@ class Reef(ReefCase):
 
     def test_own_balancer(self) -> None:
         """Where it can be worked out, `plan` tells from which number on Ceph's own balancer leaves the plan alone: not
-        while OSDs are down that are in, nor for some pools alone."""
+        while OSDs are down that are in, where a reweight is above 1, nor for some pools alone."""
         output, error = self.ran("plan", *self.files("plain"))
         told = self.json("plan", *self.files("plain"))
         self.assertEqual(told["upmap_max_deviation"], 2)  # as osdmaptool 18.2.7 says of it after the plan
         self.assertIn("with upmap_max_deviation 2 or more, it leaves the whole plan alone", output)
         self.assertIn("its upmap_max_deviation is 2 or more (5 where nobody sets it)", error)
-        for words in (["primaries_pairs", "--anyway"], ["plain", "--pool", "2"]):
-            name, *more = words
-            told = self.json("plan", *self.files(name), *more)
+        own = copied(REEF["plain"])
+        own["osd_dump"]["osds"][3]["weight"] = 1.5
+        unknown: list[tuple[tuple[pathlib.Path, pathlib.Path], list[str]]] = [
+            (self.files("primaries_pairs"), ["--anyway"]),
+            (self.files("plain"), ["--pool", "2"]),
+            (self.dumps("above", own), []),
+        ]
+        for files, words in unknown:
+            told = self.json("plan", *files, *words)
             self.assertIsNone(told["upmap_max_deviation"], words)
-            self.assertNotIn("upmap_max_deviation", self.output("plan", *self.files(name), *more))
+            self.assertNotIn("upmap_max_deviation", self.output("plan", *files, *words))
+
+    def test_what_advice_moves(self) -> None:
+        """Advice that moves data says how much, as the monitor then had it: of a compat weight set by the program, of
+        tunables by the rules."""
+        _, error = self.ran("plan", *self.files("compat"), status=1)
+        self.assertIn("weight-set rm-compat`, which moves data (44 of 195 places of groups, 22.56 %)", error)
+        _, error = self.ran("import", "--check", *self.files("hammer"), status=1)
+        self.assertIn("moves data once: some half of the places of pools 1 and 2, by chooseleaf firstn\n", error)
+        own = copied(REEF["hammer"])
+        own["crush_dump"]["tunables"]["chooseleaf_vary_r"] = 0
+        _, error = self.ran("import", "--check", *self.dumps("older", own), status=1)
+        self.assertIn("sets all of them, and moves data once\n", error)
 
 
 class ByReef(ReefCase):

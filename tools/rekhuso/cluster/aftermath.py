@@ -13,9 +13,9 @@ from .cluster import Cluster
 from .conversion import map_of, monitor_of, pool_of
 from .dump_types import OsdDump
 from .effects import Host, with_change, with_osd, with_weights
-from .imports import map_clusters
 from .judge import Places, Present, Reason, judge_of_cluster
 from .map_dumps import cluster_of_map
+from .map_parts import map_clusters
 from .reasons import reasons
 from .shadows import with_shadows
 

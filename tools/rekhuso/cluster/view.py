@@ -15,19 +15,23 @@ from .affinity import affinities_of, all_with_affinity
 from .cluster import Cluster
 from .conversion import bucket_of, map_of, monitor_of
 from .dump_forms import is_crush_dump
-from .imports import ImportedCluster, imported, map_clusters
+from .imports import ImportedCluster, imported
 from .map_files import map_in, map_with_sets
+from .map_parts import map_clusters
+from .moving_advice import compat_words
 from .names import Names, names_in
 from .primaries import NamedPrimaries, primaries_in
 from .shares import Shares
 from .sources import Source
 
-NO_PLAN = (
-    "no plan: a compat weight set (choose_args) is in force, so a plan by its weights would undo what it was tuned "
-    "for, and one by the "
-    "weights themselves would start from sets that are not there. Turn Ceph's balancer off, take the set away by "
-    "`ceph osd crush weight-set rm-compat`, which moves data, and dump again"
-)
+
+def no_plan_words(moves: str) -> str:
+    """That no plan is made where a weight set is in force, and why; with what taking it away moves, if that is known."""
+    return (
+        "no plan: a compat weight set (choose_args) is in force, so a plan by its weights would undo what it was tuned "
+        "for, and one by the weights themselves would start from sets that are not there. Turn Ceph's balancer off, "
+        f"take the set away by `ceph osd crush weight-set rm-compat`, which moves data{moves}, and dump again"
+    )
 
 
 class ClusterView:
@@ -81,6 +85,10 @@ class ClusterView:
         """The primaries that are named for its groups, or for one of them; none where it is a map."""
         dump = {} if self.found is None else primaries_in(self.found.cluster.osd_dump, group)
         return NamedPrimaries(dump, self.maps, program)
+
+    def no_plan(self, program: Program) -> str:
+        """That no plan is made of it, as a weight set is in force."""
+        return no_plan_words(compat_words(self.found.cluster, program) if self.found else "")
 
     def shares(self, ups: dict[str, Up]) -> Shares:
         """The shares of the whole."""

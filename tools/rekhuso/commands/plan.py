@@ -32,7 +32,7 @@ from ..cluster.pool_data import Data, data_in
 from ..cluster.primaries import rested_words
 from ..cluster.releases import least_client
 from ..cluster.sources import Source
-from ..cluster.view import ClusterView, NO_PLAN, has_other_weights, tree_in
+from ..cluster.view import ClusterView, has_other_weights, no_plan_words, tree_in
 from ..faults import Fault, Misuse
 from ..output.json_forms import put_json
 from ..output.plan_scripts import Script, WATCH, balancer_words, client_words, part_file, put_batches
@@ -157,7 +157,7 @@ def plan_of_map(options: PlanOptions, data: Data | None) -> ToldPlan:
     with monitor:
         value: Map = json.loads(text)
         if has_other_weights(value, tree_in(source.names)):
-            raise Fault(NO_PLAN)
+            raise Fault(no_plan_words(""))
         if data is not None:
             data.check(value["pools"], names["pools"], False)
         live = Live(value, value, names, judge_of_map(value, names), monitor)
@@ -170,8 +170,9 @@ def plan_of_dumps(options: PlanOptions, data: Data | None) -> ToldPlan:
     source = options.source
     found = imported(source.dumps())
     names = names_in(source.names) if source.names else found.cluster.names()
-    if found.cluster.has_weight_set:
-        raise Fault(NO_PLAN)
+    whole = ClusterView(found.maps, names, found)
+    if whole.has_weight_set:
+        raise Fault(whole.no_plan(source.program))
     if data is not None:
         data.check([pool for value in found.maps for pool in value["pools"]], names["pools"], source.pools is None)
     with ExitStack() as stack:
@@ -186,9 +187,11 @@ def plan_of_dumps(options: PlanOptions, data: Data | None) -> ToldPlan:
             for part, value in zip(found.parts, found.maps)
         ]
         told = told_by(lives, options, names, data, found.cluster.epoch)
-    whole = ClusterView(found.maps, names, found)
     rested = rested_after(whole, told.outcome.steps, source.program)
-    return replace(told, rested=rested, client=least_client(found.cluster.osd_dump))
+    # Ceph's own balancer takes a reweight above 1 as it is, and placement takes it as 1.
+    is_known = all(own["weight"] <= 1 for own in found.cluster.osds.values())
+    client = least_client(found.cluster.osd_dump)
+    return replace(told, quiet=told.quiet if is_known else None, rested=rested, client=client)
 
 
 # What is put out
