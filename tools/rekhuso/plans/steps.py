@@ -9,6 +9,7 @@ from ..cluster.moving import coming, erasure_pools, has_moved, leaving
 from ..program.answers import Up
 from ..program.maps import Exceptions, Map, altered, entries_of, group_key
 from .move_order import PairsByGroup
+from .pairs import is_same
 
 
 @dataclass(frozen=True)
@@ -97,7 +98,7 @@ def in_old_order(old: Map, new: Map) -> Map:
     """A new map in which a group has its pairs in the old one's order where they are the same pairs."""
     kept: dict[str, list[list[int]]] = dict(entries_of(old, "pg_upmap_items"))
     items = [
-        [group, kept[group] if sorted(kept.get(group, [])) == sorted(pairs) else pairs]
+        [group, kept[group] if is_same(kept.get(group), pairs) else pairs]
         for group, pairs in entries_of(new, "pg_upmap_items")
     ]
     return altered(new, pg_upmap_items=items)
