@@ -60,8 +60,8 @@ def drill(question: Question, word: str, is_json: bool) -> None:
     value, names = question.whole.tree, question.whole.names
     level, there = level_of(value, names, word), {osd["id"] for osd in value["osds"] if osd["exists"]}
     rows = []
-    if question.outage is not None and not is_json:
-        print(question.outage)
+    for line in [] if is_json else question.warnings():
+        print(line)
     for bucket in (own for own in value["buckets"] if own["type"] == level):
         weights = [[osd, 0] for osd in sorted(osds_below(value, bucket["id"])) if osd in there]
         found, _ = question.result([StateChange({"weight": weights})])
@@ -177,7 +177,7 @@ def work(options: WhatifOptions) -> None:
     if options.is_json:
         put_json("whatif", view.tree["epoch"], **found)
     else:
-        print("\n".join(flow_lines(found, view.names, str(question.outage or ""))))
+        print("\n".join(flow_lines(found, view.names, "\n".join(question.warnings()))))
 
 
 def add_to(commands: Commands) -> None:
@@ -223,7 +223,9 @@ def add_to(commands: Commands) -> None:
     own.add_argument("--class", metavar="CLASS", help="the device class of its OSDs, where the cluster has several")
     own.add_argument("--each", metavar="TYPE", help="instead: each bucket of this type out, in turn")
     own.add_argument("--balance", action="store_true", help="the cluster is balanced after the change, as by `plan`")
-    own.add_argument("--anyway", action="store_true", help="balance also amid an outage, in which Ceph's would wait")
+    own.add_argument(
+        "--anyway", action="store_true", help="balance also where Ceph's balancer would wait, as `plan` does"
+    )
     add_names(own)
     own.add_argument("--json", action="store_true", help="as JSON")
     own.add_argument("--picture", metavar="FILE", help="writes beside it which host gives to which, as SVG")
