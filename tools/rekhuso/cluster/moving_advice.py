@@ -50,7 +50,8 @@ def moved_places(old: Cluster, new: Cluster, program: Program) -> tuple[int, int
     except Fault:
         return None
     erasure = erasure_pools([pool for value in map(map_of, map_clusters(old)) for pool in value["pools"]])
-    return moved_parts(before, after, erasure)["places"], sum(len(up.places) - up.places.count(None) for up in before.values())
+    whole = sum(len(up.places) - up.places.count(None) for up in before.values())
+    return moved_parts(before, after, erasure)["places"], whole
 
 
 def places_words(moved: int, places: int) -> str:
@@ -80,7 +81,7 @@ def pool_sets_words(cluster: Cluster, program: Program) -> str:
 
 
 def tunable_words(cluster: Cluster) -> str:
-    """What other tunables move, by the words of the rules: no map holds the ones before. One of them alone was tried."""
+    """What other tunables move, by the words of the rules: no map holds the ones before. One alone was tried."""
     own = cluster.crush["tunables"]
     if [name for name, wanted in TUNABLES.items() if own.get(name, wanted) != wanted] != ["chooseleaf_stable"]:
         return ""

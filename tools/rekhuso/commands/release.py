@@ -18,7 +18,7 @@ from ..cluster.dump_types import OsdDump
 from ..cluster.dumps import first_lines, read_dump
 from ..cluster.imports import imported
 from ..cluster.sources import Source
-from ..cluster.view import NO_PLAN
+from ..cluster.view import no_plan_words
 from ..faults import Fault, Misuse
 from ..files import json_of
 from ..output.json_forms import put_json
@@ -134,7 +134,7 @@ def work(options: ReleaseOptions) -> None:
     source, program = options.source, options.source.program
     cluster = imported(source.dumps()).cluster
     if options.is_planned and cluster.has_weight_set:
-        raise Fault(NO_PLAN)
+        raise Fault(no_plan_words(""))
     check_still(moving_words(cluster, program), options.is_anyway, "released")
     kept = kept_in(options.keep, cluster)
     found = release_of(cluster, kept, options.is_planned, options.batch or ALL, program)

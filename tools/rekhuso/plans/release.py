@@ -15,7 +15,8 @@ from ..cluster.cluster import Cluster
 from ..cluster.conversion import map_of, pool_of
 from ..cluster.difference import exception_commands
 from ..cluster.evenness import Spread
-from ..cluster.imports import ImportedCluster, map_clusters
+from ..cluster.imports import ImportedCluster
+from ..cluster.map_parts import map_clusters
 from ..cluster.moving import erasure_pools
 from ..cluster.names import set_words
 from ..cluster.view import ClusterView
@@ -126,7 +127,7 @@ def release_of(cluster: Cluster, kept: Exceptions, is_planned: bool, most: int, 
     if is_planned:
         then, wanted = planned_end(view_over(plain), then, program)
     before, end = view_over(cluster), view_over(with_exceptions(cluster, then))
-    was, to = sets_of_maps(before.maps, program).ups, sets_of_maps(end.maps, program).ups
+    was, to = sets_of_maps(before.maps, program), sets_of_maps(end.maps, program)
     check_end(to, wanted)
     pools = [pool_of(pool) for pool in cluster.pools]
     explicit, items = cluster.exceptions
