@@ -39,6 +39,22 @@ def with_given(record: Json) -> Json:
     return dump
 
 
+def moved(name: str, was: Json, now: Json) -> tuple[int, int]:
+    """How many groups and places of a cluster move between two times: in an erasure pool each place has data of its
+    own, and in a replicated one all have the same."""
+    erasure = {str(pool["pool"]) for pool in WORST[name]["osd_dump"]["pools"] if pool["type"] == 3}
+    groups = places = 0
+    for group in was:
+        old, new = was[group][0], now[group][0]
+        if group.split(".")[0] in erasure:
+            groups += old != new
+            places += sum(osd is not None and osd != before for before, osd in zip(old, new, strict=True))
+        else:
+            groups += set(old) != set(new)
+            places += len(set(new) - set(old) - {None})
+    return groups, places
+
+
 class CephMonitor(StockCase):
     """What the tools say beside what the monitor did."""
 
@@ -97,8 +113,7 @@ class CephMonitor(StockCase):
             self.assertFalse(unlike, (record["name"], record["cluster"], len(unlike), unlike[:3]))
             self.assertEqual(after.keys(), wanted.keys(), (record["name"], record["cluster"], len(unlike), unlike[:3]))
             if not record["given"]["pg_upmap"] and not record["given"]["pg_upmap_items"]:
-                groups = sum(was[group][0] != wanted[group][0] for group in wanted)
-                places = sum(len(set(wanted[group][0]) - set(was[group][0]) - {None}) for group in wanted)
+                groups, places = moved(record["cluster"], was, wanted)
                 self.assertEqual(
                     (found["groups"], found["places"]), (groups, places), (record["name"], found["groups"], groups)
                 )

@@ -25,10 +25,10 @@ class PlaceBytes:
 
     def moving(self, steps: list[PlanStep]) -> MovingParts:
         """What some steps move: groups, places, and where it is known bytes and their share of all pools' data."""
-        places = Counter(step.pool for step in steps for _ in step.comes())
+        places = Counter(step.pool for step in steps for _ in step.places_come())
         size = sum(self.places.get(pool, 0.0) * count for pool, count in places.items())
         return {
-            "groups": sum(step.was != step.now for step in steps),
+            "groups": sum(map(PlanStep.is_moving, steps)),
             "places": sum(places.values()),
             "bytes": None if self.total is None else round(size),
             "share": None if self.total is None else size / max(self.total, 1),
@@ -47,7 +47,7 @@ class PlaceBytes:
         size: dict[tuple[int, bool], float] = {}
         for step in steps:
             place = self.places.get(step.pool, 0.0)
-            for counts, osds in ((come, step.comes()), (gone, step.leaves())):
+            for counts, osds in ((come, step.places_come()), (gone, step.places_leave())):
                 for osd in osds:
                     counts[osd] += 1
                     key = osd, counts is come

@@ -256,8 +256,8 @@ def pool_parts(
     return {
         "id": number,
         "name": named(live.names, "pools", number),
-        "moves": sum(len(step.comes()) for step in steps) if plan is None else plan.moves,
-        "groups": sum(step.was != step.now for step in steps),
+        "moves": sum(len(step.places_come()) for step in steps) if plan is None else plan.moves,
+        "groups": sum(map(PlanStep.is_moving, steps)),
         "refused": made.refusals.get(number),
         "moves_within": None if plan is None else plan.wanted,
         "moves_whole": None if plan is None else plan.whole,

@@ -18,10 +18,12 @@ from ..cluster.aftermath import (
     exceptions_in,
 )
 from ..cluster.cleanup import reason_words
-from ..cluster.conversion import monitor_of
+from ..cluster.conversion import map_of, monitor_of
+from ..cluster.difference import moved_parts
 from ..cluster.flows import fewer_in, flows, fullest_by_count, fullest_by_share, short_in
 from ..cluster.map_dumps import cluster_of_map
 from ..cluster.misplaced import check_misplaced, misplaced_of
+from ..cluster.moving import erasure_pools, with_split_groups
 from ..cluster.outage import check_outage, outage_of
 from ..cluster.primaries import NamedPrimaries, rested_words
 from ..cluster.view import ClusterView, view_of_cluster
@@ -189,16 +191,16 @@ class Question:
 
     def told(self, course: Aftermath, whole: ClusterView, answers: ClusterSets) -> FlowParts:
         """All that is told of the cluster after some commands."""
-        before, pools = self.before, whole.pools
+        pools, erasure = whole.pools, erasure_pools(whole.pools)
+        before = with_split_groups(self.before, self.whole.pools, pools)
         ups, rested = self.as_in_ceph(whole, answers), self.primaries.rested(answers.primaries)
         sizes = {pool["id"]: pool["size"] for pool in pools}
         least = {pool["pool"]: pool["min_size"] for pool in course.cluster.pools if "min_size" in pool}
         short, shares = short_in(ups, sizes), whole.shares(ups)
-        both = {group: up for group, up in ups.items() if group in before}
-        moved = sorted(flows(before, ups).items(), key=lambda own: (-own[1], own[0]))
+        moved, total = flows(before, ups, erasure), moved_parts(before, ups, erasure)
         return {
-            "groups": sum(up.places != before[group].places for group, up in both.items()),
-            "places": sum(len(set(up.places) - set(before[group].places) - {None}) for group, up in both.items()),
+            "groups": total["groups"],
+            "places": total["places"],
             "short": short,
             "short_anew": fewer_in(short, before, ups, sizes),
             "below_min_size": fewer_in(short_in(ups, least), before, ups, least),
@@ -214,5 +216,5 @@ class Question:
             "notes": self.notes(course) + ([rested_words(rested)] if rested else []),
             "idle_primaries": rested,
             "unbalanced": answers.refused,
-            "flows": [[*pair, count] for pair, count in moved],
+            "flows": [[*pair, count] for pair, count in sorted(moved.items(), key=lambda own: (-own[1], own[0]))],
         }

@@ -2,9 +2,10 @@
 most, and no OSD gets fuller on the way than the fullest was before, or is at the end.
 
 How full an OSD is, is what it has to its share: bytes where it is known what pools hold, else groups. The next step is
-one from the fullest OSD, of several the one to the emptiest. It comes into a part only if no OSD then gets above a
-bound, where all that comes in the part counts and nothing that goes. The bound is the fullest OSD before the part, or
-that after the whole plan, or 1.05 of a share, whichever is most.
+one from the fullest OSD, of several the one to the emptiest. It comes into a part only if no OSD then gets above two
+bounds, where all that comes in the part counts and nothing that goes. The one is the fullest OSD before the part, or
+that after the whole plan, or 1.05 of a share, whichever is most. The other is each OSD's own: one place more than the
+most that it has before the whole plan or after it, as next to a share of nearly nothing no ratio is a bound.
 """
 
 from __future__ import annotations
@@ -26,7 +27,7 @@ class StepOrder:
         """Takes what the OSDs have before the steps, what a place of each pool counts (else 1), and the steps."""
         self.steps, self.share, self.has = steps, spread.share, dict(spread.has)
         self.sizes = [1.0 if places is None else places[step.pool] for step in steps]
-        self.come, self.go = [step.comes() for step in steps], [step.leaves() for step in steps]
+        self.come, self.go = [step.places_come() for step in steps], [step.places_leave() for step in steps]
         self.leaving: dict[int, list[int]] = {}
         for at, osds in enumerate(self.go):
             for osd in osds:
@@ -37,6 +38,7 @@ class StepOrder:
         for at in range(len(steps)):
             self.shift(end, at)
         self.end = Spread(end, self.share).fullest()
+        self.most = {osd: max(self.has.get(osd, 0), size) + ROUNDING for osd, size in end.items()}
 
     def shift(self, has: dict[int, float], at: int) -> None:
         """What OSDs have once a step is taken."""
@@ -59,6 +61,11 @@ class StepOrder:
         size = self.sizes[at]
         return max((self.ratio(self.high.get(osd, 0) + size, osd) for osd in self.come[at]), default=0.0)
 
+    def is_allowed(self, at: int) -> bool:
+        """Whether a step may come into the part."""
+        is_below = all(self.high.get(osd, 0) <= self.most[osd] for osd in self.come[at])
+        return is_below and self.peak(at) <= self.bound
+
     def begin(self) -> None:
         """A part begins."""
         self.high = dict(self.has)
@@ -67,7 +74,7 @@ class StepOrder:
     def next_from(self, osd: int) -> int | None:
         """The step from an OSD that comes next in the part, or None where none may come."""
         self.leaving[osd] = [at for at in self.leaving[osd] if at in self.left]
-        allowed = [at for at in self.leaving[osd] if self.peak(at) <= self.bound]
+        allowed = filter(self.is_allowed, self.leaving[osd])
         ranked = [(max(map(self.full, self.come[at]), default=0.0), at) for at in allowed]
         return min(ranked)[1] if ranked else None
 
