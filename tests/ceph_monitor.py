@@ -22,6 +22,11 @@ from tests.tool_cases import StockCase
 
 DATA = kept("operators.json.gz")
 WORST, RECORDS = DATA["clusters"], DATA["records"]
+# What advice moves, as the monitor then had it: 15 places of 192, and 97 of 195.
+MOVED = {
+    "by_pool_weights": "which moves data: 15 of 192 places of",
+    "hammer": "some half of the places of pools 1 and 2",
+}
 
 
 def with_given(record: Json) -> Json:
@@ -66,7 +71,7 @@ class CephMonitor(StockCase):
         options = options_of(parser().parse_args(given))
         question = Question(view_of(options.source), options.source.program)
         found, now = question.result(commands_of(options, question))
-        after = all_with_affinity(now.pools, sets_of_maps(now.maps, self.tools.program).ups, question.affinities)
+        after = all_with_affinity(now.pools, sets_of_maps(now.maps, self.tools.program), question.affinities)
         before, now_up = (
             {group: [up.places, -1 if up.primary is None else up.primary] for group, up in sets.items()}
             for sets in (question.before, after)
@@ -268,6 +273,7 @@ class CephMonitor(StockCase):
             files = self.tools.put("o", own["osd_dump"]), self.tools.put("c", own["crush_dump"])
             _, error = self.ran("import", *files, "--check", status=1)
             self.assertIn(own["advice"], error, (name, error))
+            self.assertIn(MOVED.get(name, ""), error, name)
             self.assertNotIn("no monitor dumps it so", error, (name, error))
             self.assertEqual("--pools " in error, bool(own["pools"]), (name, error))
             self.assertIn(f"--pools {own['pools']}", error + "--pools ", (name, error))

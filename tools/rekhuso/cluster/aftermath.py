@@ -13,9 +13,9 @@ from .cluster import Cluster
 from .conversion import map_of, monitor_of, pool_of
 from .dump_types import OsdDump
 from .effects import Host, with_change, with_osd, with_weights
-from .imports import map_clusters
 from .judge import Places, Present, Reason, judge_of_cluster
 from .map_dumps import cluster_of_map
+from .map_parts import map_clusters
 from .new_crush import NewCrush, PoolChange, with_new_crush, with_pool_change
 from .reasons import reasons
 from .shadows import with_shadows
@@ -71,10 +71,17 @@ class Aftermath:
     later: dict[str, Reason]
 
 
+def with_primaries_of(old: Cluster, new: Cluster) -> Cluster:
+    """A cluster with the primaries that are named for groups of another, where their pools are there."""
+    entries, pools = entries_of(old.osd_dump, "pg_upmap_primaries"), {str(pool) for pool in new.sizes}
+    kept = [entry for entry in entries if entry["pgid"].split(".")[0] in pools]
+    return Cluster(altered(new.osd_dump, pg_upmap_primaries=kept), new.crush, new.torn, new.gone) if kept else new
+
+
 def with_command(cluster: Cluster, step: Command) -> Cluster:
     """A cluster after a command, before the monitor looks at exceptions."""
     if isinstance(step, NewMap):
-        return cluster_of_map(step.value, cluster.all_names())
+        return with_primaries_of(cluster, cluster_of_map(step.value, cluster.all_names()))
     if isinstance(step, Arrival):
         return with_osd(cluster, step.host, step.weight)
     if isinstance(step, NewCrush):

@@ -42,7 +42,8 @@ OSD_DUMP = {
     "?osd_xinfo": [object],
     "?pg_temp": [object],
     "?primary_temp": [object],
-    "?pg_upmap_primaries": [object],
+    "?pg_upmap_primaries": [dict(GROUP_KEYS, primary_osd=int)],
+    "?require_min_compat_client": object,
 }
 CRUSH_DUMP = {
     "devices": [{"id": int, "name": str, "?class": str}],

@@ -14,6 +14,7 @@ from ..cluster.imports import imported
 from ..cluster.map_files import map_with_sets
 from ..cluster.moving import erasure_pools, with_split_groups
 from ..cluster.names import Names, names_in, with_names
+from ..cluster.primaries import named_primaries, other_primaries
 from ..cluster.sources import Source
 from ..faults import Refused
 from ..output.flow_words import pair_lines
@@ -39,12 +40,13 @@ class DiffOptions:
 
 @dataclass(frozen=True)
 class Side:
-    """A map with the up set of each of its groups, and its names."""
+    """A map with the up set of each of its groups, its names, and the primaries that dumps name for groups."""
 
-    __slots__ = ("value", "sets", "names")
+    __slots__ = ("value", "sets", "names", "primaries")
     value: Map
     sets: dict[str, Up]
     names: Names
+    primaries: dict[str, int]
 
 
 def options_of(arguments: Arguments) -> DiffOptions:
@@ -57,11 +59,11 @@ def side_of(source: Source) -> Side:
     """A map, or that of two dumps. A fault where it is not lawful, or a cluster stays out or takes several maps."""
     if not source.has_dumps:
         source.check_map()
-        return Side(*map_with_sets(source.paths[0], source.program), names_in(source.names))
+        return Side(*map_with_sets(source.paths[0], source.program), names_in(source.names), {})
     found = imported(source.dumps(), True)
     value, names = found.maps[0], names_in(source.names) if source.names else found.cluster.all_names()
     with monitor_of(value, source.program) as monitor:
-        return Side(value, monitor.ups(groups_of(value)), names)
+        return Side(value, monitor.ups(groups_of(value)), names, named_primaries(found.cluster.osd_dump))
 
 
 def check_change(old: Map, new: Map, change: Change, source: Source) -> None:
@@ -78,6 +80,7 @@ def work(options: DiffOptions) -> None:
     change, unsaid = change_of(old.value, new.value)
     if not unsaid:
         check_change(old.value, new.value, change, options.old)
+    unsaid += other_primaries(old.primaries, new.primaries)
     names = {kind: {**old.names.get(kind, {}), **own} for kind, own in new.names.items()}
     erasure = erasure_pools(new.value["pools"])
     there = with_split_groups(old.sets, old.value["pools"], new.value["pools"])

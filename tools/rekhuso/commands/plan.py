@@ -19,7 +19,7 @@ import argparse
 import json
 import sys
 from contextlib import ExitStack
-from dataclasses import dataclass
+from dataclasses import dataclass, replace
 from fractions import Fraction
 
 from ..cluster.conversion import monitor_of
@@ -29,12 +29,15 @@ from ..cluster.map_files import map_monitor
 from ..cluster.names import Names, names_in, pools_named
 from ..cluster.outage import check_outage
 from ..cluster.pool_data import Data, data_in
+from ..cluster.primaries import rested_words
+from ..cluster.releases import least_client
 from ..cluster.sources import Source
-from ..cluster.view import NO_PLAN, has_other_weights, tree_in
+from ..cluster.view import ClusterView, has_other_weights, no_plan_words, tree_in
 from ..faults import Fault, Misuse
 from ..output.json_forms import put_json
-from ..output.plan_scripts import Script, part_file, put_batches
-from ..output.plan_words import plan_lines, refusal_words
+from ..output.plan_scripts import Script, WATCH, balancer_words, client_words, part_file, put_batches
+from ..output.plan_words import plan_lines, quiet_words, refusal_words
+from ..plans.after_plan import quiet_deviation, rested_after
 from ..plans.movement import PlaceBytes, place_bytes
 from ..plans.plan import ALL, Outcome, Wish, outage_in, planned
 from ..plans.rounds import Live, MOST_MOVES
@@ -52,14 +55,25 @@ LEAST, FARTHEST = Fraction(1, 2), 65536
 
 @dataclass(frozen=True)
 class ToldPlan:
-    """What is told of plans: the epoch of the map, what the plans are, what the groups weigh, and names."""
+    """What is told of plans: the epoch of the map, what the plans are, what the groups weigh, names, from which number
+    on Ceph's own balancer leaves the plan alone, if that is known; and of dumps the groups whose named primary does
+    nothing any more afterwards, and the release that clients must have at least.
+    """
 
-    __slots__ = ("epoch", "outcome", "weights", "names")
+    __slots__ = ("epoch", "outcome", "weights", "names", "quiet", "rested", "client")
 
     epoch: int
     outcome: Outcome
     weights: PlaceBytes
     names: Names
+    quiet: int | None
+    rested: list[str]
+    client: str | None
+
+    def lines(self, deviation: Fraction | None) -> list[str]:
+        """All that is told of plans on standard error."""
+        found = plan_lines(self.outcome, self.names, deviation) + quiet_words(self.quiet)
+        return found + ([rested_words(self.rested)] if self.rested else [])
 
 
 @dataclass(frozen=True)
@@ -130,7 +144,7 @@ def told_by(lives: list[Live], options: PlanOptions, names: Names, data: Data | 
     if refused and options.pools:
         raise Fault(*(f"{parts['name']}: {refusal_words(parts['refused'] or '')}" for parts in refused))
     weighed = [pool for pool in pools if pool["id"] in {parts["id"] for parts in outcome.pools}]
-    return ToldPlan(epoch, outcome, place_bytes(weighed, data), names)
+    return ToldPlan(epoch, outcome, place_bytes(weighed, data), names, quiet_deviation(lives, outcome), [], None)
 
 
 def plan_of_map(options: PlanOptions, data: Data | None) -> ToldPlan:
@@ -143,7 +157,7 @@ def plan_of_map(options: PlanOptions, data: Data | None) -> ToldPlan:
     with monitor:
         value: Map = json.loads(text)
         if has_other_weights(value, tree_in(source.names)):
-            raise Fault(NO_PLAN)
+            raise Fault(no_plan_words(""))
         if data is not None:
             data.check(value["pools"], names["pools"], False)
         live = Live(value, value, names, judge_of_map(value, names), monitor)
@@ -156,8 +170,9 @@ def plan_of_dumps(options: PlanOptions, data: Data | None) -> ToldPlan:
     source = options.source
     found = imported(source.dumps())
     names = names_in(source.names) if source.names else found.cluster.names()
-    if found.cluster.has_weight_set:
-        raise Fault(NO_PLAN)
+    whole = ClusterView(found.maps, names, found)
+    if whole.has_weight_set:
+        raise Fault(whole.no_plan(source.program))
     if data is not None:
         data.check([pool for value in found.maps for pool in value["pools"]], names["pools"], source.pools is None)
     with ExitStack() as stack:
@@ -172,7 +187,11 @@ def plan_of_dumps(options: PlanOptions, data: Data | None) -> ToldPlan:
             for part, value in zip(found.parts, found.maps)
         ]
         told = told_by(lives, options, names, data, found.cluster.epoch)
-    return told
+    rested = rested_after(whole, told.outcome.steps, source.program)
+    # Ceph's own balancer takes a reweight above 1 as it is, and placement takes it as 1.
+    is_known = all(own["weight"] <= 1 for own in found.cluster.osds.values())
+    client = least_client(found.cluster.osd_dump)
+    return replace(told, quiet=told.quiet if is_known else None, rested=rested, client=client)
 
 
 # What is put out
@@ -192,6 +211,8 @@ def put_plan_json(told: ToldPlan) -> None:
         undo=[line for step in steps for line in step.undo],
         cluster={"before": outcome.before, "after": outcome.after, "largest": outcome.largest},
         taken_out=outcome.taken_out,
+        idle_primaries=told.rested,
+        upmap_max_deviation=told.quiet,
         moving=weights.moving(steps),
         osds=weights.by_osd(steps),
         pools=pools,
@@ -201,14 +222,15 @@ def put_plan_json(told: ToldPlan) -> None:
 def script_of(told: ToldPlan, options: PlanOptions, number: int = 1, count: int = 1) -> Script:
     """What stands round the commands of a plan or of one of several parts of it, or of what takes these back."""
     part = f", part {number} of {count}" if options.batch is not None else ""
+    before = balancer_words(None if options.is_undo else told.quiet) + client_words(told.client) + WATCH
     if options.is_undo:
         title = f"The way back from a plan over epoch {told.epoch}{part}"
         end = "after:  these groups have the exceptions of that epoch again, whichever part of the plan was run"
-        return Script(title, [end], told.weights, told.names)
+        return Script(title, [*before, end], told.weights, told.names)
     order = [f"order:  part {number - 1} is run before, and its groups have moved"] if number > 1 else []
     undo = UNDO + (f", write {part_file('undo', number, count)}" if part else "")
     notes = [*order, undo] if part else [PARTS, undo]
-    return Script(f"A plan over epoch {told.epoch}{part}", notes, told.weights, told.names)
+    return Script(f"A plan over epoch {told.epoch}{part}", before + notes, told.weights, told.names)
 
 
 def put_parts(told: ToldPlan, options: PlanOptions) -> None:
@@ -224,7 +246,7 @@ def work(options: PlanOptions) -> None:
     """Asks the program for its plans, in one session a map, and tells them."""
     data = data_in(options.df)
     told = plan_of_dumps(options, data) if options.source.has_dumps else plan_of_map(options, data)
-    print("\n".join(plan_lines(told.outcome, told.names, options.deviation)), file=sys.stderr)
+    print("\n".join(told.lines(options.deviation)), file=sys.stderr)
     if options.is_json:
         put_plan_json(told)
         return

@@ -141,6 +141,14 @@ class PairParts(TypedDict):
     places: list[int | None]
 
 
+class NamedParts(TypedDict):
+    """What is told of the primary that is named for a group: which OSD, why it does nothing, and the set behind it."""
+
+    osd: int
+    idle: str | None
+    set: list[int | None]
+
+
 # What moves between two maps
 
 
@@ -178,7 +186,9 @@ class OutageParts(TypedDict):
 
 
 class FlowParts(TypedDict):
-    """What moves, from where to where; what is left short, and what anew; the fullest OSDs; what exceptions go."""
+    """What moves, from where to where; what is left short, and what anew; the fullest OSDs; what exceptions go, and
+    the groups whose named primary does nothing any more.
+    """
 
     groups: int
     places: int
@@ -190,6 +200,7 @@ class FlowParts(TypedDict):
     exceptions: ExceptionParts
     outage: OutageParts | None
     notes: list[str]
+    idle_primaries: list[str]
     unbalanced: list[Entry]
     flows: list[list[int]]
 

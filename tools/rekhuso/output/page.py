@@ -9,7 +9,7 @@ from contextlib import ExitStack
 
 from ..cluster.names import Names, named
 from ..cluster.shares import Shares, spread_parts
-from ..cluster.view import ClusterView, NO_PLAN
+from ..cluster.view import ClusterView
 from ..plans.plan import DEFAULT_WISH, opened, outage_in, planned
 from ..program.answers import Up
 from ..program.maps import Map, Program, altered, entries_of, group_key, with_all_up
@@ -104,7 +104,7 @@ def exception_rows(value: Map, program: Program) -> list[list[str]]:
 def plan_part(whole: ClusterView, program: Program) -> str:
     """The plan of the cluster as the page has it: what is said of it, as `plan` says it, and its commands."""
     if whole.has_weight_set:
-        return f"<p>{html.escape(NO_PLAN)}</p>"
+        return f"<p>{html.escape(whole.no_plan(program))}</p>"
     with ExitStack() as stack:
         lives = opened(stack, whole, program)
         outage, outcome = outage_in(lives), planned(lives, DEFAULT_WISH)

@@ -13,8 +13,8 @@ from ..cluster.aftermath import Command, after_command, aftermath, cleaned_at, e
 from ..cluster.cluster import Cluster
 from ..cluster.conversion import map_of, monitor_of, pool_of
 from ..cluster.difference import EXCEPTION_WORDS, exception_commands
-from ..cluster.imports import map_clusters
 from ..cluster.judge import Places
+from ..cluster.map_parts import map_clusters
 from ..cluster.moving import coming, has_moved, split_group
 from ..cluster.names import set_words
 from ..cluster.reasons import reasons

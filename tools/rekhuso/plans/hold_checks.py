@@ -7,7 +7,7 @@ from collections.abc import Sequence
 
 from ..cluster.cluster import Cluster
 from ..cluster.conversion import map_of
-from ..cluster.imports import map_clusters
+from ..cluster.map_parts import map_clusters
 from ..cluster.outage import outage_of
 from ..faults import Fault
 from ..program.maps import Program, entries_of
@@ -48,7 +48,7 @@ def moving_words(cluster: Cluster, program: Program) -> list[str]:
         maps = [map_of(part) for part in map_clusters(cluster)]
         osds = {osd["id"]: osd for value in maps for osd in value["osds"]}
         pools = [pool for value in maps for pool in value["pools"]]
-        outage = outage_of(osds.values(), pools, sets_of_maps(maps, program).ups)
+        outage = outage_of(osds.values(), pools, sets_of_maps(maps, program))
         found += [] if outage is None else [str(outage)]
     return found
 

@@ -14,7 +14,7 @@ from ..cluster.judge import Reason, judge_of_cluster, judge_of_map
 from ..cluster.names import named
 from ..cluster.outage import Outage, outage_of
 from ..cluster.pool_data import Data
-from ..cluster.view import ClusterView, NO_PLAN
+from ..cluster.view import ClusterView
 from ..faults import Fault
 from ..output.json_forms import ClusterParts, PlanParts
 from ..program.maps import Program, group_key
@@ -179,7 +179,7 @@ def wanted_of(lives: list[Live], wish: Wish) -> list[int]:
 def opened(stack: ExitStack, whole: ClusterView, program: Program) -> list[Live]:
     """The maps of a cluster with a session each, which end with the stack. A fault where a weight set is in force."""
     if whole.has_weight_set:
-        raise Fault(NO_PLAN)
+        raise Fault(whole.no_plan(program))
     sessions = [stack.enter_context(monitor_of(value, program, True)) for value in whole.maps]
     if whole.found:
         return [
