@@ -16,6 +16,7 @@ from .cluster import Cluster
 from .conversion import map_of, monitor_of
 from .difference import moved_parts
 from .map_parts import map_clusters
+from .moving import erasure_pools
 from .reasons import reasons
 from .reasons.rules import TUNABLES
 
@@ -48,7 +49,10 @@ def moved_places(old: Cluster, new: Cluster, program: Program) -> tuple[int, int
         before, after = ups_of(old, program), ups_of(with_exceptions(new, kept), program)
     except Fault:
         return None
-    return moved_parts(before, after)["places"], sum(len(up.places) - up.places.count(None) for up in before.values())
+    erasure = erasure_pools([pool for value in map(map_of, map_clusters(old)) for pool in value["pools"]])
+    return moved_parts(before, after, erasure)["places"], sum(
+        len(up.places) - up.places.count(None) for up in before.values()
+    )
 
 
 def places_words(moved: int, places: int) -> str:

@@ -52,8 +52,8 @@ def drill(question: Question, word: str, is_json: bool) -> None:
     value, names = question.whole.tree, question.whole.names
     level, there = level_of(value, names, word), {osd["id"] for osd in value["osds"] if osd["exists"]}
     rows = []
-    if question.outage is not None and not is_json:
-        print(question.outage)
+    for line in [] if is_json else question.warnings():
+        print(line)
     for bucket in (own for own in value["buckets"] if own["type"] == level):
         weights = [[osd, 0] for osd in sorted(osds_below(value, bucket["id"])) if osd in there]
         found, _ = question.result([StateChange({"weight": weights})])
@@ -151,7 +151,7 @@ def work(options: WhatifOptions) -> None:
     if options.is_json:
         put_json("whatif", view.tree["epoch"], **found, **({} if hold is None else {"hold": hold.told()}))
     else:
-        lines = flow_lines(found, view.names, str(question.outage or ""))
+        lines = flow_lines(found, view.names, "\n".join(question.warnings()))
         print("\n".join(lines + ([] if hold is None else hold_lines(hold))))
 
 
@@ -170,7 +170,9 @@ def add_to(commands: Commands) -> None:
     add_change_words(own)
     own.add_argument("--each", metavar="TYPE", help="instead: each bucket of this type out, in turn")
     own.add_argument("--balance", action="store_true", help="the cluster is balanced after the change, as by `plan`")
-    own.add_argument("--anyway", action="store_true", help="balance also amid an outage, in which Ceph's would wait")
+    own.add_argument(
+        "--anyway", action="store_true", help="balance also where Ceph's balancer would wait, as `plan` does"
+    )
     own.add_argument("--hold", action="store_true", help="tell also what `hold` of the change would leave")
     add_names(own)
     own.add_argument("--json", action="store_true", help="as JSON")

@@ -185,6 +185,14 @@ class OutageParts(TypedDict):
     short: int
 
 
+class MisplacedParts(TypedDict):
+    """How many groups have a temporary set, how many places are still to come, and their share of all."""
+
+    groups: int
+    places: int
+    share: float
+
+
 class FlowParts(TypedDict):
     """What moves, from where to where; what is left short, and what anew; the fullest OSDs; what exceptions go, and
     the groups whose named primary does nothing any more.
@@ -199,6 +207,7 @@ class FlowParts(TypedDict):
     fullest_by_share: FullestParts
     exceptions: ExceptionParts
     outage: OutageParts | None
+    misplaced: MisplacedParts | None
     notes: list[str]
     idle_primaries: list[str]
     unbalanced: list[Entry]
