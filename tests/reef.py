@@ -244,6 +244,34 @@ class Reef(ReefCase):
             self.assertIsNone(told["upmap_max_deviation"], words)
             self.assertNotIn("upmap_max_deviation", self.output("plan", *files, *words))
 
+    def test_what_moves_already(self) -> None:
+        """Groups that are served by temporary sets are told before anything else, with the places that are still to
+        move; from 5 % of all places on, as Ceph's balancer has it, a plan is made only where it is asked for."""
+        own, up = copied(REEF["plain"]), REEF["plain"]["up"]
+        whole = sum(len(osds) for osds, _ in up.values())
+        for groups, refused in ((3, 0), (12, 0), (13, 1)):
+            away = {group: [osd for osd in range(24) if osd not in up[group][0]][:1] for group in list(up)[:groups]}
+            own["osd_dump"]["pg_temp"] = [
+                {"pgid": group, "osds": up[group][0][1:] + osds} for group, osds in away.items()
+            ]
+            files = self.dumps("moving", own)
+            line = (
+                f"the cluster moves already: {groups} groups are served by temporary sets (pg_temp), and {groups} of "
+            )
+            line += f"{whole} places are still to move, {100 * groups / whole:.2f} %"
+            _, error = self.ran("plan", *files, "--max", "1", status=refused)
+            self.assertStarts(error, line)
+            self.assertEqual(error.endswith("; no plan is made: --anyway makes one\n"), bool(refused), error)
+            self.assertStarts(self.output("whatif", *files, "--out", "3"), line)
+            told = self.json("whatif", *files, "--out", "3")["misplaced"]
+            self.assertEqual((told["groups"], told["places"]), (groups, groups))
+        self.assertTrue(commands(self.output("plan", *files, "--anyway", "--max", "1")))
+        self.ran("whatif", *files, "--balance", status=1)
+        _, error = self.ran("plan", *self.files("temps"), "--max", "1")
+        line = "3 groups are served by temporary sets (pg_temp), from which no place is still to move\n"
+        self.assertStarts(error, line)
+        self.assertIsNone(self.json("whatif", *self.files("plain"), "{}")["misplaced"])
+
     def test_what_advice_moves(self) -> None:
         """Advice that moves data says how much, as the monitor then had it: of a compat weight set by the program, of
         tunables by the rules."""

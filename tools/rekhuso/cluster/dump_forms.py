@@ -36,6 +36,7 @@ OSD_DUMP = {
         }
     ],
     "osds": [{"osd": int, "up": int, "weight": float, "?state": [str], "?primary_affinity": float}],
+    "?fsid": str,
     "?pg_upmap": [dict(GROUP_KEYS, osds=[int])],
     "?pg_upmap_items": [dict(GROUP_KEYS, mappings=[{"from": int, "to": int}])],
     "?osd_xinfo": [object],

@@ -104,7 +104,13 @@ class DumpOsd(Stated):
     weight: float
 
 
-class OsdDump(TypedDict):
+class OfCluster(TypedDict, total=False):
+    """What an OSD dump may have."""
+
+    fsid: str
+
+
+class OsdDump(OfCluster):
     """What `ceph osd dump -f json` prints, beside tables of exceptions that `entries_of` reads."""
 
     epoch: int

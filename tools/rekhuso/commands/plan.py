@@ -26,6 +26,7 @@ from ..cluster.conversion import monitor_of
 from ..cluster.imports import imported
 from ..cluster.judge import judge_of_cluster, judge_of_map
 from ..cluster.map_files import map_monitor
+from ..cluster.misplaced import Misplaced, check_misplaced
 from ..cluster.names import Names, names_in, pools_named
 from ..cluster.outage import check_outage
 from ..cluster.pool_data import Data, data_in
@@ -39,7 +40,7 @@ from ..output.plan_scripts import Script, WATCH, balancer_words, client_words, p
 from ..output.plan_words import plan_lines, quiet_words, refusal_words
 from ..plans.after_plan import quiet_deviation, rested_after
 from ..plans.movement import PlaceBytes, place_bytes
-from ..plans.plan import ALL, Outcome, Wish, outage_in, planned
+from ..plans.plan import ALL, Outcome, Wish, misplaced_in, outage_in, planned
 from ..plans.rounds import Live, MOST_MOVES
 from ..plans.steps import steps_by_pool
 from ..program.maps import Map, Pool, altered
@@ -57,10 +58,10 @@ LEAST, FARTHEST = Fraction(1, 2), 65536
 class ToldPlan:
     """What is told of plans: the epoch of the map, what the plans are, what the groups weigh, names, from which number
     on Ceph's own balancer leaves the plan alone, if that is known; and of dumps the groups whose named primary does
-    nothing any more afterwards, and the release that clients must have at least.
+    nothing any more afterwards, the release that clients must have at least, and what is still to come from before.
     """
 
-    __slots__ = ("epoch", "outcome", "weights", "names", "quiet", "rested", "client")
+    __slots__ = ("epoch", "outcome", "weights", "names", "quiet", "rested", "client", "misplaced")
 
     epoch: int
     outcome: Outcome
@@ -69,6 +70,7 @@ class ToldPlan:
     quiet: int | None
     rested: list[str]
     client: str | None
+    misplaced: Misplaced | None
 
     def lines(self, deviation: Fraction | None) -> list[str]:
         """All that is told of plans on standard error."""
@@ -144,7 +146,7 @@ def told_by(lives: list[Live], options: PlanOptions, names: Names, data: Data | 
     if refused and options.pools:
         raise Fault(*(f"{parts['name']}: {refusal_words(parts['refused'] or '')}" for parts in refused))
     weighed = [pool for pool in pools if pool["id"] in {parts["id"] for parts in outcome.pools}]
-    return ToldPlan(epoch, outcome, place_bytes(weighed, data), names, quiet_deviation(lives, outcome), [], None)
+    return ToldPlan(epoch, outcome, place_bytes(weighed, data), names, quiet_deviation(lives, outcome), [], None, None)
 
 
 def plan_of_map(options: PlanOptions, data: Data | None) -> ToldPlan:
@@ -186,12 +188,15 @@ def plan_of_dumps(options: PlanOptions, data: Data | None) -> ToldPlan:
             )
             for part, value in zip(found.parts, found.maps)
         ]
+        misplaced = misplaced_in(lives, whole)
+        check_misplaced(misplaced, options.is_anyway)
         told = told_by(lives, options, names, data, found.cluster.epoch)
     rested = rested_after(whole, told.outcome.steps, source.program)
     # Ceph's own balancer takes a reweight above 1 as it is, and placement takes it as 1.
     is_known = all(own["weight"] <= 1 for own in found.cluster.osds.values())
     client = least_client(found.cluster.osd_dump)
-    return replace(told, quiet=told.quiet if is_known else None, rested=rested, client=client)
+    quiet = told.quiet if is_known else None
+    return replace(told, quiet=quiet, rested=rested, client=client, misplaced=misplaced)
 
 
 # What is put out
@@ -213,6 +218,7 @@ def put_plan_json(told: ToldPlan) -> None:
         taken_out=outcome.taken_out,
         idle_primaries=told.rested,
         upmap_max_deviation=told.quiet,
+        misplaced=None if told.misplaced is None else told.misplaced.parts(),
         moving=weights.moving(steps),
         osds=weights.by_osd(steps),
         pools=pools,
@@ -324,7 +330,9 @@ def add_to(commands_of: Commands) -> None:
         help="write files of at most N commands each, to be run one after the other; those of one group stay together",
     )
     own.add_argument(
-        "--anyway", action="store_true", help="a plan also amid an outage, in which Ceph's balancer would wait"
+        "--anyway",
+        action="store_true",
+        help="a plan also amid an outage, or while 5 %% of the places are still to come, when Ceph's balancer would wait",
     )
     own.add_argument("--to", metavar="FOLDER", help="the folder of these files: plan-001.sh, .. or undo-001.sh, ..")
     own.add_argument(

@@ -11,6 +11,7 @@ from fractions import Fraction
 from ..cluster.cleanup import going, reason_words
 from ..cluster.conversion import monitor_of
 from ..cluster.judge import Reason, judge_of_cluster, judge_of_map
+from ..cluster.misplaced import Misplaced, misplaced_of
 from ..cluster.names import named
 from ..cluster.outage import Outage, outage_of
 from ..cluster.pool_data import Data
@@ -197,6 +198,12 @@ def outage_in(lives: list[Live]) -> Outage | None:
     osds = {osd["id"]: osd for live in lives for osd in live.value["osds"]}
     pools = [pool for live in lives for pool in live.pools.values()]
     return outage_of(osds.values(), pools, {group: up for live in lives for group, up in live.before.ups.items()})
+
+
+def misplaced_in(lives: list[Live], whole: ClusterView) -> Misplaced | None:
+    """What of a cluster is still to come to its OSDs; None where nothing is, or where it is a map."""
+    ups = {group: up for live in lives for group, up in live.before.ups.items()}
+    return misplaced_of(whole.found.cluster.osd_dump, ups) if whole.found else None
 
 
 def silent(_: str) -> None:

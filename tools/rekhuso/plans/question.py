@@ -22,6 +22,7 @@ from ..cluster.conversion import map_of, monitor_of
 from ..cluster.difference import moved_parts
 from ..cluster.flows import fewer_in, flows, fullest_by_count, fullest_by_share, short_in
 from ..cluster.map_dumps import cluster_of_map
+from ..cluster.misplaced import check_misplaced, misplaced_of
 from ..cluster.moving import erasure_pools, with_split_groups
 from ..cluster.outage import check_outage, outage_of
 from ..cluster.primaries import NamedPrimaries, rested_words
@@ -33,7 +34,7 @@ from ..program.map_forms import change_form
 from ..program.maps import Change, Entry, Map, Program, group_key, groups_of, written
 from ..words import some
 from .after_plan import after_steps
-from .plan import DEFAULT_WISH, opened, outage_in, planned
+from .plan import DEFAULT_WISH, misplaced_in, opened, outage_in, planned
 
 
 @dataclass(frozen=True)
@@ -77,6 +78,7 @@ def balanced_sets(whole: ClusterView, program: Program, balance: Balance) -> Clu
     with ExitStack() as stack:
         lives = opened(stack, whole, program)
         check_outage(outage_in(lives), balance.is_anyway)
+        check_misplaced(misplaced_in(lives, whole), balance.is_anyway)
         outcome = planned(lives, DEFAULT_WISH)
     found = {group: up for live in lives for group, up in live.before.ups.items()}
     for step in outcome.steps:
@@ -143,6 +145,11 @@ class Question:
         answers = sets_of(whole, program)
         self.primaries, self.before = answers.primaries, self.as_in_ceph(whole, answers)
         self.outage = outage_of(whole.tree["osds"], whole.pools, self.before)
+        self.misplaced = misplaced_of(self.cluster.osd_dump, self.before)
+
+    def warnings(self) -> list[str]:
+        """What is told before anything else: an outage, and that the cluster moves already."""
+        return [str(found) for found in (self.outage, self.misplaced) if found is not None]
 
     def as_in_ceph(self, whole: ClusterView, answers: ClusterSets) -> dict[str, Up]:
         """The sets of a cluster with the primaries that are named, and those that affinities choose."""
@@ -205,6 +212,7 @@ class Question:
                 "fewer": sorted(course.fewer, key=group_key),
             },
             "outage": None if self.outage is None else {"down": self.outage.down, "short": len(self.outage.short)},
+            "misplaced": None if self.misplaced is None else self.misplaced.parts(),
             "notes": self.notes(course) + ([rested_words(rested)] if rested else []),
             "idle_primaries": rested,
             "unbalanced": answers.refused,
