@@ -51,6 +51,9 @@ OTHER_NAMES = {
     "await",
     "fup",
     "fdump",
+    "fkept",
+    "verify_upmap",
+    "check_pg_upmaps",
     "ok",
     "osdmaptool",
 }
