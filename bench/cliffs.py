@@ -45,19 +45,19 @@ CHANGES, MOVING, KEPT, ASKED = 40_000, 4_000, 20_000, 20_000
 MIDDLE = "16.800"
 
 
-def racks(hosts: Any, size: int = 3) -> Any:
-    """Racks of so many hosts of 8 OSDs each, and a pool of so many copies over racks."""
+def racks(hosts: Any, size: int = 3, groups: int = GROUPS, kind: str = "list") -> Any:
+    """Racks of so many hosts of 8 OSDs each, and a pool of so many groups and copies over racks."""
     count = sum(hosts) * 8
-    buckets = [{"id": -1, "items": [[-2 - r, n * 8 * 65536] for r, n in enumerate(hosts)], "kind": "list", "type": 3}]
+    buckets = [{"id": -1, "items": [[-2 - r, n * 8 * 65536] for r, n in enumerate(hosts)], "kind": kind, "type": 3}]
     host, first = -2 - len(hosts), 0
     for r, n in enumerate(hosts):
-        buckets.append({"id": -2 - r, "items": [[host - h, 8 * 65536] for h in range(n)], "kind": "list", "type": 2})
+        buckets.append({"id": -2 - r, "items": [[host - h, 8 * 65536] for h in range(n)], "kind": kind, "type": 2})
         for h in range(n):
-            buckets.append({"id": host - h, "items": [[first + i, 65536] for i in range(8)], "kind": "list", "type": 1})
+            buckets.append({"id": host - h, "items": [[first + i, 65536] for i in range(8)], "kind": kind, "type": 1})
             first += 8
         host -= n
-    stated = a_map(buckets, count, [["chooseleaf_firstn", 0, 2]], 1, GROUPS)
-    stated["pools"] = [pool(1, GROUPS, size)]
+    stated = a_map(buckets, count, [["chooseleaf_firstn", 0, 2]], 1, groups)
+    stated["pools"] = [pool(1, groups, size)]
     return stated
 
 
@@ -218,6 +218,9 @@ def plans(runs: Folder) -> Iterator[Any]:
         ("3 racks of 32, 32, 64 hosts", racks((32, 32, 64)), 300),
         ("10 racks of 1 to 10 hosts, groups of 10", racks(range(1, 11), 10), None),
         ("64 OSDs in 8 hosts, one of a thousandfold weight", one_heavy(), None),
+        ("3 racks of 128, 128, 256 hosts, 65,536 groups, straw2", racks((128, 128, 256), 3, 65_536, "straw2"), 600),
+        ("20 racks of 2 to 21 hosts, groups of 20, straw2", racks(range(2, 22), 20, GROUPS, "straw2"), 300),
+        ("the same, 65,536 groups", racks(range(2, 22), 20, 65_536, "straw2"), 1_500),
     ):
         stated = runs.map(value)
         yield goal_row(f"`balance` over {name}", lambda: planned(runs, stated), "ms", goal)
