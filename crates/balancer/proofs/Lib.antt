@@ -1,4 +1,6 @@
 pub mod UntouchedByMoves
+pub mod StoredDomains
+pub mod MovedGroups
 pub mod MappedSetsMoved
 pub mod WeightsOfCandidates
 pub mod GroupsOnOsds

@@ -1,13 +1,14 @@
 //! The groups that a change can concern.
 
-ghost use Rattle.std.specs.Prelude.{◌≡◌, [], true, None, IfOk, OnOk};
+ghost use Rattle.std.specs.Prelude.{◌≡◌, ◌<◌, ◌≤◌, ℕ, [], true, None, length, nat_le, nat_lt, filter, slice_index_or, IfOk, OnOk};
 ghost use Rattle.keylist.specs.Order.{IsRising};
 ghost use Rattle.maptypes.specs.Exceptions.{pg_key, key_of};
+ghost use Rattle.maptypes.specs.declared.pg.Pg.{Pg};
 ghost use Rattle.osdmap.specs.Changes.{change_fault};
-ghost use Rattle.pgtable.specs.Candidates.{excepted_groups, union_of, NamedRise, IsCandidates, named_groups, candidates};
+ghost use Rattle.pgtable.specs.Candidates.{excepted_groups, union_of, NamedRise, IsCandidates, named_groups, candidates, is_in};
 
-use keylist::put_all;
-use maptypes::{Blank, Change, Exception, Explicit, Items, Pg};
+use keylist::{Keyed, put_all};
+use maptypes::{Blank, Change, Exception, Explicit, Items, Pg, Pool};
 use osdmap::OsdMap;
 use refusal::Memory;
 use std::alloc::Global;
@@ -111,4 +112,43 @@ pub(crate) fn candidates(
     names_rise(before, change);
     let groups = with_excepted(alloc, change, after)?;
     Ok(groups)
+}
+
+/// How many of some groups, in ascending order, come before a key; by halving.
+fn count_below(groups: &[Pg], key: u64) -> usize
+    requires { IsRising pg_key groups.now }
+    ensures within { result ≤ length groups.now }
+    ensures below { (k : ℕ) (d : Pg) → k < result → pg_key (slice_index_or groups.now k d) < key }
+    ensures above { (k : ℕ) (d : Pg) → result ≤ k → k < length groups.now → key ≤ pg_key (slice_index_or groups.now k d) }
+{
+    groups.partition_point(|group| group.key() < key)
+}
+
+/// Those of some groups, in ascending order, that do not come before a key.
+fn from_key(groups: &[Pg], key: u64) -> &[Pg]
+    requires { IsRising pg_key groups.now }
+    ensures { result.now ≡ filter (λ g. nat_le key (pg_key g)) groups.now }
+{
+    &groups[count_below(groups, key)..]
+}
+
+/// Those of some groups, in ascending order, that come before a key.
+fn below_key(groups: &[Pg], key: u64) -> &[Pg]
+    requires { IsRising pg_key groups.now }
+    ensures { result.now ≡ filter (λ g. nat_lt (pg_key g) key) groups.now }
+{
+    &groups[..count_below(groups, key)]
+}
+
+/// Those of some groups, in ascending order, that stand in a pool; by halving.
+pub(crate) fn groups_in<'a>(pool: &Pool, groups: &'a [Pg]) -> &'a [Pg]
+    requires { IsRising pg_key groups.now }
+    ensures { result.now ≡ filter (is_in pool.now) groups.now }
+{
+    let first = Pg {
+        pool: pool.id(),
+        number: 0,
+    };
+    let end = first.key() + u64::from(pool.pg_num());
+    below_key(from_key(groups, first.key()), end)
 }

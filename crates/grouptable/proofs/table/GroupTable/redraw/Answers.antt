@@ -1,6 +1,7 @@
 use Rattle.std.proofs.Common.{map, arith}
 use Rattle.grouptable.specs.Sets.{place_stored}
 use Rattle.grouptable.proofs.Changes.{drafted, undrawn, fits_all}
+use Rattle.grouptable.proofs.Drafts.{below_same}
 use Rattle.grouptable.proofs.table.GroupTable.redraw.Goals as goal
 
 pub loop-group-init : goal.loop-group-init
@@ -13,7 +14,7 @@ loop-group-preserved c =
 
 pub returns : goal.returns
 returns c = record {
-  within = rw c.into_lists.ensures.lists c.into_lists.ensures.within;
+  within = below_same c.loop-group.draft c.in_ok-into_lists.field-0.entries c.in_ok-into_lists.ensures.lists c.in_ok-into_lists.ensures.within;
   each = λ osd h.
-      rw (c.into_lists.ensures.lists, ← c.self.view_is) (fits_all c.self.inside.sets.sets c.self.inside.index.entries c.loop-group.draft c.args.changes.now c.loop-group.group-index osd (c.self.invariant.each.1 osd h) (c.loop-group.invariant osd h) c.loop-group-test.false);
+      rw (c.in_ok-into_lists.ensures.lists osd, ← c.self.view_is) (fits_all c.self.inside.sets.sets c.self.inside.index.entries c.loop-group.draft c.args.changes.now c.loop-group.group-index osd (c.self.invariant.each.1 osd h) (c.loop-group.invariant osd h) c.loop-group-test.false);
 }
