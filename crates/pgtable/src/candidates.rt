@@ -4,14 +4,19 @@ ghost use Rattle.std.specs.Prelude.{◌≡◌, ◌<◌, ◌≤◌, ℕ, [], true
 ghost use Rattle.keylist.specs.Order.{IsRising};
 ghost use Rattle.maptypes.specs.Exceptions.{pg_key, key_of};
 ghost use Rattle.maptypes.specs.declared.pg.Pg.{Pg};
+ghost use Rattle.maptypes.specs.declared.change.ChangeParts.{ChangeParts};
 ghost use Rattle.osdmap.specs.Changes.{change_fault};
-ghost use Rattle.pgtable.specs.Candidates.{excepted_groups, union_of, NamedRise, IsCandidates, named_groups, candidates, is_in};
+ghost use Rattle.osdmap.specs.Maps.{ClusterMap};
+ghost use Rattle.pgtable.specs.Candidates.{excepted_groups, union_of, NamedRise, IsCandidates, named_groups, candidates, is_in, numbers_in};
 
 use keylist::{Keyed, put_all};
 use maptypes::{Blank, Change, Exception, Explicit, Items, Pg, Pool};
 use osdmap::OsdMap;
 use refusal::Memory;
 use std::alloc::Global;
+
+/// From so many groups on a pool's are sought by halving. Below it, that costs more than it spares.
+const MANY: usize = 16;
 
 /// The groups of some exceptions, in their order; or `Memory` (30).
 fn groups_of<E: Blank>(alloc: Global, exceptions: &[Exception<E>]) -> Result<Vec<Pg>, Memory>
@@ -141,7 +146,7 @@ fn below_key(groups: &[Pg], key: u64) -> &[Pg]
 }
 
 /// Those of some groups, in ascending order, that stand in a pool; by halving.
-pub(crate) fn groups_in<'a>(pool: &Pool, groups: &'a [Pg]) -> &'a [Pg]
+fn slice_in<'a>(pool: &Pool, groups: &'a [Pg]) -> &'a [Pg]
     requires { IsRising pg_key groups.now }
     ensures { result.now ≡ filter (is_in pool.now) groups.now }
 {
@@ -151,4 +156,17 @@ pub(crate) fn groups_in<'a>(pool: &Pool, groups: &'a [Pg]) -> &'a [Pg]
     };
     let end = first.key() + u64::from(pool.pg_num());
     below_key(from_key(groups, first.key()), end)
+}
+
+/// Among which of some groups, in ascending order, those of a pool are sought: where there are many, only these.
+pub(crate) fn groups_for<'a>(pool: &Pool, groups: &'a [Pg]) -> &'a [Pg]
+    requires { IsRising pg_key groups.now }
+    ensures { (m : ClusterMap) (c : ChangeParts)
+        → numbers_in m c pool.now result.now ≡ numbers_in m c pool.now groups.now }
+{
+    if groups.len() < MANY {
+        groups
+    } else {
+        slice_in(pool, groups)
+    }
 }

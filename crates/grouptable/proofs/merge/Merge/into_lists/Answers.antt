@@ -1,6 +1,6 @@
 use Rattle.std.proofs.Common.{◌∙◌}
 use Rattle.grouptable.proofs.Drafts.{moved_last, moved_out}
-use Rattle.grouptable.proofs.draft.Draft.into_lists.Goals as goal
+use Rattle.grouptable.proofs.merge.Merge.into_lists.Goals as goal
 
 pub loop-osd-preserved : goal.loop-osd-preserved
 loop-osd-preserved c =

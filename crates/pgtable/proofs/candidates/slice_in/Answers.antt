@@ -4,7 +4,7 @@ use Rattle.keylist.proofs.KeyedOrder.{rising-filter}
 use Rattle.maptypes.specs.declared.pg.Pg.{Pg}
 use Rattle.maptypes.specs.Exceptions.{pg_key}
 use Rattle.pgtable.proofs.Slicing.{in_pool}
-use Rattle.pgtable.proofs.candidates.groups_in.Goals as goal
+use Rattle.pgtable.proofs.candidates.slice_in.Goals as goal
 
 pub below_key-requires : goal.below_key-requires
 below_key-requires c = subst (λ (gs : List Pg). IsRising pg_key gs) (sym c.from_key.ensures) (rising-filter pg_key _ c.args.groups.now c.requires)
