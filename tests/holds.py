@@ -121,7 +121,7 @@ class Holds(StockCase):
         for key, moving, held, left, step in (
             (WEIGHT, 191, 191, 0, ""),
             (OUT, 71, 11, 60, "an OSD that is out"),
-            (("takes", "ruleclass"), 209, 193, 16, "step take "),
+            (("takes", "ruleclass"), 209, 193, 16, "step chooseleaf "),
             (("d_fourlevels", "weight"), 59, 1, 58, "step choose "),
             (("d_fourlevels", "ruleosd"), 128, 128, 0, ""),
             (("mask", "drain0"), 19, 6, 13, "an OSD that weighs 0"),
@@ -131,7 +131,7 @@ class Holds(StockCase):
                 told = self.json("hold", *self.files(RECORDS[key]))
                 self.assertEqual((told["groups"], told["held"], len(told["left"])), (moving, held, left))
                 self.assertIn(f"{moving} groups and {told['places']} places move by the change alone; ", error)
-                self.assertIn(f"; {held} of the groups are held\n", error)
+                self.assertIn(f"; {held} of the groups {'is' if held == 1 else 'are'} held\n", error)
                 for own in told["left"]:
                     self.assertStarts(own["step"], step)
                     self.assertIn(f": by {own['step']}: ", error)
