@@ -12,6 +12,8 @@ from .dump_forms import DF, misfits
 
 # The bytes of a weight of 1 in the CRUSH map, where `ceph df` does not tell those of all OSDs.
 UNIT = 2**40
+# The parts of a byte, so that what places hold is reckoned in whole numbers.
+BYTE_PARTS = 65536
 
 
 @dataclass(frozen=True)
@@ -27,6 +29,10 @@ class Data:
     names: dict[int, str]
     rates: dict[int, float]
     size: int
+
+    def sizes(self, pool: Pool) -> list[int]:
+        """What a place of each of a pool's groups holds, in parts of a byte."""
+        return [self.of_pool[pool["id"]] * BYTE_PARTS // (pool["pg_num"] * pool["size"])] * pool["pg_num"]
 
     def place(self, pool: Pool) -> float:
         """The bytes of one place of a pool's groups, where all hold as much."""

@@ -65,12 +65,12 @@ class ToldPlan:
 @dataclass(frozen=True)
 class PlanOptions:
     """What is planned over, and how: which pools, at most how many commands, how near to the shares, whether each pool
-    by itself, whether amid an outage too, and by which file of data; and how it is put out: as the way back, in files
-    of so many commands in a folder, or as JSON.
+    by itself, whether for room alone, whether amid an outage too, and by which file of data; and how it is put out: as
+    the way back, in files of so many commands in a folder, or as JSON.
     """
 
     __slots__ = (
-        *("source", "pools", "most", "deviation", "is_alone", "is_anyway", "df"),
+        *("source", "pools", "most", "deviation", "is_alone", "is_room", "is_anyway", "df"),
         *("is_undo", "batch", "to", "is_json"),
     )
     source: Source
@@ -78,6 +78,7 @@ class PlanOptions:
     most: int | None
     deviation: Fraction | None
     is_alone: bool
+    is_room: bool
     is_anyway: bool
     df: str | None
     is_undo: bool
@@ -95,6 +96,8 @@ def options_of(arguments: Arguments) -> PlanOptions:
         raise Misuse("--json tells the plan and its undoing at once: --batch and --undo do not go with it")
     if own.deviation is not None and own.deviation < LEAST and not own.alone:
         raise Misuse(f"--deviation {float(own.deviation):g}: 0.5 is the whole plan; less goes with --alone")
+    if own.room and (own.df is None or own.alone or own.deviation is not None):
+        raise Misuse("--room goes by the data that --df tells; --alone and --deviation do not go with it")
     if own.alone and own.max is not None and own.max > MOST_MOVES:
         raise Misuse(f"--max {own.max}: with --alone at most {MOST_MOVES} moves a pool")
     return PlanOptions(
@@ -103,6 +106,7 @@ def options_of(arguments: Arguments) -> PlanOptions:
         own.max,
         own.deviation,
         own.alone,
+        own.room,
         own.anyway,
         own.df,
         own.undo,
@@ -117,7 +121,8 @@ def wish_of(options: PlanOptions, pools: list[Pool], names: Names, data: Data | 
     most = options.most or (MOST_MOVES if options.is_alone else ALL)
     own = {pool["id"]: names.get("pools", {}).get(str(pool["id"]), "") for pool in pools}
     named_pools = frozenset(pools_named(options.pools, own))
-    return Wish(named_pools, options.deviation, most, options.batch or ALL, options.is_alone, data)
+    batch, is_room = options.batch or ALL, options.is_room
+    return Wish(named_pools, options.deviation, most, batch, options.is_alone, is_room, data)
 
 
 def told_by(lives: list[Live], options: PlanOptions, names: Names, data: Data | None, epoch: int) -> ToldPlan:
@@ -265,6 +270,7 @@ def add_to(commands_of: Commands) -> None:
         "[--max N]",
         "[--deviation D]",
         "[--alone]",
+        "[--room]",
         "[--undo]",
         "[--batch N --to FOLDER]",
     ]
@@ -290,6 +296,11 @@ def add_to(commands_of: Commands) -> None:
         "plan); with --alone: only as many moves as bring each OSD within D groups of its share",
     )
     own.add_argument("--alone", action="store_true", help="plan each pool by itself, whatever OSDs carry from others")
+    own.add_argument(
+        "--room",
+        action="store_true",
+        help="with --df: only the moves that make room, from the OSD that is fullest by bytes; far fewer commands",
+    )
     own.add_argument(
         "--undo",
         action="store_true",

@@ -10,6 +10,7 @@ from fractions import Fraction
 
 from ..cluster.cleanup import going, reason_words
 from ..cluster.conversion import monitor_of
+from ..cluster.evenness import Spread
 from ..cluster.judge import Reason, judge_of_cluster, judge_of_map
 from ..cluster.names import named
 from ..cluster.outage import Outage, outage_of
@@ -19,11 +20,12 @@ from ..faults import Fault
 from ..output.json_forms import ClusterParts, PlanParts
 from ..program.maps import Program, group_key
 from .measures import Measures, counts_after, pool_spread
+from .last_pass import last_pass
 from .mend import mended
 from .pairs import settled
 from .pool_plans import PoolPlan, pool_plans
 from .rounds import Live, Planner, barred_words, left_out
-from .step_order import parts_in_order
+from .step_order import has_after, parts_in_order
 from .steps import PlanStep, appended_pairs, batches, in_old_order, steps_by_pool, steps_of
 
 # How many groups an OSD may be from its share after a plan, where nothing else is asked for.
@@ -34,16 +36,17 @@ DEVIATION = Fraction(1)
 class Wish:
     """What plans are asked for: the pools that are named (all of several groups where none is), how near its shares a
     plan brings OSDs, how many commands or moves there are at most, how many commands stand in a part, whether each pool
-    is planned by itself, and what the pools hold.
+    is planned by itself, whether the plan is for room alone, and what the pools hold.
     """
 
-    __slots__ = ("named", "deviation", "most", "batch", "is_alone", "data")
+    __slots__ = ("named", "deviation", "most", "batch", "is_alone", "is_room", "data")
 
     named: frozenset[int]
     deviation: Fraction | None
     most: int
     batch: int
     is_alone: bool
+    is_room: bool
     data: Data | None
 
     def half(self) -> int:
@@ -54,7 +57,7 @@ class Wish:
 # As much as anyone asks for.
 ALL = sys.maxsize
 # The plan of a whole cluster, where nothing else is asked for.
-DEFAULT_WISH = Wish(frozenset(), None, ALL, ALL, False, None)
+DEFAULT_WISH = Wish(frozenset(), None, ALL, ALL, False, False, None)
 
 
 @dataclass(frozen=True)
@@ -82,15 +85,16 @@ class Outcome:
 @dataclass(frozen=True)
 class PlannedSteps:
     """What has been planned: why a pool has no plan, the groups that are left out, each with the reason, the plans of
-    pools by themselves, and the steps.
+    pools by themselves, the steps, and the groups whose steps come first.
     """
 
-    __slots__ = ("refusals", "left", "plans", "steps")
+    __slots__ = ("refusals", "left", "plans", "steps", "first")
 
     refusals: dict[int, str]
     left: dict[str, Reason]
     plans: dict[int, PoolPlan]
     steps: list[PlanStep]
+    first: frozenset[str]
 
 
 def alone_steps(lives: list[Live], wanted: list[int], wish: Wish) -> PlannedSteps:
@@ -114,19 +118,29 @@ def alone_steps(lives: list[Live], wanted: list[int], wish: Wish) -> PlannedStep
             plans[number] = PoolPlan(plan.moves - pairs, plan.refusal, plan.wanted, plan.whole)
         gone.update(left)
         steps += kept
-    return PlannedSteps({number: plan.refusal for number, plan in plans.items() if plan.refusal}, gone, plans, steps)
+    refusals = {number: plan.refusal for number, plan in plans.items() if plan.refusal}
+    return PlannedSteps(refusals, gone, plans, steps, frozenset())
 
 
 def cluster_steps(lives: list[Live], wanted: list[int], wish: Wish, tell: Callable[[str], None]) -> PlannedSteps:
-    """Plans pools for the sake of the whole cluster."""
-    planner = Planner(lives, wanted, wish.data, wish.half())
-    planner.play(tell)
+    """Plans pools for the sake of the whole cluster. Where it is known what they hold and not all commands are wanted,
+    those come first that make room.
+    """
+    planner, data, first, more = Planner(lives, wanted, wish.data, wish.half()), wish.data, list[str](), list[str]()
+    sizes = {} if data is None else {number: data.sizes(live.pools[number]) for number, live in planner.live_of.items()}
+    if data is not None and (wish.is_room or wish.most < ALL):
+        first = last_pass(planner, sizes, tell)
+    if not wish.is_room and len(first) < wish.most:
+        planner.play(tell)
+        more = last_pass(planner, sizes, tell) if data is not None else []
+    for number in {group_key(group)[0] for group in first + more}:
+        planner.refusals.pop(number, None)
     left, steps = planner.left, []
     for live in lives:
         kept, lost = steps_in(live)
         left.update(lost)
         steps += kept
-    return PlannedSteps(planner.refusals, left, {}, steps)
+    return PlannedSteps(planner.refusals, left, {}, steps, frozenset(first))
 
 
 def steps_in(live: Live) -> tuple[list[PlanStep], dict[str, Reason]]:
@@ -154,17 +168,21 @@ def first_steps(parts: list[list[PlanStep]], most: int) -> list[list[PlanStep]]:
     return found
 
 
-def step_parts(measures: Measures, steps: list[PlanStep], wish: Wish) -> list[list[PlanStep]]:
+def step_parts(measures: Measures, steps: list[PlanStep], first: frozenset[str], wish: Wish) -> list[list[PlanStep]]:
     """The steps of a plan in parts: of plans of pools by themselves as the groups are numbered, else those first that
-    are worth most.
+    are worth most, and before all others those of some groups.
     """
     if wish.is_alone:
         return batches(steps, wish.batch)
     used = measures.bytes(measures.counts)
-    if used is None or not used.osds():
-        parts = parts_in_order(measures.groups(measures.counts), None, steps, wish.batch)
-    else:
-        parts = parts_in_order(used, measures.places, steps, wish.batch)
+    spread, places = measures.groups(measures.counts), None
+    if used is not None and used.osds():
+        spread, places = used, measures.places
+    ahead = [step for step in steps if step.group in first]
+    parts = parts_in_order(spread, places, ahead, wish.batch) if ahead else []
+    if len(ahead) < len(steps):
+        spread = Spread(has_after(spread.has, places, ahead), spread.share)
+        parts += parts_in_order(spread, places, [step for step in steps if step.group not in first], wish.batch)
     return first_steps(parts, wish.most)
 
 
@@ -237,7 +255,8 @@ def planned(lives: list[Live], wish: Wish, tell: Callable[[str], None] = silent)
     made = made_steps(lives, wanted, wish, tell)
     measures = Measures(lives, wish.data)
     kept = kept_steps(measures, made, wish)
-    return outcome_of(measures, wanted, made, step_parts(measures, kept, wish), without(made.steps, kept))
+    parts = step_parts(measures, kept, made.first, wish)
+    return outcome_of(measures, wanted, made, parts, without(made.steps, kept))
 
 
 def pool_parts(

@@ -106,6 +106,17 @@ class StepOrder:
         return [self.steps[at] for at in found]
 
 
+def has_after(has: Mapping[int, float], places: Mapping[int, float] | None, steps: list[PlanStep]) -> dict[int, float]:
+    """What OSDs have once steps are taken, where a place of each pool counts so much (else 1)."""
+    found = dict(has)
+    for step in steps:
+        size = 1.0 if places is None else places[step.pool]
+        for osds, more in ((step.comes(), size), (step.leaves(), -size)):
+            for osd in osds:
+                found[osd] = found.get(osd, 0) + more
+    return found
+
+
 def parts_in_order(
     spread: Spread, places: Mapping[int, float] | None, steps: list[PlanStep], most: int
 ) -> list[list[PlanStep]]:
