@@ -22,7 +22,8 @@ from rekhuso.plans.steps import PlanStep
 from rekhuso.program.answers import balance_line
 
 from tests import plans
-from tests.clusters import STOCK, Json, below, commands, of_groups, places, pool_lines, pooled, raised, with_commands
+from tests.clusters import STOCK, Json, below, commands, object_parts, of_groups, places, pool_lines, pooled, raised
+from tests.clusters import with_commands
 from tests.tool_cases import StockCase
 
 # A map, the hosts of its OSDs, the racks of its hosts, and the weights of its OSDs; how many bytes each pool holds.
@@ -157,9 +158,13 @@ class LastPass:
     def __init__(self, model: Model, wanted: list[int]) -> None:
         held = model.held or {}
         self.model, self.wanted = model, wanted
-        self.sizes: dict[int, int] = {pool: held.get(pool, 0) * 65536 // own for pool, own in model.places.items()}
+        self.sizes: dict[str, int] = {}
+        for pool, size in model.sizes.items():
+            groups = model.groups(pool)
+            for group, part in zip(groups, object_parts(len(groups)), strict=True):
+                self.sizes[group] = math.floor(held.get(pool, 0) * 65536 * Fraction(part) / size)
         self.load: dict[int, int] = {
-            osd: sum(model.counts(pool)[osd] * size for pool, size in self.sizes.items()) for osd in model.weights
+            osd: sum(size for group, size in self.sizes.items() if osd in model.mapped[group]) for osd in model.weights
         }
         whole = sum(self.load.values())
         self.want = {osd: Fraction(whole * weight, model.total) for osd, weight in model.weights.items()}
@@ -183,14 +188,18 @@ class LastPass:
         more, less = (sum(own[osd] for own in found) for osd in (leaves, comes))
         return more - less > 1 or (less + 1 <= most and more - 1 >= -most)
 
-    def group(self, pool: int, leaves: int, comes: int) -> str | None:
-        """The lowest group of a pool that may go from an OSD to another."""
-        groups = (group for group in self.model.groups(pool) if self.model.is_allowed(group, leaves, comes))
-        return next(groups, None)
+    def on(self, pool: int, osd: int) -> set[int]:
+        """What the groups of a pool hold that an OSD has."""
+        return {self.sizes[group] for group in self.model.groups(pool) if osd in self.model.mapped[group]}
+
+    def group(self, pool: int, size: int, leaves: int, comes: int) -> str | None:
+        """The lowest group of a pool that holds so much and may go from an OSD to another."""
+        groups = (group for group in self.model.groups(pool) if self.sizes[group] == size)
+        return next((group for group in groups if self.model.is_allowed(group, leaves, comes)), None)
 
     def put(self, group: str, leaves: int, comes: int) -> None:
         """A group goes from an OSD to another."""
-        own, size = self.model.mapped[group], self.sizes[int(group.split(".")[0])]
+        own, size = self.model.mapped[group], self.sizes[group]
         own[own.index(leaves)] = comes
         self.model.pairs[group] += 1
         self.load[leaves] -= size
@@ -199,13 +208,14 @@ class LastPass:
     def has_moved(self, full: int) -> bool:
         """Whether a group has gone from an OSD, by the best move that is allowed."""
         ways = sorted(
-            (-self.gain(full, osd, self.sizes[pool]), pool, osd)
+            (-self.gain(full, osd, size), pool, osd, size)
             for pool in self.wanted
             for osd in self.want
-            if osd != full and self.keeps([pool], full, osd, 2) and self.keeps(self.sizes, full, osd, 3)
+            if osd != full and self.keeps([pool], full, osd, 2) and self.keeps(self.model.places, full, osd, 3)
+            for size in self.on(pool, full)
         )
-        for gain, pool, osd in ways:
-            group = self.group(pool, full, osd) if gain < 0 else None
+        for gain, pool, osd, size in ways:
+            group = self.group(pool, size, full, osd) if gain < 0 else None
             if group is not None:
                 self.put(group, full, osd)
                 return True
@@ -214,15 +224,17 @@ class LastPass:
     def has_exchanged(self, full: int) -> bool:
         """Whether two groups have changed places, by the best exchange that is allowed of the first 64."""
         ways = sorted(
-            (-self.gain(full, osd, self.sizes[pool] - self.sizes[other]), pool, osd, other)
+            (-self.gain(full, osd, size - less), pool, osd, size, other, less)
             for pool in self.wanted
             for other in self.wanted
             for osd in self.want
-            if osd != full and self.model.counts(pool)[full] and self.model.counts(other)[osd]
+            if osd != full
             if pool == other or (self.keeps([pool], full, osd, 2) and self.keeps([other], osd, full, 2))
+            for size in self.on(pool, full)
+            for less in self.on(other, osd)
         )
-        for _, pool, osd, other in [way for way in ways if way[0] < 0][:64]:
-            group, back = self.group(pool, full, osd), self.group(other, osd, full)
+        for _, pool, osd, size, other, less in [way for way in ways if way[0] < 0][:64]:
+            group, back = self.group(pool, size, full, osd), self.group(other, less, osd, full)
             if group is not None and back is not None:
                 self.put(group, full, osd)
                 self.put(back, osd, full)
@@ -261,19 +273,26 @@ class Measured:
                 steps = next(rule["steps"] for rule in value["rules"] if rule["id"] == pool["rule"])
                 taken = [below(value, step[1]) for step in steps if step[0] == "take"]
                 whole = set().union(*taken)
-                own = [osd for number in range(pool["pg_num"]) for osd in places(sets[f"{pool['id']}.{number:x}"])]
+                mean = of_place[pool["id"]] * pool["pg_num"]
+                own = [
+                    (osd, mean * part)
+                    for number, part in enumerate(object_parts(pool["pg_num"]))
+                    for osd in places(sets[f"{pool['id']}.{number:x}"])
+                ]
                 for tree in taken if len(whole) == sum(map(len, taken)) else [whole]:
                     weights = {osd: items[osd] * osds[osd] for osd in tree if osds.get(osd)}
-                    self.add([osd for osd in own if osd in tree], weights, of_place[pool["id"]])
+                    self.add([entry for entry in own if entry[0] in tree], weights)
 
-    def add(self, own: list[int], weights: dict[int, int], place: float) -> None:
-        """Counts the places of a pool."""
-        total, held = sum(weights.values()), sum(osd in weights for osd in own)
-        for at, size in enumerate((1, place)):
-            for osd in own:
+    def add(self, own: list[tuple[int, float]], weights: dict[int, int]) -> None:
+        """Counts the places of a pool, each with what it holds."""
+        total = sum(weights.values())
+        for at in (0, 1):
+            sizes = [(osd, size if at else 1) for osd, size in own]
+            held = sum(size for osd, size in sizes if osd in weights)
+            for osd, size in sizes:
                 self.has[at][osd] = self.has[at].get(osd, 0) + size
             for osd, weight in weights.items():
-                self.share[at][osd] = self.share[at].get(osd, 0) + size * held * weight / total
+                self.share[at][osd] = self.share[at].get(osd, 0) + held * weight / total
 
     def ratios(self, at: int) -> list[float]:
         """What each OSD has to its share."""
@@ -287,6 +306,11 @@ class Measured:
             *(math.sqrt(sum(own * own for own in away) / len(away)) for away in (groups, data)),
             *(max(self.ratios(at)) for at in (0, 1)),
         ]
+
+
+def stats_of(size: int) -> Json:
+    """What `ceph df` tells of a pool that takes so many bytes."""
+    return {"bytes_used": size, "stored": size}
 
 
 def is_of(line: str, value: Json) -> bool:
@@ -373,8 +397,8 @@ class ClusterPlans(StockCase):
                     "df",
                     {
                         "pools": [
-                            {"id": pool["pool"], "name": pool["pool_name"], "stats": {"bytes_used": held[pool["pool"]]}}
-                            for pool in pools
+                            {"id": own["pool"], "name": own["pool_name"], "stats": stats_of(held[own["pool"]])}
+                            for own in pools
                         ]
                     },
                 )
@@ -452,7 +476,7 @@ class ClusterPlans(StockCase):
         self.assertEqual(left([good]), ["1.0"])
         self.assertEqual(left([small, worse]), [])
         self.assertEqual(left([]), [])
-        data = Gauge(Spread({0: 1.0, 1: 5.0, 2: 0.0, 3: 3.0}, {0: 3.0, 1: 3.0, 2: 0.1, 3: 2.9}), {1: 1.0}, True)
+        data = Gauge(Spread({0: 1.0, 1: 5.0, 2: 0.0, 3: 3.0}, {0: 3.0, 1: 3.0, 2: 0.1, 3: 2.9}), {"1.0": 1.0}, True)
         self.assertEqual(left([good], data), [])
 
     def test_groups_that_are_left_out(self) -> None:
@@ -516,7 +540,7 @@ class ClusterPlans(StockCase):
         planned."""
         name = "025-many-pools"
         files, pools = self.dumps(name), STOCK[name]["osd_dump"]["pools"]
-        rows = [{"id": pool["pool"], "name": pool["pool_name"], "stats": {"bytes_used": 1}} for pool in pools]
+        rows = [{"id": pool["pool"], "name": pool["pool_name"], "stats": stats_of(1)} for pool in pools]
         last, first = rows[-1], rows[0]
         more = dict(last, id=999, name="beside")
         for changed, line in (

@@ -10,7 +10,7 @@ from collections.abc import Mapping
 
 from rekhuso.plans.blocks import MapBlocks
 
-from tests.cluster_plans import Measured, Model, is_of, random_cluster
+from tests.cluster_plans import Measured, Model, is_of, random_cluster, stats_of
 from tests.clusters import STOCK, Json, below, commands, of_groups, places, with_commands
 from tests.tool_cases import StockCase
 
@@ -33,9 +33,7 @@ class DataPlans(StockCase):
         """The words of a plan over a stock cluster whose pools hold so much, its maps, and what a place of each
         holds."""
         pools = STOCK[name]["osd_dump"]["pools"]
-        rows = [
-            {"id": own["pool"], "name": own["pool_name"], "stats": {"bytes_used": held[own["pool"]]}} for own in pools
-        ]
+        rows = [{"id": own["pool"], "name": own["pool_name"], "stats": stats_of(held[own["pool"]])} for own in pools]
         files = [*self.dumps(name), pathlib.Path("--df"), self.tools.put("df", {"pools": rows})]
         of_place = {own["pool"]: held[own["pool"]] / (own["pg_num"] * own["size"]) for own in pools}
         return files, list(self.maps_of(name).values()), of_place

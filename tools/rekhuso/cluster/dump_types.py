@@ -104,7 +104,13 @@ class DumpOsd(Stated):
     weight: float
 
 
-class OsdDump(TypedDict):
+class OsdDumpRatios(TypedDict, total=False):
+    """Up to which parts OSDs may be filled, where an OSD dump tells them."""
+
+    nearfull_ratio: float
+
+
+class OsdDump(OsdDumpRatios):
     """What `ceph osd dump -f json` prints, beside tables of exceptions that `entries_of` reads."""
 
     epoch: int

@@ -78,7 +78,20 @@ class FillParts(TypedDict):
     deviation: float
 
 
-class ClusterParts(TypedDict):
+class UseParts(TypedDict):
+    """The fullest OSD and the emptiest by what of their disks is in use: there a share is a disk."""
+
+    fullest: OsdFillParts
+    emptiest: OsdFillParts
+
+
+class KnownParts(TypedDict, total=False):
+    """What is told of a cluster whose disks are known."""
+
+    use: UseParts
+
+
+class ClusterParts(KnownParts):
     """What is told of a cluster over all pools: by groups and, where it is known what the pools hold, by bytes, and
     the bytes that the pool with most data may still take.
     """
@@ -86,6 +99,16 @@ class ClusterParts(TypedDict):
     groups: FillParts
     bytes: FillParts | None
     room: int | None
+
+
+class DataParts(TypedDict):
+    """What is known of data: by means of pools or by groups, whether the disks are known, and the pools that hold data
+    and are in no map of those that are planned.
+    """
+
+    by: str
+    has_disks: bool
+    pools_beside: list[int]
 
 
 class MovingParts(TypedDict):

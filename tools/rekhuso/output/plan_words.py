@@ -7,8 +7,8 @@ from fractions import Fraction
 from ..cluster.names import Names, named
 from ..plans.plan import Outcome
 from ..plans.rounds import MOST_MOVES
-from ..words import counted
-from .fill_words import fill_words, room_words, spread_words
+from ..words import counted, some
+from .fill_words import fill_words, room_words, spread_words, use_words
 from .json_forms import PlanParts
 
 # The number of the refusal of a pool whose rule has several blocks, and what is said of it.
@@ -57,6 +57,24 @@ def pool_words(parts: PlanParts, deviation: Fraction | None) -> str:
     )
 
 
+def data_words(outcome: Outcome, names: Names) -> list[str]:
+    """What is told of the data: how full disks are, by what it is known, and which OSDs stop a plan."""
+    before, after, data, found = outcome.before, outcome.after, outcome.data, list[str]()
+    if "use" in before and "use" in after:
+        found.append(f"by disks: before {use_words(before['use'], names)}; after {use_words(after['use'], names)}")
+    if data is not None and data["pools_beside"]:
+        beside = some([str(pool) for pool in data["pools_beside"]])
+        found.append(f"by bytes: nothing is told, and no last pass is made, as other pools hold data too: {beside}")
+    if data is not None and data["by"] == "means":
+        found.append("data: by the mean of each pool; --pgs tells what each group holds")
+    for osd, count in sorted(outcome.stopped.items()):
+        found.append(
+            f"stopped: {named(names, 'osds', osd)} would get nearly full by {counted(count, 'more step')}, "
+            "which are left; --batch N --to FOLDER takes them in later parts, as far as there is room then"
+        )
+    return found
+
+
 def cluster_words(outcome: Outcome, names: Names) -> list[str]:
     """How even the cluster is before and after its plans, a line each by groups, by bytes, and for the pool with most
     data.
@@ -69,6 +87,7 @@ def cluster_words(outcome: Outcome, names: Names) -> list[str]:
     if outcome.largest is not None and before["room"] is not None and after["room"] is not None:
         name = named(names, "pools", outcome.largest)
         found.append(f"room of {name}, the pool with most data: {room_words(before['room'], after['room'])}")
+    found += data_words(outcome, names)
     if outcome.taken_out:
         count = len(outcome.taken_out)
         groups = "1 group is" if count == 1 else f"{count} groups are"

@@ -4,20 +4,22 @@ from __future__ import annotations
 
 from collections.abc import Mapping
 
+from ..cluster.pool_data import BYTE_PARTS
+
 
 class Fullness:
     """What OSDs have, and what they are to have, in parts of a byte."""
 
-    def __init__(self) -> None:
-        """Of OSDs that have nothing yet."""
-        self.load: dict[int, int] = {}
-        self.want: dict[int, float] = {}
+    def __init__(self, want: Mapping[int, float]) -> None:
+        """Of OSDs that have nothing yet, and are to have so many bytes."""
+        self.want = {osd: own * BYTE_PARTS for osd, own in want.items()}
+        self.load = dict.fromkeys(want, 0)
 
-    def add(self, load: Mapping[int, int], want: Mapping[int, float]) -> None:
-        """OSDs have so much more, and are to have so much more; those alone count that are to have something."""
-        for osd, more in want.items():
-            self.want[osd] = self.want.get(osd, 0.0) + more
-            self.load[osd] = self.load.get(osd, 0) + load.get(osd, 0)
+    def add(self, load: Mapping[int, int]) -> None:
+        """OSDs have so much more; those alone count that are to have something."""
+        for osd, more in load.items():
+            if osd in self.load:
+                self.load[osd] += more
 
     def ratio(self, osd: int) -> float:
         """How many times what it is to have an OSD has."""

@@ -10,12 +10,13 @@ stay near their shares, and so do all pools together.
 from __future__ import annotations
 
 from bisect import bisect_left
-from collections.abc import Callable, Iterable, Iterator, Mapping
+from collections.abc import Callable, Iterable, Iterator
 from contextlib import ExitStack
 from itertools import islice
 
 from ..program.maps import entries_of, groups_in
 from .blocks import MapBlocks
+from .byte_aims import ByteAims
 from .fullness import Fullness
 from .loads import GROUP_PARTS
 from .pool_places import PoolPlaces
@@ -62,18 +63,16 @@ class LastPass:
     above its shares of all pools.
     """
 
-    def __init__(self, planner: Planner, sizes: Mapping[int, list[int]]) -> None:
-        """Takes the pools as they have been planned, and what a place of each of their groups holds."""
-        self.laid, self.full, self.above = planner.laid, Fullness(), dict[int, int]()
+    def __init__(self, planner: Planner, aims: ByteAims) -> None:
+        """Takes the pools as they have been planned, and what their groups hold and OSDs are to hold."""
+        self.laid, self.full, self.above = planner.laid, Fullness(aims.want), dict[int, int]()
         self.pools = {own.number: own for live in planner.lives for own in pools_in(live, planner.left)}
         for number, own in self.pools.items():
-            own.sizes = sizes[number]
-            load = own.held()
-            for tree in own.live.before.trees_for(own.pool):
-                whole, total = sum(load.get(osd, 0) for osd in tree), sum(tree.values())
-                self.full.add(load, {osd: whole * weight / total for osd, weight in tree.items()})
+            own.sizes = aims.sizes[number]
+            self.full.add(own.held())
             for osd, parts in self.laid[number].deviations().items():
                 self.above[osd] = self.above.get(osd, 0) + parts
+        self.full.add(aims.base)
         movable = [self.pools[number] for number in planner.order]
         self.movable = [own for own in movable if own.blocks and not own.is_barred()]
         self.ranked: list[int] = []
@@ -217,11 +216,11 @@ class LastPass:
                 stuck.add(full)
 
 
-def last_pass(planner: Planner, sizes: Mapping[int, list[int]], tell: Callable[[str], None]) -> list[str]:
+def last_pass(planner: Planner, aims: ByteAims, tell: Callable[[str], None]) -> list[str]:
     """Makes the moves, and tells the groups that have been moved, in the order in which they first were."""
     with ExitStack() as stack:
         for live in planner.lives:
             stack.enter_context(live.all_up())
-        found = LastPass(planner, sizes)
+        found = LastPass(planner, aims)
         found.play(tell)
     return list(dict.fromkeys(found.moves))
