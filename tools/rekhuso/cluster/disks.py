@@ -8,6 +8,7 @@ from dataclasses import dataclass
 from ..faults import Fault
 from ..files import json_of
 from .dump_forms import OSD_DF, misfits
+from .shares import Shares
 
 KIB = 1024
 # Up to which part an OSD may be filled before it counts as nearly full, where nobody tells (nearfull_ratio).
@@ -48,6 +49,17 @@ class Disks:
             faults += [f"the cluster has no osd.{osd}" for osd in sorted(self.of_osd.keys() - set(there))]
         if faults:
             raise Fault(*(f"{self.path}: {fault}" for fault in faults))
+
+
+def disks_of(path: str | None, shares: Shares, is_whole: bool) -> dict[int, Disk]:
+    """The disks that a file tells of the OSDs that shares are told of, which may be all of a cluster; none where there
+    is no path.
+    """
+    if path is None:
+        return {}
+    found = disks_in(path)
+    found.check([osd for osd, share in shares.wanted.items() if share > 0], shares.osds if is_whole else None)
+    return found.of_osd
 
 
 def disks_in(path: str) -> Disks:

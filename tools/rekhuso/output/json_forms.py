@@ -101,14 +101,30 @@ class ClusterParts(KnownParts):
     room: int | None
 
 
+class HindranceParts(TypedDict):
+    """A pool of which an OSD has many bytes in so many groups, and what keeps them there."""
+
+    id: int
+    groups: int
+    bytes: int
+    by: str
+
+
+class StayParts(OsdFillParts):
+    """An OSD that stays far above what it is to have, with the pools of which it has most."""
+
+    pools: list[HindranceParts]
+
+
 class DataParts(TypedDict):
-    """What is known of data: by means of pools or by groups, whether the disks are known, and the pools that hold data
-    and are in no map of those that are planned.
+    """What is known of data: by means of pools or by groups, whether the disks are known, the pools that hold data and
+    are in no map of those that are planned, and the OSDs that stay far above what they are to have.
     """
 
     by: str
     has_disks: bool
     pools_beside: list[int]
+    stays: list[StayParts]
 
 
 class MovingParts(TypedDict):

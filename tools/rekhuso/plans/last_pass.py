@@ -11,7 +11,6 @@ from __future__ import annotations
 
 from bisect import bisect_left
 from collections.abc import Callable, Iterable, Iterator
-from contextlib import ExitStack
 from itertools import islice
 
 from ..program.maps import entries_of, groups_in
@@ -214,13 +213,3 @@ class LastPass:
             self.ranked = sorted(self.full.osds(), key=lambda osd: (self.full.ratio(osd), osd))
             if not (self.by_move(full, FEW) or self.by_move(full, len(self.ranked)) or self.by_exchange(full)):
                 stuck.add(full)
-
-
-def last_pass(planner: Planner, aims: ByteAims, tell: Callable[[str], None]) -> list[str]:
-    """Makes the moves, and tells the groups that have been moved, in the order in which they first were."""
-    with ExitStack() as stack:
-        for live in planner.lives:
-            stack.enter_context(live.all_up())
-        found = LastPass(planner, aims)
-        found.play(tell)
-    return list(dict.fromkeys(found.moves))

@@ -6,12 +6,14 @@ import math
 from collections import Counter
 from collections.abc import Iterable, Mapping, Sequence
 from operator import mul, sub
+from typing import cast
 
 from ..cluster.evenness import Spread, room, sums_by_osd
 from ..cluster.pool_data import Data
-from ..output.json_forms import ClusterParts, DataParts, PoolSpreadParts
+from ..output.json_forms import ClusterParts, DataParts, HindranceParts, PoolSpreadParts, StayParts
 from ..program.maps import Pool
 from .byte_aims import ByteAims
+from .hindrances import TOLD
 from .mend import Gauge
 from .rounds import Live
 from .step_order import has_after
@@ -93,15 +95,21 @@ class Measures:
         }
         return round(room(own, sizes, used.has, data.rate(self.pools[number])))
 
-    def data_parts(self) -> DataParts | None:
+    def data_parts(self, steps: Sequence[PlanStep], stays: dict[int, list[HindranceParts]]) -> DataParts | None:
         """What is told of the data: whether each group's is known or only the mean of its pool, whether the disks are,
-        and the pools that hold data and are not planned with the others.
+        the pools that hold data and are not planned with the others, and the OSDs that stay far above what they are to
+        have once steps are taken, the fullest first.
         """
-        data = self.data
-        if data is None:
+        data, used = self.data, self.bytes(steps)
+        if data is None or used is None:
             return None
-        beside = sorted(data.of_pool.keys() - self.pools.keys())
-        return {"by": "groups" if data.parts else "means", "has_disks": bool(data.disks), "pools_beside": beside}
+        full = [osd for _, osd in sorted((-used.ratio(osd), osd) for osd in stays) if used.ratio(osd) > TOLD]
+        return {
+            "by": "groups" if data.parts else "means",
+            "has_disks": bool(data.disks),
+            "pools_beside": sorted(data.of_pool.keys() - self.pools.keys()),
+            "stays": [cast(StayParts, dict(used.filled(osd), pools=stays[osd])) for osd in full],
+        }
 
     def told(self, counts: Mapping[int, Mapping[int, int]], steps: Sequence[PlanStep] = ()) -> ClusterParts:
         """What is told of the cluster once steps are taken, after which pools have these counts; by bytes only where

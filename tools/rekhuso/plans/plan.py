@@ -16,11 +16,11 @@ from ..cluster.outage import Outage, outage_of
 from ..cluster.pool_data import Data
 from ..cluster.view import ClusterView, NO_PLAN
 from ..faults import Fault
-from ..output.json_forms import ClusterParts, DataParts, PlanParts
+from ..output.json_forms import ClusterParts, DataParts, HindranceParts, PlanParts
 from ..program.maps import Program, group_key
 from .measures import Measures, counts_after, pool_spread
 from .byte_aims import ByteAims
-from .last_pass import last_pass
+from .byte_rounds import Passed, planned_by_data
 from .mend import mended
 from .pairs import settled
 from .parts import ALL, order_of_steps, ordered_parts
@@ -87,16 +87,18 @@ class Outcome:
 @dataclass(frozen=True)
 class PlannedSteps:
     """What has been planned: why a pool has no plan, the groups that are left out, each with the reason, the plans of
-    pools by themselves, the steps, and the groups whose steps come first.
+    pools by themselves, the steps, the groups whose steps come first, and what keeps OSDs far above what they are to
+    have.
     """
 
-    __slots__ = ("refusals", "left", "plans", "steps", "first")
+    __slots__ = ("refusals", "left", "plans", "steps", "first", "stays")
 
     refusals: dict[int, str]
     left: dict[str, Reason]
     plans: dict[int, PoolPlan]
     steps: list[PlanStep]
     first: frozenset[str]
+    stays: dict[int, list[HindranceParts]]
 
 
 def alone_steps(lives: list[Live], wanted: list[int], wish: Wish) -> PlannedSteps:
@@ -121,30 +123,26 @@ def alone_steps(lives: list[Live], wanted: list[int], wish: Wish) -> PlannedStep
         gone.update(left)
         steps += kept
     refusals = {number: plan.refusal for number, plan in plans.items() if plan.refusal}
-    return PlannedSteps(refusals, gone, plans, steps, frozenset())
+    return PlannedSteps(refusals, gone, plans, steps, frozenset(), {})
 
 
 def cluster_steps(
     lives: list[Live], wanted: list[int], wish: Wish, aims: ByteAims | None, tell: Callable[[str], None]
 ) -> PlannedSteps:
-    """Plans pools for the sake of the whole cluster. Where it is known what all of them hold and not all commands are
-    wanted, those come first that make room.
-    """
-    planner, aims = Planner(lives, wanted, wish.data, wish.half()), aims if aims and aims.is_whole else None
-    first, more = list[str](), list[str]()
-    if aims is not None and (wish.is_room or wish.most < ALL):
-        first = last_pass(planner, aims, tell)
-    if not wish.is_room and len(first) < wish.most:
+    """Plans pools for the sake of the whole cluster, by data where it is known what all of them hold."""
+    planner, passed = Planner(lives, wanted, wish.data, wish.half()), Passed([], [], {})
+    if aims is not None and aims.is_whole:
+        passed = planned_by_data(planner, aims, wish.is_room, wish.most if wish.most < ALL else None, tell)
+    else:
         planner.play(tell)
-        more = last_pass(planner, aims, tell) if aims is not None else []
-    for number in {group_key(group)[0] for group in first + more}:
+    for number in {group_key(group)[0] for group in passed.moved}:
         planner.refusals.pop(number, None)
     left, steps = planner.left, []
     for live in lives:
         kept, lost = steps_in(live)
         left.update(lost)
         steps += kept
-    return PlannedSteps(planner.refusals, left, {}, steps, frozenset(first))
+    return PlannedSteps(planner.refusals, left, {}, steps, frozenset(passed.first), passed.stays)
 
 
 def steps_in(live: Live) -> tuple[list[PlanStep], dict[str, Reason]]:
@@ -220,7 +218,8 @@ def outcome_of(
     after = {number: counts_after(own, of_pool.get(number, [])) for number, own in measures.counts.items()}
     pools = [pool_parts(measures, number, made, after[number], of_pool.get(number, [])) for number in wanted]
     ends = measures.told(measures.counts), measures.told(after, steps)
-    return Outcome(parts, taken_out, pools, *ends, measures.largest(), stopped, measures.data_parts())
+    data = measures.data_parts(steps, made.stays)
+    return Outcome(parts, taken_out, pools, *ends, measures.largest(), stopped, data)
 
 
 def planned(lives: list[Live], wish: Wish, tell: Callable[[str], None] = silent) -> Outcome:
