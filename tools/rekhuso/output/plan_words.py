@@ -19,11 +19,10 @@ OF_BLOCKS = "its rule takes OSDs in several steps, of which the balancer plans n
 MOST_STAYS = 5
 KEPT_BY = {
     "not planned": "none of its groups is moved",
-    "no emptier OSD": "no emptier OSD may have them",
-    "failure domains": "emptier OSDs stand in failure domains that have copies already",
+    "failure domains": "all emptier OSDs stand in failure domains that have copies already",
     "shares": "its pool or all pools would get far from their shares",
     "sizes": "they would fill another OSD as much",
-    "monitor": "Ceph's monitor would take the pairs away again",
+    "monitor": "the program or Ceph's monitor would not keep them elsewhere",
 }
 
 

@@ -15,16 +15,14 @@ def hindrance(found: LastPass, own: PoolPlaces, full: int) -> str:
     """Why no group of a pool goes from an OSD."""
     if own not in found.movable:
         return "not planned"
-    number, groups = own.number, sorted(own.on[full])
-    near = found.near(own, full, len(found.ranked))
-    free = [(group, osd) for group in groups for osd in near if own.may_go(group, full, osd)]
-    if not free:
-        return "failure domains" if near else "no emptier OSD"
-    kept = [(group, osd) for group, osd in free if found.keeps(number, full, osd) and found.keeps_all(full, osd)]
+    number, near = own.number, found.near(own, full, len(found.ranked))
+    if not near:
+        return "failure domains" if found.leaving(own, full) else "not planned"
+    kept = [osd for osd in near if found.keeps(number, full, osd) and found.keeps_all(full, osd)]
     if not kept:
         return "shares"
-    less = [(group, osd) for group, osd in kept if found.full.gain(full, osd, own.sizes[group]) > 0]
-    return "monitor" if less else "sizes"
+    sizes = {own.sizes[group] for group in found.leaving(own, full)}
+    return "monitor" if any(found.full.gain(full, osd, size) > 0 for osd in kept for size in sizes) else "sizes"
 
 
 def hindrances(found: LastPass) -> dict[int, list[HindranceParts]]:

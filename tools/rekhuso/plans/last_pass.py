@@ -75,6 +75,7 @@ class LastPass:
         movable = [self.pools[number] for number in planner.order]
         self.movable = [own for own in movable if own.blocks and not own.is_barred()]
         self.ranked: list[int] = []
+        self.kept: dict[tuple[int, int], dict[int, set[int]]] = {}
         self.shut: set[tuple[int, int, int, int]] = set()
         self.moves: list[str] = []
 
@@ -90,13 +91,24 @@ class LastPass:
         """The same of all pools together."""
         return is_near(self.above[leaves], self.above[comes], ALL_POOLS)
 
+    def leaving(self, own: PoolPlaces, osd: int) -> dict[int, set[int]]:
+        """The groups of a pool that may go from an OSD, each with the failure domains to which it may not go. What is
+        found is kept until something moves.
+        """
+        key = own.number, osd
+        if key not in self.kept:
+            self.kept[key] = own.leaving(osd)
+        return self.kept[key]
+
     def near(self, own: PoolPlaces, full: int, few: int) -> list[int]:
-        """The emptiest OSDs to which groups of a pool may go from an OSD, failure domains aside."""
+        """The emptiest OSDs to which groups of a pool may go from an OSD."""
         block, ratio, shares = own.block_of(full), self.full.ratio(full), self.laid[own.number].shares
-        if block is None or full not in shares:
+        leaving = self.leaving(own, full)
+        if block is None or full not in shares or not leaving:
             return []
+        closed, domains = set.intersection(*leaving.values()), block.domains
         there = (osd for osd in self.ranked if osd in shares and block.is_beside(full, osd))
-        return [osd for osd in islice(there, few) if self.full.ratio(osd) < ratio]
+        return [osd for osd in islice(there, few) if domains[osd] not in closed and self.full.ratio(osd) < ratio]
 
     def ways(self, full: int, few: int) -> list[Way]:
         """The moves from an OSD by which something is gained, the best first."""
@@ -138,17 +150,22 @@ class LastPass:
 
     # What goes
 
+    def free(self, own: PoolPlaces, size: int, leaves: int, comes: int) -> list[int]:
+        """The first groups of a pool that hold so much and may go from an OSD to another, as far as is known."""
+        block = own.block_of(leaves)
+        if block is None:
+            return []
+        domain, shut = block.domains[comes], self.shut
+        groups = (
+            group
+            for group, taken in self.leaving(own, leaves).items()
+            if own.sizes[group] == size and domain not in taken and (own.number, group, leaves, comes) not in shut
+        )
+        return list(islice((group for group in groups if own.would_stay(group, leaves, comes)), GROUPS))
+
     def goes(self, own: PoolPlaces, size: int, leaves: int, comes: int) -> int | None:
         """The group of a pool that has gone from an OSD to another, of those of a size; None where none has."""
-        groups = (group for group in sorted(own.on[leaves]) if own.sizes[group] == size)
-        free = (
-            group
-            for group in groups
-            if (own.number, group, leaves, comes) not in self.shut
-            and own.may_go(group, leaves, comes)
-            and own.would_stay(group, leaves, comes)
-        )
-        for group in list(islice(free, GROUPS)):
+        for group in self.free(own, size, leaves, comes):
             found = moved(own, group, leaves, comes)
             if found is not None:
                 self.count(own, found, leaves, comes)
@@ -159,6 +176,7 @@ class LastPass:
     def count(self, own: PoolPlaces, group: int, leaves: int, comes: int) -> None:
         """Counts a group where it has gone."""
         counts, totals = self.laid[own.number].counts, own.live.totals
+        self.kept.clear()
         self.full.move(leaves, comes, own.sizes[group])
         for osd, more in ((leaves, -1), (comes, 1)):
             counts[osd] = counts.get(osd, 0) + more
@@ -176,11 +194,11 @@ class LastPass:
     def by_exchange(self, full: int) -> bool:
         """Whether something has gone from an OSD as two groups have changed places."""
         for _, number, osd, size, other, less in self.exchanges(full)[:TRIED]:
-            own = self.pools[number]
-            gone = self.goes(own, size, full, osd)
+            own, back = self.pools[number], self.pools[other]
+            gone = self.goes(own, size, full, osd) if self.free(back, less, osd, full) else None
             if gone is None:
                 continue
-            if self.goes(self.pools[other], less, osd, full) is not None:
+            if self.goes(back, less, osd, full) is not None:
                 return True
             take_back(own, gone)
             self.count(own, gone, osd, full)

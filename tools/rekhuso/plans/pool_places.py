@@ -39,6 +39,15 @@ class PoolPlaces:
         """The block of the rule that chooses an OSD; None where none does."""
         return next((block for block in self.blocks if osd in block.osds), None)
 
+    def leaving(self, osd: int) -> dict[int, set[int]]:
+        """The groups that may go from an OSD, each with the failure domains to which it may not go."""
+        block, most = self.block_of(osd), self.pool["size"]
+        if block is None:
+            return {}
+        groups = (group for group in sorted(self.on.get(osd, ())) if group not in self.fixed)
+        free = (group for group in groups if len(self.pairs[group]) < most and self.sets[group].count(osd) == 1)
+        return {group: block.taken(self.sets[group], osd) for group in free}
+
     def by_size(self, osd: int) -> list[tuple[int, list[int]]]:
         """The groups that an OSD has, by what a place of them holds; those that hold most first."""
         found: dict[int, list[int]] = {}
