@@ -5,6 +5,7 @@ In the model all is reckoned in fractions: what OSDs carry, in which order pools
 themselves. Each group has an explicit set, so that its mapped set is known without hashes.
 """
 
+import collections
 import json
 import math
 import pathlib
@@ -22,8 +23,20 @@ from rekhuso.plans.steps import PlanStep
 from rekhuso.program.answers import balance_line
 
 from tests import plans
-from tests.clusters import STOCK, Json, below, commands, object_parts, of_groups, places, pool_lines, pooled, raised
-from tests.clusters import with_commands
+from tests.clusters import (
+    STOCK,
+    Json,
+    below,
+    commands,
+    copied,
+    object_parts,
+    of_groups,
+    places,
+    pool_lines,
+    pooled,
+    raised,
+    with_commands,
+)
 from tests.tool_cases import StockCase
 
 # A map, the hosts of its OSDs, the racks of its hosts, and the weights of its OSDs; how many bytes each pool holds.
@@ -461,12 +474,50 @@ class ClusterPlans(StockCase):
                 self.assertLess(first[2], start[2])
                 self.assertLess(first[0], start[0])
 
+    def test_parts_beside_an_osd_of_no_weight(self) -> None:
+        """Where an OSD with groups weighs next to nothing, so that it is full beyond any bound, every OSD has one of its
+        own: while a part moves none has more than one group above the most that it has before the plan or after it."""
+        own = copied(STOCK["025-many-pools"])
+        for bucket in own["crush_dump"]["buckets"]:
+            for item in bucket["items"]:
+                item["weight"] = 1 if item["id"] == 3 else item["weight"]
+        beside = next(
+            {item["id"] for item in bucket["items"]} - {3}
+            for bucket in own["crush_dump"]["buckets"]
+            if any(item["id"] == 3 for item in bucket["items"])
+        )
+        value = json.loads(self.output("import", *self.dumps("few", own)))
+        led = [
+            {"pgid": group, "mappings": [{"from": osd, "to": 3}]}
+            for group, answer in self.sets(value).items()
+            for osd in beside.intersection(places(answer))
+        ]
+        own["osd_dump"].update(pg_upmap=[], pg_upmap_items=led[:4])
+        files = self.dumps("few", own)
+        now = json.loads(self.output("import", *files))
+        paths = self.output("plan", *files, "--batch", 10_000, "--to", "parts").splitlines()
+        parts = [commands(pathlib.Path(self.tools.folder, path).read_text()) for path in paths]
+        first, last = self.held(now), self.held(with_commands(now, sum(parts, [])))
+        self.assertGreater(first[3], 0)
+        for part in parts:
+            before, now = self.sets(now), with_commands(now, part)
+            high = collections.Counter(osd for answer in before.values() for osd in places(answer))
+            for group, answer in self.sets(now).items():
+                high.update(set(places(answer)) - set(places(before[group])))
+            above = {osd: count - max(first[osd], last[osd]) for osd, count in high.items()}
+            self.assertLessEqual(max(above.values()), 1, above)
+
+    def held(self, value: Json) -> collections.Counter[int]:
+        """How many groups each OSD has."""
+        return collections.Counter(osd for answer in self.sets(value).values() for osd in places(answer))
+
     def test_steps_that_are_taken_out(self) -> None:
         """A step by which a small OSD would get the fullest is taken out of a plan, and so are those by which the
         deviation would rise; what helps stays, and where data counts what harms it goes too."""
         has, share = {0: 6, 1: 3, 2: 0, 3: 3}, {0: 4, 1: 4, 2: 0.1, 3: 3.9}
         good, small, worse = (
-            PlanStep(f"1.{at}", ["x"], [], [was], [now]) for at, (was, now) in enumerate(((0, 1), (0, 2), (3, 0)))
+            PlanStep(f"1.{at}", ["x"], [], [was], [now], False)
+            for at, (was, now) in enumerate(((0, 1), (0, 2), (3, 0)))
         )
 
         def left(steps: list[PlanStep], *more: Gauge) -> list[str]:

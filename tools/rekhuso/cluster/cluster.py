@@ -336,11 +336,11 @@ class Cluster:
     # Some pools alone
 
     def of_pools(self, chosen: set[int]) -> Cluster:
-        """The cluster with some of its pools alone, and their exceptions."""
+        """The cluster with some of its pools alone, their exceptions, and the primaries named for their groups."""
         others = {str(pool) for pool in self.sizes.keys() - chosen}
         parts = {
             key: [entry for entry in entries_of(self.osd_dump, key) if entry["pgid"].split(".")[0] not in others]
-            for key in ("pg_upmap", "pg_upmap_items")
+            for key in ("pg_upmap", "pg_upmap_items", "pg_upmap_primaries")
             if key in self.osd_dump
         }
         pools = [pool for pool in self.pools if pool["pool"] in chosen]

@@ -36,13 +36,15 @@ OSD_DUMP = {
         }
     ],
     "osds": [{"osd": int, "up": int, "weight": float, "?state": [str], "?primary_affinity": float}],
+    "?fsid": str,
     "?pg_upmap": [dict(GROUP_KEYS, osds=[int])],
     "?pg_upmap_items": [dict(GROUP_KEYS, mappings=[{"from": int, "to": int}])],
     "?nearfull_ratio": float,
     "?osd_xinfo": [object],
     "?pg_temp": [object],
     "?primary_temp": [object],
-    "?pg_upmap_primaries": [object],
+    "?pg_upmap_primaries": [dict(GROUP_KEYS, primary_osd=int)],
+    "?require_min_compat_client": object,
 }
 CRUSH_DUMP = {
     "devices": [{"id": int, "name": str, "?class": str}],

@@ -104,13 +104,14 @@ class DumpOsd(Stated):
     weight: float
 
 
-class OsdDumpRatios(TypedDict, total=False):
-    """Up to which parts OSDs may be filled, where an OSD dump tells them."""
+class OfCluster(TypedDict, total=False):
+    """What an OSD dump may have: of which cluster it is, and up to which part OSDs may be filled."""
 
+    fsid: str
     nearfull_ratio: float
 
 
-class OsdDump(OsdDumpRatios):
+class OsdDump(OfCluster):
     """What `ceph osd dump -f json` prints, beside tables of exceptions that `entries_of` reads."""
 
     epoch: int

@@ -26,20 +26,24 @@ from ..cluster.conversion import monitor_of
 from ..cluster.imports import imported
 from ..cluster.judge import judge_of_cluster, judge_of_map
 from ..cluster.map_files import map_monitor
+from ..cluster.misplaced import Misplaced, check_misplaced
 from ..cluster.names import Names, names_in, pools_named
 from ..cluster.outage import check_outage
+from ..cluster.primaries import rested_words
+from ..cluster.releases import least_client
 from ..cluster.data_files import DataFiles, KnownData, known_data
 from ..cluster.disks import NEARFULL
 from ..cluster.pool_data import Data
 from ..cluster.sources import Source
-from ..cluster.view import NO_PLAN, has_other_weights, tree_in
+from ..cluster.view import ClusterView, has_other_weights, no_plan_words, tree_in
 from ..faults import Fault, Misuse
 from ..output.json_forms import put_json
-from ..output.plan_scripts import Script, part_file, put_batches
-from ..output.plan_words import plan_lines, refusal_words
+from ..output.plan_scripts import Script, WATCH, balancer_words, client_words, part_file, put_batches
+from ..output.plan_words import plan_lines, quiet_words, refusal_words
+from ..plans.after_plan import quiet_deviation, rested_after
 from ..plans.movement import PlaceBytes, place_bytes
 from ..plans.parts import ALL
-from ..plans.plan import Outcome, Wish, outage_in, planned
+from ..plans.plan import Outcome, Wish, misplaced_in, outage_in, planned
 from ..plans.rounds import Live, MOST_MOVES
 from ..plans.steps import steps_by_pool
 from ..program.maps import Map, Pool, altered
@@ -55,14 +59,26 @@ LEAST, FARTHEST = Fraction(1, 2), 65536
 
 @dataclass(frozen=True)
 class ToldPlan:
-    """What is told of plans: the epoch of the map, what the plans are, what the groups weigh, and names."""
+    """What is told of plans: the epoch of the map, what the plans are, what the groups weigh, names, from which number
+    on Ceph's own balancer leaves the plan alone, if that is known; and of dumps the groups whose named primary does
+    nothing any more afterwards, the release that clients must have at least, and what is still to come from before.
+    """
 
-    __slots__ = ("epoch", "outcome", "weights", "names")
+    __slots__ = ("epoch", "outcome", "weights", "names", "quiet", "rested", "client", "misplaced")
 
     epoch: int
     outcome: Outcome
     weights: PlaceBytes
     names: Names
+    quiet: int | None
+    rested: list[str]
+    client: str | None
+    misplaced: Misplaced | None
+
+    def lines(self, deviation: Fraction | None) -> list[str]:
+        """All that is told of plans on standard error."""
+        found = plan_lines(self.outcome, self.names, deviation) + quiet_words(self.quiet)
+        return found + ([rested_words(self.rested)] if self.rested else [])
 
 
 @dataclass(frozen=True)
@@ -163,7 +179,7 @@ def told_by(lives: list[Live], options: PlanOptions, names: Names, held: Held, e
     if refused and options.pools:
         raise Fault(*(f"{parts['name']}: {refusal_words(parts['refused'] or '')}" for parts in refused))
     weighed = [pool for pool in pools if pool["id"] in {parts["id"] for parts in outcome.pools}]
-    return ToldPlan(epoch, outcome, place_bytes(weighed, data), names)
+    return ToldPlan(epoch, outcome, place_bytes(weighed, data), names, quiet_deviation(lives, outcome), [], None, None)
 
 
 def plan_of_map(options: PlanOptions, known: KnownData) -> ToldPlan:
@@ -177,7 +193,7 @@ def plan_of_map(options: PlanOptions, known: KnownData) -> ToldPlan:
         value: Map = json.loads(text)
         tree = tree_in(source.names)
         if has_other_weights(value, tree):
-            raise Fault(NO_PLAN)
+            raise Fault(no_plan_words(""))
         data = known.of_cluster(value["pools"], names.get("pools", {}), False)
         weights = {item: own for bucket in tree or value["buckets"] for item, own in bucket["items"] if item >= 0}
         held = Held(known, data, list(weights.values()), None, NEARFULL)
@@ -191,12 +207,12 @@ def plan_of_dumps(options: PlanOptions, known: KnownData) -> ToldPlan:
     source = options.source
     found = imported(source.dumps())
     names = names_in(source.names) if source.names else found.cluster.names()
-    whole = found.cluster
+    whole = ClusterView(found.maps, names, found)
     if whole.has_weight_set:
-        raise Fault(NO_PLAN)
-    pools = [pool for value in found.maps for pool in value["pools"]]
+        raise Fault(whole.no_plan(source.program))
+    cluster, pools = found.cluster, [pool for value in found.maps for pool in value["pools"]]
     data = known.of_cluster(pools, names["pools"], source.pools is None)
-    held = Held(known, data, list(whole.osd_weights().values()), frozenset(whole.osds), whole.nearfull)
+    held = Held(known, data, list(cluster.osd_weights().values()), frozenset(cluster.osds), cluster.nearfull)
     with ExitStack() as stack:
         lives = [
             Live(
@@ -208,8 +224,15 @@ def plan_of_dumps(options: PlanOptions, known: KnownData) -> ToldPlan:
             )
             for part, value in zip(found.parts, found.maps)
         ]
-        told = told_by(lives, options, names, held, whole.epoch)
-    return told
+        misplaced = misplaced_in(lives, whole)
+        check_misplaced(misplaced, options.is_anyway)
+        told = told_by(lives, options, names, held, found.cluster.epoch)
+    rested = rested_after(whole, told.outcome.steps, source.program)
+    # Ceph's own balancer takes a reweight above 1 as it is, and placement takes it as 1.
+    is_known = all(own["weight"] <= 1 for own in found.cluster.osds.values())
+    client = least_client(found.cluster.osd_dump)
+    quiet = told.quiet if is_known else None
+    return replace(told, quiet=quiet, rested=rested, client=client, misplaced=misplaced)
 
 
 # What is put out
@@ -231,6 +254,9 @@ def put_plan_json(told: ToldPlan) -> None:
         cluster={"before": outcome.before, "after": outcome.after, "largest": outcome.largest},
         **({} if outcome.data is None else {"data": dict(outcome.data, stopped=stopped)}),
         taken_out=outcome.taken_out,
+        idle_primaries=told.rested,
+        upmap_max_deviation=told.quiet,
+        misplaced=None if told.misplaced is None else told.misplaced.parts(),
         moving=weights.moving(steps),
         osds=weights.by_osd(steps),
         pools=pools,
@@ -240,14 +266,15 @@ def put_plan_json(told: ToldPlan) -> None:
 def script_of(told: ToldPlan, options: PlanOptions, number: int = 1, count: int = 1) -> Script:
     """What stands round the commands of a plan or of one of several parts of it, or of what takes these back."""
     part = f", part {number} of {count}" if options.batch is not None else ""
+    before = balancer_words(None if options.is_undo else told.quiet) + client_words(told.client) + WATCH
     if options.is_undo:
         title = f"The way back from a plan over epoch {told.epoch}{part}"
         end = "after:  these groups have the exceptions of that epoch again, whichever part of the plan was run"
-        return Script(title, [end], told.weights, told.names)
+        return Script(title, [*before, end], told.weights, told.names)
     order = [f"order:  part {number - 1} is run before, and its groups have moved"] if number > 1 else []
     undo = UNDO + (f", write {part_file('undo', number, count)}" if part else "")
     notes = [*order, undo] if part else [PARTS, undo]
-    return Script(f"A plan over epoch {told.epoch}{part}", notes, told.weights, told.names)
+    return Script(f"A plan over epoch {told.epoch}{part}", before + notes, told.weights, told.names)
 
 
 def put_parts(told: ToldPlan, options: PlanOptions) -> None:
@@ -263,7 +290,7 @@ def work(options: PlanOptions) -> None:
     """Asks the program for its plans, in one session a map, and tells them."""
     known = known_data(options.data)
     told = plan_of_dumps(options, known) if options.source.has_dumps else plan_of_map(options, known)
-    print("\n".join(plan_lines(told.outcome, told.names, options.deviation)), file=sys.stderr)
+    print("\n".join(told.lines(options.deviation)), file=sys.stderr)
     if options.is_json:
         put_plan_json(told)
         return
@@ -347,7 +374,9 @@ def add_to(commands_of: Commands) -> None:
         help="write files of at most N commands each, to be run one after the other; those of one group stay together",
     )
     own.add_argument(
-        "--anyway", action="store_true", help="a plan also amid an outage, in which Ceph's balancer would wait"
+        "--anyway",
+        action="store_true",
+        help="a plan also amid an outage, or while 5 %% of the places are still to come, when Ceph's balancer would wait",
     )
     own.add_argument("--to", metavar="FOLDER", help="the folder of these files: plan-001.sh, .. or undo-001.sh, ..")
     own.add_argument(

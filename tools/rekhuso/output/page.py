@@ -10,8 +10,8 @@ from contextlib import ExitStack
 from ..cluster.disks import Disk
 from ..cluster.names import Names, named
 from ..cluster.shares import Shares, spread_parts
-from ..cluster.view import ClusterView, NO_PLAN
-from ..plans.plan import DEFAULT_WISH, opened, outage_in, planned
+from ..cluster.view import ClusterView
+from ..plans.plan import DEFAULT_WISH, misplaced_in, opened, outage_in, planned
 from ..program.answers import Up
 from ..program.maps import Map, Program, altered, entries_of, group_key, with_all_up
 from ..program.questions import up_sets
@@ -110,12 +110,12 @@ def exception_rows(value: Map, program: Program) -> list[list[str]]:
 def plan_part(whole: ClusterView, program: Program) -> str:
     """The plan of the cluster as the page has it: what is said of it, as `plan` says it, and its commands."""
     if whole.has_weight_set:
-        return f"<p>{html.escape(NO_PLAN)}</p>"
+        return f"<p>{html.escape(whole.no_plan(program))}</p>"
     with ExitStack() as stack:
         lives = opened(stack, whole, program)
-        outage, outcome = outage_in(lives), planned(lives, DEFAULT_WISH)
+        found, outcome = [outage_in(lives), misplaced_in(lives, whole)], planned(lives, DEFAULT_WISH)
     plan = [line for step in outcome.steps for line in step.commands]
-    said = ([] if outage is None else [str(outage)]) + page_words(outcome, whole.names)
+    said = [str(own) for own in found if own is not None] + page_words(outcome, whole.names)
     told = "".join(f"<p>{html.escape(line)}</p>" for line in said)
     return told + (f"<pre>{html.escape(chr(10).join(plan))}</pre>" if plan else "<p>Nothing is left to move.</p>")
 

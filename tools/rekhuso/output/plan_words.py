@@ -118,6 +118,12 @@ def cluster_words(outcome: Outcome, names: Names) -> list[str]:
     return [f"cluster {line}" for line in found]
 
 
+def quiet_words(quiet: int | None) -> list[str]:
+    """From which number on Ceph's own balancer leaves a plan alone, in a line, if that is known."""
+    words = "cluster by Ceph's own balancer: left alone where its upmap_max_deviation is"
+    return [] if quiet is None else [f"{words} {quiet} or more (5 where nobody sets it)"]
+
+
 def page_words(outcome: Outcome, names: Names) -> list[str]:
     """What a page says of plans: of the cluster, and of the pools that get none."""
     refused = [parts for parts in outcome.pools if parts["refused"]]

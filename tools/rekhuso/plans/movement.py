@@ -26,10 +26,10 @@ class PlaceBytes:
 
     def moving(self, steps: list[PlanStep]) -> MovingParts:
         """What some steps move: groups, places, and where it is known bytes and their share of all pools' data."""
-        places = [step.group for step in steps for _ in step.comes()]
+        places = [step.group for step in steps for _ in step.places_come()]
         size = math.fsum(self.sizes.get(group, 0.0) for group in places)
         return {
-            "groups": sum(step.was != step.now for step in steps),
+            "groups": sum(map(PlanStep.is_moving, steps)),
             "places": len(places),
             "bytes": None if self.total is None else round(size),
             "share": None if self.total is None else size / max(self.total, 1),
@@ -48,7 +48,7 @@ class PlaceBytes:
         size: dict[tuple[int, bool], float] = {}
         for step in steps:
             place = self.sizes.get(step.group, 0.0)
-            for counts, osds in ((come, step.comes()), (gone, step.leaves())):
+            for counts, osds in ((come, step.places_come()), (gone, step.places_leave())):
                 for osd in osds:
                     counts[osd] += 1
                     key = osd, counts is come

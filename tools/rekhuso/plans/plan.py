@@ -11,10 +11,11 @@ from ..cluster.cleanup import going, reason_words
 from ..cluster.conversion import monitor_of
 from ..cluster.disks import NEARFULL
 from ..cluster.judge import Reason, judge_of_cluster, judge_of_map
+from ..cluster.misplaced import Misplaced, misplaced_of
 from ..cluster.names import named
 from ..cluster.outage import Outage, outage_of
 from ..cluster.pool_data import Data
-from ..cluster.view import ClusterView, NO_PLAN
+from ..cluster.view import ClusterView
 from ..faults import Fault
 from ..output.json_forms import ClusterParts, DataParts, HindranceParts, PlanParts
 from ..program.maps import Program, group_key
@@ -167,7 +168,7 @@ def wanted_of(lives: list[Live], wish: Wish) -> list[int]:
 def opened(stack: ExitStack, whole: ClusterView, program: Program) -> list[Live]:
     """The maps of a cluster with a session each, which end with the stack. A fault where a weight set is in force."""
     if whole.has_weight_set:
-        raise Fault(NO_PLAN)
+        raise Fault(whole.no_plan(program))
     sessions = [stack.enter_context(monitor_of(value, program, True)) for value in whole.maps]
     if whole.found:
         return [
@@ -185,6 +186,12 @@ def outage_in(lives: list[Live]) -> Outage | None:
     osds = {osd["id"]: osd for live in lives for osd in live.value["osds"]}
     pools = [pool for live in lives for pool in live.pools.values()]
     return outage_of(osds.values(), pools, {group: up for live in lives for group, up in live.before.ups.items()})
+
+
+def misplaced_in(lives: list[Live], whole: ClusterView) -> Misplaced | None:
+    """What of a cluster is still to come to its OSDs; None where nothing is, or where it is a map."""
+    ups = {group: up for live in lives for group, up in live.before.ups.items()}
+    return misplaced_of(whole.found.cluster.osd_dump, ups) if whole.found else None
 
 
 def silent(_: str) -> None:
@@ -245,8 +252,8 @@ def pool_parts(
     return {
         "id": number,
         "name": named(live.names, "pools", number),
-        "moves": sum(len(step.comes()) for step in steps) if plan is None else plan.moves,
-        "groups": sum(step.was != step.now for step in steps),
+        "moves": sum(len(step.places_come()) for step in steps) if plan is None else plan.moves,
+        "groups": sum(map(PlanStep.is_moving, steps)),
         "refused": made.refusals.get(number),
         "moves_within": None if plan is None else plan.wanted,
         "moves_whole": None if plan is None else plan.whole,

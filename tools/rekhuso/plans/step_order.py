@@ -2,9 +2,11 @@
 most, and no OSD gets fuller on the way than the fullest was before, or is at the end.
 
 How full an OSD is, is what it has to its share: bytes where it is known what pools hold, else groups. The next step is
-one from the fullest OSD, of several the one to the emptiest. It comes into a part only if no OSD then gets above a
-bound, where all that comes in the part counts and nothing that goes. The bound is the fullest OSD before the part, or
-that after the whole plan, or 1.05 of a share, whichever is most; where the disks are known it is the nearfull ratio.
+one from the fullest OSD, of several the one to the emptiest. It comes into a part only if no OSD then gets above two
+bounds, where all that comes in the part counts and nothing that goes. The one is the fullest OSD before the part, or
+that after the whole plan, or 1.05 of a share, whichever is most. The other is each OSD's own: one place more than the
+most that it has before the whole plan or after it, as next to a share of nearly nothing no ratio is a bound. Where the
+disks are known the nearfull ratio is the bound in place of both.
 """
 
 from __future__ import annotations
@@ -50,7 +52,7 @@ class StepOrder:
         self.steps, self.share, self.has = steps, spread.share, dict(spread.has)
         self.first, self.limits = {at for at, step in enumerate(steps) if step.group in first}, limits or {}
         self.sizes = [1.0 if sizes is None else sizes[step.group] for step in steps]
-        self.come, self.go = [step.comes() for step in steps], [step.leaves() for step in steps]
+        self.come, self.go = [step.places_come() for step in steps], [step.places_leave() for step in steps]
         self.leaving: dict[int, list[int]] = {}
         for at, osds in enumerate(self.go):
             for osd in osds:
@@ -61,6 +63,7 @@ class StepOrder:
         for at in range(len(steps)):
             self.shift(end, at)
         self.end = Spread(end, self.share).fullest()
+        self.most = {osd: max(self.has.get(osd, 0), size) + ROUNDING for osd, size in end.items()}
 
     def shift(self, has: dict[int, float], at: int) -> None:
         """What OSDs have once a step is taken."""
@@ -83,6 +86,13 @@ class StepOrder:
         size = self.sizes[at]
         return max((self.ratio(self.high.get(osd, 0) + size, osd) for osd in self.come[at]), default=0.0)
 
+    def is_allowed(self, at: int) -> bool:
+        """Whether a step may come into the part."""
+        if self.limits:
+            return not self.over(at)
+        is_below = all(self.high.get(osd, 0) <= self.most[osd] for osd in self.come[at])
+        return is_below and self.peak(at) <= self.bound
+
     def begin(self) -> None:
         """A part begins."""
         self.high = dict(self.has)
@@ -93,14 +103,10 @@ class StepOrder:
         size, limits = self.sizes[at], self.limits
         return [osd for osd in self.come[at] if osd in limits and self.high.get(osd, 0) + size > limits[osd]]
 
-    def may_come(self, at: int) -> bool:
-        """Whether a step may come in the part."""
-        return not self.over(at) if self.limits else self.peak(at) <= self.bound
-
     def next_from(self, osd: int, first: bool) -> int | None:
         """The step from an OSD that comes next in the part, or None where none may come."""
         self.leaving[osd] = [at for at in self.leaving[osd] if at in self.left]
-        allowed = [at for at in self.leaving[osd] if (at in self.first or not first) and self.may_come(at)]
+        allowed = [at for at in self.leaving[osd] if (at in self.first or not first) and self.is_allowed(at)]
         ranked = [(max(map(self.full, self.come[at]), default=0.0), at) for at in allowed]
         return min(ranked)[1] if ranked else None
 
