@@ -25,7 +25,7 @@ from ..program.maps import Exceptions, Pool, Program, entries_of, group_key
 from ..words import counted
 from .plan import DEFAULT_WISH, opened, planned
 from .question import sets_of_maps
-from .step_order import parts_in_order
+from .step_order import StepOrder, parts_in_order
 from .steps import PlanStep, by_group
 
 
@@ -131,6 +131,6 @@ def release_of(cluster: Cluster, kept: Exceptions, is_planned: bool, most: int, 
         if group in was
     ]
     has, share = counts_of(was), end.shares(to).wanted
-    parts = parts_in_order(Spread(dict(has), share), None, steps, most)
+    parts = parts_in_order(StepOrder(Spread(dict(has), share), None, steps), most, False)
     after = max(counts_of(to).values(), default=0)
     return Release(cluster.epoch, pools, parts, peaks_of(Counter(has), parts), max(has.values(), default=0), after)
