@@ -75,7 +75,7 @@ def change_of(old: Map, new: Map) -> tuple[Change, list[str]]:
     return change, unsaid
 
 
-def exception_commands(old: Map, new: Map, kept: Exceptions | None = None) -> list[str]:
+def exception_commands(old: Exceptions, new: Exceptions, kept: Exceptions | None = None) -> list[str]:
     """What Ceph is told so that the exceptions of one map become those of the other, group by group; what goes, goes
     first. `kept` is what Ceph has, where the old map has not all of it: an explicit set that did nothing would keep
     pairs that come from acting.
