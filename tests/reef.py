@@ -249,7 +249,7 @@ class Reef(ReefCase):
         move; from 5 % of all places on, as Ceph's balancer has it, a plan is made only where it is asked for."""
         own, up = copied(REEF["plain"]), REEF["plain"]["up"]
         whole = sum(len(osds) for osds, _ in up.values())
-        for groups, refused in ((3, 0), (14, 0), (15, 1)):
+        for groups, refused in ((3, 0), (12, 0), (13, 1)):
             away = {group: [osd for osd in range(24) if osd not in up[group][0]][:1] for group in list(up)[:groups]}
             own["osd_dump"]["pg_temp"] = [
                 {"pgid": group, "osds": up[group][0][1:] + osds} for group, osds in away.items()

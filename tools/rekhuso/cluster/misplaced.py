@@ -13,8 +13,11 @@ from ..output.json_forms import MisplacedParts
 from ..program.answers import Up
 from ..program.maps import entries_of
 from ..words import counted, share_words
+from .moving import coming
 from .outage import filled
 
+# The type of erasure pools in a dump.
+ERASURE = 3
 # The share of all places from which on Ceph's balancer waits (target_max_misplaced_ratio, where nobody sets it).
 MOST = 0.05
 
@@ -65,7 +68,10 @@ def misplaced_of(dump: Mapping[str, object], ups: Mapping[str, Up]) -> Misplaced
     temporary = {group: osds for group, osds in temporary_sets(dump).items() if group in ups}
     if not temporary:
         return None
-    places = sum(len(set(ups[group].places) - {None, *osds}) for group, osds in temporary.items())
+    erasure = {str(pool["pool"]) for pool in entries_of(dump, "pools") if pool["type"] == ERASURE}
+    places = sum(
+        len(coming(osds, ups[group].places, group.split(".")[0] in erasure)) for group, osds in temporary.items()
+    )
     return Misplaced(len(temporary), places, sum(map(filled, ups.values())))
 
 

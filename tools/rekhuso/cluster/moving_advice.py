@@ -12,11 +12,10 @@ from ..program.answers import Up
 from ..program.maps import Program, altered, groups_of
 from ..words import counted, listed, share_words
 from .aftermath import cleaned_at, with_exceptions
-from .cluster import Cluster
+from .cluster import Cluster, KINDS_BY_TYPE
 from .conversion import map_of, monitor_of
 from .difference import moved_parts
 from .map_parts import map_clusters
-from .moving import erasure_pools
 from .reasons import reasons
 from .reasons.rules import TUNABLES
 
@@ -49,9 +48,10 @@ def moved_places(old: Cluster, new: Cluster, program: Program) -> tuple[int, int
         before, after = ups_of(old, program), ups_of(with_exceptions(new, kept), program)
     except Fault:
         return None
-    erasure = erasure_pools([pool for value in map(map_of, map_clusters(old)) for pool in value["pools"]])
-    whole = sum(len(up.places) - up.places.count(None) for up in before.values())
-    return moved_parts(before, after, erasure)["places"], whole
+    erasure = {pool["pool"] for pool in old.pools if KINDS_BY_TYPE[pool["type"]] == "erasure"}
+    return moved_parts(before, after, erasure)["places"], sum(
+        len(up.places) - up.places.count(None) for up in before.values()
+    )
 
 
 def places_words(moved: int, places: int) -> str:
@@ -81,7 +81,7 @@ def pool_sets_words(cluster: Cluster, program: Program) -> str:
 
 
 def tunable_words(cluster: Cluster) -> str:
-    """What other tunables move, by the words of the rules: no map holds the ones before. One alone was tried."""
+    """What another tunable moves, the one that was tried, by the words of the rules: no map holds the one before."""
     own = cluster.crush["tunables"]
     if [name for name, wanted in TUNABLES.items() if own.get(name, wanted) != wanted] != ["chooseleaf_stable"]:
         return ""

@@ -1,4 +1,4 @@
-"""What the pools of a cluster hold, as `ceph df --format json` tells it, and what each of their groups holds of that."""
+"""What the pools of a cluster hold, as `ceph df --format json` tells it, and of that each of their groups."""
 
 from __future__ import annotations
 

@@ -1,6 +1,6 @@
 """`df`: the tree of buckets with the columns of `ceph osd df tree`, its totals, and the pools.
 
-VAR is the ratio of an OSD's groups to its share, which is what its weight and reweight call for; DEVIATION is the
+RATIO is that of an OSD's groups to its share, which is what its weight and reweight call for; DEVIATION is the
 difference of the two, in groups. Of two dumps the tree is the cluster's, without the shadow buckets of device classes,
 and with what weighs 0; groups and shares are those of all pools. With --osds it has SIZE, RAW USE, AVAIL and %USE too.
 """
@@ -37,7 +37,7 @@ def summary_lines(total: JsonObject, names: Names) -> list[str]:
     """How even the OSDs are, in words."""
     groups = counted(total["max_pgs"], "group")
     found = [
-        f"an OSD has {total['min_pgs']} to {groups}; MIN/MAX VAR {total['min_var']:.2f}/{total['max_var']:.2f}; "
+        f"an OSD has {total['min_pgs']} to {groups}; MIN/MAX RATIO {total['min_ratio']:.2f}/{total['max_ratio']:.2f}; "
         f"standard deviation from the shares {total['deviation']}"
     ]
     ends = [f"{word} {osd_words(total[word], names)}" for word in ("fullest", "emptiest") if total[word]]

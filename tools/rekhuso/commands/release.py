@@ -17,12 +17,12 @@ from ..cluster.dump_forms import OSD_DUMP
 from ..cluster.dump_types import OsdDump
 from ..cluster.dumps import first_lines, read_dump
 from ..cluster.imports import imported
+from ..cluster.releases import least_client
 from ..cluster.sources import Source
-from ..cluster.view import no_plan_words
 from ..faults import Fault, Misuse
 from ..files import json_of
 from ..output.json_forms import put_json
-from ..output.plan_scripts import Script, part_file, put_batches
+from ..output.plan_scripts import Script, WATCH, balancer_words, client_words, part_file, put_batches
 from ..output.release_words import peak_words, release_lines
 from ..plans.hold_checks import check_still, moving_words
 from ..plans.movement import place_bytes
@@ -88,13 +88,14 @@ def script_of(found: Release, cluster: Cluster, options: ReleaseOptions, number:
     count = len(found.parts)
     part = f", part {number} of {count}" if options.batch is not None else ""
     weights = place_bytes(found.pools, None)
+    before = balancer_words(None) + client_words(least_client(cluster.osd_dump)) + WATCH
     if options.is_undo:
         title = f"The way back from a release over epoch {found.epoch}{part}"
-        return Script(title, [], weights, cluster.all_names())
+        return Script(title, before, weights, cluster.all_names())
     order = [f"order:  part {number - 1} is run before, and its groups have moved"] if number > 1 else []
     undo = UNDO + (f", write {part_file('undo', number, count)}" if part else "")
     notes = [f"peak:   {peak_words(found, number)}", *order, "stop:   give no further part", undo]
-    return Script(f"Releases held groups over epoch {found.epoch}{part}", notes, weights, cluster.all_names())
+    return Script(f"Releases held groups over epoch {found.epoch}{part}", before + notes, weights, cluster.all_names())
 
 
 def put_scripts(found: Release, cluster: Cluster, options: ReleaseOptions) -> None:
@@ -133,8 +134,6 @@ def work(options: ReleaseOptions) -> None:
     """Tells the way from what is held."""
     source, program = options.source, options.source.program
     cluster = imported(source.dumps()).cluster
-    if options.is_planned and cluster.has_weight_set:
-        raise Fault(no_plan_words(""))
     check_still(moving_words(cluster, program), options.is_anyway, "released")
     kept = kept_in(options.keep, cluster)
     found = release_of(cluster, kept, options.is_planned, options.batch or ALL, program)

@@ -13,7 +13,7 @@ from ..words import size_words
 from .json_forms import RowParts
 from .tables import aligned
 
-COLUMNS = ["ID", "CLASS", "WEIGHT", "REWEIGHT", "SHARE", "DEVIATION", "VAR", "PGS", "STATUS", "TYPE NAME"]
+COLUMNS = ["ID", "CLASS", "WEIGHT", "REWEIGHT", "SHARE", "DEVIATION", "RATIO", "PGS", "STATUS", "TYPE NAME"]
 # The columns of disks, which stand behind REWEIGHT where these are known, as in Ceph's table.
 DISK_COLUMNS, DISKS_AT = ["SIZE", "RAW USE", "AVAIL", "%USE"], 4
 # The state of an OSD as Ceph tells it: one that is out has the reweight 0.
@@ -45,14 +45,14 @@ def disk_parts(osds: Iterable[int], disks: Mapping[int, Disk]) -> JsonObject:
 def node(shares: Shares, row: RowParts, names: Names, disks: Mapping[int, Disk]) -> JsonObject:
     """What is told of an OSD or a bucket, under the keys of Ceph's own JSON, and with its share."""
     number = row["id"]
-    var = ratio(row["groups"], sum(shares.wanted.get(osd, 0.0) for osd in shares.below(number)))
+    filled = ratio(row["groups"], sum(shares.wanted.get(osd, 0.0) for osd in shares.below(number)))
     found = {
         "id": number,
         "name": named(names, "buckets" if number < 0 else "osds", number),
         "crush_weight": row["weight"],
         "pgs": row["groups"],
         "share": row["share"],
-        "var": None if var is None else round(var, 4),
+        "ratio": None if filled is None else round(filled, 4),
         **disk_parts(shares.below(number), disks),
     }
     if number < 0:
@@ -88,8 +88,8 @@ def summary(shares: Shares, disks: Mapping[int, Disk]) -> JsonObject:
         "share": total["share"],
         "min_pgs": even["least"],
         "max_pgs": even["greatest"],
-        "min_var": round(min(ratios, default=0.0), 4),
-        "max_var": round(max(ratios, default=0.0), 4),
+        "min_ratio": round(min(ratios, default=0.0), 4),
+        "max_ratio": round(max(ratios, default=0.0), 4),
         "deviation": even["deviation"],
         "fullest": fill["fullest"],
         "emptiest": fill["emptiest"],
@@ -119,12 +119,12 @@ def cells(own: JsonObject, depth: int) -> list[str]:
 def group_cells(own: JsonObject, depth: int) -> list[str]:
     """The same without its disks."""
     weight, groups, share = decimal(own["crush_weight"], 5), str(own["pgs"]), decimal(own["share"], 2)
-    var = "-" if own["var"] is None else decimal(own["var"], 2)
+    filled = "-" if own["ratio"] is None else decimal(own["ratio"], 2)
     if own["id"] < 0:
         name = (
             f"{own['type']} {own['name']}" if not own["type"].startswith("type ") else f"{own['name']} of {own['type']}"
         )
-        return [str(own["id"]), "", weight, "-", share, "-", var, groups, "", INDENT * depth + name]
+        return [str(own["id"]), "", weight, "-", share, "-", filled, groups, "", INDENT * depth + name]
     return [
         str(own["id"]),
         own["device_class"],
@@ -132,7 +132,7 @@ def group_cells(own: JsonObject, depth: int) -> list[str]:
         decimal(own["reweight"], 5),
         share,
         f"{own['deviation']:+.2f}",
-        var,
+        filled,
         groups,
         own["status"],
         INDENT * depth + own["name"],

@@ -36,7 +36,8 @@ def hold_lines(hold: Hold) -> list[str]:
     """What is held, and what is not by which reason."""
     told = hold.told()
     words = move_words(told["groups"], told["places"])
-    lines = [f"{words} by the change alone; {told['held']} of the groups are held"]
+    are = "is" if told["held"] == 1 else "are"
+    lines = [f"{words} by the change alone; {told['held']} of the groups {are} held"]
     by_step: dict[str, list[str]] = {}
     places: dict[str, int] = {}
     for own in told["left"]:
@@ -50,8 +51,8 @@ def hold_lines(hold: Hold) -> list[str]:
         get = "group gets" if filled["groups"] == 1 else "groups get"
         lines.append(f"{filled['groups']} {get} {counted(filled['places'], 'place')} that they did not have")
     if told["other_primary"]:
-        have = "group has" if len(told["other_primary"]) == 1 else "groups have"
-        lines.append(f"{len(told['other_primary'])} held {have} another primary")
+        keep = "group keeps its" if len(told["other_primary"]) == 1 else "groups keep their"
+        lines.append(f"{len(told['other_primary'])} {keep} OSDs with another primary")
     return lines
 
 

@@ -21,7 +21,7 @@ from .osd_picture import osd_picture
 from .plan_words import page_words
 
 # The columns of `df`, those first that a narrow screen shows.
-PAGE_COLUMNS = ["PGS", "SHARE", "DEVIATION", "VAR", "STATUS", "WEIGHT", "REWEIGHT", "CLASS"]
+PAGE_COLUMNS = ["PGS", "SHARE", "DEVIATION", "RATIO", "STATUS", "WEIGHT", "REWEIGHT", "CLASS"]
 STYLE = """:root{color-scheme:light dark}body{font:15px/1.45 system-ui,sans-serif;margin:1rem auto;max-width:86rem;
 padding:0 1rem}
 table{border-collapse:collapse;width:100%;display:block;overflow-x:auto}

@@ -123,6 +123,15 @@ def check_held(new: Cluster, held: Iterable[Held], goal: Exceptions, program: Pr
         )
 
 
+def of_groups(exceptions: Exceptions, groups: Iterable[str]) -> Exceptions:
+    """The exceptions of some groups."""
+    own = set(groups)
+    return {
+        "pg_upmap": [entry for entry in entries_of(exceptions, "pg_upmap") if entry[0] in own],
+        "pg_upmap_items": [entry for entry in entries_of(exceptions, "pg_upmap_items") if entry[0] in own],
+    }
+
+
 def kept_apart(now: Exceptions, goal: Exceptions, lost: frozenset[str]) -> Exceptions:
     """Exceptions without those that the monitor takes away on the way to a change and that are to be given again."""
 
@@ -149,11 +158,11 @@ def hold_of(sides: Sides, program: Program) -> Hold:
     for group in sorted(there, key=group_key):
         source = group if group in sides.has else split_group(group, sides.counts[group_key(group)[0]])
         found.append(holder.hold(group, list(sides.has[source])))
-    goal, now = exceptions_of(found), exceptions_in(new.osd_dump)
+    goal, now = exceptions_of(found), of_groups(exceptions_in(new.osd_dump), there)
     check_held(new, found, goal, program)
     would = mapped_sets(with_exceptions(new, cleaned_at(new, program, raw)[0].kept), program)
     explicit, items = new.exceptions
-    undo = exception_commands(goal, {"pg_upmap": explicit, "pg_upmap_items": items})
+    undo = exception_commands(goal, of_groups({"pg_upmap": explicit, "pg_upmap_items": items}, there))
     return Hold(new.epoch, found, would, exception_commands(kept_apart(now, goal, sides.lost), goal), undo)
 
 

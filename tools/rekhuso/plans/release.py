@@ -12,14 +12,12 @@ from dataclasses import dataclass
 
 from ..cluster.aftermath import cleaned_at, exceptions_in, with_exceptions
 from ..cluster.cluster import Cluster
-from ..cluster.conversion import map_of, pool_of
+from ..cluster.conversion import pool_of
 from ..cluster.difference import exception_commands
 from ..cluster.evenness import Spread
-from ..cluster.imports import ImportedCluster
-from ..cluster.map_parts import map_clusters
 from ..cluster.moving import erasure_pools
 from ..cluster.names import set_words
-from ..cluster.view import ClusterView
+from ..cluster.view import ClusterView, view_of_cluster
 from ..faults import Fault
 from ..output.json_forms import PeakParts
 from ..program.answers import Up
@@ -49,13 +47,6 @@ class Release:
     def steps(self) -> list[PlanStep]:
         """All steps in their order."""
         return [step for part in self.parts for step in part]
-
-
-def view_over(cluster: Cluster) -> ClusterView:
-    """What is asked of a cluster."""
-    parts = map_clusters(cluster)
-    maps = [map_of(part) for part in parts]
-    return ClusterView(maps, cluster.all_names(), ImportedCluster(cluster, parts, maps))
 
 
 def exceptions_after(now: Exceptions, lines: Iterable[str]) -> Exceptions:
@@ -125,8 +116,8 @@ def release_of(cluster: Cluster, kept: Exceptions, is_planned: bool, most: int, 
     then = cleaned_at(plain, program)[0].kept
     plain, wanted = with_exceptions(cluster, then), dict[str, list["int | None"]]()
     if is_planned:
-        then, wanted = planned_end(view_over(plain), then, program)
-    before, end = view_over(cluster), view_over(with_exceptions(cluster, then))
+        then, wanted = planned_end(view_of_cluster(plain), then, program)
+    before, end = view_of_cluster(cluster), view_of_cluster(with_exceptions(cluster, then))
     was, to = sets_of_maps(before.maps, program), sets_of_maps(end.maps, program)
     check_end(to, wanted)
     pools = [pool_of(pool) for pool in cluster.pools]
