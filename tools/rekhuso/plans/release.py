@@ -23,7 +23,8 @@ from ..output.json_forms import PeakParts
 from ..program.answers import Up
 from ..program.maps import Exceptions, Pool, Program, entries_of, group_key
 from ..words import counted
-from .plan import ALL, DEFAULT_WISH, opened, planned
+from .parts import ALL
+from .plan import DEFAULT_WISH, opened, planned
 from .question import sets_of_maps
 from .step_order import StepOrder, parts_in_order
 from .steps import PlanStep, by_group
