@@ -26,7 +26,7 @@ from ..output.plan_scripts import Script, WATCH, balancer_words, client_words, p
 from ..output.release_words import peak_words, release_lines
 from ..plans.hold_checks import check_still, moving_words
 from ..plans.movement import place_bytes
-from ..plans.plan import ALL
+from ..plans.parts import ALL
 from ..plans.release import Release, release_of
 from ..program.maps import Exceptions, altered
 from .arguments import Arguments, Commands, Files, add_dump_options, add_json, set_work, source_of
