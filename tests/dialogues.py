@@ -16,7 +16,7 @@ from collections.abc import Iterator
 from rekhuso.commands.shell import put_whole
 
 from tests.cases import EXAMPLE, HERE, Case
-from tests.clusters import STOCK, copied
+from tests.clusters import STOCK, Json, copied
 from tests.live_sessions import ran
 from tests.stores import StoreCase, store_program
 from tests.tool_cases import TOOLS
@@ -70,6 +70,33 @@ def in_a_shell(programs: dict[str, pathlib.Path], commands: list[str], typed: li
         except subprocess.TimeoutExpired:
             os.killpg(shell.pid, signal.SIGKILL)
             raise
+
+
+def heavier(crush: Json, osds: set[int]) -> Json:
+    """A CRUSH dump in which some OSDs weigh twice as much, and so each bucket above them."""
+    found: Json = copied(crush)
+    items = {bucket["id"]: bucket["items"] for bucket in crush["buckets"]}
+
+    def weight(item: Json) -> int:
+        """What an item weighs then."""
+        if item["id"] >= 0:
+            return int(item["weight"]) * (2 if item["id"] in osds else 1)
+        return sum(map(weight, items[item["id"]]))
+
+    for bucket in found["buckets"]:
+        bucket["items"] = [dict(item, weight=weight(item)) for item in items[bucket["id"]]]
+    return found
+
+
+def held(osd_dump: Json, lines: list[str]) -> Json:
+    """An OSD dump once commands on pairs were given."""
+    found = {}
+    for line in lines:
+        _, _, word, group, *osds = line.split(" ")
+        found[group] = [{"from": int(was), "to": int(now)} for was, now in zip(osds[::2], osds[1::2])]
+        assert word == "pg-upmap-items", line
+    pairs = [{"pgid": group, "mappings": own} for group, own in found.items()]
+    return dict(osd_dump, pg_upmap_items=pairs)
 
 
 def like(answer: str, line: str) -> bool:
@@ -169,9 +196,15 @@ class StoreDialogues(StoreCase):
             for cluster, before in ((STOCK["001-three-hosts"], ""), (other, "other-")):
                 for part in ("osd", "crush"):
                     (folder / f"{before}{part}.json").write_text(json.dumps(cluster[f"{part}_dump"]))
+            (folder / "new.json").write_text(json.dumps(heavier(STOCK["001-three-hosts"]["crush_dump"], {0, 1, 2, 3})))
             command = folder / "rekhuso"
             command.write_text(f'#!/bin/sh\nexec {sys.executable} {TOOLS} --program {self.program} "$@"\n')
             command.chmod(0o755)
+            words = [str(command), "hold", "osd.json", "crush.json", "--crush", "new.json", "--json"]
+            done = subprocess.run(words, cwd=folder, capture_output=True, text=True, check=True, timeout=SECONDS)
+            dump = held(STOCK["001-three-hosts"]["osd_dump"], json.loads(done.stdout)["commands"])
+            (folder / "held.json").write_text(json.dumps(dump))
+            (folder / "held-crush.json").write_text((folder / "new.json").read_text())
             found = [*dialogues("docs/CEPH.md")]
             self.assertGreater(len(found), 7)
             for commands, _, answers in found:

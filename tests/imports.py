@@ -131,10 +131,6 @@ def double_set(osd: Json, _: Json) -> None:
     osd["pg_upmap"] = [{"pgid": "1.4", "osds": [0, 4, 4]}]
 
 
-def primaries(osd: Json, _: Json) -> None:
-    osd["pg_upmap_primaries"] = [{"pgid": "1.4", "primary_osd": 4}]
-
-
 def uneven(_: Json, crush: Json) -> None:
     host = first_of(crush, "host")
     host["alg"] = "uniform"
@@ -171,7 +167,6 @@ ONE = [
     (many_chosen, ["rule replicated_rule has the number 11 in a step chooseleaf_firstn, more than 10"]),
     (long_set, ["the explicit set of 1.4 has 4 entries, 1 to the pool's size, 3"]),
     (double_set, ["the explicit set of 1.4 has an OSD twice"]),
-    (primaries, ["pg_upmap_primaries (of 1 group), which change the order of up sets"]),
     (uneven, ["bucket host0 is uniform, but its items have unequal weights"]),
 ]
 

@@ -111,6 +111,8 @@ def commands_over(place: pathlib.Path) -> list[list[object]]:
         ["df", EXAMPLE, "--json"],
         ["diff", EXAMPLE, other],
         ["whatif", EXAMPLE, "--out", "3"],
+        ["hold", *dumps, "--weight", "osd.3=1"],
+        ["release", *dumps],
         ["explain", EXAMPLE, "1.0"],
         ["picture", EXAMPLE, other],
         ["report", EXAMPLE],

@@ -13,11 +13,13 @@ OF_OTHERS = {"dedup_by", "BufRead", "upmap_max_deviation"}
 # Options of the kit, of Python's tools, of valgrind and of Ceph's tools that pages speak of.
 OPTIONS_OF_OTHERS = {
     "--allow-holes",
+    "--dump",
     "--anew",
     "--format",
     "--jobs",
     "--long",
     "--only",
+    "--reweight-item",
     "--strict",
     "--table",
     "--test",

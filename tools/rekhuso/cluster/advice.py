@@ -22,6 +22,8 @@ class Advice(NamedTuple):
 
 # What stands for the words that take the pools that come in, where some do.
 POOLS = "{pools}"
+# What stands for the words that say how much it moves.
+MOVES = "{moves}"
 SOME = "--pools takes some pools at a time"
 AGAIN = "no monitor dumps it so: take both dumps again"
 # What keeps a cluster out whose maps have no straw2 bucket.
@@ -63,7 +65,7 @@ ADVICES = (
     Advice(
         r"straw buckets?, as ", "`ceph osd crush set-all-straw-buckets-to-straw2` makes them straw2 (Nautilus or later)"
     ),
-    Advice(r"^tunable ", "`ceph osd crush tunables jewel` sets all of them, and moves data once"),
+    Advice(r"^tunable ", "`ceph osd crush tunables jewel` sets all of them, and moves data once{moves}"),
     Advice(r"^no tunable ", "take the dump by Ceph 10.2 or later"),
     Advice(
         r"^pool (\d+) is without hashpspool",
@@ -71,7 +73,7 @@ ADVICES = (
     ),
     Advice(
         r"^choose_args.*: of pools",
-        f"`ceph osd crush weight-set rm POOL` takes each away, once the balancer is off; {POOLS}",
+        f"`ceph osd crush weight-set rm POOL` takes each away, once the balancer is off{{moves}}; {POOLS}",
     ),
     Advice(r"^choose_args", "`ceph osd crush weight-set rm-compat` takes it away, once the balancer is off"),
     Advice(
@@ -94,7 +96,6 @@ ADVICES = (
         r"the CRUSH dump does not list",
         "take both dumps at one time; --unmatched takes it as out of reach of every rule",
     ),
-    Advice(r"^pg_upmap_primaries", "`ceph osd rm-pg-upmap-primary PG` takes each away"),
     Advice(r"not in the grammar|from two buckets|is of the unknown type| takes osd\.\d+, which is no bucket$", POOLS),
     Advice(
         r"which is not below it$",
@@ -128,14 +129,16 @@ def with_free_pools(done: str, pools: str) -> str:
     return done.replace(POOLS, words).removesuffix("; ")
 
 
-def advised(reasons: list[str], pools: str) -> list[str]:
-    """Each reason with what is done about it, where some pools come in, and of those kinds that are told as one, more
-    than a few in one line.
+def advised(reasons: list[str], pools: str, moves: list[str] | None = None) -> list[str]:
+    """Each reason with what is done about it, where some pools come in, and what that moves; and of those kinds that
+    are told as one, more than a few in one line.
     """
+    moved = dict(zip(reasons, moves or []))
     kinds = [kind_of(reason) for reason in reasons]
     found: list[str] = []
     told: set[Advice] = set()
     for reason, kind in zip(reasons, kinds):
+        words = moved.get(reason, "")
         if kind is None or kind in told:
             found += [reason] if kind is None else []
             continue
@@ -144,6 +147,6 @@ def advised(reasons: list[str], pools: str) -> list[str]:
             told.add(kind)
             names = [match[1] for match in (re.search(kind.pattern, other) for other in same) if match]
             reason = kind.many.format(count=len(same), names=some(list(dict.fromkeys(names))))
-        done = with_free_pools(kind.done, pools)
+        done = with_free_pools(kind.done, pools).replace(MOVES, words)
         found.append(f"{reason}{'' if reason.endswith('?') else ':' if done else ''} {done}".rstrip())
     return found

@@ -13,9 +13,10 @@ from .cluster import Cluster
 from .conversion import map_of, monitor_of, pool_of
 from .dump_types import OsdDump
 from .effects import Host, with_change, with_osd, with_weights
-from .imports import map_clusters
 from .judge import Places, Present, Reason, judge_of_cluster
 from .map_dumps import cluster_of_map
+from .map_parts import map_clusters
+from .new_crush import NewCrush, PoolChange, with_new_crush, with_pool_change
 from .reasons import reasons
 from .shadows import with_shadows
 
@@ -54,7 +55,7 @@ class NewMap:
     value: Map
 
 
-Command = Union[StateChange, CrushWeights, Arrival, NewMap]
+Command = Union[StateChange, CrushWeights, Arrival, NewMap, NewCrush, PoolChange]
 
 
 @dataclass(frozen=True)
@@ -70,12 +71,23 @@ class Aftermath:
     later: dict[str, Reason]
 
 
+def with_primaries_of(old: Cluster, new: Cluster) -> Cluster:
+    """A cluster with the primaries that are named for groups of another, where their pools are there."""
+    entries, pools = entries_of(old.osd_dump, "pg_upmap_primaries"), {str(pool) for pool in new.sizes}
+    kept = [entry for entry in entries if entry["pgid"].split(".")[0] in pools]
+    return Cluster(altered(new.osd_dump, pg_upmap_primaries=kept), new.crush, new.torn, new.gone) if kept else new
+
+
 def with_command(cluster: Cluster, step: Command) -> Cluster:
     """A cluster after a command, before the monitor looks at exceptions."""
     if isinstance(step, NewMap):
-        return cluster_of_map(step.value, cluster.all_names())
+        return with_primaries_of(cluster, cluster_of_map(step.value, cluster.all_names()))
     if isinstance(step, Arrival):
         return with_osd(cluster, step.host, step.weight)
+    if isinstance(step, NewCrush):
+        return with_new_crush(cluster, step)
+    if isinstance(step, PoolChange):
+        return with_pool_change(cluster, step)
     dump, crush = cluster.osd_dump, cluster.crush
     if isinstance(step, StateChange):
         dump = with_change(dump, step.change)
@@ -126,16 +138,35 @@ def raw_sets(maps: list[Map], groups: set[str], program: Program) -> dict[str, P
     return found
 
 
-def cleaned_at(cluster: Cluster, program: Program) -> tuple[Cleaned, Cleaned]:
-    """What a monitor leaves of a cluster's exceptions at one map, and what of these at the next."""
-    exceptions, judge = exceptions_in(cluster.osd_dump), judge_of_cluster(cluster)
-    pools = {pool["pool"]: pool_of(pool) for pool in cluster.pools}
+def present_in(cluster: Cluster) -> Present:
+    """What a monitor looks at in a cluster beside the CRUSH map."""
     reweights = {**cluster.gone, **{osd: round(own["weight"] * 65536) for osd, own in cluster.osds.items()}}
-    present = Present(pools, reweights, cluster.osd_dump["max_osd"])
-    there = {group for group in excepted_groups(exceptions) if group_fault(group, pools, judge.pending) is None}
-    raw = raw_sets([map_of(part) for part in map_clusters(cluster)], there, program) if there else {}
+    return Present({pool["pool"]: pool_of(pool) for pool in cluster.pools}, reweights, cluster.osd_dump["max_osd"])
+
+
+def cleaned_at(
+    cluster: Cluster, program: Program, known: Mapping[str, Places] | None = None
+) -> tuple[Cleaned, Cleaned]:
+    """What a monitor leaves of a cluster's exceptions at one map, and what of these at the next. What the rules of
+    groups give is asked of the program where it is not known.
+    """
+    exceptions, judge, present = exceptions_in(cluster.osd_dump), judge_of_cluster(cluster), present_in(cluster)
+    groups = excepted_groups(exceptions)
+    there = {group for group in groups if group_fault(group, present.pools, judge.pending) is None}
+    raw = known or (raw_sets([map_of(part) for part in map_clusters(cluster)], there, program) if there else {})
     first = cleaned(judge, present, raw, exceptions)
     return first, cleaned(judge, present, raw, first.kept)
+
+
+def after_command(cluster: Cluster, step: Command, known: set[str]) -> Cluster:
+    """A cluster after a command, before the monitor looks at exceptions. A fault where it then stays out for reasons
+    that are not known.
+    """
+    cluster = with_command(cluster, step)
+    found = [line for line in reasons(cluster, True, False) if line not in known]
+    if found:
+        raise Fault(*(f"after the change {line}" for line in found))
+    return cluster
 
 
 def aftermath(cluster: Cluster, steps: list[Command], program: Program) -> Aftermath:
@@ -145,10 +176,7 @@ def aftermath(cluster: Cluster, steps: list[Command], program: Program) -> After
     later: Mapping[str, Reason] = {}
     fewer: set[str] = set()
     for step in steps:
-        cluster = with_command(cluster, step)
-        found = [line for line in reasons(cluster, True, False) if line not in known]
-        if found:
-            raise Fault(*(f"after the change {line}" for line in found))
+        cluster = after_command(cluster, step, known)
         if excepted_groups(exceptions_in(cluster.osd_dump)):
             now, then = cleaned_at(cluster, program)
             cluster = with_exceptions(cluster, now.kept)

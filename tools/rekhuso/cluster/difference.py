@@ -2,11 +2,13 @@
 
 from __future__ import annotations
 
+from collections.abc import Mapping
 from typing import Any
 
 from ..output.json_forms import MovedParts
 from ..program.answers import Up
 from ..program.maps import Change, Entry, Exceptions, Map, altered, entries_of, group_key
+from .moving import coming, has_moved, leaving
 
 # The exceptions of a map, and the word that Ceph's commands have for each.
 EXCEPTION_WORDS = {"pg_upmap": "pg-upmap", "pg_upmap_items": "pg-upmap-items"}
@@ -73,7 +75,7 @@ def change_of(old: Map, new: Map) -> tuple[Change, list[str]]:
     return change, unsaid
 
 
-def exception_commands(old: Map, new: Map, kept: Exceptions | None = None) -> list[str]:
+def exception_commands(old: Exceptions, new: Exceptions, kept: Exceptions | None = None) -> list[str]:
     """What Ceph is told so that the exceptions of one map become those of the other, group by group; what goes, goes
     first. `kept` is what Ceph has, where the old map has not all of it: an explicit set that did nothing would keep
     pairs that come from acting.
@@ -98,13 +100,16 @@ def exception_commands(old: Map, new: Map, kept: Exceptions | None = None) -> li
     return found
 
 
-def moved_parts(before: dict[str, Up], after: dict[str, Up]) -> MovedParts:
-    """How many groups and places differ, and which OSDs take part."""
+def moved_parts(before: Mapping[str, Up], after: Mapping[str, Up], erasure: set[int]) -> MovedParts:
+    """How many groups and places move, and which OSDs take part; `erasure` has the pools whose places each hold a part
+    of their own.
+    """
     groups, places = 0, 0
-    osds: set[int | None] = set()
+    osds: set[int] = set()
     for group in before.keys() & after.keys():
-        was, now = set(before[group].places) - {None}, set(after[group].places) - {None}
-        groups += before[group].places != after[group].places
-        places += len(now - was)
-        osds |= was ^ now
-    return {"groups": groups, "places": places, "osds": sorted(osd for osd in osds if osd is not None)}
+        was, now, is_erasure = before[group].places, after[group].places, group_key(group)[0] in erasure
+        come = coming(was, now, is_erasure)
+        groups += has_moved(was, now, is_erasure)
+        places += len(come)
+        osds.update(come, leaving(was, now, is_erasure))
+    return {"groups": groups, "places": places, "osds": sorted(osds)}

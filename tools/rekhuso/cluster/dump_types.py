@@ -104,7 +104,14 @@ class DumpOsd(Stated):
     weight: float
 
 
-class OsdDump(TypedDict):
+class OfCluster(TypedDict, total=False):
+    """What an OSD dump may have: of which cluster it is, and up to which part OSDs may be filled."""
+
+    fsid: str
+    nearfull_ratio: float
+
+
+class OsdDump(OfCluster):
     """What `ceph osd dump -f json` prints, beside tables of exceptions that `entries_of` reads."""
 
     epoch: int

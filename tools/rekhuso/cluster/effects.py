@@ -154,7 +154,7 @@ def with_change(dump: OsdDump, change: Change) -> OsdDump:
     for group, own in change.get("new_items", []):
         pairs[group] = {"pgid": group, "mappings": [{"from": was, "to": now} for was, now in own]}
     gone = {str(number) for number in change.get("old_pools", [])}
-    kept = [[entry for group, entry in table.items() if group.split(".")[0] not in gone] for table in (sets, pairs)]
-    return altered(
-        dump, pools=pools_after(dump, change), osds=osds_after(dump, change), pg_upmap=kept[0], pg_upmap_items=kept[1]
-    )
+    named = {"pg_upmap_primaries": entries_of(dump, "pg_upmap_primaries")} if "pg_upmap_primaries" in dump else {}
+    tables = {"pg_upmap": list(sets.values()), "pg_upmap_items": list(pairs.values()), **named}
+    kept = {key: [entry for entry in table if entry["pgid"].split(".")[0] not in gone] for key, table in tables.items()}
+    return altered(dump, pools=pools_after(dump, change), osds=osds_after(dump, change), **kept)

@@ -7,20 +7,18 @@ from collections.abc import Mapping
 from ..output.json_forms import FullestParts
 from ..program.answers import Up
 from ..program.maps import group_key
+from .moving import passed_on
 from .outage import filled
 from .shares import Shares
 
 
-def flows(before: dict[str, Up], after: dict[str, Up]) -> dict[tuple[int, int], int]:
-    """How many places go from each OSD to each other: those that a group loses to those that it gains, in their
-    order.
+def flows(before: Mapping[str, Up], after: Mapping[str, Up], erasure: set[int]) -> dict[tuple[int, int], int]:
+    """How many places go from each OSD to each other, of groups that are there before and after; `erasure` has the
+    pools whose places each hold a part of their own.
     """
     found: dict[tuple[int, int], int] = {}
-    for group, was in before.items():
-        now = after[group].places if group in after else []
-        lost = [osd for osd in was.places if osd is not None and osd not in now]
-        gained = [osd for osd in now if osd is not None and osd not in was.places]
-        for pair in zip(lost, gained):
+    for group in before.keys() & after.keys():
+        for pair in passed_on(before[group].places, after[group].places, group_key(group)[0] in erasure):
             found[pair] = found.get(pair, 0) + 1
     return found
 

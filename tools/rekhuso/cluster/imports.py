@@ -13,7 +13,8 @@ from .advice import advised
 from .cluster import Cluster
 from .conversion import map_of
 from .dumps import Misfit, chosen_cluster, first_lines
-from .map_parts import pools_by_map
+from .map_parts import map_clusters
+from .moving_advice import moving_words
 from .names import with_pool_names
 from .reasons import reasons
 from .reasons.buckets import root_reasons
@@ -62,12 +63,6 @@ def several_words(parts: list[Cluster]) -> str:
     )
 
 
-def map_clusters(cluster: Cluster) -> list[Cluster]:
-    """The cluster of each map that one takes."""
-    pools = pools_by_map(cluster)
-    return [cluster] if len(pools) == 1 else [cluster.of_pools(own) for own in pools]
-
-
 def plain_reasons(cluster: Cluster) -> list[str]:
     """What keeps those maps of a cluster out that have no straw2 bucket, where others have one: such a map has the
     limits of plain ones, by which the program reads it. Each with what is done about it.
@@ -98,19 +93,21 @@ def free_pools(cluster: Cluster, faults: list[Misfit], is_unmatched: bool) -> st
     return ",".join(map(str, sorted(found))) if is_part and is_free(found) else ""
 
 
-def with_advice(cluster: Cluster, faults: list[Misfit], found: list[str], is_unmatched: bool) -> list[str]:
-    """Each reason with what is done about it."""
-    return advised(found, free_pools(cluster, faults, is_unmatched) if found else "") + plain_reasons(cluster)
+def with_advice(cluster: Cluster, faults: list[Misfit], found: list[str], files: DumpFiles) -> list[str]:
+    """Each reason with what is done about it, and what that moves."""
+    pools = free_pools(cluster, faults, files.is_unmatched) if found else ""
+    told = [moving_words(cluster, line, files.program) for line in found]
+    return advised(found, pools, told) + plain_reasons(cluster)
 
 
-def against(cluster: Cluster, faults: list[Misfit], is_unmatched: bool, is_one: bool) -> list[str]:
+def against(cluster: Cluster, faults: list[Misfit], files: DumpFiles, is_one: bool) -> list[str]:
     """All that is told against a cluster; where one map is asked for, what it takes several for too."""
-    found = first_lines(faults) + reasons(cluster, is_unmatched, False)
+    found = first_lines(faults) + reasons(cluster, files.is_unmatched, False)
     apart = (
         [line for line in root_reasons(cluster, True) + size_reasons(cluster) if line not in found] if is_one else []
     )
     if cluster.is_stock:
-        found = with_advice(cluster, faults, found, is_unmatched)
+        found = with_advice(cluster, faults, found, files)
     if apart:
         apart[-1] += f"; {several_words(map_clusters(cluster))}"
     return found + apart
@@ -127,7 +124,7 @@ def imported(files: DumpFiles, is_one: bool = False) -> ImportedCluster:
     of the dumps has is no fault where it is to be taken so, and is told on standard error.
     """
     cluster, faults = chosen_cluster(files)
-    found = against(cluster, faults, files.is_unmatched, is_one)
+    found = against(cluster, faults, files, is_one)
     if found:
         raise Fault(*named_reasons(cluster, found))
     for own in unmatched(cluster):

@@ -86,3 +86,9 @@ def pools_by_map(cluster: Cluster) -> list[set[int]]:
     for pool, demand in demands.items():
         found.setdefault(maps[demand], set()).add(pool)
     return sorted(found.values(), key=min) or [set()]
+
+
+def map_clusters(cluster: Cluster) -> list[Cluster]:
+    """The cluster of each map that one takes."""
+    pools = pools_by_map(cluster)
+    return [cluster] if len(pools) == 1 else [cluster.of_pools(own) for own in pools]

@@ -26,6 +26,13 @@ def omissions_of(cluster: Cluster, has_names: bool) -> list[str]:
             f"primary affinity of {some(other)}: `up` lines over the map tell primaries, and the order of "
             "replicated sets, without it; explain, df --json and whatif over the dumps apply it"
         )
+    named = len(entries_of(cluster.osd_dump, "pg_upmap_primaries"))
+    if named:
+        what, them = ("1 primary", "it") if named == 1 else (f"{named} primaries", "them")
+        found.append(
+            f"{what} named by pg_upmap_primaries: `up` lines over the map tell primaries, and the order of sets, "
+            f"without {them}; explain, df --json and whatif over the dumps apply {them}"
+        )
     explicit, items = cluster.exceptions
     idle = (
         len(entries_of(cluster.osd_dump, "pg_upmap"))

@@ -12,15 +12,16 @@ from ..program.maps import Program
 class DumpFiles:
     """The files of a cluster's dumps, and how they are taken: the OSD dump, the CRUSH dump, the tree if there is one,
     the pools that are chosen by their ids or names (None for all), and whether OSDs that only one dump has are taken as
-    out.
+    out; and the program, which tells what advice moves.
     """
 
-    __slots__ = ("osd_dump", "crush_dump", "tree", "pools", "is_unmatched")
+    __slots__ = ("osd_dump", "crush_dump", "tree", "pools", "is_unmatched", "program")
     osd_dump: str
     crush_dump: str
     tree: str | None
     pools: str | None
     is_unmatched: bool
+    program: Program
 
 
 @dataclass(frozen=True)
@@ -44,7 +45,7 @@ class Source:
 
     def dumps(self) -> DumpFiles:
         """The files of two dumps."""
-        return DumpFiles(self.paths[0], self.paths[1], self.tree, self.pools, self.is_unmatched)
+        return DumpFiles(self.paths[0], self.paths[1], self.tree, self.pools, self.is_unmatched, self.program)
 
     def check_map(self) -> None:
         """An error of use where options for dumps stand beside a map."""

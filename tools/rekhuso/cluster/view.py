@@ -10,23 +10,28 @@ from ..faults import Fault
 from ..files import json_of, text_of
 from ..program.answers import Up
 from ..program.map_forms import list_of, number_between, object_of, one_of, tuple_of
-from ..program.maps import Bucket, Map, Pool, altered, groups_of
+from ..program.maps import Bucket, Map, Pool, Program, altered, groups_of
 from .affinity import affinities_of, all_with_affinity
 from .cluster import Cluster
-from .conversion import bucket_of, monitor_of
+from .conversion import bucket_of, map_of, monitor_of
 from .dump_forms import is_crush_dump
 from .imports import ImportedCluster, imported
 from .map_files import map_in, map_with_sets
+from .map_parts import map_clusters
+from .moving_advice import compat_words
 from .names import Names, names_in
+from .primaries import NamedPrimaries, primaries_in
 from .shares import Shares
 from .sources import Source
 
-NO_PLAN = (
-    "no plan: a compat weight set (choose_args) is in force, so a plan by its weights would undo what it was tuned "
-    "for, and one by the "
-    "weights themselves would start from sets that are not there. Turn Ceph's balancer off, take the set away by "
-    "`ceph osd crush weight-set rm-compat`, which moves data, and dump again"
-)
+
+def no_plan_words(moves: str) -> str:
+    """That no plan is made where a weight set is in force, why, and what taking it away moves, if that is known."""
+    return (
+        "no plan: a compat weight set (choose_args) is in force, so a plan by its weights would undo what it was tuned "
+        "for, and one by the weights themselves would start from sets that are not there. Turn Ceph's balancer off, "
+        f"take the set away by `ceph osd crush weight-set rm-compat`, which moves data{moves}, and dump again"
+    )
 
 
 class ClusterView:
@@ -75,6 +80,15 @@ class ClusterView:
         if self.found is not None:
             return self.found.cluster.has_weight_set
         return self.is_cluster and has_other_weights(self.maps[0], self.tree["buckets"])
+
+    def primaries(self, program: Program, group: str | None = None) -> NamedPrimaries:
+        """The primaries that are named for its groups, or for one of them; none where it is a map."""
+        dump = {} if self.found is None else primaries_in(self.found.cluster.osd_dump, group)
+        return NamedPrimaries(dump, self.maps, program)
+
+    def no_plan(self, program: Program) -> str:
+        """That no plan is made of it, as a weight set is in force."""
+        return no_plan_words(compat_words(self.found.cluster, program) if self.found else "")
 
     def shares(self, ups: dict[str, Up]) -> Shares:
         """The shares of the whole."""
@@ -183,7 +197,9 @@ def view_of(source: Source) -> ClusterView:
 
 
 def view_with_sets(source: Source) -> tuple[ClusterView, dict[str, Up]]:
-    """The same with the up set of each group, by one session for each map, and the primaries that affinities choose."""
+    """The same with the up set of each group, by one session for each map, and the primaries that entries name and
+    affinities choose.
+    """
     if not source.has_dumps:
         source.check_map()
         value, sets = map_with_sets(source.paths[0], source.program)
@@ -192,7 +208,14 @@ def view_with_sets(source: Source) -> tuple[ClusterView, dict[str, Up]]:
     for value in view.maps:
         with monitor_of(value, source.program) as monitor:
             sets.update(monitor.ups(groups_of(value)))
-    return view, all_with_affinity(view.pools, sets, view.affinities)
+    return view, all_with_affinity(view.pools, view.primaries(source.program).applied(sets), view.affinities)
+
+
+def view_of_cluster(cluster: Cluster) -> ClusterView:
+    """A cluster against which nothing is found, by its own names."""
+    parts = map_clusters(cluster)
+    maps = [map_of(part) for part in parts]
+    return ClusterView(maps, cluster.all_names(), ImportedCluster(cluster, parts, maps))
 
 
 def cluster_view(source: Source) -> ClusterView:

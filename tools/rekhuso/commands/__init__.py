@@ -9,6 +9,8 @@
 | `df`      | `df.py`      | the tree with the groups of each OSD      |
 | `diff`    | `diff.py`    | what differs between two maps             |
 | `whatif`  | `whatif.py`  | what moves if a change is made            |
+| `hold`    | `hold.py`    | exceptions that hold groups behind a change |
+| `release` | `release.py` | the way from what is held, in parts       |
 | `explain` | `explain.py` | why a group is where it is                |
 | `picture` | `picture.py` | the OSDs and their shares as SVG          |
 | `report`  | `report.py`  | one HTML page of a map                    |
@@ -18,6 +20,6 @@
 `arguments.py` has what several of them take, and `whatif_words.py` the words of `whatif`.
 """
 
-from . import check, df, diff, explain, history, import_, net, picture, plan, report, shell, whatif
+from . import check, df, diff, explain, history, hold, import_, net, picture, plan, release, report, shell, whatif
 
-COMMANDS = [import_, check, plan, net, df, diff, whatif, explain, picture, report, shell, history]
+COMMANDS = [import_, check, plan, net, df, diff, whatif, hold, release, explain, picture, report, shell, history]

@@ -12,7 +12,9 @@ from ..cluster.difference import change_of, moved_parts
 from ..cluster.flows import flows
 from ..cluster.imports import imported
 from ..cluster.map_files import map_with_sets
+from ..cluster.moving import erasure_pools, with_split_groups
 from ..cluster.names import Names, names_in, with_names
+from ..cluster.primaries import named_primaries, other_primaries
 from ..cluster.sources import Source
 from ..faults import Refused
 from ..output.flow_words import pair_lines
@@ -38,12 +40,13 @@ class DiffOptions:
 
 @dataclass(frozen=True)
 class Side:
-    """A map with the up set of each of its groups, and its names."""
+    """A map with the up set of each of its groups, its names, and the primaries that dumps name for groups."""
 
-    __slots__ = ("value", "sets", "names")
+    __slots__ = ("value", "sets", "names", "primaries")
     value: Map
     sets: dict[str, Up]
     names: Names
+    primaries: dict[str, int]
 
 
 def options_of(arguments: Arguments) -> DiffOptions:
@@ -56,11 +59,11 @@ def side_of(source: Source) -> Side:
     """A map, or that of two dumps. A fault where it is not lawful, or a cluster stays out or takes several maps."""
     if not source.has_dumps:
         source.check_map()
-        return Side(*map_with_sets(source.paths[0], source.program), names_in(source.names))
+        return Side(*map_with_sets(source.paths[0], source.program), names_in(source.names), {})
     found = imported(source.dumps(), True)
     value, names = found.maps[0], names_in(source.names) if source.names else found.cluster.all_names()
     with monitor_of(value, source.program) as monitor:
-        return Side(value, monitor.ups(groups_of(value)), names)
+        return Side(value, monitor.ups(groups_of(value)), names, named_primaries(found.cluster.osd_dump))
 
 
 def check_change(old: Map, new: Map, change: Change, source: Source) -> None:
@@ -77,12 +80,13 @@ def work(options: DiffOptions) -> None:
     change, unsaid = change_of(old.value, new.value)
     if not unsaid:
         check_change(old.value, new.value, change, options.old)
+    unsaid += other_primaries(old.primaries, new.primaries)
     names = {kind: {**old.names.get(kind, {}), **own} for kind, own in new.names.items()}
-    unsaid, told = [with_names(line, names) for line in unsaid], moved_parts(old.sets, new.sets)
-    there = {group: up for group, up in old.sets.items() if group in new.sets}
-    pairs = [
-        [*pair, count] for pair, count in sorted(flows(there, new.sets).items(), key=lambda own: (-own[1], own[0]))
-    ]
+    erasure = erasure_pools(new.value["pools"])
+    there = with_split_groups(old.sets, old.value["pools"], new.value["pools"])
+    unsaid, told = [with_names(line, names) for line in unsaid], moved_parts(there, new.sets, erasure)
+    moved = flows(there, new.sets, erasure)
+    pairs = [[*pair, count] for pair, count in sorted(moved.items(), key=lambda own: (-own[1], own[0]))]
     if options.is_json:
         epochs = old.value["epoch"], new.value["epoch"]
         put_json("diff", epochs[0], new_epoch=epochs[1], change=change, unsaid=unsaid, **told, flows=pairs)

@@ -3,17 +3,18 @@
 from __future__ import annotations
 
 import argparse
-from collections.abc import Iterable, Mapping
+from collections.abc import Iterable
 from dataclasses import dataclass
 
 from ..cluster.affinity import applied_words, told_affinities, with_affinity
 from ..cluster.names import Names, named, set_words, step_words
+from ..cluster.primaries import with_first
 from ..cluster.sources import Source
-from ..cluster.view import view_of
+from ..cluster.view import ClusterView, view_of
 from ..files import JsonObject
-from ..output.json_forms import PairParts, put_json
+from ..output.json_forms import NamedParts, PairParts, put_json
 from ..program.map_forms import GROUP_PATTERN
-from ..program.maps import Map, Program, altered, entries_of, with_all_up
+from ..program.maps import Program, altered, entries_of, with_all_up
 from ..program.questions import up_sets
 from ..words import counted
 from .arguments import Arguments, Commands, add_json, add_map_files, add_names, set_work, source_of, usage
@@ -31,10 +32,11 @@ class GroupStory:
     without OSDs that are down.
     """
 
-    def __init__(self, value: Map, group: str, program: Program, affinities: Mapping[int, int]) -> None:
-        """Asks the program for the sets, of which affinities choose the primary; `Refused` where there is no such
-        group.
+    def __init__(self, view: ClusterView, group: str, program: Program) -> None:
+        """Asks the program for the sets, of which named primaries and affinities choose the primary; `Refused` where
+        there is no such group.
         """
+        value = view.map_of(int(group.split(".")[0]))
         self.value, self.group, self.program = value, group, program
         self.osds = {osd["id"]: osd for osd in value["osds"]}
         self.explicit: list[int] | None = dict(entries_of(value, "pg_upmap")).get(group)
@@ -48,7 +50,9 @@ class GroupStory:
         }
         self.sets = {stage: up_sets(program, own, [group])[group] for stage, own in stages.items()}
         self.pool = next(own for own in value["pools"] if own["id"] == int(group.split(".")[0]))
-        self.affinities = {osd: own for osd, own in affinities.items() if osd in self.sets["up"].places}
+        self.primaries = view.primaries(program, group)
+        self.sets["up"] = self.primaries.applied({group: self.sets["up"]})[group]
+        self.affinities = {osd: own for osd, own in view.affinities.items() if osd in self.sets["up"].places}
         self.sets["up"] = with_affinity(self.pool, int(group.split(".")[1], 16), self.sets["up"], self.affinities)
 
     def weight(self, osd: int) -> int:
@@ -124,6 +128,28 @@ class GroupStory:
             for own in self.pair_parts()
         ]
 
+    def named_parts(self) -> NamedParts | None:
+        """What the primary that is named for the group did, or why it did nothing; None where none is named."""
+        named, idle = self.primaries.osds.get(self.group), self.primaries.idle.get(self.group)
+        if named is None:
+            return None
+        mapped = list(self.sets["mapped"].places)
+        return {"osd": named, "idle": idle, "set": mapped if idle else with_first(mapped, named)}
+
+    def named_lines(self) -> list[str]:
+        """The same in a line."""
+        own, mapped = self.named_parts(), self.sets["mapped"].places
+        if own is None:
+            return []
+        what = (
+            f"does nothing: {own['idle']}"
+            if own["idle"]
+            else "is the first already"
+            if own["set"] == mapped
+            else f"changes places with the first: {set_words(own['set'])}"
+        )
+        return [f"the primary named for it, osd.{own['osd']}, {what}"]
+
     def down(self) -> list[int]:
         """The OSDs that leave the set, as they are down."""
         return [osd for osd in self.sets["mapped"].places if osd is not None and not self.osds[osd]["up"]]
@@ -132,7 +158,7 @@ class GroupStory:
         """What changed the set, a line each; or one line that nobody did."""
         passed = self.passed_over()
         lines = ["passed over as out: " + ", ".join(map(self.passed_words, passed))] if passed else []
-        lines += self.exception_lines() + [f"osd.{osd} is down and leaves" for osd in self.down()]
+        lines += self.exception_lines() + self.named_lines() + [f"osd.{osd} is down and leaves" for osd in self.down()]
         lines += [applied_words(self.affinities)] if self.affinities else []
         return lines or [
             "nobody has changed the set: no OSD was passed over as out, there is no exception, and no OSD of it is down"
@@ -171,6 +197,7 @@ class GroupStory:
             "passed_over": [{"osd": osd, "reweight": self.weight(osd) / 65536} for osd in self.passed_over()],
             "pg_upmap": explicit,
             "pg_upmap_items": pairs,
+            "pg_upmap_primaries": self.named_parts(),
             "down": self.down(),
             "primary_affinity": told_affinities(self.affinities),
             "up": up.places,
@@ -196,10 +223,9 @@ def options_of(arguments: Arguments) -> ExplainOptions:
 def work(options: ExplainOptions) -> None:
     """Tells a group's story."""
     view = view_of(options.source)
-    value = view.map_of(int(options.group.split(".")[0]))
-    story = GroupStory(value, options.group, options.source.program, view.affinities)
+    story = GroupStory(view, options.group, options.source.program)
     if options.is_json:
-        put_json("explain", value["epoch"], **story.parts(view.names))
+        put_json("explain", story.value["epoch"], **story.parts(view.names))
     else:
         print("\n".join(story.lines(view.names)))
 

@@ -16,15 +16,8 @@ from dataclasses import dataclass
 from ..cluster.cluster import Cluster
 from ..cluster.conversion import map_of, monitor_of
 from ..cluster.dumps import chosen_cluster, first_lines
-from ..cluster.imports import (
-    ImportedCluster,
-    imported,
-    map_clusters,
-    map_file,
-    named_reasons,
-    several_words,
-    with_advice,
-)
+from ..cluster.imports import ImportedCluster, imported, map_file, named_reasons, several_words, with_advice
+from ..cluster.map_parts import map_clusters
 from ..cluster.omissions import omissions_of, weightless
 from ..cluster.reasons import reasons
 from ..cluster.sources import DumpFiles
@@ -58,16 +51,15 @@ def options_of(arguments: Arguments) -> ImportOptions:
         raise Misuse("--check writes no files: --out and --names do not go with it")
     if own.json and own.out is not None:
         raise Misuse("--json tells all maps at once: --out does not go with it")
-    dumps = DumpFiles(own.osd_dump, own.crush_dump, own.tree, own.pools, own.unmatched)
+    dumps = DumpFiles(own.osd_dump, own.crush_dump, own.tree, own.pools, own.unmatched, own.program)
     return ImportOptions(dumps, own.program, own.out, own.names, own.check, own.json)
 
 
 def reasons_against(options: ImportOptions) -> tuple[Cluster, list[str]]:
     """The cluster, and each reason that keeps it out, with what is done about it."""
     cluster, faults = chosen_cluster(options.dumps)
-    is_unmatched = options.dumps.is_unmatched
-    found = first_lines(faults) + reasons(cluster, is_unmatched, False)
-    return cluster, named_reasons(cluster, with_advice(cluster, faults, found, is_unmatched))
+    found = first_lines(faults) + reasons(cluster, options.dumps.is_unmatched, False)
+    return cluster, named_reasons(cluster, with_advice(cluster, faults, found, options.dumps))
 
 
 def check(options: ImportOptions) -> None:

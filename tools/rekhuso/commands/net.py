@@ -2,9 +2,11 @@
 
 A balancer only appends pairs, so after many rounds a group's pairs may be chained over one another, or do nothing;
 Ceph's monitor cleans such pairs away, which gives other sets. Here each group with pairs gets, place by place, one pair
-from what its rule gives to what it has, and no explicit set beside them; where an OSD only changes its place (a ring,
-or a chain), an explicit set alone. Groups with a place that is empty are left as they are, and so are pairs that are
-there already, in whatever order. The program checks that every set stays.
+from what its rule gives to what it has, and no explicit set beside them; the pairs stand in an order in which each OSD
+has left its place before it comes to another. Where OSDs change places in a ring, an explicit set stands alone. Groups
+with a place that is empty are left as they are, and so are pairs that are there already, in whatever order if they need
+none. The program checks that every set stays. Primaries that are named for groups (`pg_upmap_primaries`) stand in no map
+and no change says them; they stay as they are.
 """
 
 from __future__ import annotations

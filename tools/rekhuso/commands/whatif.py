@@ -9,7 +9,6 @@ or the dumps do).
 from __future__ import annotations
 
 import json
-import os
 from dataclasses import dataclass
 
 from ..cluster.aftermath import Command, StateChange
@@ -20,22 +19,15 @@ from ..faults import Fault, Misuse
 from ..files import put
 from ..output.flow_picture import flow_picture
 from ..output.flow_words import flow_lines, fullest_words, move_words, unbalanced_words
+from ..output.hold_words import hold_lines
 from ..output.json_forms import put_json
-from ..plans.question import Balance, Question, accepted
-from ..program.maps import Change, Map, altered
+from ..plans.hold import hold_of_change
+from ..plans.question import Balance, Question
+from ..program.maps import Map, altered
 from ..words import counted
 from .arguments import ABOUT_FILES, Arguments, Commands, FILES, add_names, set_work, source_of, usage
-from .whatif_words import Word, WordAction, WordReader, change_in, number_of, osds_below
-
-# The options that stand for commands.
-OPTIONS = {
-    "out": "--out",
-    "in": "--in",
-    "down": "--down",
-    "reweight": "--reweight",
-    "weight": "--weight",
-    "add_host": "--add-host",
-}
+from .change_words import USE, ChangeWords, add_change_words, change_words, files_and_change
+from .whatif_words import number_of, osds_below
 
 
 def level_of(value: Map, names: Names, word: str) -> int:
@@ -60,8 +52,8 @@ def drill(question: Question, word: str, is_json: bool) -> None:
     value, names = question.whole.tree, question.whole.names
     level, there = level_of(value, names, word), {osd["id"] for osd in value["osds"] if osd["exists"]}
     rows = []
-    if question.outage is not None and not is_json:
-        print(question.outage)
+    for line in [] if is_json else question.warnings():
+        print(line)
     for bucket in (own for own in value["buckets"] if own["type"] == level):
         weights = [[osd, 0] for osd in sorted(osds_below(value, bucket["id"])) if osd in there]
         found, _ = question.result([StateChange({"weight": weights})])
@@ -81,67 +73,50 @@ def drill(question: Question, word: str, is_json: bool) -> None:
 
 @dataclass(frozen=True)
 class WhatifOptions:
-    """What a change is made to; the change, if it is given as one; the words that stand for commands, with the bucket
-    and the class of a host that comes; the type of buckets that go out in turn, if they do; how the cluster is balanced
-    afterwards, if it is; the file for a picture, if there is one; and whether all is told as JSON.
+    """What a change is made to, and the change; the type of buckets that go out in turn, if they do; how the cluster is
+    balanced afterwards, if it is; whether it is told what a hold of the change would leave; the file for a picture, if
+    there is one; and whether all is told as JSON.
     """
 
-    __slots__ = ("source", "change", "words", "under", "device_class", "each", "balance", "picture", "is_json")
+    __slots__ = ("source", "asked", "each", "balance", "is_held", "picture", "is_json")
     source: Source
-    change: Change | None
-    words: tuple[Word, ...]
-    under: str | None
-    device_class: str | None
+    asked: ChangeWords
     each: str | None
     balance: Balance | None
+    is_held: bool
     picture: str | None
     is_json: bool
 
     def check(self) -> None:
         """An error of use where options stand together of which one would be passed over, or where nothing is asked."""
-        given = ["CHANGE"] if self.change is not None else []
-        given += [OPTIONS[word.kind] for word in self.words] + (["--picture"] if self.picture is not None else [])
+        more = (["--picture"] if self.picture is not None else []) + (["--hold"] if self.is_held else [])
+        given = self.asked.given() + more
         if self.each is not None and given:
             raise Misuse(f"{given[0]} does not go with --each")
-        if self.each is None and self.balance is None and self.change is None and not self.words:
+        if self.each is None and self.balance is None and not self.asked.given():
             raise Misuse("nothing is changed: give CHANGE, an option as --out, or --each TYPE")
-        hosts = [word for word in self.words if word.kind == "add_host"]
-        for option, word in (("--under", self.under), ("--class", self.device_class)):
-            if word is not None and not hosts:
-                raise Misuse(f"{option} goes with --add-host alone")
-        if len(hosts) > 1:
-            raise Misuse("--add-host: one host at a time")
+        if self.is_held and self.balance is not None:
+            raise Misuse("--hold does not go with --balance: what is held is planned over by `plan`, or released")
 
 
 def options_of(arguments: Arguments) -> WhatifOptions:
     """The options of the command line. An error of use where one would be passed over."""
     files, change = files_and_change(arguments.words)
+    if len(files) > 2:
+        raise Misuse("whatif takes one map, or two dumps, and a change")
     if arguments.anyway and not arguments.balance:
         raise Misuse("--anyway goes with --balance alone")
     found = WhatifOptions(
         source_of(arguments, files),
-        change,
-        tuple(getattr(arguments, "asked", ())),
-        arguments.under,
-        getattr(arguments, "class"),
+        change_words(arguments, change),
         arguments.each,
         Balance(arguments.anyway) if arguments.balance else None,
+        arguments.hold,
         arguments.picture,
         arguments.json,
     )
     found.check()
     return found
-
-
-def files_and_change(words: list[str]) -> tuple[list[str], Change | None]:
-    """The files that words name, and the change behind them if there is one: a last word that is no file. An error
-    of use where it is no change either, or where there are more words.
-    """
-    is_change = len(words) > 1 and words[-1] != "-" and not os.path.exists(words[-1])
-    files = words[:-1] if is_change else words
-    if len(files) > 2:
-        raise Misuse("whatif takes one map, or two dumps, and a change")
-    return files, change_in(words[-1]) if is_change else None
 
 
 def pictured(whole: ClusterView, now: ClusterView) -> Map:
@@ -157,11 +132,8 @@ def pictured(whole: ClusterView, now: ClusterView) -> Map:
 
 
 def commands_of(options: WhatifOptions, question: Question) -> list[Command]:
-    """The commands that the options stand for: the change first, then words in their order."""
-    view = question.whole
-    reader = WordReader(question.cluster, view.named_tree(), view.names, view.has_weight_set)
-    change = [] if options.change is None else [accepted(view.maps, options.change, options.source.program)]
-    return change + reader.steps(options.words, options.under, options.device_class)
+    """The commands that the options stand for."""
+    return options.asked.commands(question.whole, question.cluster, options.source.program)
 
 
 def work(options: WhatifOptions) -> None:
@@ -171,27 +143,23 @@ def work(options: WhatifOptions) -> None:
     if options.each is not None:
         drill(question, options.each, options.is_json)
         return
-    found, now = question.result(commands_of(options, question))
+    steps = commands_of(options, question)
+    found, now = question.result(steps)
+    hold = hold_of_change(question.cluster, steps, options.source.program) if options.is_held else None
     if options.picture is not None:
         put(options.picture, flow_picture(pictured(view, now), found, {**now.names, **view.names}))
     if options.is_json:
-        put_json("whatif", view.tree["epoch"], **found)
+        put_json("whatif", view.tree["epoch"], **found, **({} if hold is None else {"hold": hold.told()}))
     else:
-        print("\n".join(flow_lines(found, view.names, str(question.outage or ""))))
+        lines = flow_lines(found, view.names, "\n".join(question.warnings()))
+        print("\n".join(lines + ([] if hold is None else hold_lines(hold))))
 
 
 def add_to(commands: Commands) -> None:
     """The subcommand."""
     own = commands.add_parser("whatif", help="what moves if a change is made", description=__doc__)
     own.usage = usage(
-        "[CHANGE | --each TYPE]",
-        *(f"[--{word} OSD|BUCKET].." for word in ("out", "in", "down")),
-        "[--reweight OSD|BUCKET W]..",
-        "[--weight OSD|BUCKET=W]..",
-        "[--add-host NAME WEIGHTS [--under BUCKET] [--class CLASS]]",
-        "[--balance [--anyway]]",
-        "[--json]",
-        "[--picture FILE]",
+        "[CHANGE | --each TYPE]", *USE, "[--balance [--anyway]]", "[--hold]", "[--json]", "[--picture FILE]"
     )
     own.add_argument(
         "words",
@@ -199,31 +167,13 @@ def add_to(commands: Commands) -> None:
         nargs="+",
         help=f"{ABOUT_FILES}; behind them a change as JSON, without its base or " "with it",
     )
-    for word, about in (
-        ("out", "takes no groups"),
-        ("in", "takes its share again, as before it went out"),
-        ("down", "is down"),
-    ):
-        own.add_argument(f"--{word}", metavar="OSD|BUCKET", action=WordAction, help=f"it {about}; as often as wanted")
-    own.add_argument("--reweight", metavar=("OSD|BUCKET", "W"), nargs=2, action=WordAction, help="its reweight, 0 to 1")
-    own.add_argument(
-        "--weight",
-        metavar="OSD|BUCKET=W",
-        action=WordAction,
-        help="its weight in the CRUSH map, 0 for a drain (of each OSD below a bucket); as `ceph osd crush reweight`",
-    )
-    own.add_argument(
-        "--add-host",
-        metavar=("NAME", "WEIGHTS"),
-        nargs=2,
-        action=WordAction,
-        help="a host with new OSDs of these weights, as 1,1,2.5, which come one after the other",
-    )
-    own.add_argument("--under", metavar="BUCKET", help="the bucket below which the host comes")
-    own.add_argument("--class", metavar="CLASS", help="the device class of its OSDs, where the cluster has several")
+    add_change_words(own)
     own.add_argument("--each", metavar="TYPE", help="instead: each bucket of this type out, in turn")
     own.add_argument("--balance", action="store_true", help="the cluster is balanced after the change, as by `plan`")
-    own.add_argument("--anyway", action="store_true", help="balance also amid an outage, in which Ceph's would wait")
+    own.add_argument(
+        "--anyway", action="store_true", help="balance also where Ceph's balancer would wait, as `plan` does"
+    )
+    own.add_argument("--hold", action="store_true", help="tell also what `hold` of the change would leave")
     add_names(own)
     own.add_argument("--json", action="store_true", help="as JSON")
     own.add_argument("--picture", metavar="FILE", help="writes beside it which host gives to which, as SVG")

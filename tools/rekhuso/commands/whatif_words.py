@@ -15,7 +15,8 @@ from ..cluster.aftermath import Arrival, Command, CrushWeights, StateChange
 from ..cluster.cluster import Cluster
 from ..cluster.dump_types import DumpBucket
 from ..cluster.effects import Host, weight_units
-from ..cluster.names import Names, named
+from ..cluster.names import Names, named, pools_named
+from ..cluster.new_crush import NewCrush, PoolChange, crush_in
 from ..cluster.shadows import SIGN
 from ..faults import Fault, Misuse
 from ..program.maps import Change, Map, entries_of
@@ -26,6 +27,8 @@ REWEIGHTS = {"out": 0, "in": FULL_WEIGHT}
 # The words of which those that stand together are one command.
 TOGETHER = ("out", "in", "down")
 IN_FORCE = "a compat weight set (choose_args) is in force, which Ceph places by in place of weights"
+# What of a pool may be changed.
+OF_POOLS = ("rule", "size", "pg_num", "pgp_num")
 # The name of the type of a host in Ceph.
 HOST = "host"
 
@@ -99,6 +102,17 @@ def crush_weight_in(text: str) -> tuple[str, int]:
     if not word or not 0 <= number < 65536:
         raise Misuse(f"argument --weight: {text}: a weight is written as osd.5=1.8, from 0 on and below 65,536")
     return word, weight_units(number)
+
+
+def pool_words_in(text: str) -> dict[str, str]:
+    """What a word as pg_num=64,pgp_num=64 gives a pool: of each thing what stands behind it; else an error of use."""
+    parts = [part.partition("=")[::2] for part in text.split(",")]
+    found = dict(parts)
+    counts = [found[key] for key in ("size", "pg_num", "pgp_num") if key in found]
+    is_number = all(re.fullmatch("[0-9]{1,9}", count) and int(count) for count in counts)
+    if len(found) < len(parts) or not found.keys() <= set(OF_POOLS) or not all(found.values()) or not is_number:
+        raise Misuse(f"argument --pool: {text}: of a pool change rule=NAME, size=N, pg_num=N, pgp_num=N")
+    return found
 
 
 # OSDs and buckets
@@ -257,6 +271,16 @@ class WordReader:
         host = host_of(self.cluster, self.names, name, under, device_class)
         return [Arrival(host, weight) for weight in weights]
 
+    def pool_changed(self, name: str, text: str) -> Command:
+        """The command that gives a pool another rule, size or number of groups."""
+        names = {pool["pool"]: pool["pool_name"] for pool in self.cluster.pools}
+        found = pool_words_in(text)
+        pools = pools_named([name], names)
+        if len(pools) > 1:
+            raise Misuse(f"argument --pool: {name}: one pool at a time")
+        size, groups, placed = (int(found[key]) if key in found else None for key in OF_POOLS[1:])
+        return PoolChange(min(pools), found.get("rule"), size, groups, placed)
+
     def steps(self, words: Sequence[Word], under: str | None, device_class: str | None) -> list[Command]:
         """All commands; words of one kind that stand together are one command where Ceph takes many OSDs at once."""
         found: list[Command] = []
@@ -274,4 +298,8 @@ class WordReader:
             return [StateChange({"weight": [pair]}) for pair in pairs]
         if word.kind == "weight":
             return [self.weighed(word.values[0])]
+        if word.kind == "crush":
+            return [NewCrush(crush_in(word.values[0]))]
+        if word.kind == "pool":
+            return [self.pool_changed(*word.values)]
         return self.arrived(word, under, device_class)

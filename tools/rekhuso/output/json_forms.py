@@ -78,7 +78,20 @@ class FillParts(TypedDict):
     deviation: float
 
 
-class ClusterParts(TypedDict):
+class UseParts(TypedDict):
+    """The fullest OSD and the emptiest by what of their disks is in use: there a share is a disk."""
+
+    fullest: OsdFillParts
+    emptiest: OsdFillParts
+
+
+class KnownParts(TypedDict, total=False):
+    """What is told of a cluster whose disks are known."""
+
+    use: UseParts
+
+
+class ClusterParts(KnownParts):
     """What is told of a cluster over all pools: by groups and, where it is known what the pools hold, by bytes, and
     the bytes that the pool with most data may still take.
     """
@@ -86,6 +99,32 @@ class ClusterParts(TypedDict):
     groups: FillParts
     bytes: FillParts | None
     room: int | None
+
+
+class HindranceParts(TypedDict):
+    """A pool of which an OSD has many bytes in so many groups, and what keeps them there."""
+
+    id: int
+    groups: int
+    bytes: int
+    by: str
+
+
+class StayParts(OsdFillParts):
+    """An OSD that stays far above what it is to have, with the pools of which it has most."""
+
+    pools: list[HindranceParts]
+
+
+class DataParts(TypedDict):
+    """What is known of data: by means of pools or by groups, whether the disks are known, the pools that hold data and
+    are in no map of those that are planned, and the OSDs that stay far above what they are to have.
+    """
+
+    by: str
+    has_disks: bool
+    pools_beside: list[int]
+    stays: list[StayParts]
 
 
 class MovingParts(TypedDict):
@@ -141,6 +180,14 @@ class PairParts(TypedDict):
     places: list[int | None]
 
 
+class NamedParts(TypedDict):
+    """What is told of the primary that is named for a group: which OSD, why it does nothing, and the set behind it."""
+
+    osd: int
+    idle: str | None
+    set: list[int | None]
+
+
 # What moves between two maps
 
 
@@ -177,8 +224,18 @@ class OutageParts(TypedDict):
     short: int
 
 
+class MisplacedParts(TypedDict):
+    """How many groups have a temporary set, how many places are still to come, and their share of all."""
+
+    groups: int
+    places: int
+    share: float
+
+
 class FlowParts(TypedDict):
-    """What moves, from where to where; what is left short, and what anew; the fullest OSDs; what exceptions go."""
+    """What moves, from where to where; what is left short, and what anew; the fullest OSDs; what exceptions go, and
+    the groups whose named primary does nothing any more.
+    """
 
     groups: int
     places: int
@@ -189,9 +246,55 @@ class FlowParts(TypedDict):
     fullest_by_share: FullestParts
     exceptions: ExceptionParts
     outage: OutageParts | None
+    misplaced: MisplacedParts | None
     notes: list[str]
+    idle_primaries: list[str]
     unbalanced: list[Entry]
     flows: list[list[int]]
+
+
+# What is held behind a change
+
+
+class LeftParts(TypedDict):
+    """A group that is not held: the set that it had and the one that it gets, how many places move, and why: by which
+    step or part of the check.
+    """
+
+    group: str
+    was: list[int | None]
+    now: list[int | None]
+    places: int
+    step: str
+    why: str
+
+
+class CountParts(TypedDict):
+    """Groups, and places of theirs."""
+
+    groups: int
+    places: int
+
+
+class HoldParts(CountParts):
+    """The groups that a change would move, and their places; how many of them are held; the groups that are not; how
+    many get places that they lacked; those that have another primary; and those that have explicit sets.
+    """
+
+    held: int
+    left: list[LeftParts]
+    filled: CountParts
+    other_primary: list[str]
+    explicit: list[str]
+
+
+class PeakParts(TypedDict):
+    """The OSD that has most groups while a part moves, of those to which places come (None where none does), and how
+    many it has, where nothing has gone yet.
+    """
+
+    osd: int | None
+    groups: int
 
 
 # What changes from epoch to epoch

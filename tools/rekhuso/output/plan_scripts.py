@@ -8,6 +8,7 @@ import pathlib
 from dataclasses import dataclass
 
 from ..cluster.names import Names, named
+from ..cluster.releases import knows_upmap
 from ..faults import Fault
 from ..files import put
 from ..plans.movement import PlaceBytes
@@ -17,12 +18,31 @@ from .json_forms import MovingParts
 from .tables import aligned
 
 # What is told above the commands of a plan.
-BEFORE = [
-    "before: ceph balancer off (else its module undoes the moves, or goes on from them)",
-    "before: ceph osd set-require-min-compat-client luminous (clients must know upmap; refused beside older ones)",
+CLIENTS = "before: ceph osd set-require-min-compat-client luminous (clients must know upmap; refused beside older ones)"
+UNLESS = "        not where ceph osd get-require-min-compat-client tells a later release, which it would lower"
+WATCH = [
     "watch:  data moves as soon as a command is given: ceph status, until no group backfills or is misplaced, and",
     "        ceph osd df tree, as an OSD to which groups come must not get nearfull",
 ]
+
+
+def balancer_words(quiet: int | None) -> list[str]:
+    """That Ceph's own balancer stays off, and from which number on it leaves a plan alone, if that is known."""
+    found = ["before: ceph balancer off, and it stays off: else its module undoes the moves, or goes on from them"]
+    if quiet is not None:
+        found.append(
+            f"        (in mode upmap, with upmap_max_deviation {quiet} or more, it leaves the whole plan alone)"
+        )
+    return found
+
+
+def client_words(release: str | None) -> list[str]:
+    """How clients come to know upmap, of which release they must be at least as the dump tells; nothing where they
+    know it.
+    """
+    if release is None:
+        return [CLIENTS, UNLESS]
+    return [] if knows_upmap(release) else [CLIENTS]
 
 
 def moving_words(found: MovingParts) -> str:
@@ -71,7 +91,7 @@ def movement_tables(weights: PlaceBytes, steps: list[PlanStep], names: Names) ->
 
 @dataclass(frozen=True)
 class Script:
-    """A script: its first line, what else is told above it, what its steps weigh, and names."""
+    """A script: its first line, what is told above its commands, what its steps weigh, and names."""
 
     __slots__ = ("title", "notes", "weights", "names")
     title: str
@@ -84,9 +104,7 @@ class Script:
         lines = [line for step in steps for line in step.commands]
         moving = moving_words(self.weights.moving(steps))
         title = f"{self.title}: {moving}, by {counted(len(lines), 'command')}; a table stands at the end"
-        above, below = comments([title, *BEFORE, *self.notes]), comments(
-            movement_tables(self.weights, steps, self.names)
-        )
+        above, below = comments([title, *self.notes]), comments(movement_tables(self.weights, steps, self.names))
         return "\n".join([*above, "set -e", *lines, *below]) + "\n"
 
 

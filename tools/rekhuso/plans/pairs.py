@@ -2,6 +2,9 @@
 
 from __future__ import annotations
 
+from collections.abc import Sequence
+from typing import cast
+
 from ..faults import Fault
 from ..program.answers import Up
 from ..program.maps import Map, altered, entries_of, group_key
@@ -9,12 +12,30 @@ from ..program.session import Session
 from ..words import counted
 
 
-def own_pairs(base: list[int | None], wanted: list[int | None]) -> list[list[int]] | None:
-    """One pair for each place that differs; None where pairs alone cannot say it."""
-    differ = [(was, now) for was, now in zip(base, wanted) if was != now]
-    if len(base) != len(wanted) or any(was is None or now is None or now in base for was, now in differ):
+def ordered_pairs(base: Sequence[int | None], wanted: Sequence[int | None]) -> list[list[int]] | None:
+    """One pair for each place that differs, in an order in which each leads to an OSD that is not in the set, or has
+    left it by then. None where there is none: a place that differs is empty in one of them, OSDs change places in a
+    ring, or one stands in a set twice.
+    """
+    places, found = list(base), cast("list[list[int]]", [])
+    left = [at for at, (was, now) in enumerate(zip(base, wanted)) if was != now]
+    if len(base) != len(wanted) or any(base[at] is None or wanted[at] is None for at in left):
         return None
-    return [[was, now] for was, now in differ if was is not None and now is not None]
+    while left:
+        free = (at for at in left if wanted[at] not in places and places.index(places[at]) == at)
+        at = next(free, None)
+        if at is None:
+            return None
+        found.append([cast(int, places[at]), cast(int, wanted[at])])
+        places[at] = wanted[at]
+        left.remove(at)
+    return found
+
+
+def is_same(old: list[list[int]] | None, new: list[list[int]]) -> bool:
+    """Whether a group's pairs are others in another order alone, which none of them needs."""
+    has_order = bool({pair[0] for pair in new} & {pair[1] for pair in new})
+    return old == new or not has_order and sorted(old or []) == sorted(new)
 
 
 def netted(value: Map, wanted: dict[str, Up], base: dict[str, Up]) -> Map:
@@ -23,10 +44,10 @@ def netted(value: Map, wanted: dict[str, Up], base: dict[str, Up]) -> Map:
     items: dict[str, list[list[int]]] = {}
     for group, pairs in value.get("pg_upmap_items", []):
         places = wanted[group].places
-        found = own_pairs(base[group].places, places)
+        found = ordered_pairs(base[group].places, places)
         if found is not None:
             explicit.pop(group, None)
-            items.update({group: pairs if sorted(found) == sorted(pairs) else found} if found else {})
+            items.update({group: pairs if is_same(pairs, found) else found} if found else {})
         elif None not in places and len(set(places)) == len(places):
             explicit[group] = places
         else:

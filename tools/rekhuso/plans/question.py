@@ -19,36 +19,48 @@ from ..cluster.aftermath import (
 )
 from ..cluster.cleanup import reason_words
 from ..cluster.conversion import map_of, monitor_of
+from ..cluster.difference import moved_parts
 from ..cluster.flows import fewer_in, flows, fullest_by_count, fullest_by_share, short_in
-from ..cluster.imports import ImportedCluster, map_clusters
 from ..cluster.map_dumps import cluster_of_map
+from ..cluster.misplaced import check_misplaced, misplaced_of
+from ..cluster.moving import erasure_pools, with_split_groups
 from ..cluster.outage import check_outage, outage_of
-from ..cluster.view import ClusterView
+from ..cluster.primaries import NamedPrimaries, rested_words
+from ..cluster.view import ClusterView, view_of_cluster
 from ..faults import Fault
 from ..output.json_forms import FlowParts
 from ..program.answers import Up
 from ..program.map_forms import change_form
 from ..program.maps import Change, Entry, Map, Program, group_key, groups_of, written
 from ..words import some
-from .plan import DEFAULT_WISH, opened, outage_in, planned
+from .after_plan import after_steps
+from .plan import DEFAULT_WISH, misplaced_in, opened, outage_in, planned
 
 
 @dataclass(frozen=True)
 class ClusterSets:
-    """The sets of a cluster's groups by its maps, and the pools that could not be balanced, each with why."""
+    """The sets of a cluster's groups by its maps, the primaries that are named for them, and the pools that could not
+    be balanced, each with why.
+    """
 
-    __slots__ = ("ups", "refused")
+    __slots__ = ("ups", "primaries", "refused")
     ups: dict[str, Up]
+    primaries: NamedPrimaries
     refused: list[Entry]
 
 
-def sets_of_maps(maps: Sequence[Map], program: Program) -> ClusterSets:
+def sets_of_maps(maps: Sequence[Map], program: Program) -> dict[str, Up]:
     """What the program answers over the maps of a cluster."""
     found: dict[str, Up] = {}
     for value in maps:
         with monitor_of(value, program) as monitor:
             found.update(monitor.ups(groups_of(value)))
-    return ClusterSets(found, [])
+    return found
+
+
+def sets_of(whole: ClusterView, program: Program) -> ClusterSets:
+    """What the program answers over a cluster."""
+    return ClusterSets(sets_of_maps(whole.maps, program), whole.primaries(program), [])
 
 
 @dataclass(frozen=True)
@@ -66,12 +78,14 @@ def balanced_sets(whole: ClusterView, program: Program, balance: Balance) -> Clu
     with ExitStack() as stack:
         lives = opened(stack, whole, program)
         check_outage(outage_in(lives), balance.is_anyway)
+        check_misplaced(misplaced_in(lives, whole), balance.is_anyway)
         outcome = planned(lives, DEFAULT_WISH)
     found = {group: up for live in lives for group, up in live.before.ups.items()}
     for step in outcome.steps:
         first = next((osd for osd in step.now if osd is not None), None)
         found[step.group] = found[step.group]._replace(places=step.now, primary=first)
-    return ClusterSets(found, [[parts["id"], parts["refused"]] for parts in outcome.pools if parts["refused"]])
+    refused = [[parts["id"], parts["refused"]] for parts in outcome.pools if parts["refused"]]
+    return ClusterSets(found, after_steps(whole, outcome.steps).primaries(program), refused)
 
 
 def pool_in(entry: Entry | int | str) -> int:
@@ -128,17 +142,25 @@ class Question:
         self.whole, self.program, self.balance = whole, program, balance
         self.cluster = whole.found.cluster if whole.found else cluster_of_map(whole.maps[0], whole.names)
         self.affinities = affinities_of(self.cluster)
-        self.before = all_with_affinity(whole.pools, sets_of_maps(whole.maps, program).ups, self.affinities)
+        answers = sets_of(whole, program)
+        self.primaries, self.before = answers.primaries, self.as_in_ceph(whole, answers)
         self.outage = outage_of(whole.tree["osds"], whole.pools, self.before)
+        self.misplaced = misplaced_of(self.cluster.osd_dump, self.before)
+
+    def warnings(self) -> list[str]:
+        """What is told before anything else: an outage, and that the cluster moves already."""
+        return [str(found) for found in (self.outage, self.misplaced) if found is not None]
+
+    def as_in_ceph(self, whole: ClusterView, answers: ClusterSets) -> dict[str, Up]:
+        """The sets of a cluster with the primaries that are named, and those that affinities choose."""
+        return all_with_affinity(whole.pools, answers.primaries.applied(answers.ups), self.affinities)
 
     def result(self, steps: list[Command]) -> tuple[FlowParts, ClusterView]:
         """What some commands move, and the cluster after them."""
         course = aftermath(self.cluster, steps, self.program)
-        parts = map_clusters(course.cluster)
-        maps = [map_of(part) for part in parts]
-        whole = ClusterView(maps, course.cluster.all_names(), ImportedCluster(course.cluster, parts, maps))
+        whole = view_of_cluster(course.cluster)
         if self.balance is None:
-            answers = sets_of_maps(maps, self.program)
+            answers = sets_of(whole, self.program)
         else:
             answers = balanced_sets(whole, self.program, self.balance)
         found = self.told(course, whole, answers)
@@ -169,16 +191,16 @@ class Question:
 
     def told(self, course: Aftermath, whole: ClusterView, answers: ClusterSets) -> FlowParts:
         """All that is told of the cluster after some commands."""
-        before, pools = self.before, whole.pools
-        ups = all_with_affinity(pools, answers.ups, self.affinities)
+        pools, erasure = whole.pools, erasure_pools(whole.pools)
+        before = with_split_groups(self.before, self.whole.pools, pools)
+        ups, rested = self.as_in_ceph(whole, answers), self.primaries.rested(answers.primaries)
         sizes = {pool["id"]: pool["size"] for pool in pools}
         least = {pool["pool"]: pool["min_size"] for pool in course.cluster.pools if "min_size" in pool}
         short, shares = short_in(ups, sizes), whole.shares(ups)
-        both = {group: up for group, up in ups.items() if group in before}
-        moved = sorted(flows(before, ups).items(), key=lambda own: (-own[1], own[0]))
+        moved, total = flows(before, ups, erasure), moved_parts(before, ups, erasure)
         return {
-            "groups": sum(up.places != before[group].places for group, up in both.items()),
-            "places": sum(len(set(up.places) - set(before[group].places) - {None}) for group, up in both.items()),
+            "groups": total["groups"],
+            "places": total["places"],
             "short": short,
             "short_anew": fewer_in(short, before, ups, sizes),
             "below_min_size": fewer_in(short_in(ups, least), before, ups, least),
@@ -190,7 +212,9 @@ class Question:
                 "fewer": sorted(course.fewer, key=group_key),
             },
             "outage": None if self.outage is None else {"down": self.outage.down, "short": len(self.outage.short)},
-            "notes": self.notes(course),
+            "misplaced": None if self.misplaced is None else self.misplaced.parts(),
+            "notes": self.notes(course) + ([rested_words(rested)] if rested else []),
+            "idle_primaries": rested,
             "unbalanced": answers.refused,
-            "flows": [[*pair, count] for pair, count in moved],
+            "flows": [[*pair, count] for pair, count in sorted(moved.items(), key=lambda own: (-own[1], own[0]))],
         }

@@ -5,23 +5,26 @@ from __future__ import annotations
 from dataclasses import dataclass
 
 from ..cluster.difference import exception_commands
+from ..cluster.moving import coming, erasure_pools, has_moved, leaving
 from ..program.answers import Up
 from ..program.maps import Exceptions, Map, altered, entries_of, group_key
 from .move_order import PairsByGroup
+from .pairs import is_same
 
 
 @dataclass(frozen=True)
 class PlanStep:
-    """What is done to a group: the commands, those that take it back to the exceptions of the dump, and the group's
-    sets before and after.
+    """What is done to a group: the commands, those that take it back to the exceptions of the dump, the group's sets
+    before and after, and whether its places each hold a part of their own.
     """
 
-    __slots__ = ("group", "commands", "undo", "was", "now")
+    __slots__ = ("group", "commands", "undo", "was", "now", "is_erasure")
     group: str
     commands: list[str]
     undo: list[str]
     was: list[int | None]
     now: list[int | None]
+    is_erasure: bool
 
     @property
     def pool(self) -> int:
@@ -30,15 +33,27 @@ class PlanStep:
 
     def leaves(self) -> list[int]:
         """The OSDs from which the group goes."""
-        return [osd for osd in self.was if osd is not None and osd not in self.now]
+        return leaving(self.was, self.now, False)
 
     def comes(self) -> list[int]:
         """The OSDs to which it comes."""
-        return [osd for osd in self.now if osd is not None and osd not in self.was]
+        return coming(self.was, self.now, False)
+
+    def places_leave(self) -> list[int]:
+        """The OSDs from which places of it go; in an erasure pool one may have got another place of it."""
+        return leaving(self.was, self.now, self.is_erasure)
+
+    def places_come(self) -> list[int]:
+        """The OSDs to which places of it come, and data."""
+        return coming(self.was, self.now, self.is_erasure)
+
+    def is_moving(self) -> bool:
+        """Whether its data moves."""
+        return has_moved(self.was, self.now, self.is_erasure)
 
     def undone(self) -> PlanStep:
         """The step back."""
-        return PlanStep(self.group, self.undo, self.commands, self.now, self.was)
+        return PlanStep(self.group, self.undo, self.commands, self.now, self.was, self.is_erasure)
 
 
 def steps_by_pool(steps: list[PlanStep]) -> dict[int, list[PlanStep]]:
@@ -83,7 +98,7 @@ def in_old_order(old: Map, new: Map) -> Map:
     """A new map in which a group has its pairs in the old one's order where they are the same pairs."""
     kept: dict[str, list[list[int]]] = dict(entries_of(old, "pg_upmap_items"))
     items = [
-        [group, kept[group] if sorted(kept.get(group, [])) == sorted(pairs) else pairs]
+        [group, kept[group] if is_same(kept.get(group), pairs) else pairs]
         for group, pairs in entries_of(new, "pg_upmap_items")
     ]
     return altered(new, pg_upmap_items=items)
@@ -102,9 +117,9 @@ def steps_of(value: Map, kept: Exceptions, new: Map, before: dict[str, Up], afte
     those that do nothing name OSDs that are not there, and Ceph takes no such command. `kept` is what Ceph has. The
     sets before and after are those of groups that may move.
     """
-    back, steps = by_group(exception_commands(new, value)), []
+    back, steps, erasure = by_group(exception_commands(new, value)), [], erasure_pools(value["pools"])
     for group, lines in by_group(exception_commands(value, new, kept)).items():
         was = before[group].places if group in before else []
         now = after[group].places if group in after else was
-        steps.append(PlanStep(group, lines, back.get(group, []), was, now))
+        steps.append(PlanStep(group, lines, back.get(group, []), was, now, group_key(group)[0] in erasure))
     return steps

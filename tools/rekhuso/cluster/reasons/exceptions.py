@@ -41,11 +41,6 @@ def exception_reasons(cluster: Cluster) -> list[str]:
             found.append(f"{name} has an OSD twice")
     for group, pairs in cluster.exceptions[1]:
         found += range_reason(f"the pairs of {group} are {len(pairs)}", len(pairs), 1, size_of(cluster, group))
-    primaries = len(entries_of(cluster.osd_dump, "pg_upmap_primaries"))
-    if primaries:
-        found.append(
-            f"pg_upmap_primaries (of {primaries} group{'s' * (primaries > 1)}), which change the order of up sets"
-        )
     for key, word, _ in (SETS, PAIRS):
         groups = Counter(entry["pgid"] for entry in entries_of(cluster.osd_dump, key))
         found += [f"the OSD dump has the {word} of {group} twice" for group, count in groups.items() if count > 1]

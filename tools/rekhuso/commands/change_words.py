@@ -1,0 +1,126 @@
+"""The words by which `whatif` and `hold` are told of a change: its JSON, or options that stand for commands."""
+
+from __future__ import annotations
+
+import argparse
+import os
+from dataclasses import dataclass
+
+from ..cluster.aftermath import Command
+from ..cluster.cluster import Cluster
+from ..cluster.view import ClusterView
+from ..faults import Misuse
+from ..plans.question import accepted
+from ..program.maps import Change, Program
+from .arguments import Arguments
+from .whatif_words import Word, WordAction, WordReader, change_in
+
+# The options that stand for commands.
+OPTIONS = {
+    "out": "--out",
+    "in": "--in",
+    "down": "--down",
+    "reweight": "--reweight",
+    "weight": "--weight",
+    "add_host": "--add-host",
+    "crush": "--crush",
+    "pool": "--pool",
+}
+# How they stand in the use of a command.
+USE = [
+    *(f"[--{word} OSD|BUCKET].." for word in ("out", "in", "down")),
+    "[--reweight OSD|BUCKET W]..",
+    "[--weight OSD|BUCKET=W]..",
+    "[--add-host NAME WEIGHTS [--under BUCKET] [--class CLASS]]",
+    "[--crush FILE]",
+    "[--pool NAME rule=|size=|pg_num=,pgp_num=]..",
+]
+
+
+@dataclass(frozen=True)
+class ChangeWords:
+    """A change: its JSON, if it is given so; the words that stand for commands; the bucket and the class of a host that
+    comes.
+    """
+
+    __slots__ = ("change", "words", "under", "device_class")
+    change: Change | None
+    words: tuple[Word, ...]
+    under: str | None
+    device_class: str | None
+
+    def given(self) -> list[str]:
+        """What is given, by its options."""
+        return (["CHANGE"] if self.change is not None else []) + [OPTIONS[word.kind] for word in self.words]
+
+    def check(self) -> None:
+        """An error of use where options stand together of which one would be passed over."""
+        hosts = [word for word in self.words if word.kind == "add_host"]
+        for option, word in (("--under", self.under), ("--class", self.device_class)):
+            if word is not None and not hosts:
+                raise Misuse(f"{option} goes with --add-host alone")
+        if len(hosts) > 1:
+            raise Misuse("--add-host: one host at a time")
+        if sum(word.kind == "crush" for word in self.words) > 1:
+            raise Misuse("--crush: one CRUSH map at a time")
+
+    def commands(self, view: ClusterView, cluster: Cluster, program: Program) -> list[Command]:
+        """The commands that they stand for over a cluster: the change first, then words in their order."""
+        reader = WordReader(cluster, view.named_tree(), view.names, view.has_weight_set)
+        change = [] if self.change is None else [accepted(view.maps, self.change, program)]
+        return change + reader.steps(self.words, self.under, self.device_class)
+
+
+def change_words(arguments: Arguments, change: Change | None) -> ChangeWords:
+    """The words of the command line. An error of use where one would be passed over."""
+    words = tuple(getattr(arguments, "asked", ()))
+    found = ChangeWords(change, words, arguments.under, getattr(arguments, "class"))
+    found.check()
+    return found
+
+
+def files_and_change(words: list[str]) -> tuple[list[str], Change | None]:
+    """The files that words name, and the change behind them if there is one: a last word that is no file. An error
+    of use where it is no change either.
+    """
+    is_change = len(words) > 1 and words[-1] != "-" and not os.path.exists(words[-1])
+    return (words[:-1], change_in(words[-1])) if is_change else (words, None)
+
+
+def add_change_words(own: argparse.ArgumentParser) -> None:
+    """The options that stand for commands."""
+    for word, about in (
+        ("out", "takes no groups"),
+        ("in", "takes its share again, as before it went out"),
+        ("down", "is down"),
+    ):
+        own.add_argument(f"--{word}", metavar="OSD|BUCKET", action=WordAction, help=f"it {about}; as often as wanted")
+    own.add_argument("--reweight", metavar=("OSD|BUCKET", "W"), nargs=2, action=WordAction, help="its reweight, 0 to 1")
+    own.add_argument(
+        "--weight",
+        metavar="OSD|BUCKET=W",
+        action=WordAction,
+        help="its weight in the CRUSH map, 0 for a drain (of each OSD below a bucket); as `ceph osd crush reweight`",
+    )
+    own.add_argument(
+        "--add-host",
+        metavar=("NAME", "WEIGHTS"),
+        nargs=2,
+        action=WordAction,
+        help="a host with new OSDs of these weights, as 1,1,2.5, which come one after the other",
+    )
+    own.add_argument("--under", metavar="BUCKET", help="the bucket below which the host comes")
+    own.add_argument("--class", metavar="CLASS", help="the device class of its OSDs, where the cluster has several")
+    own.add_argument(
+        "--crush",
+        metavar="FILE",
+        action=WordAction,
+        help="the CRUSH map that comes in place of this one, as `crushtool -i NEW --dump` prints it",
+    )
+    own.add_argument(
+        "--pool",
+        metavar=("NAME", "WHAT=.."),
+        nargs=2,
+        action=WordAction,
+        help="another rule=, size= or pg_num=,pgp_num= of a pool, by its name or id; as `ceph osd pool set`",
+    )

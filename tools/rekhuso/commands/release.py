@@ -1,0 +1,176 @@
+"""`release`: lets go of what `hold` holds, as the commands that Ceph takes, in parts by the order of plans.
+
+Over the dumps of a cluster with held groups the way leads to what the rules alone give; with --keep OSD_DUMP to the
+exceptions of a dump that was made before the hold, as far as a monitor lets them stay; and with --to-plan on to what
+`plan` makes of that, where each group moves once. Each part tells what it moves, and how full the fullest OSD gets to
+which places come. With --undo the same words give the way back, whichever part was run.
+"""
+
+from __future__ import annotations
+
+import sys
+from dataclasses import dataclass
+
+from ..cluster.aftermath import exceptions_in
+from ..cluster.cluster import Cluster
+from ..cluster.dump_forms import OSD_DUMP
+from ..cluster.dump_types import OsdDump
+from ..cluster.dumps import first_lines, read_dump
+from ..cluster.imports import imported
+from ..cluster.releases import least_client
+from ..cluster.sources import Source
+from ..faults import Fault, Misuse
+from ..files import json_of
+from ..output.json_forms import put_json
+from ..output.plan_scripts import Script, WATCH, balancer_words, client_words, part_file, put_batches
+from ..output.release_words import peak_words, release_lines
+from ..plans.hold_checks import check_still, moving_words
+from ..plans.movement import place_bytes
+from ..plans.parts import ALL
+from ..plans.release import Release, release_of
+from ..program.maps import Exceptions, altered
+from .arguments import Arguments, Commands, Files, add_dump_options, add_json, set_work, source_of
+from .plan import commands_a_file
+
+UNDO = "undo:   the same words with --undo, over the same files, which are to be kept"
+
+
+@dataclass(frozen=True)
+class ReleaseOptions:
+    """The dumps of the cluster as it is held; the OSD dump whose exceptions are kept, if there is one; whether the way
+    leads to a plan; whether a cluster that moves is released too; and how it is put out: as the way back, in files of
+    so many commands in a folder, or as JSON.
+    """
+
+    __slots__ = ("source", "keep", "is_planned", "is_anyway", "is_undo", "batch", "to", "is_json")
+    source: Source
+    keep: str | None
+    is_planned: bool
+    is_anyway: bool
+    is_undo: bool
+    batch: int | None
+    to: str | None
+    is_json: bool
+
+
+def options_of(arguments: Arguments) -> ReleaseOptions:
+    """The options of the command line. An error of use for options of which one would be passed over."""
+    own = arguments
+    if (own.batch is None) != (own.to is None) and not own.json:
+        raise Misuse("--batch and --to go together: files of so many commands, and their folder")
+    if own.json and (own.to is not None or own.undo):
+        raise Misuse("--json tells the parts and their undoing at once: --to and --undo do not go with it")
+    return ReleaseOptions(source_of(own), own.keep, own.to_plan, own.anyway, own.undo, own.batch, own.to, own.json)
+
+
+def kept_in(path: str | None, cluster: Cluster) -> Exceptions:
+    """The exceptions of an OSD dump, of pools that the cluster has; none where there is no path. A fault where it is no
+    OSD dump, or that of another cluster.
+    """
+    if path is None:
+        return {"pg_upmap": [], "pg_upmap_items": []}
+    value, _, faults = read_dump(path, json_of(path), OSD_DUMP)
+    if faults:
+        raise Fault(*first_lines(faults))
+    dump: OsdDump = altered(value)  # type: ignore[assignment]
+    own, other = cluster.osd_dump.get("fsid"), dump.get("fsid")
+    if own is not None and other is not None and own != other:
+        raise Fault(f"{path}: of another cluster: its fsid is {other}, and that of the cluster {own}")
+    kept = exceptions_in(dump)
+    return {
+        "pg_upmap": [entry for entry in kept.get("pg_upmap", []) if cluster.is_group(entry[0])],
+        "pg_upmap_items": [entry for entry in kept.get("pg_upmap_items", []) if cluster.is_group(entry[0])],
+    }
+
+
+def script_of(found: Release, cluster: Cluster, options: ReleaseOptions, number: int) -> Script:
+    """What stands round the commands of a part."""
+    count = len(found.parts)
+    part = f", part {number} of {count}" if options.batch is not None else ""
+    weights = place_bytes(found.pools, None)
+    before = balancer_words(None) + client_words(least_client(cluster.osd_dump)) + WATCH
+    if options.is_undo:
+        title = f"The way back from a release over epoch {found.epoch}{part}"
+        return Script(title, before, weights, cluster.all_names())
+    order = [f"order:  part {number - 1} is run before, and its groups have moved"] if number > 1 else []
+    undo = UNDO + (f", write {part_file('undo', number, count)}" if part else "")
+    notes = [f"peak:   {peak_words(found, number)}", *order, "stop:   give no further part", undo]
+    return Script(f"Releases held groups over epoch {found.epoch}{part}", before + notes, weights, cluster.all_names())
+
+
+def put_scripts(found: Release, cluster: Cluster, options: ReleaseOptions) -> None:
+    """Puts out the parts, or the way back from them: as one script, or as files of a folder."""
+    texts = []
+    for number, part in enumerate(found.parts, 1):
+        steps = [step.undone() for step in part] if options.is_undo else part
+        texts.append(script_of(found, cluster, options, number).text(steps))
+    if options.to is not None:
+        put_batches(options.to, "undo" if options.is_undo else "release", texts)
+    else:
+        print("".join(texts), end="")
+
+
+def put_release_json(found: Release) -> None:
+    """Puts out the parts, their undoing and what they move as one object."""
+    weights = place_bytes(found.pools, None)
+    put_json(
+        "release",
+        found.epoch,
+        moving=weights.moving(found.steps),
+        fullest={"before": found.before, "after": found.after},
+        parts=[
+            {
+                "commands": [line for step in part for line in step.commands],
+                "undo": [line for step in part for line in step.undo],
+                "moving": weights.moving(part),
+                "peak": peak,
+            }
+            for part, peak in zip(found.parts, found.peaks)
+        ],
+    )
+
+
+def work(options: ReleaseOptions) -> None:
+    """Tells the way from what is held."""
+    source, program = options.source, options.source.program
+    cluster = imported(source.dumps()).cluster
+    check_still(moving_words(cluster, program), options.is_anyway, "released")
+    kept = kept_in(options.keep, cluster)
+    found = release_of(cluster, kept, options.is_planned, options.batch or ALL, program)
+    print("\n".join(release_lines(found)), file=sys.stderr)
+    if options.is_json:
+        put_release_json(found)
+    else:
+        put_scripts(found, cluster, options)
+
+
+class Dumps(Files):
+    """Two files; an error of use where there are others."""
+
+    counts, words = (2,), "the two dumps of a cluster"
+
+
+def add_to(commands_of: Commands) -> None:
+    """The subcommand."""
+    own = commands_of.add_parser("release", help="lets go of held groups, part by part", description=__doc__)
+    own.usage = (
+        "%(prog)s OSD_DUMP CRUSH_DUMP [--keep OSD_DUMP] [--to-plan] [--anyway] [--undo] [--batch N --to FOLDER] "
+        "[--json] [--pools ID|NAME,..] [--tree FILE] [--unmatched]"
+    )
+    own.add_argument(
+        "files",
+        metavar="OSD_DUMP CRUSH_DUMP",
+        nargs="+",
+        action=Dumps,
+        help="what `ceph osd dump -f json` and `ceph osd crush dump` print of the cluster as it is held",
+    )
+    own.add_argument("--keep", metavar="OSD_DUMP", help="the dump before the hold, whose exceptions are kept")
+    own.add_argument("--to-plan", action="store_true", help="on to what `plan` makes of the cluster, each group once")
+    own.add_argument("--anyway", action="store_true", help="also where the cluster moves already, or amid an outage")
+    own.add_argument("--undo", action="store_true", help="the way back to what is held in the dumps")
+    own.add_argument("--batch", metavar="N", type=commands_a_file, help="parts of at most N commands each")
+    own.add_argument("--to", metavar="FOLDER", help="the folder of their files: release-001.sh, .. or undo-001.sh, ..")
+    add_dump_options(own)
+    add_json(own)
+    own.set_defaults(names=None)
+    set_work(own, options_of, work)

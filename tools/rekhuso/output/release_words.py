@@ -1,0 +1,26 @@
+"""How held groups are let go, in words."""
+
+from __future__ import annotations
+
+from ..plans.release import Release
+from ..words import counted
+from .flow_words import move_words
+
+
+def peak_words(found: Release, number: int) -> str:
+    """How full OSDs get while a part moves."""
+    own = found.peaks[number - 1]
+    if own["osd"] is None:
+        return "no OSD gets a place"
+    return (
+        f"of the OSDs that get places osd.{own['osd']} has most groups meanwhile, {own['groups']}, where none has gone "
+        f"yet; the fullest has {found.before} before all parts, {found.after} at the end"
+    )
+
+
+def release_lines(found: Release) -> list[str]:
+    """What all parts move."""
+    steps = [step for step in found.steps if step.is_moving()]
+    places = sum(len(step.places_come()) for step in steps)
+    lines = [f"{move_words(len(steps), places)} in {counted(len(found.parts), 'part')}, each group once"]
+    return lines if found.parts else ["nothing is held"]

@@ -1,0 +1,171 @@
+"""What holds the groups of a cluster behind a change: the exceptions as Ceph's commands, and what they leave.
+
+The program is asked for the set of each group behind the change and under these exceptions, and nothing is put out
+where one is not what is told.
+"""
+
+from __future__ import annotations
+
+from collections.abc import Iterable, Mapping
+from dataclasses import dataclass
+
+from ..cluster.aftermath import Command, after_command, aftermath, cleaned_at, exceptions_in, raw_sets, with_exceptions
+from ..cluster.cluster import Cluster
+from ..cluster.conversion import map_of, monitor_of, pool_of
+from ..cluster.difference import EXCEPTION_WORDS, exception_commands
+from ..cluster.judge import Places
+from ..cluster.map_parts import map_clusters
+from ..cluster.moving import coming, has_moved, split_group
+from ..cluster.names import set_words
+from ..cluster.reasons import reasons
+from ..faults import Fault
+from ..output.json_forms import HoldParts
+from ..program.maps import Exceptions, Program, entries_of, group_key, groups_in, groups_of, with_all_up
+from ..words import counted
+from .holding import Held, Holder, exceptions_of
+
+
+@dataclass(frozen=True)
+class Sides:
+    """What stands on both sides of a change: the set that each group had; how many groups each pool had; the cluster
+    behind the change, with the exceptions that it has before anything is held; and the groups whose exceptions the
+    monitor takes away on the way.
+    """
+
+    __slots__ = ("has", "counts", "new", "lost")
+    has: Mapping[str, list[int | None]]
+    counts: Mapping[int, int]
+    new: Cluster
+    lost: frozenset[str]
+
+
+@dataclass(frozen=True)
+class Hold:
+    """What holds groups: each group that was there, the set that it would have by the change alone, the commands, and
+    those that take them back.
+    """
+
+    __slots__ = ("epoch", "groups", "would", "commands", "undo")
+    epoch: int
+    groups: list[Held]
+    would: Mapping[str, Places]
+    commands: list[str]
+    undo: list[str]
+
+    def moving(self) -> list[Held]:
+        """The groups that would move by the change alone."""
+        return [own for own in self.groups if has_moved(own.was, self.would[own.group], own.is_erasure)]
+
+    def left(self) -> list[Held]:
+        """The groups that cannot be held, or only in part."""
+        return [own for own in self.groups if not own.is_held]
+
+    def told(self) -> HoldParts:
+        """What is told of it as JSON, its commands aside."""
+        moving, filled = self.moving(), [own for own in self.groups if own.filled()]
+        return {
+            "groups": len(moving),
+            "places": sum(len(coming(own.was, self.would[own.group], own.is_erasure)) for own in moving),
+            "held": sum(own.is_held for own in moving),
+            "left": [
+                {
+                    "group": own.group,
+                    "was": own.was,
+                    "now": own.now,
+                    "places": len(own.lost()),
+                    "step": own.why.step if own.why else "",
+                    "why": own.why.why if own.why else "",
+                }
+                for own in self.left()
+            ],
+            "filled": {"groups": len(filled), "places": sum(len(own.filled()) for own in filled)},
+            "other_primary": [own.group for own in self.groups if own.has_other_primary()],
+            "explicit": [own.group for own in self.groups if own.is_held and own.way.explicit is not None],
+        }
+
+
+def mapped_sets(cluster: Cluster, program: Program) -> dict[str, list[int | None]]:
+    """What each group of a cluster has, as if all OSDs were up, by the program."""
+    found: dict[str, list[int | None]] = {}
+    for part in map_clusters(cluster):
+        value = with_all_up(map_of(part))
+        with monitor_of(value, program) as monitor:
+            found.update({group: up.places for group, up in monitor.ups(groups_of(value)).items()})
+    return found
+
+
+def counts_in(cluster: Cluster) -> dict[int, int]:
+    """How many groups each pool of a cluster has."""
+    return dict(cluster.sizes)
+
+
+def sides_of_change(cluster: Cluster, steps: list[Command], program: Program) -> Sides:
+    """Both sides of a change that commands make. A fault where the cluster then stays out."""
+    new, known = cluster, set(reasons(cluster, True, False))
+    for step in steps:
+        new = after_command(new, step, known)
+    course = aftermath(cluster, steps, program) if len(steps) > 1 else None
+    lost = frozenset() if course is None else frozenset(course.gone.keys() | set(course.fewer))
+    return Sides(mapped_sets(cluster, program), counts_in(cluster), new, lost)
+
+
+def check_held(new: Cluster, held: Iterable[Held], goal: Exceptions, program: Program) -> None:
+    """Asks the program for the set of each group behind the change and under its exceptions. A fault where one is
+    another than what is told.
+    """
+    sets = mapped_sets(with_exceptions(new, goal), program)
+    unlike = [own for own in held if sets[own.group] != own.now]
+    if unlike:
+        first = unlike[0]
+        raise Fault(
+            f"{counted(len(unlike), 'group')} would not have what is told, the first {first.group}: "
+            f"{set_words(sets[first.group])} and not {set_words(first.now)}: a defect of the tools; nothing is put out"
+        )
+
+
+def of_groups(exceptions: Exceptions, groups: Iterable[str]) -> Exceptions:
+    """The exceptions of some groups."""
+    own = set(groups)
+    return {
+        "pg_upmap": [entry for entry in entries_of(exceptions, "pg_upmap") if entry[0] in own],
+        "pg_upmap_items": [entry for entry in entries_of(exceptions, "pg_upmap_items") if entry[0] in own],
+    }
+
+
+def kept_apart(now: Exceptions, goal: Exceptions, lost: frozenset[str]) -> Exceptions:
+    """Exceptions without those that the monitor takes away on the way to a change and that are to be given again."""
+
+    tables = {key: dict(entries_of(goal, key)) for key in EXCEPTION_WORDS}
+
+    def stays(key: str, group: str, own: object) -> bool:
+        """Whether an exception stays, or becomes another."""
+        return group not in lost or group not in tables[key] or tables[key][group] != own
+
+    explicit, items = entries_of(now, "pg_upmap"), entries_of(now, "pg_upmap_items")
+    return {
+        "pg_upmap": [entry for entry in explicit if stays("pg_upmap", *entry)],
+        "pg_upmap_items": [entry for entry in items if stays("pg_upmap_items", *entry)],
+    }
+
+
+def hold_of(sides: Sides, program: Program) -> Hold:
+    """How the groups of a cluster are held behind a change. A fault where the program does not say so."""
+    new = sides.new
+    groups = [group for pool in new.pools for group in groups_in(pool_of(pool))]
+    there = [group for group in groups if group_key(group)[0] in sides.counts]
+    raw = raw_sets([map_of(part) for part in map_clusters(new)], set(groups), program)
+    holder, found = Holder(new, raw), []
+    for group in sorted(there, key=group_key):
+        source = group if group in sides.has else split_group(group, sides.counts[group_key(group)[0]])
+        found.append(holder.hold(group, list(sides.has[source])))
+    goal, now = exceptions_of(found), of_groups(exceptions_in(new.osd_dump), there)
+    check_held(new, found, goal, program)
+    would = mapped_sets(with_exceptions(new, cleaned_at(new, program, raw)[0].kept), program)
+    explicit, items = new.exceptions
+    undo = exception_commands(goal, of_groups({"pg_upmap": explicit, "pg_upmap_items": items}, there))
+    return Hold(new.epoch, found, would, exception_commands(kept_apart(now, goal, sides.lost), goal), undo)
+
+
+def hold_of_change(cluster: Cluster, steps: list[Command], program: Program) -> Hold:
+    """How the groups of a cluster are held behind a change that commands make."""
+    return hold_of(sides_of_change(cluster, steps, program), program)

@@ -1,0 +1,136 @@
+"""The way from held groups to what the rules alone give, or to a plan, in the order of plans: each group moves once.
+
+The program is asked for the sets before and at the end, and nothing is put out where a group would end elsewhere.
+"""
+
+from __future__ import annotations
+
+from collections import Counter
+from collections.abc import Iterable, Mapping
+from contextlib import ExitStack
+from dataclasses import dataclass
+
+from ..cluster.aftermath import cleaned_at, exceptions_in, with_exceptions
+from ..cluster.cluster import Cluster
+from ..cluster.conversion import pool_of
+from ..cluster.difference import exception_commands
+from ..cluster.evenness import Spread
+from ..cluster.moving import erasure_pools
+from ..cluster.names import set_words
+from ..cluster.view import ClusterView, view_of_cluster
+from ..faults import Fault
+from ..output.json_forms import PeakParts
+from ..program.answers import Up
+from ..program.maps import Exceptions, Pool, Program, entries_of, group_key
+from ..words import counted
+from .plan import DEFAULT_WISH, opened, planned
+from .question import sets_of_maps
+from .step_order import StepOrder, parts_in_order
+from .steps import PlanStep, by_group
+
+
+@dataclass(frozen=True)
+class Release:
+    """How held groups are let go: the epoch, the pools, the steps in their parts, and how many groups the fullest OSD
+    has before all of them, while each of them moves, and at the end.
+    """
+
+    __slots__ = ("epoch", "pools", "parts", "peaks", "before", "after")
+    epoch: int
+    pools: list[Pool]
+    parts: list[list[PlanStep]]
+    peaks: list[PeakParts]
+    before: int
+    after: int
+
+    @property
+    def steps(self) -> list[PlanStep]:
+        """All steps in their order."""
+        return [step for part in self.parts for step in part]
+
+
+def exceptions_after(now: Exceptions, lines: Iterable[str]) -> Exceptions:
+    """Exceptions once commands are given."""
+    explicit, items = dict(entries_of(now, "pg_upmap")), dict(entries_of(now, "pg_upmap_items"))
+    for line in lines:
+        word, group, *named = line.split(" ")[2:]
+        osds, table = list(map(int, named)), items if word.endswith("-items") else explicit
+        if word.startswith("rm-"):
+            table.pop(group, None)
+        else:
+            table[group] = [list(pair) for pair in zip(osds[::2], osds[1::2])] if table is items else osds
+    return {
+        "pg_upmap": [[group, explicit[group]] for group in sorted(explicit, key=group_key)],
+        "pg_upmap_items": [[group, items[group]] for group in sorted(items, key=group_key)],
+    }
+
+
+def planned_end(
+    view: ClusterView, plain: Exceptions, program: Program
+) -> tuple[Exceptions, dict[str, list[int | None]]]:
+    """The exceptions to which the plan of a cluster leads, and the sets of the groups that it moves."""
+    with ExitStack() as stack:
+        outcome = planned(opened(stack, view, program), DEFAULT_WISH)
+    lines = [line for step in outcome.steps for line in step.commands]
+    return exceptions_after(plain, lines), {step.group: step.now for step in outcome.steps}
+
+
+def check_end(ups: Mapping[str, Up], wanted: Mapping[str, list[int | None]]) -> None:
+    """A fault where a group would end elsewhere than the plan says, by the program."""
+    unlike = [group for group, places in wanted.items() if ups[group].places != places]
+    if unlike:
+        first = unlike[0]
+        raise Fault(
+            f"{counted(len(unlike), 'group')} would end elsewhere, the first {first}: {set_words(ups[first].places)} and "
+            f"not {set_words(wanted[first])}: a defect of the tools; nothing is put out"
+        )
+
+
+def counts_of(ups: Mapping[str, Up]) -> Counter[int]:
+    """How many groups each OSD has."""
+    return Counter(osd for up in ups.values() for osd in set(up.places) if osd is not None)
+
+
+def peaks_of(has: Counter[int], parts: list[list[PlanStep]]) -> list[PeakParts]:
+    """How full the fullest OSD gets to which places come, part by part, where all that comes in a part counts and
+    nothing that goes.
+    """
+    found: list[PeakParts] = []
+    for part in parts:
+        high = Counter(has)
+        for step in part:
+            high.update(step.places_come())
+            has.update(step.places_come())
+        for step in part:
+            has.subtract(step.places_leave())
+        osd = max({osd for step in part for osd in step.places_come()}, key=lambda osd: (high[osd], -osd), default=None)
+        found.append({"osd": osd, "groups": 0 if osd is None else high[osd]})
+    return found
+
+
+def release_of(cluster: Cluster, kept: Exceptions, is_planned: bool, most: int, program: Program) -> Release:
+    """How the held groups of a cluster are let go, but for exceptions that are kept: to what these and the rules give,
+    or to the plan for that. A fault where the program says that a group would end elsewhere.
+    """
+    now, plain = exceptions_in(cluster.osd_dump), with_exceptions(cluster, kept)
+    then = cleaned_at(plain, program)[0].kept
+    plain, wanted = with_exceptions(cluster, then), dict[str, list["int | None"]]()
+    if is_planned:
+        then, wanted = planned_end(view_of_cluster(plain), then, program)
+    before, end = view_of_cluster(cluster), view_of_cluster(with_exceptions(cluster, then))
+    was, to = sets_of_maps(before.maps, program), sets_of_maps(end.maps, program)
+    check_end(to, wanted)
+    pools = [pool_of(pool) for pool in cluster.pools]
+    explicit, items = cluster.exceptions
+    back, erasure = by_group(exception_commands(then, {"pg_upmap": explicit, "pg_upmap_items": items})), erasure_pools(
+        pools
+    )
+    steps = [
+        PlanStep(group, lines, back.get(group, []), was[group].places, to[group].places, group_key(group)[0] in erasure)
+        for group, lines in by_group(exception_commands(now, then)).items()
+        if group in was
+    ]
+    has, share = counts_of(was), end.shares(to).wanted
+    parts = parts_in_order(StepOrder(Spread(dict(has), share), None, steps), most, False)
+    after = max(counts_of(to).values(), default=0)
+    return Release(cluster.epoch, pools, parts, peaks_of(Counter(has), parts), max(has.values(), default=0), after)
