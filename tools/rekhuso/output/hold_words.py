@@ -5,14 +5,11 @@ from __future__ import annotations
 from ..plans.hold import Hold
 from ..words import counted, some
 from .flow_words import move_words
-from .plan_scripts import comments
+from .plan_scripts import client_words, comments
 
 # How many groups that are not held are told by their names, for each reason.
 MOST_LEFT = 40
 # What is told above the commands.
-BEFORE = [
-    "before: ceph osd set-require-min-compat-client luminous (clients must know upmap; refused beside older ones)"
-]
 TO_COME = [
     "order:  the change comes first, and nothing moves meanwhile: give its command behind the name of this script, as",
     '        sh hold.sh ceph osd setcrushmap -i NEW; it is run where "$@" stands. Pairs before it are taken away again',
@@ -73,7 +70,7 @@ def hold_script(hold: Hold, is_undo: bool, is_made: bool, part: int, parts: list
     if part == len(parts):
         lines.append(END)
     notes = [
-        *BEFORE,
+        *client_words(hold.client),
         *(order if part == 1 else [f"order:  part {part - 1} is run before"]),
         *([] if is_undo else AFTER),
     ]

@@ -18,6 +18,7 @@ from ..cluster.map_parts import map_clusters
 from ..cluster.moving import coming, has_moved, split_group
 from ..cluster.names import set_words
 from ..cluster.reasons import reasons
+from ..cluster.releases import least_client
 from ..faults import Fault
 from ..output.json_forms import HoldParts
 from ..program.maps import Exceptions, Program, entries_of, group_key, groups_in, groups_of, with_all_up
@@ -41,12 +42,13 @@ class Sides:
 
 @dataclass(frozen=True)
 class Hold:
-    """What holds groups: each group that was there, the set that it would have by the change alone, the commands, and
-    those that take them back.
+    """What holds groups: the release that clients must have, if the dump tells it; each group that was there, the set
+    that it would have by the change alone, the commands, and those that take them back.
     """
 
-    __slots__ = ("epoch", "groups", "would", "commands", "undo")
+    __slots__ = ("epoch", "client", "groups", "would", "commands", "undo")
     epoch: int
+    client: str | None
     groups: list[Held]
     would: Mapping[str, Places]
     commands: list[str]
@@ -163,7 +165,8 @@ def hold_of(sides: Sides, program: Program) -> Hold:
     would = mapped_sets(with_exceptions(new, cleaned_at(new, program, raw)[0].kept), program)
     explicit, items = new.exceptions
     undo = exception_commands(goal, of_groups({"pg_upmap": explicit, "pg_upmap_items": items}, there))
-    return Hold(new.epoch, found, would, exception_commands(kept_apart(now, goal, sides.lost), goal), undo)
+    lines = exception_commands(kept_apart(now, goal, sides.lost), goal)
+    return Hold(new.epoch, least_client(new.osd_dump), found, would, lines, undo)
 
 
 def hold_of_change(cluster: Cluster, steps: list[Command], program: Program) -> Hold:

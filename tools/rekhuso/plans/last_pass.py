@@ -110,17 +110,22 @@ class LastPass:
         there = (osd for osd in self.ranked if osd in shares and block.is_beside(full, osd))
         return [osd for osd in islice(there, few) if domains[osd] not in closed and self.full.ratio(osd) < ratio]
 
-    def ways(self, full: int, few: int) -> list[Way]:
-        """The moves from an OSD by which something is gained, the best first."""
+    def ways(self, full: int, few: int, is_whole: bool) -> list[Way]:
+        """The moves from an OSD by which something is gained, the best first: all, or those that gain more than any of
+        a pool which was passed over, as its places are too small for the best move.
+        """
         found: list[Way] = []
-        for own in self.movable:
-            if not own.on.get(full):
+        best, floor, rise = 0.0, 0.0, 2 * (self.full.ratio(full) - self.full.ratio(self.ranked[0]))
+        there = [(own, [size for size, _ in own.by_size(full)]) for own in self.movable if own.on.get(full)]
+        for own, sizes in sorted(there, key=lambda entry: -entry[1][0]):
+            if not is_whole and sizes[0] * rise < best:
+                floor = max(floor, sizes[0] * rise)
                 continue
-            number, sizes = own.number, [size for size, _ in own.by_size(full)]
             for osd in self.near(own, full, few):
-                if self.keeps(number, full, osd) and self.keeps_all(full, osd):
-                    found += [(-self.full.gain(full, osd, size), number, osd, size) for size in sizes]
-        return sorted(way for way in found if way[0] < 0)
+                if self.keeps(own.number, full, osd) and self.keeps_all(full, osd):
+                    found += [(-self.full.gain(full, osd, size), own.number, osd, size) for size in sizes]
+            best = max(best, -min(found, default=(0.0,))[0])
+        return sorted(way for way in found if way[0] < -floor)
 
     def exchanges(self, full: int) -> list[Exchange]:
         """The exchanges between an OSD and others by which something is gained, the best first."""
@@ -188,7 +193,9 @@ class LastPass:
     def by_move(self, full: int, few: int) -> bool:
         """Whether something has gone from an OSD by one move."""
         return any(
-            self.goes(self.pools[number], size, full, osd) is not None for _, number, osd, size in self.ways(full, few)
+            self.goes(self.pools[number], size, full, osd) is not None
+            for is_whole in (False, True)
+            for _, number, osd, size in self.ways(full, few, is_whole)
         )
 
     def by_exchange(self, full: int) -> bool:

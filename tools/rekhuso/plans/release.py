@@ -23,6 +23,7 @@ from ..output.json_forms import PeakParts
 from ..program.answers import Up
 from ..program.maps import Exceptions, Pool, Program, entries_of, group_key
 from ..words import counted
+from .parts import ALL
 from .plan import DEFAULT_WISH, opened, planned
 from .question import sets_of_maps
 from .step_order import StepOrder, parts_in_order
@@ -133,5 +134,7 @@ def release_of(cluster: Cluster, kept: Exceptions, is_planned: bool, most: int, 
     ]
     has, share = counts_of(was), end.shares(to).wanted
     parts = parts_in_order(StepOrder(Spread(dict(has), share), None, steps), most, False)
+    if most == ALL and parts:
+        parts = [[step for part in parts for step in part]]
     after = max(counts_of(to).values(), default=0)
     return Release(cluster.epoch, pools, parts, peaks_of(Counter(has), parts), max(has.values(), default=0), after)
