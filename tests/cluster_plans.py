@@ -475,8 +475,9 @@ class ClusterPlans(StockCase):
                 self.assertLess(first[0], start[0])
 
     def test_parts_beside_an_osd_of_no_weight(self) -> None:
-        """Where an OSD with groups weighs next to nothing, so that it is full beyond any bound, every OSD has one of its
-        own: while a part moves none has more than one group above the most that it has before the plan or after it."""
+        """Where an OSD with groups weighs next to nothing, so that it is full beyond any bound, every OSD has one of
+        its own: while a part moves none has more than one group above the most that it has before the plan or after it.
+        """
         own = copied(STOCK["025-many-pools"])
         for bucket in own["crush_dump"]["buckets"]:
             for item in bucket["items"]:

@@ -153,7 +153,7 @@ def options_of(arguments: Arguments) -> PlanOptions:
 
 
 def wish_of(options: PlanOptions, pools: list[Pool], names: Names, held: Held) -> Wish:
-    """What is asked for. A fault for a word that names no pool, and where room is wanted and not all pools are known."""
+    """What is asked for. A fault for a word that names no pool, and where room is wanted and some pool is unknown."""
     most = options.most or (MOST_MOVES if options.is_alone else ALL)
     own = {pool["id"]: names.get("pools", {}).get(str(pool["id"]), "") for pool in pools}
     named_pools = frozenset(pools_named(options.pools, own))
@@ -376,13 +376,14 @@ def add_to(commands_of: Commands) -> None:
     own.add_argument(
         "--anyway",
         action="store_true",
-        help="a plan also amid an outage, or while 5 %% of the places are still to come, when Ceph's balancer would wait",
+        help="a plan also amid an outage, or while 5 %% of the places are still to move: Ceph's balancer would wait",
     )
     own.add_argument("--to", metavar="FOLDER", help="the folder of these files: plan-001.sh, .. or undo-001.sh, ..")
     own.add_argument(
         "--df",
         metavar="FILE",
-        help="what `ceph df --format json` prints: even the data too, and tell how much of it moves; by means of pools, "
+        help="what `ceph df --format json` prints: even the data too, and tell how much of it moves; by means of "
+        "pools, "
         "without --pgs",
     )
     own.add_argument(

@@ -82,7 +82,8 @@ def check_end(ups: Mapping[str, Up], wanted: Mapping[str, list[int | None]]) -> 
     if unlike:
         first = unlike[0]
         raise Fault(
-            f"{counted(len(unlike), 'group')} would end elsewhere, the first {first}: {set_words(ups[first].places)} and "
+            f"{counted(len(unlike), 'group')} would end elsewhere, the first {first}: "
+            f"{set_words(ups[first].places)} and "
             f"not {set_words(wanted[first])}: a defect of the tools; nothing is put out"
         )
 
