@@ -30,7 +30,7 @@ impl<'a> Ending<'a> {
         }
     }
 
-    /// The exit status of the program: 1 to 6.
+    /// The exit status of the program: 1 to 7.
     pub fn status(&self) -> u8
         ensures { result ≡ store_status_of self.now }
     {

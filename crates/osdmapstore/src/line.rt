@@ -150,11 +150,11 @@ fn options_in(alloc: Global, matches: &ArgMatches<'_>) -> Result<Options, LineEr
 }
 
 /// What a command line asks for, the program's name first: `[--journal N] [--stock] [--to ANSWERS].. [--begin MAP]
-/// [--open-or-begin MAP] [--backup FILE] STORE [SCRIPT..]`, N from 1 to 65,536 and 1,024 where it is not given, at most 64 scripts, and as many files of
-/// answers or none. The options are those that the parser finds in the words, exactly where it has nothing against
-/// them and the numbers are so; `Help` where help was asked for, `Usage` for what else the parser has against the
-/// words, `TooMany` where there are more scripts, `Unpaired` where there are files of answers but another number of
-/// them, else `Memory`.
+/// [--open-or-begin MAP] [--backup FILE] STORE [SCRIPT..]`, N from 1 to 65,536 and 1,024 where it is not given, at
+/// most 64 scripts, and as many files of answers or none. The options are those that the parser finds in the words,
+/// exactly where it has nothing against them and the numbers are so; `Help` where help was asked for, `Usage` for what
+/// else the parser has against the words, `TooMany` where there are more scripts, `Unpaired` where there are files of
+/// answers but another number of them, else `Memory`.
 pub fn options(alloc: Global, words: &[String]) -> Result<Options, LineError>
     ensures least { IfOk result (λ o. 1 ≤ o.sessions.journal) }
     ensures most { IfOk result (λ o. o.sessions.journal ≤ max_capacity) }

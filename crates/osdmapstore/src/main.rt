@@ -1,7 +1,6 @@
 //! Answers scripts of commands over the map of a cluster that a file keeps, so that no change that was answered is lost
-//! in a crash: `osdmapstore [--journal N] [--stock] [--to ANSWERS].. [--begin MAP] [--open-or-begin
-//! MAP] [--backup FILE] STORE [SCRIPT..]`, where `-` for a
-//! script is standard input, and for a file of answers standard output.
+//! in a crash: `osdmapstore [--journal N] [--stock] [--to ANSWERS].. [--begin MAP] [--open-or-begin MAP] [--backup FILE]
+//! STORE [SCRIPT..]`, where `-` for a script is standard input, and for a file of answers standard output.
 //!
 //! - `line`, `choices`: what a command line asks for
 //! - `ending`: how a run ends
