@@ -128,7 +128,7 @@ def osds_below(value: Map, number: int) -> list[int]:
 
 def number_of(word: str, known: dict[str, str]) -> int | None:
     """The number that a word is, or that has it as its name; None where there is none."""
-    if re.fullmatch("-?[0-9]+", word):
+    if re.fullmatch("-?[0-9]{1,20}", word):
         return int(word)
     return next((int(number) for number, name in known.items() if name == word), None)
 
