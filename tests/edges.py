@@ -18,9 +18,9 @@ from tests.clusters import STOCK, Json, copied
 from tests.tool_cases import ToolCase
 
 # What stands in place of a number; JSON's own text has no end of digits.
-EDGES = [10**400, -(10**400), 1e308, -1e308, 2**64, -(2**63), 2**31, -1, 0.5, None, "1"]
+EDGES: list[object] = [10**400, -(10**400), 1e308, -1e308, 2**64, -(2**63), 2**31, -1, 0.5, None, "1"]
 DIGITS = "1" * 5000
-GROUPS = [f"{DIGITS}.0", f"1.{DIGITS}", "-1.0", "1"]
+GROUPS: list[object] = [f"{DIGITS}.0", f"1.{DIGITS}", "-1.0", "1"]
 SECONDS = 30
 
 
@@ -139,7 +139,7 @@ class Edges(ToolCase):
                     status, told = self.ended("check", self.tools.put("map", with_value(value, place, edge)))
                     self.assertTrue(status == 0 or status == 1 and told, (status, told[-300:]))
         for group in GROUPS:
-            with self.subTest(group=group[:20]):
+            with self.subTest(group=str(group)[:20]):
                 path = self.tools.put("map", dict(value, pg_upmap=[[group, [0, 1, 2]]]))
                 self.assertEqual(self.ended("check", path)[0], 1)
         names = self.tools.put("names", {"osds": {DIGITS: "a"}})

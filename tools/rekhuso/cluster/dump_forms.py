@@ -92,6 +92,8 @@ DF = {
 PG_STATS = [{"pgid": str, "stat_sum": {"num_bytes": int, "?num_omap_bytes": int}}]
 # What `ceph osd df -f json` tells of OSDs; with `tree` also buckets stand there, with negative ids.
 OSD_DF = {"nodes": [{"id": int, "kb": int, "kb_used": int, "kb_avail": int}]}
+# What is said of the report of a cluster in place of a dump.
+REPORT = "what `ceph report` prints, with the OSD dump at .osdmap and the CRUSH dump at .crushmap"
 # What a step must have beside its word.
 STEP_KEYS = {
     "take": ("item",),
@@ -246,6 +248,13 @@ def is_map(value: object) -> bool:
     return isinstance(value, dict) and {"buckets", "osds", "pools", "rules"} <= value.keys()
 
 
+def is_report(value: object) -> bool:
+    """Whether a value is what `ceph report` prints, in which both dumps stand (Ceph, OSDMonitor.cc `dump_info`)."""
+    return isinstance(value, dict) and {"osdmap", "crushmap"} <= value.keys()
+
+
 def dump_name(value: object) -> str | None:
     """Which dump a value is, in words; None where it is none."""
+    if is_report(value):
+        return REPORT
     return "an OSD dump" if is_osd_dump(value) else "a CRUSH dump" if is_crush_dump(value) else None
