@@ -17,6 +17,7 @@ from __future__ import annotations
 
 import argparse
 import json
+import re
 import sys
 from contextlib import ExitStack
 from dataclasses import dataclass, replace
@@ -306,7 +307,7 @@ def work(options: PlanOptions) -> None:
 
 def commands_a_file(word: str) -> int:
     """A number of commands; an error of use where it is none."""
-    number = int(word) if word.isdecimal() else 0
+    number = int(word) if re.fullmatch("[0-9]{1,20}", word) else 0
     if not 1 <= number <= 2**31:
         raise argparse.ArgumentTypeError(f"{word}: no number of commands from 1 on")
     return number
@@ -315,7 +316,8 @@ def commands_a_file(word: str) -> int:
 def distance(word: str) -> Fraction:
     """A number of groups from a share; an error of use where it is none."""
     try:
-        number = Fraction(word)
+        # Of a great exponent Python makes a number of as many digits, which takes long.
+        number = Fraction(word if len(word) <= 40 and not re.search("[eE].*[0-9]{3}", word) else -1)
     except (ValueError, ZeroDivisionError):
         number = Fraction(-1)
     if not 0 <= number <= FARTHEST:
