@@ -1,6 +1,6 @@
 """The pages say what stands in the repository: the program of docs/LIBRARY.md, the function of README.md, names,
-calls, targets, options, files, links, crates and their files, the chain of proofs, the edits that must not prove,
-and figures."""
+calls, targets, options, files, links, crates and their files, the chain of proofs, and the edits that
+must not prove. Figures are those of figures.py."""
 
 import pathlib
 import re
@@ -58,8 +58,6 @@ OTHER_NAMES = {
     "ok",
     "osdmaptool",
 }
-# Times that pages state and nobody measured: limits, pauses, and what follows from a figure.
-STATED_TIMES = {("60", "seconds"), ("20", "minutes"), ("250", "microseconds"), ("twenty", "hours")}
 # What pages once said and was false.
 FALSE = [
     "`lefts`",
@@ -131,7 +129,6 @@ DIGITS = "one two three four five six seven eight nine ten eleven".split()
 RESULTS = TOP / "bench" / "results"
 NUMBERS = {word: str(number) for number, word in enumerate(DIGITS, 1)}
 NUMBER = r"\d(?:[\d,]*\d)?(?:\.\d+)?"
-UNITS = {"min": "minutes", "minute": "minutes", "s": "seconds", "second": "seconds", "hour": "hours"}
 
 
 def text(*names: str) -> str:
@@ -195,14 +192,6 @@ def found_in(pattern: str, page: str, flags: int = 0) -> str:
     found = re.search(pattern, page, flags)
     assert found, f"{pattern} is not in the page"
     return found[min(1, found.re.groups)]
-
-
-def figures(page: str) -> set[tuple[str, str]]:
-    """The figures of a page: each number before a unit of time or a gigabyte, of a range both."""
-    number = rf"\d[\d,.]*|{'|'.join(NUMBERS)}"
-    units = "min|minutes?|s|seconds?|hours?|ms|µs|ns|GB|microseconds|milliseconds|instructions"
-    found = re.findall(rf"\b(?:({number}) to )?({number}) ({units})\b", page)
-    return {(NUMBERS.get(one, one), UNITS.get(unit, unit)) for low, high, unit in found for one in (low, high) if one}
 
 
 def sources() -> dict[pathlib.Path, str]:
@@ -410,21 +399,6 @@ class Pages(Case):
         self.assertGreater(len(crates), 20, (floors ^ crates, layers ^ crates))
         self.assertEqual(floors, layers, (floors ^ crates, layers ^ crates))
         self.assertEqual(layers, crates, (floors ^ crates, layers ^ crates))
-
-    def test_figures(self) -> None:
-        """Each figure of a page stands in bench/results, and so does each number of the results in docs/SPEEDS.md"""
-        kept = set(re.findall(NUMBER, " ".join(path.read_text(encoding="utf-8") for path in RESULTS.glob("*.md"))))
-        said = {
-            (page.name, *figure) for page in pages() if page.name != "CHANGELOG.md" for figure in figures(flat(page))
-        }
-        missing = {figure for figure in said if figure[1] not in kept and figure[1:] not in STATED_TIMES}
-        self.assertGreater(len(said), 30, missing)
-        self.assertFalse(missing)
-        rows = [row.split("|") for row in re.findall(r"^\|.*results/.*$", text("docs", "SPEEDS.md"), re.MULTILINE)]
-        numbers = {number for row in rows for number in re.findall(NUMBER, row[2])}
-        self.assertEqual(len(rows), 15, numbers - kept)
-        self.assertGreater(len(numbers), 20, numbers - kept)
-        self.assertLessEqual(numbers, kept, numbers - kept)
 
     def test_false_sentences(self) -> None:
         """No page and no comment says again what was found to be false"""
