@@ -123,6 +123,19 @@ LISTS = {
     "A refusal": {"Refusal": "refusal/src/refused.rt"},
 }
 NOT_LOOKED_FOR = {"Memory"}
+# The words of each list, as a part of docs/FORMATS.md has them, and what share of them a file of the tools, the tests,
+# the benches or the pages has at least between quotes or by itself if it is a place of the list.
+KEY_OF_MAP = "A key of a map"
+TYPES_OF_KEYS = r"\b(?:MapParts|OsdPart|PoolPart|OsdState)\b"
+CHANGE_KEYS = "old_pools new_crush new_pools grow_pool down weight old_upmap new_upmap old_items new_items"
+MAP_KEYS = "max_osd buckets rules pools osds pg_upmap pg_upmap_items pg_num pgp_num exists"
+LINES = "up count groups epoch dump change await balance follow fup fkept fdump"
+WORDS_OF_LISTS = {
+    "A kind of bucket": ("uniform list tree straw2", 0.75),
+    "A line of a script": (LINES, 0.6),
+    "A part of a change": (CHANGE_KEYS, 0.6),
+    KEY_OF_MAP: (MAP_KEYS, 0.75),
+}
 # What the page of a crate has.
 PARTS_OF_PAGES = ["Parts", "A caller", "Proved", "Tested", "Not promised"]
 DIGITS = "one two three four five six seven eight nine ten eleven".split()
@@ -261,7 +274,21 @@ def listed(heading: str) -> set[pathlib.Path]:
                 files |= {crate / "src" / f"{name}.rt", *(crate / "src" / name).rglob("*.rt")}
             else:
                 files.add(TOP / owner / f"{name}.py")
-    return files
+    return files | {TOP / name for name in re.findall(r"\b(?:docs/)?[A-Z]+\.md\b", lines)}
+
+
+def beside_crates() -> dict[pathlib.Path, str]:
+    """The files of the tools, the tests and the benches, and the pages, each with its text."""
+    found = [
+        path for folder in ("tests", "bench") for end in ("py", "json") for path in (TOP / folder).glob(f"*.{end}")
+    ]
+    found += [*(TOP / "tools" / "rekhuso").rglob("*.py"), *(TOP / "docs").glob("*.md"), TOP / "README.md"]
+    return {path: path.read_text("utf-8") for path in found if path.stem != "pages"}
+
+
+def has_most(source: str, words: list[str], share: float) -> bool:
+    """Whether a text has at least a share of some words, each behind a quote or as the name of a field."""
+    return sum(bool(re.search(rf"[\"'`\\]{word}\b|^ *{word}: ", source, re.M)) for word in words) >= share * len(words)
 
 
 def looked_for(kind: str, declaration: str) -> set[str]:
@@ -439,6 +466,29 @@ class Pages(Case):
                     }
                     self.assertEqual(set().union(*found.values()), names)
                     self.assertFalse(unlisted, f"have names of {kind} and are not listed for {heading}")
+
+    def test_places_beside_crates(self) -> None:
+        """Each file of the tools, the tests, the benches and the pages that has most of the keys of a map or a change,
+        of the kinds of buckets, of the lines or of the refusals is in the list of its kind, as each file of a crate is
+        that has a type of what maps have"""
+        texts, crates = beside_crates(), sources_of_things()
+        names = re.findall(r"^\| \d+ \| `?(\w+)`? \|", text("docs", "FORMATS.md"), re.MULTILINE)
+        self.assertGreater(len(names), 20)
+        for heading, (words, share) in [*WORDS_OF_LISTS.items(), ("A refusal", (" ".join(names), 0.6))]:
+            with self.subTest(list=heading):
+                form = [path for path, source in texts.items() if has_most(source, words.split(), share)]
+                if heading == "A refusal":
+                    form = [
+                        path
+                        for path, source in texts.items()
+                        if len(set(names).intersection(re.findall(r"\w+", source))) >= share * len(set(names))
+                    ]
+                if heading == KEY_OF_MAP:
+                    form += [path for path, source in crates.items() if re.search(TYPES_OF_KEYS, source)]
+                places = listed(heading)
+                self.assertTrue(form)
+                self.assertFalse({str(path.relative_to(TOP)) for path in places if not path.exists()}, "are not there")
+                self.assertFalse(sorted(str(path.relative_to(TOP)) for path in set(form) - places), "are not listed")
 
     def test_pages_of_crates(self) -> None:
         """Each crate that docs/LIBRARY.md names has a page with the parts of such pages, and crates/README.md leads to
