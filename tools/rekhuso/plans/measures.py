@@ -11,6 +11,7 @@ from ..cluster.evenness import Spread, room, sums_by_osd
 from ..cluster.pool_data import Data
 from ..output.json_forms import ClusterParts, PoolSpreadParts
 from ..program.maps import Pool
+from .bounds import Measure
 from .mend import Gauge
 from .rounds import Live
 from .steps import PlanStep
@@ -64,6 +65,25 @@ class Measures:
     def bytes(self, counts: Mapping[int, Mapping[int, int]]) -> Spread | None:
         """The same in bytes, where it is known what the pools hold."""
         return None if self.places is None else Spread(sums_by_osd(counts, self.places), self.wanted_bytes)
+
+    def filling(self) -> tuple[Spread, dict[int, float] | None]:
+        """By what OSDs are full where steps are put in order: what they have before a plan, and what a place of each
+        pool counts (else 1).
+        """
+        used = self.bytes(self.counts)
+        is_known = used is not None and bool(used.osds())
+        return (used, self.places) if used is not None and is_known else (self.groups(self.counts), None)
+
+    def measure(self, steps: list[PlanStep]) -> Measure:
+        """The same as what the commands of a plan are judged by, all of whose steps these are."""
+        spread, places = self.filling()
+        end = dict(spread.has)
+        for step in steps:
+            size = 1.0 if places is None else places[step.pool]
+            for osds, more in ((step.comes(), size), (step.leaves(), -size)):
+                for osd in osds:
+                    end[osd] = end.get(osd, 0) + more
+        return Measure(spread.share, places, end)
 
     def gauges(self) -> list[Gauge]:
         """What no plan may leave less even."""

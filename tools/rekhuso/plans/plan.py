@@ -5,7 +5,7 @@ from __future__ import annotations
 import sys
 from collections.abc import Callable
 from contextlib import ExitStack
-from dataclasses import dataclass
+from dataclasses import dataclass, replace
 from fractions import Fraction
 
 from ..cluster.cleanup import going, reason_words
@@ -19,6 +19,7 @@ from ..cluster.view import ClusterView
 from ..faults import Fault
 from ..output.json_forms import ClusterParts, PlanParts
 from ..program.maps import Program, group_key
+from .bounds import Measure
 from .measures import Measures, counts_after, pool_spread
 from .mend import mended
 from .pairs import settled
@@ -61,11 +62,11 @@ DEFAULT_WISH = Wish(frozenset(), None, ALL, ALL, False, None)
 @dataclass(frozen=True)
 class Outcome:
     """What plans are: the steps in the parts in which they are taken, the groups whose steps were taken out for the
-    sake of the cluster, what is told of each pool and of the cluster before and after, and the pool with most data, if
-    it is known.
+    sake of the cluster, what is told of each pool and of the cluster before and after, the pool with most data, if it
+    is known, and by what OSDs are full on the way, where the steps stand in an order.
     """
 
-    __slots__ = ("parts", "taken_out", "pools", "before", "after", "largest")
+    __slots__ = ("parts", "taken_out", "pools", "before", "after", "largest", "measure")
 
     parts: list[list[PlanStep]]
     taken_out: list[str]
@@ -73,6 +74,7 @@ class Outcome:
     before: ClusterParts
     after: ClusterParts
     largest: int | None
+    measure: Measure | None
 
     @property
     def steps(self) -> list[PlanStep]:
@@ -161,12 +163,7 @@ def step_parts(measures: Measures, steps: list[PlanStep], wish: Wish) -> list[li
     """
     if wish.is_alone:
         return batches(steps, wish.batch)
-    used = measures.bytes(measures.counts)
-    if used is None or not used.osds():
-        parts = parts_in_order(measures.groups(measures.counts), None, steps, wish.batch)
-    else:
-        parts = parts_in_order(used, measures.places, steps, wish.batch)
-    return first_steps(parts, wish.most)
+    return first_steps(parts_in_order(*measures.filling(), steps, wish.batch), wish.most)
 
 
 def wanted_of(lives: list[Live], wish: Wish) -> list[int]:
@@ -235,7 +232,8 @@ def outcome_of(
     of_pool = steps_by_pool([step for part in parts for step in part])
     after = {number: counts_after(own, of_pool.get(number, [])) for number, own in measures.counts.items()}
     pools = [pool_parts(measures, number, made, after[number], of_pool.get(number, [])) for number in wanted]
-    return Outcome(parts, taken_out, pools, measures.told(measures.counts), measures.told(after), measures.largest())
+    before = measures.told(measures.counts)
+    return Outcome(parts, taken_out, pools, before, measures.told(after), measures.largest(), None)
 
 
 def planned(lives: list[Live], wish: Wish, tell: Callable[[str], None] = silent) -> Outcome:
@@ -244,7 +242,8 @@ def planned(lives: list[Live], wish: Wish, tell: Callable[[str], None] = silent)
     made = made_steps(lives, wanted, wish, tell)
     measures = Measures(lives, wish.data)
     kept = kept_steps(measures, made, wish)
-    return outcome_of(measures, wanted, made, step_parts(measures, kept, wish), without(made.steps, kept))
+    found = outcome_of(measures, wanted, made, step_parts(measures, kept, wish), without(made.steps, kept))
+    return found if wish.is_alone else replace(found, measure=measures.measure(kept))
 
 
 def pool_parts(
