@@ -143,7 +143,7 @@ def printed_over(lives: list[Live], outcome: Outcome, program: Program) -> Print
     """By what the commands of plans are judged."""
     maps = [live.value for live in lives]
     down = frozenset(osd["id"] for value in maps for osd in value["osds"] if osd["exists"] and not osd["up"])
-    return Printed(maps, program, {step.group: step.now for step in outcome.steps}, outcome.measure, down)
+    return Printed(maps, program, {step.group: step.now for step in outcome.steps}, outcome.measure, down, False)
 
 
 def told_by(lives: list[Live], options: PlanOptions, names: Names, data: Data | None, epoch: int) -> ToldPlan:

@@ -56,7 +56,7 @@ class Hold:
 
     def printed(self, program: Program) -> Printed:
         """By what the commands are judged before they are put out."""
-        return Printed(self.maps, program, {own.group: own.now for own in self.groups}, None, frozenset())
+        return Printed(self.maps, program, {own.group: own.now for own in self.groups}, None, frozenset(), True)
 
     def moving(self) -> list[Held]:
         """The groups that would move by the change alone."""

@@ -13,7 +13,6 @@ from collections.abc import Mapping, Sequence
 from dataclasses import dataclass
 from itertools import chain
 
-from ..cluster.moving import erasure_pools
 from ..cluster.names import set_words
 from ..faults import Fault
 from ..program.maps import Map, Program, group_key
@@ -35,16 +34,17 @@ def cut_into(commands: list[PrintedCommand], lengths: Sequence[int]) -> list[lis
 @dataclass(frozen=True)
 class Printed:
     """What printed commands are judged by: the maps for which they were made, the program, where some groups are to be
-    in the end (all others where they were), and by what OSDs are full; without that no OSD has a bound. Sets are what
-    the OSDs that are down leave of them.
+    in the end (all others where they were), by what OSDs are full, without which no OSD has a bound, the OSDs that are
+    down, which stand in no set that is wanted; and whether the commands leave no exception that does not stay.
     """
 
-    __slots__ = ("maps", "program", "wanted", "measure", "down")
+    __slots__ = ("maps", "program", "wanted", "measure", "down", "is_whole")
     maps: Sequence[Map]
     program: Program
     wanted: Mapping[str, Sequence[int | None]]
     measure: Measure | None
     down: frozenset[int]
+    is_whole: bool
 
     def courses(self, commands: Sequence[PrintedCommand], maps: Sequence[Map]) -> list[Course]:
         """The courses of commands over some maps. A fault for a command of no map."""
@@ -76,16 +76,20 @@ class Printed:
                 words = f"{set_words(places)} and not {set_words(goal)}"
                 raise defect(last.get(group, "no command"), f"the set of {group} is then {words}")
 
-    @staticmethod
-    def check_left(course: Course, last: Mapping[str, str], known: Mapping[str, list[object]]) -> None:
-        """A fault where Ceph's monitor would not leave an exception of a group that commands name, but for those that
-        are known.
-        """
-        own = excepted_in(course.last)
+    def check_left(self, course: Course, last: Mapping[str, str]) -> None:
+        """A fault where Ceph's monitor would not leave an exception, of a group that commands name or of any."""
         for group, what in course.left.items():
-            if what != "all" and group in last and known.get(group) != own[group]:
+            if what != "all" and (group in last or self.is_whole):
                 verb = "takes its exceptions away" if what == "gone" else "takes some of its pairs away"
-                raise defect(last[group], f"Ceph's monitor {verb}")
+                raise defect(last.get(group, "no command"), f"Ceph's monitor {verb}, those of {group}")
+
+    @staticmethod
+    def check_same(course: Course, last: Mapping[str, str], wanted: Mapping[str, list[object]]) -> None:
+        """A fault where a group of a map has other exceptions in the end than are wanted."""
+        found = excepted_in(course.last)
+        for group in course.groups:
+            if found.get(group) != wanted.get(group):
+                raise defect(last.get(group, "no command"), f"{group} has other exceptions then than before")
 
     def check(self, parts: Sequence[Sequence[PrintedCommand]]) -> list[Map]:
         """A fault where the commands, part by part, are not what they should be; the maps after them."""
@@ -95,21 +99,23 @@ class Printed:
         Play(courses, self.down).play(parts, self.measure)
         for own in courses:
             self.check_ends(own, last, self.wanted)
-            self.check_left(own, last, {})
+            self.check_left(own, last)
         return [own.last for own in courses]
 
     def check_undo(self, commands: Sequence[PrintedCommand], after: Sequence[Map]) -> None:
-        """The same of commands that take others back, over the maps after those, and where none of them was given."""
-        known = {group: own for value in self.maps for group, own in excepted_in(value).items()}
-        first = {group: places for own in self.courses([], self.maps) for group, places in own.before.items()}
-        erasure = {number for value in self.maps for number in erasure_pools(value["pools"])}
-        goal = {group: self.as_up(own, group_key(group)[0] in erasure) for group, own in first.items()}
+        """The same of commands that take others back: over the maps after those, and where none of them was given, all
+        exceptions and sets are then as they were.
+        """
+        exceptions = {group: own for value in self.maps for group, own in excepted_in(value).items()}
         last = {own.group: own.line for own in commands}
-        for maps in (after, self.maps):
-            courses = self.courses(commands, maps)
-            for course in courses:
+        goal: dict[str, Places] = {}
+        for maps in (self.maps, after):
+            for course in self.courses(commands, maps):
+                for group, places in course.before.items():
+                    is_erasure = group_key(group)[0] in course.erasure
+                    goal.setdefault(group, self.as_up(places, is_erasure))
                 self.check_ends(course, last, goal)
-                self.check_left(course, last, known)
+                self.check_same(course, last, exceptions)
 
     def check_scripts(
         self, scripts: Sequence[str], lengths: Sequence[int], undo: Sequence[str], others: Sequence[str] = ()

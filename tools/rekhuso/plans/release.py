@@ -142,5 +142,5 @@ def release_of(cluster: Cluster, kept: Exceptions, is_planned: bool, most: int, 
     parts = parts_in_order(Spread(dict(has), share), None, steps, most)
     after, down = counts_of(to), frozenset(osd for osd, own in cluster.osds.items() if not own["up"])
     sets, measure = {step.group: step.now for step in steps}, Measure(share, None, dict(after))
-    peaks, printed = peaks_of(Counter(has), parts), Printed(before.maps, program, sets, measure, down)
+    peaks, printed = peaks_of(Counter(has), parts), Printed(before.maps, program, sets, measure, down, False)
     return Release(cluster.epoch, pools, parts, peaks, most_of(has), most_of(after), printed)
