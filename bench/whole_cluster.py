@@ -186,13 +186,13 @@ class Cluster:
 
     def df(self) -> Any:
         """A file as `ceph df` prints it."""
-        pools = [
-            {
-                "id": number,
-                "name": self.names[number],
-                "stats": {"bytes_used": round(place * self.pools[number][1]["pg_num"] * self.pools[number][1]["size"])},
-            }
+        held = {
+            number: round(place * self.pools[number][1]["pg_num"] * self.pools[number][1]["size"])
             for number, place in self.places.items()
+        }
+        pools = [
+            {"id": number, "name": self.names[number], "stats": {"bytes_used": size, "stored": size}}
+            for number, size in held.items()
         ]
         return self.runs.value({"pools": pools})
 
@@ -357,6 +357,7 @@ def many_rows(runs: Folder, there: Any) -> Iterator[Any]:
             ("each pool by itself (--alone)", lambda: cluster.plan("--alone")),
             ("plan", cluster.plan),
             ("plan --df", lambda: cluster.plan("--df", df)),
+            ("plan --df --room", lambda: cluster.plan("--df", df, "--room")),
             ("osdmaptool, deviation 1", lambda: cluster.of_ceph(1)),
             ("osdmaptool, deviation 5", lambda: cluster.of_ceph(5)),
         ]

@@ -29,6 +29,7 @@ from tests.clusters import (
     below,
     commands,
     copied,
+    object_parts,
     of_groups,
     places,
     pool_lines,
@@ -112,7 +113,7 @@ class Model:
         for osd in self.weights:
             groups = sum(own[osd] for own in others.values())
             data = sum(own[osd] * self.of_place[other] for other, own in others.items())
-            more = (groups + self.of_place[pool] * data) / (2 + self.of_place[pool] ** 2)
+            more = (groups + 10 * self.of_place[pool] * data) / (2 + 10 * self.of_place[pool] ** 2)
             found[osd] = max(-half, min(half, math.floor(256 * more + Fraction(1, 2))))
         return found
 
@@ -164,6 +165,113 @@ class Model:
                 return
 
 
+class LastPass:
+    """The definition of the last pass of a plan over a model that knows what its pools hold."""
+
+    def __init__(self, model: Model, wanted: list[int]) -> None:
+        held = model.held or {}
+        self.model, self.wanted = model, wanted
+        self.sizes: dict[str, int] = {}
+        for pool, size in model.sizes.items():
+            groups = model.groups(pool)
+            for group, part in zip(groups, object_parts(len(groups)), strict=True):
+                self.sizes[group] = math.floor(held.get(pool, 0) * 65536 * Fraction(part) / size)
+        self.load: dict[int, int] = {
+            osd: sum(size for group, size in self.sizes.items() if osd in model.mapped[group]) for osd in model.weights
+        }
+        whole = sum(self.load.values())
+        self.want = {osd: Fraction(whole * weight, model.total) for osd, weight in model.weights.items()}
+
+    def ratio(self, osd: int) -> Fraction:
+        """What an OSD has to what it is to have."""
+        return Fraction(self.load[osd]) / self.want[osd]
+
+    def gain(self, leaves: int, comes: int, size: int) -> Fraction:
+        """By how much the sum of squares falls where so much goes from an OSD to another, which is less full then than
+        the first was; else 0."""
+        if size <= 0 or (self.load[comes] + size) / self.want[comes] >= self.ratio(leaves):
+            return Fraction(0)
+        pairs = ((leaves, -size), (comes, size))
+        away = [(self.load[osd] - self.want[osd], more, self.want[osd]) for osd, more in pairs]
+        return sum(((own**2 - (own + more) ** 2) / want for own, more, want in away), Fraction(0))
+
+    def keeps(self, pools: Iterable[int], leaves: int, comes: int, most: int) -> bool:
+        """Whether some pools together stay within so many groups of their shares, or get nearer."""
+        found = [self.model.deviations(pool) for pool in pools]
+        more, less = (sum(own[osd] for own in found) for osd in (leaves, comes))
+        return more - less > 1 or (less + 1 <= most and more - 1 >= -most)
+
+    def on(self, pool: int, osd: int) -> set[int]:
+        """What the groups of a pool hold that an OSD has."""
+        return {self.sizes[group] for group in self.model.groups(pool) if osd in self.model.mapped[group]}
+
+    def group(self, pool: int, size: int, leaves: int, comes: int) -> str | None:
+        """The lowest group of a pool that holds so much and may go from an OSD to another."""
+        groups = (group for group in self.model.groups(pool) if self.sizes[group] == size)
+        return next((group for group in groups if self.model.is_allowed(group, leaves, comes)), None)
+
+    def put(self, group: str, leaves: int, comes: int) -> None:
+        """A group goes from an OSD to another."""
+        own, size = self.model.mapped[group], self.sizes[group]
+        own[own.index(leaves)] = comes
+        self.model.pairs[group] += 1
+        self.load[leaves] -= size
+        self.load[comes] += size
+
+    def has_moved(self, full: int) -> bool:
+        """Whether a group has gone from an OSD, by the best move that is allowed."""
+        ways = sorted(
+            (-self.gain(full, osd, size), pool, osd, size)
+            for pool in self.wanted
+            for osd in self.want
+            if osd != full and self.keeps([pool], full, osd, 2) and self.keeps(self.model.places, full, osd, 3)
+            for size in self.on(pool, full)
+        )
+        for gain, pool, osd, size in ways:
+            group = self.group(pool, size, full, osd) if gain < 0 else None
+            if group is not None:
+                self.put(group, full, osd)
+                return True
+        return False
+
+    def has_exchanged(self, full: int) -> bool:
+        """Whether two groups have changed places, by the best exchange that is allowed of the first 64."""
+        ways = sorted(
+            (-self.gain(full, osd, size - less), pool, osd, size, other, less)
+            for pool in self.wanted
+            for other in self.wanted
+            for osd in self.want
+            if osd != full
+            if pool == other or (self.keeps([pool], full, osd, 2) and self.keeps([other], osd, full, 2))
+            for size in self.on(pool, full)
+            for less in self.on(other, osd)
+        )
+        for _, pool, osd, size, other, less in [way for way in ways if way[0] < 0][:64]:
+            group, back = self.group(pool, size, full, osd), self.group(other, less, osd, full)
+            if group is not None and back is not None:
+                self.put(group, full, osd)
+                self.put(back, osd, full)
+                return True
+        return False
+
+    def play(self) -> None:
+        """Makes the moves, until what is fullest beyond 1.05 cannot be made less full."""
+        stuck: set[int] = set()
+        has_moved = False
+        while any(self.want.values()):
+            left = [osd for osd in self.want if osd not in stuck and self.ratio(osd) > Fraction(21, 20)]
+            if not left:
+                if not has_moved or not stuck:
+                    return
+                stuck, has_moved = set(), False
+                continue
+            full = max(left, key=lambda osd: (self.ratio(osd), -osd))
+            if self.has_moved(full) or self.has_exchanged(full):
+                has_moved = True
+            else:
+                stuck.add(full)
+
+
 class Measured:
     """How even a cluster of some maps is by the sets of its groups: by groups, and by what these hold."""
 
@@ -176,19 +284,28 @@ class Measured:
             osds = {osd["id"]: osd["weight"] for osd in value["osds"] if osd["exists"] and osd["up"]}
             for pool in value["pools"]:
                 steps = next(rule["steps"] for rule in value["rules"] if rule["id"] == pool["rule"])
-                tree = set().union(*(below(value, step[1]) for step in steps if step[0] == "take"))
-                weights = {osd: items[osd] * osds[osd] for osd in tree if osds.get(osd)}
-                own = [osd for number in range(pool["pg_num"]) for osd in places(sets[f"{pool['id']}.{number:x}"])]
-                self.add(own, weights, of_place[pool["id"]])
+                taken = [below(value, step[1]) for step in steps if step[0] == "take"]
+                whole = set().union(*taken)
+                mean = of_place[pool["id"]] * pool["pg_num"]
+                own = [
+                    (osd, mean * part)
+                    for number, part in enumerate(object_parts(pool["pg_num"]))
+                    for osd in places(sets[f"{pool['id']}.{number:x}"])
+                ]
+                for tree in taken if len(whole) == sum(map(len, taken)) else [whole]:
+                    weights = {osd: items[osd] * osds[osd] for osd in tree if osds.get(osd)}
+                    self.add([entry for entry in own if entry[0] in tree], weights)
 
-    def add(self, own: list[int], weights: dict[int, int], place: float) -> None:
-        """Counts the places of a pool."""
-        total, held = sum(weights.values()), sum(osd in weights for osd in own)
-        for at, size in enumerate((1, place)):
-            for osd in own:
+    def add(self, own: list[tuple[int, float]], weights: dict[int, int]) -> None:
+        """Counts the places of a pool, each with what it holds."""
+        total = sum(weights.values())
+        for at in (0, 1):
+            sizes = [(osd, size if at else 1) for osd, size in own]
+            held = sum(size for osd, size in sizes if osd in weights)
+            for osd, size in sizes:
                 self.has[at][osd] = self.has[at].get(osd, 0) + size
             for osd, weight in weights.items():
-                self.share[at][osd] = self.share[at].get(osd, 0) + size * held * weight / total
+                self.share[at][osd] = self.share[at].get(osd, 0) + held * weight / total
 
     def ratios(self, at: int) -> list[float]:
         """What each OSD has to its share."""
@@ -202,6 +319,11 @@ class Measured:
             *(math.sqrt(sum(own * own for own in away) / len(away)) for away in (groups, data)),
             *(max(self.ratios(at)) for at in (0, 1)),
         ]
+
+
+def stats_of(size: int) -> Json:
+    """What `ceph df` tells of a pool that takes so many bytes."""
+    return {"bytes_used": size, "stored": size}
 
 
 def is_of(line: str, value: Json) -> bool:
@@ -230,20 +352,24 @@ class ClusterPlans(StockCase):
 
     def test_plans_of_the_definition(self) -> None:
         """Over random maps a plan gives the sets of the definition: with data and without, at several deviations, of
-        all pools and of one."""
+        all pools and of one; and for room alone."""
         rng, same, moves = random.Random(70), 0, 0
-        for case in range(16):
+        for case in range(20):
             cluster = random_cluster(rng)
             value, held = cluster[0], None
-            if case % 2:
+            if case % 2 or case >= 16:
                 held = {pool["id"]: rng.choice([0, 1, 7, 10**6]) * rng.randint(1, 10**9) for pool in value["pools"]}
-            deviation = rng.choice(["0.5", "1", "1.25", None])
+            deviation = None if case >= 16 else rng.choice(["0.5", "1", "1.25", None])
             words = (["--df", self.df_of(held)] if held else []) + (["--deviation", deviation] if deviation else [])
             model = Model(cluster, held)
             wanted = [1] if case % 8 == 2 else [2] if case % 8 == 4 else model.several
             words += ["--pool", wanted[0]] if len(wanted) == 1 and wanted != model.several else []
+            words += ["--room"] if case >= 16 else []
             told, sets = self.planned(value, *words, "--anyway")
-            model.play(wanted, round(256 * Fraction(deviation or 1)))
+            if case < 16:
+                model.play(wanted, round(256 * Fraction(deviation or 1)))
+            if held:
+                LastPass(model, wanted).play()
             self.assertEqual([parts["id"] for parts in told["pools"]], sorted(wanted))
             moves += told["moving"]["places"]
             if not told["taken_out"]:
@@ -276,13 +402,16 @@ class ClusterPlans(StockCase):
             with self.subTest(name=name):
                 files = self.dumps(name)
                 pools = STOCK[name]["osd_dump"]["pools"]
-                held = {pool["pool"]: round(2**40 * 10 ** rng.uniform(-2, 1)) for pool in pools}
+                held = {
+                    pool["pool"]: round(2**40 * 10 ** rng.uniform(-2, 1)) if pool["pg_num"] > 1 else 2**20
+                    for pool in pools
+                }
                 df = self.tools.put(
                     "df",
                     {
                         "pools": [
-                            {"id": pool["pool"], "name": pool["pool_name"], "stats": {"bytes_used": held[pool["pool"]]}}
-                            for pool in pools
+                            {"id": own["pool"], "name": own["pool_name"], "stats": stats_of(held[own["pool"]])}
+                            for own in pools
                         ]
                     },
                 )
@@ -346,8 +475,9 @@ class ClusterPlans(StockCase):
                 self.assertLess(first[0], start[0])
 
     def test_parts_beside_an_osd_of_no_weight(self) -> None:
-        """Where an OSD with groups weighs next to nothing, so that it is full beyond any bound, every OSD has one of its
-        own: while a part moves none has more than one group above the most that it has before the plan or after it."""
+        """Where an OSD with groups weighs next to nothing, so that it is full beyond any bound, every OSD has one of
+        its own: while a part moves none has more than one group above the most that it has before the plan or after it.
+        """
         own = copied(STOCK["025-many-pools"])
         for bucket in own["crush_dump"]["buckets"]:
             for item in bucket["items"]:
@@ -398,7 +528,7 @@ class ClusterPlans(StockCase):
         self.assertEqual(left([good]), ["1.0"])
         self.assertEqual(left([small, worse]), [])
         self.assertEqual(left([]), [])
-        data = Gauge(Spread({0: 1.0, 1: 5.0, 2: 0.0, 3: 3.0}, {0: 3.0, 1: 3.0, 2: 0.1, 3: 2.9}), {1: 1.0}, True)
+        data = Gauge(Spread({0: 1.0, 1: 5.0, 2: 0.0, 3: 3.0}, {0: 3.0, 1: 3.0, 2: 0.1, 3: 2.9}), {"1.0": 1.0}, True)
         self.assertEqual(left([good], data), [])
 
     def test_groups_that_are_left_out(self) -> None:
@@ -462,7 +592,7 @@ class ClusterPlans(StockCase):
         planned."""
         name = "025-many-pools"
         files, pools = self.dumps(name), STOCK[name]["osd_dump"]["pools"]
-        rows = [{"id": pool["pool"], "name": pool["pool_name"], "stats": {"bytes_used": 1}} for pool in pools]
+        rows = [{"id": pool["pool"], "name": pool["pool_name"], "stats": stats_of(1)} for pool in pools]
         last, first = rows[-1], rows[0]
         more = dict(last, id=999, name="beside")
         for changed, line in (

@@ -48,6 +48,18 @@ def raised(value: Json) -> Json:
     return dict(value, osds=[dict(osd, up=osd["exists"]) for osd in value["osds"]])
 
 
+def object_parts(groups: int) -> list[float]:
+    """Which part of a pool's objects each of its groups has: an object's hash goes to the group of its lowest bits, or
+    where there is none to that of one bit less (Ceph, `ceph_stable_mod`)."""
+    bits = 1
+    while bits < groups:
+        bits *= 2
+    found = [0.0] * groups
+    for number in range(bits):
+        found[number if number < groups else number & (bits // 2 - 1)] += 1 / bits
+    return found
+
+
 def groups_of(value: Json) -> list[str]:
     """The groups of a map."""
     return [f"{pool['id']}.{number:x}" for pool in value["pools"] for number in range(pool["pg_num"])]

@@ -9,7 +9,7 @@ from tests.tool_cases import ToolCase
 
 # The columns of `ceph osd df tree` (Ceph, OSDMap.cc, OSDUtilizationPlainDumper) that tell nothing of bytes, in their
 # order.
-CEPH_COLUMNS = ["ID", "CLASS", "WEIGHT", "REWEIGHT", "VAR", "PGS", "STATUS", "TYPE NAME"]
+CEPH_COLUMNS = ["ID", "CLASS", "WEIGHT", "REWEIGHT", "PGS", "STATUS", "TYPE NAME"]
 # The OSDs that are down and out in the tests of columns.
 DOWN, OUT = 2, 5
 
@@ -76,14 +76,14 @@ class DfOutput(ToolCase):
             wanted = [kinds[osd], "0" if osd == OUT else "1.00000", str(counts[osd]), "down" if osd == DOWN else "up"]
             self.assertEqual([row[name] for name in ("CLASS", "REWEIGHT", "PGS", "STATUS")], wanted, osd)
 
-    def test_var(self) -> None:
-        """An OSD's VAR is what it has to what its weights call for, beside the difference of the two in groups."""
+    def test_ratio(self) -> None:
+        """An OSD's RATIO is what it has to what its weights call for, beside the difference of the two in groups."""
         _, files = self.classed()
         value = json.loads(self.output("import", *files))
         counts, shares, rows = self.counts(value), self.shares(value), self.rows_of_osds(files)
-        self.assertEqual(rows[OUT]["VAR"], "0")
+        self.assertEqual(rows[OUT]["RATIO"], "0")
         for osd in rows.keys() - {DOWN, OUT}:
-            self.assertAlmostEqual(float(rows[osd]["VAR"]), counts[osd] / shares[osd], delta=0.006)
+            self.assertAlmostEqual(float(rows[osd]["RATIO"]), counts[osd] / shares[osd], delta=0.006)
             self.assertAlmostEqual(float(rows[osd]["DEVIATION"]), counts[osd] - shares[osd], delta=0.006)
 
     def test_totals(self) -> None:
@@ -113,7 +113,7 @@ class DfOutput(ToolCase):
         weight = sum(weight for bucket in value["buckets"] for item, weight in bucket["items"] if item >= 0) / 65536
         told = self.json("df", self.tools.put("m", value))
         self.assertEqual(
-            [(row["id"], row["pgs"], row["var"]) for row in told["stray"]], [(count, 2, None), (count + 1, 0, 0)]
+            [(row["id"], row["pgs"], row["ratio"]) for row in told["stray"]], [(count, 2, None), (count + 1, 0, 0)]
         )
         self.assertEqual(
             (told["summary"]["pgs"], round(told["summary"]["crush_weight"], 9)), (len(places), round(weight, 9))

@@ -12,6 +12,7 @@ from unittest import mock
 
 from rekhuso import Fault, Monitor
 from rekhuso.cluster.cleanup import cleaned
+from rekhuso.cluster.evenness import Spread
 from rekhuso.cluster.judge import judge_of_map, present_of
 from rekhuso.command_line import parser
 from rekhuso.commands import hold as hold_command
@@ -23,7 +24,7 @@ from rekhuso.plans.steps import PlanStep
 from rekhuso.program.maps import altered
 
 from tests.ceph_monitor import RECORDS, WORST, with_given
-from tests.clusters import CLUSTERS, STOCK, Json, kept, pooled, raised, uneven
+from tests.clusters import CLUSTERS, STOCK, Json, copied, kept, pooled, raised, uneven
 from tests.tool_cases import StockCase
 
 DRAINED, EVEN = "011-drained", "001-three-hosts"
@@ -150,6 +151,15 @@ def shortened(value: Json) -> Json:
     return altered(value, pg_upmap_items=items)
 
 
+def given(dump: Json, lines: list[str]) -> None:
+    """Gives an OSD dump the pairs of commands."""
+    for group, osds in ((line.split(" ")[3], line.split(" ")[4:]) for line in lines):
+        for key in ("pg_upmap", "pg_upmap_items"):
+            dump[key] = [entry for entry in dump[key] if entry["pgid"] != group]
+        pairs = [{"from": int(was), "to": int(now)} for was, now in zip(osds[::2], osds[1::2])]
+        dump["pg_upmap_items"] += [{"pgid": group, "mappings": pairs}] if pairs else []
+
+
 class Judged(StockCase):
     """Scripts that are judged, and exceptions."""
 
@@ -227,6 +237,17 @@ class Judged(StockCase):
         self.are_refused(faults, "release", *files)
         self.are_refused(UNDO_FAULTS[:1], "release", *files, "--undo")
 
+    def test_again(self) -> None:
+        """A plan made again over the first may have more commands, and so may the next; soon there are none."""
+        own = WORST["takes"]
+        dump, crush, counts = copied(own["osd_dump"]), self.tools.put("c", own["crush_dump"]), []
+        while not counts or counts[-1]:
+            told = self.json("plan", self.tools.put("o", dump), crush)
+            counts.append(len(told["commands"]))
+            given(dump, told["commands"])
+            self.assertLess(len(counts), 6, counts)
+        self.assertGreater(counts[0], 10 * sum(counts[1:]), counts)
+
     def test_order(self) -> None:
         """So does a plan all of whose commands stand in one part, where an OSD then passes the bounds of a part."""
         osd_dump, crush_dump = pooled(3)
@@ -238,11 +259,11 @@ class Judged(StockCase):
         """In a part all that comes counts and nothing that goes: an OSD may get as full as the fullest before the part,
         the fullest at the end or 1.05 of its share, and to one place more than it has before the plan or after it. One
         step alone may pass that, and steps from which nothing goes."""
-        share = {osd: 10.0 for osd in range(4)}
+        share, limits = {osd: 10.0 for osd in range(4)}, dict[int, float]()
 
         def told(has: list[float], end: list[float], *moves: tuple[int | None, int]) -> str | None:
             """The fault of a part of some moves, each of one place from an OSD to another."""
-            measure = Measure(share, None, dict(enumerate(end)))
+            measure = Measure(Spread({}, share), None, dict(enumerate(end)), limits)
             part = [Step(f"step {at}", [to], [] if was is None else [was], 1) for at, (was, to) in enumerate(moves)]
             found = Fullness(measure, dict(enumerate(has))).part(part)
             return None if found is None else found[0]
@@ -255,6 +276,9 @@ class Judged(StockCase):
         self.assertIsNone(told([10.0, 10, 10, 10], [10, 10, 10, 10], (0, 3)))
         self.assertIsNone(told([10.0, 10, 10, 10], [10, 10, 12, 12], (None, 3), (None, 3), (None, 2)))
         self.assertEqual(told([12.0, 10, 9, 9], [10, 10, 10, 10], (0, 2), (0, 2), (0, 2)), "step 2")
+        limits.update({2: 10.5, 3: 12.5})
+        self.assertEqual(told([12.0, 10, 9, 9], [10, 10, 10, 10], (0, 3), (0, 3), (0, 3), (0, 2), (0, 2)), "step 4")
+        self.assertEqual(told([12.0, 10, 10, 9], [10, 10, 10, 10], (0, 2)), "step 0")
 
     def test_texts(self) -> None:
         """A line of a script that is no command, no comment and none of the others is a fault, however near it is."""
@@ -293,7 +317,7 @@ class Judged(StockCase):
             seen |= {(record["name"], what) for what in found.values()}
         self.assertGreater(len(seen), 12, seen)
 
-    def given(self, value: Json, rng: random.Random) -> Json:
+    def by_chance(self, value: Json, rng: random.Random) -> Json:
         """A map, some of whose groups have exceptions by chance: many that break a rule, or do nothing."""
         osds = [osd["id"] for osd in value["osds"] if osd["exists"]]
         explicit, items = dict(value["pg_upmap"]), dict(value["pg_upmap_items"])
@@ -334,7 +358,7 @@ class Judged(StockCase):
         """Of exceptions by chance over the clusters the program and the tools' own reading say the same."""
         rng, seen = random.Random(82), dict.fromkeys(("all", "fewer", "gone"), 0)
         for name, first in self.clusters():
-            value = self.given(first, rng)
+            value = self.by_chance(first, rng)
             bare: Json = dict(raised(value), pg_upmap=[], pg_upmap_items=[])
             found = self.left(value)
             with Monitor(bare, self.tools.program, stock=True) as monitor:

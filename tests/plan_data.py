@@ -1,5 +1,5 @@
-"""What a plan tells of the data that moves, by what `ceph df` tells of pools: each place of a pool holds as much as any
-other."""
+"""What a plan tells of the data that moves, by what `ceph df` tells of pools: each group holds what its part of the
+objects' hashes comes to."""
 
 import json
 
@@ -8,8 +8,8 @@ from tests.plan_scripts import moving, told_of
 from tests.tool_cases import ToolCase
 
 GIB = 2**30
-# What the two pools hold: 96 groups of size 3, a GiB a place, and 64 of size 2, a quarter of it a place.
-OF_PLACE = {1: GIB, 7: GIB // 4}
+# What the two pools hold: 96 groups of size 3, and 64 of size 2, each place a quarter of a GiB. Of the 96 those from 32
+# to 63 are not split yet: a place of them holds 1.5 GiB, and of the others half as much.
 HELD = {1: 288 * GIB, 7: 32 * GIB}
 TOTAL = sum(HELD.values())
 STATS = {
@@ -19,6 +19,12 @@ STATS = {
         for pool, size in HELD.items()
     ],
 }
+
+
+def of_place(group: str) -> int:
+    """The bytes of a place of a group."""
+    pool, number = group.split(".")
+    return GIB // 4 if pool == "7" else 3 * GIB // 2 if 32 <= int(number, 16) < 64 else 3 * GIB // 4
 
 
 class PlanData(ToolCase):
@@ -35,12 +41,15 @@ class PlanData(ToolCase):
         value = json.loads(self.output("import", *self.files))
         before, after = self.tools.sets(value), self.tools.sets(with_commands(value, lines))
         size, osds = {}, dict[int, tuple[int, int]]()
-        for pool, place in OF_PLACE.items():
-            _, come, gone = moving(before, after, [group for group in before if group.startswith(f"{pool}.")])
-            size[pool] = place * len(come)
-            for osd in {*come, *gone}:
-                was = osds.get(osd, (0, 0))
-                osds[osd] = was[0] + place * come.count(osd), was[1] + place * gone.count(osd)
+        for pool in HELD:
+            size[pool] = 0
+            for group in (group for group in before if group.startswith(f"{pool}.")):
+                _, come, gone = moving(before, after, [group])
+                place = of_place(group)
+                size[pool] += place * len(come)
+                for osd in {*come, *gone}:
+                    was = osds.get(osd, (0, 0))
+                    osds[osd] = was[0] + place * come.count(osd), was[1] + place * gone.count(osd)
         return size, osds
 
     def test_json(self) -> None:
@@ -76,12 +85,13 @@ class PlanData(ToolCase):
 
     def test_other_forms(self) -> None:
         """A file of another form is told by its path and the place, and no plan is made."""
-        row: Json = {"id": 1, "stats": {"bytes_used": "1"}}
+        row: Json = {"id": 1, "stats": {"bytes_used": "1", "stored": 1}}
         for wrong, what in (
             ("[]", "no JSON object"),
             ({}, "no pools in it"),
             ({"pools": [{"id": 1}]}, "pools[0].stats: missing"),
-            ({"pools": [{"id": 7, "name": "p7", "stats": {"bytes_used": 1}}]}, "no pool 1"),
+            ({"pools": [{"id": 7, "name": "p7", "stats": {"bytes_used": 1, "stored": 1}}]}, "no pool 1"),
+            ({"pools": [{"id": 1, "stats": {"bytes_used": 1}}]}, "pools[0].stats.stored: missing"),
             ({"pools": [row]}, "pools[0].stats.bytes_used: no whole number"),
         ):
             with self.subTest(what=what):

@@ -47,7 +47,7 @@ class SeveralMaps(StockCase):
                         self.assertEqual(row["pgs"], groups.get(row["id"], 0), (name, row))
                         self.assertEqual(row["crush_weight"], weights[row["id"]], (name, row))
                         self.assertTrue(
-                            row["crush_weight"] or (row["pgs"], row["share"], row["var"]) == (0, 0, 0), (name, row)
+                            row["crush_weight"] or (row["pgs"], row["share"], row["ratio"]) == (0, 0, 0), (name, row)
                         )
                 above = {}
                 for row in rows:

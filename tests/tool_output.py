@@ -185,7 +185,7 @@ class ToolOutput(ToolCase):
         self.assertLessEqual(abs(sum(roots) - told["summary"]["share"]), 0.005 * (len(roots) + 1))
         self.assertLess(page.index("<svg"), page.index('<table class="sums">'))
         self.assertLess(page.index('<table class="sums">'), page.index("<h2>OSDs</h2>"))
-        columns = ("NAME", "PGS", "SHARE", "DEVIATION", "VAR", "STATUS")
+        columns = ("NAME", "PGS", "SHARE", "DEVIATION", "RATIO", "STATUS")
         self.assertIn("".join(f"<th>{name}</th>" for name in columns), sums)
         self.assertIn("prefers-color-scheme:dark", page)
         self.assertFalse(re.search('<rect[^>]*width="100%"[^>]*fill=', page))

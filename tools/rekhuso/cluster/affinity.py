@@ -1,4 +1,4 @@
-"""Primary affinity: which OSD of an up set is the primary, where some OSDs are to be it less often (Ceph 16.2,
+"""Primary affinity: which OSD of an up set is the primary, where some OSDs are to be it less often (Ceph 16.2 and 18.2,
 OSDMap.cc `_apply_primary_affinity`). No map has affinities; the dumps of a cluster do.
 """
 

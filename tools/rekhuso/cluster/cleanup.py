@@ -1,8 +1,8 @@
 """What a Ceph monitor takes away of exceptions by itself.
 
-At each new map a monitor looks at every group that has an exception (Ceph 16.2, OSDMap.cc `check_pg_upmaps`). Where
-the set that a group gets breaks the group's rule, as the monitor reads it (`judge`), its explicit set and its pairs
-go. Where a pair does nothing, that pair goes.
+At each new map a monitor looks at every group that has an exception (Ceph 16.2 and 18.2, OSDMap.cc `check_pg_upmaps`).
+Where the set that a group gets breaks the group's rule, as the monitor reads it (`judge`), its explicit set and its
+pairs go. Where a pair does nothing, that pair goes.
 """
 
 from __future__ import annotations

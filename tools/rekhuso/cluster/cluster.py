@@ -10,6 +10,7 @@ from typing import Any, Callable
 from ..program.map_forms import GROUP_PATTERN, ITEMS, Limits, TRIES, limits_of
 from ..program.maps import Bucket, Entry, Exceptions, RuleStep, altered, entries_of
 from ..words import some
+from .disks import NEARFULL
 from .dump_types import CrushDump, DumpBucket, DumpItem, DumpOsd, DumpRule, DumpStep, OsdDump
 from .names import Names
 from .weight_sets import compat_weight_set, weight_sets_of
@@ -58,6 +59,16 @@ class Cluster:
     def sizes(self) -> dict[int, int]:
         """How many groups each pool has."""
         return {pool["pool"]: pool["pg_num"] for pool in self.pools}
+
+    @cached_property
+    def nearfull(self) -> float:
+        """Up to which part an OSD may be filled before it counts as nearly full."""
+        own = self.osd_dump.get("nearfull_ratio", 0.0)
+        return own if own > 0 else NEARFULL
+
+    def osd_weights(self) -> dict[int, int]:
+        """The weights of all OSDs of the tree, also of those that no rule comes to."""
+        return {item: weight for bucket in self.shown() for item, weight in bucket["items"] if item >= 0}
 
     @cached_property
     def is_stock(self) -> bool:

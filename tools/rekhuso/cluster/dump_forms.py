@@ -39,6 +39,7 @@ OSD_DUMP = {
     "?fsid": str,
     "?pg_upmap": [dict(GROUP_KEYS, osds=[int])],
     "?pg_upmap_items": [dict(GROUP_KEYS, mappings=[{"from": int, "to": int}])],
+    "?nearfull_ratio": float,
     "?osd_xinfo": [object],
     "?pg_temp": [object],
     "?primary_temp": [object],
@@ -77,8 +78,12 @@ TREE = {"nodes": [{"id": int, "?exists": int, "?reweight": float}]}
 # stored.
 DF = {
     "?stats": {"?total_bytes": int},
-    "pools": [{"id": int, "?name": str, "stats": {"bytes_used": int, "?stored": int}}],
+    "pools": [{"id": int, "?name": str, "stats": {"bytes_used": int, "stored": int}}],
 }
+# What `ceph pg dump -f json` tells of each group: the bytes of its objects, and those of their keys.
+PG_STATS = [{"pgid": str, "stat_sum": {"num_bytes": int, "?num_omap_bytes": int}}]
+# What `ceph osd df -f json` tells of OSDs; with `tree` also buckets stand there, with negative ids.
+OSD_DF = {"nodes": [{"id": int, "kb": int, "kb_used": int, "kb_avail": int}]}
 # What a step must have beside its word.
 STEP_KEYS = {
     "take": ("item",),

@@ -105,9 +105,10 @@ class DumpOsd(Stated):
 
 
 class OfCluster(TypedDict, total=False):
-    """What an OSD dump may have."""
+    """What an OSD dump may have: of which cluster it is, and up to which part OSDs may be filled."""
 
     fsid: str
+    nearfull_ratio: float
 
 
 class OsdDump(OfCluster):

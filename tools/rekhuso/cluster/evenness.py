@@ -7,7 +7,7 @@ from collections import defaultdict
 from collections.abc import Mapping
 from dataclasses import dataclass
 
-from ..output.json_forms import FillParts, OsdFillParts
+from ..output.json_forms import FillParts, OsdFillParts, UseParts
 
 # The share of an OSD that may be in use before Ceph takes no more (full_ratio, as it is where nobody sets it).
 FULL = 0.95
@@ -65,25 +65,27 @@ class Spread:
         fullest, emptiest = max(osds, key=lambda osd: (self.ratio(osd), -osd)), min(osds, key=self.ratio)
         return {"fullest": self.filled(fullest), "emptiest": self.filled(emptiest), "deviation": deviation}
 
+    def use(self, osds: list[int]) -> UseParts:
+        """What is told of some OSDs by what of their disks is in use."""
+        fullest, emptiest = max(osds, key=lambda osd: (self.ratio(osd), -osd)), min(osds, key=self.ratio)
+        return {"fullest": self.filled(fullest), "emptiest": self.filled(emptiest)}
 
-def sums_by_osd(
-    by_pool: Mapping[int, Mapping[int, float]], places: Mapping[int, float] | None = None
-) -> dict[int, float]:
-    """The sum over pools of what each OSD has of them, or of what these places hold."""
+
+def sums_by_osd(by_pool: Mapping[int, Mapping[int, float]]) -> dict[int, float]:
+    """The sum over pools of what each OSD has of them."""
     found: defaultdict[int, float] = defaultdict(int)
-    for pool, own in by_pool.items():
-        place = 1 if places is None else places[pool]
+    for own in by_pool.values():
         for osd, count in own.items():
-            found[osd] += count * place
+            found[osd] += count
     return found
 
 
-def room(trees: list[dict[int, int]], used: Mapping[int, float], unit: float, rate: float) -> float:
+def room(trees: list[dict[int, int]], sizes: Mapping[int, float], used: Mapping[int, float], rate: float) -> float:
     """What a pool may still take until its fullest OSD is full (MAX AVAIL of `ceph df`): the trees of its rule with the
-    weights of their OSDs, the bytes in use on each OSD, the bytes of a weight of 1, and the bytes that one takes.
+    weights of their OSDs, the bytes of each OSD, those of them in use, and the bytes that one takes.
     """
     found = []
     for weights in trees:
         total = sum(weights.values())
-        found += [(FULL * own * unit - used.get(osd, 0)) * total / own for osd, own in weights.items()]
+        found += [(FULL * sizes[osd] - used.get(osd, 0)) * total / own for osd, own in weights.items()]
     return max(min(found, default=0.0), 0.0) / rate

@@ -1,4 +1,4 @@
-"""How a Ceph monitor reads rules where it looks whether exceptions may stay (Ceph 16.2, CrushWrapper.cc
+"""How a Ceph monitor reads rules where it looks whether exceptions may stay (Ceph 16.2 and 18.2, CrushWrapper.cc
 `verify_upmap` and `get_rule_weight_osd_map`).
 
 It reads a rule otherwise than placement does: of a plain `choose` step it counts the buckets below which the whole

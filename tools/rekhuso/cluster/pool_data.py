@@ -1,45 +1,84 @@
-"""What the pools of a cluster hold, as `ceph df --format json` tells it."""
+"""What the pools of a cluster hold, as `ceph df --format json` tells it, and of that each of their groups."""
 
 from __future__ import annotations
 
 from collections.abc import Iterable, Mapping
-from dataclasses import dataclass
+from dataclasses import dataclass, replace
 
 from ..faults import Fault
 from ..files import json_of
-from ..program.maps import Pool
+from ..program.maps import Pool, groups_in
+from .disks import Disk
 from .dump_forms import DF, misfits
 
 # The bytes of a weight of 1 in the CRUSH map, where `ceph df` does not tell those of all OSDs.
 UNIT = 2**40
+# The parts of a byte, so that what places hold is reckoned in whole numbers.
+BYTE_PARTS = 65536
+
+
+def hash_parts(groups: int) -> list[int]:
+    """How many parts of the objects each of a pool's groups has: of groups of no power of two those that are still to
+    be split have twice as many as the others (Ceph, `ceph_stable_mod`).
+    """
+    half = (1 << (groups - 1).bit_length()) >> 1
+    return [2 if groups - half <= group < half else 1 for group in range(groups)] if groups > 1 else [1]
 
 
 @dataclass(frozen=True)
 class Data:
     """Where it was read; the bytes that each pool takes on all OSDs, the name of each, how many bytes are taken for one
-    that is stored, where that is told, and the bytes of all OSDs, 0 where these are not told.
+    that is stored, where that is told, and the bytes of all OSDs, 0 where these are not told. Beside it what all OSDs
+    weigh in the CRUSH map, 0 where that is not known; of pools whose groups are known what these hold, one beside the
+    other; and the disks of the OSDs, where they are known.
     """
 
-    __slots__ = ("path", "of_pool", "names", "rates", "size")
+    __slots__ = ("path", "of_pool", "names", "rates", "size", "weight", "parts", "disks")
 
     path: str
     of_pool: dict[int, int]
     names: dict[int, str]
     rates: dict[int, float]
     size: int
+    weight: int
+    parts: Mapping[int, list[int]]
+    disks: Mapping[int, Disk]
 
-    def place(self, pool: Pool) -> float:
-        """The bytes of one place of a pool's groups, where all hold as much."""
-        return self.of_pool[pool["id"]] / (pool["pg_num"] * pool["size"])
+    def parts_of(self, pool: Pool) -> list[int]:
+        """What each group of a pool holds, one beside the other."""
+        found = self.parts.get(pool["id"], [])
+        return found if any(found) else hash_parts(pool["pg_num"])
+
+    def sizes(self, pool: Pool) -> list[int]:
+        """What a place of each of a pool's groups holds, in parts of a byte."""
+        parts = self.parts_of(pool)
+        whole, total = self.of_pool[pool["id"]] * BYTE_PARTS, sum(parts) * pool["size"]
+        return [whole * own // total for own in parts]
+
+    def group_bytes(self, pool: Pool) -> dict[str, float]:
+        """The bytes of a place of each of a pool's groups."""
+        parts = self.parts_of(pool)
+        whole, total = self.of_pool[pool["id"]], sum(parts) * pool["size"]
+        return {group: whole * own / total for group, own in zip(groups_in(pool), parts)}
 
     def rate(self, pool: Pool) -> float:
         """How many bytes a pool takes for one that is stored in it."""
         return pool["size"] if pool["kind"] == "replicated" else self.rates.get(pool["id"], pool["size"])
 
     def unit(self, weights: Iterable[int]) -> float:
-        """The bytes of a part of 65,536 of a weight, where the OSDs have these weights in such parts."""
-        total = sum(weights)
+        """The bytes of a part of 65,536 of a weight, where the OSDs have these weights in such parts, or all OSDs of
+        the cluster the one that is known.
+        """
+        total = self.weight or sum(weights)
         return self.size / total if self.size and total else UNIT / 65536
+
+    def weighed(self, weights: Iterable[int]) -> Data:
+        """The same, where all OSDs of the cluster have these weights."""
+        return replace(self, weight=sum(weights))
+
+    def is_whole(self, pools: Iterable[int]) -> bool:
+        """Whether some pools are all that it tells of."""
+        return self.of_pool.keys() <= set(pools)
 
     def check(self, pools: Iterable[Pool], names: Mapping[str, str], is_whole: bool) -> None:
         """A fault where it is not that of a cluster of these pools: for each pool that it does not tell, or tells under
@@ -72,6 +111,6 @@ def data_in(path: str | None) -> Data | None:
         raise Fault(f"{path}: a pool stands there twice")
     stats = {number: own["stats"] for number, own in pools.items()}
     used = {number: max(own["bytes_used"], 0) for number, own in stats.items()}
-    rates = {number: used[number] / own["stored"] for number, own in stats.items() if own.get("stored", 0) > 0}
+    rates = {number: used[number] / own["stored"] for number, own in stats.items() if own["stored"] > 0}
     names = {number: own["name"] for number, own in pools.items() if "name" in own}
-    return Data(path, used, names, rates, max(value.get("stats", {}).get("total_bytes", 0), 0))
+    return Data(path, used, names, rates, max(value.get("stats", {}).get("total_bytes", 0), 0), 0, {}, {})

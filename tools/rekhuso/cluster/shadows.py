@@ -1,5 +1,6 @@
-"""The shadow buckets of device classes as Ceph makes them anew where a CRUSH map changes (Ceph 16.2, CrushWrapper.cc
-`rebuild_roots_with_classes`): for each bucket and each class a bucket with the OSDs of that class alone.
+"""The shadow buckets of device classes as Ceph makes them anew where a CRUSH map changes (Ceph 16.2 and 18.2,
+CrushWrapper.cc `rebuild_roots_with_classes`): for each bucket and each class a bucket with the OSDs of that class
+alone.
 """
 
 from __future__ import annotations

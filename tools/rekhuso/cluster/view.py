@@ -26,7 +26,7 @@ from .sources import Source
 
 
 def no_plan_words(moves: str) -> str:
-    """That no plan is made where a weight set is in force, and why; with what taking it away moves, if that is known."""
+    """That no plan is made where a weight set is in force, why, and what taking it away moves, if that is known."""
     return (
         "no plan: a compat weight set (choose_args) is in force, so a plan by its weights would undo what it was tuned "
         "for, and one by the weights themselves would start from sets that are not there. Turn Ceph's balancer off, "

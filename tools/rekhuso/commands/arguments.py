@@ -85,6 +85,11 @@ def add_dump_options(own: argparse.ArgumentParser) -> None:
     own.add_argument("--pools", metavar="ID|NAME,..", help="only these pools")
 
 
+def add_osds(own: argparse.ArgumentParser) -> None:
+    """The option for the disks of OSDs."""
+    own.add_argument("--osds", metavar="FILE", help="what `ceph osd df -f json` prints: tell the disks too")
+
+
 def add_json(own: argparse.ArgumentParser) -> None:
     """The option for JSON."""
     own.add_argument("--json", action="store_true", help="tell all of it as one JSON object")

@@ -1,16 +1,18 @@
 """`df`: the tree of buckets with the columns of `ceph osd df tree`, its totals, and the pools.
 
-VAR is the ratio of an OSD's groups to its share, which is what its weight and reweight call for; DEVIATION is the
+RATIO is that of an OSD's groups to its share, which is what its weight and reweight call for; DEVIATION is the
 difference of the two, in groups. Of two dumps the tree is the cluster's, without the shadow buckets of device classes,
-and with what weighs 0; groups and shares are those of all pools.
+and with what weighs 0; groups and shares are those of all pools. With --osds it has SIZE, RAW USE, AVAIL and %USE too.
 """
 
 from __future__ import annotations
 
 from collections import Counter
+from collections.abc import Mapping
 from dataclasses import dataclass
 
 from ..cluster.affinity import told_affinities
+from ..cluster.disks import Disk, disks_of
 from ..cluster.names import Names, named
 from ..cluster.shares import Shares
 from ..cluster.sources import Source
@@ -21,7 +23,7 @@ from ..output.fill_words import osd_words
 from ..output.json_forms import PoolRowParts, put_json
 from ..program.answers import Up
 from ..words import counted
-from .arguments import Arguments, Commands, add_files, add_json, set_work, source_of
+from .arguments import Arguments, Commands, add_files, add_json, add_osds, set_work, source_of
 
 
 def pool_line(pool: PoolRowParts, names: Names) -> str:
@@ -35,17 +37,17 @@ def summary_lines(total: JsonObject, names: Names) -> list[str]:
     """How even the OSDs are, in words."""
     groups = counted(total["max_pgs"], "group")
     found = [
-        f"an OSD has {total['min_pgs']} to {groups}; MIN/MAX VAR {total['min_var']:.2f}/{total['max_var']:.2f}; "
+        f"an OSD has {total['min_pgs']} to {groups}; MIN/MAX RATIO {total['min_ratio']:.2f}/{total['max_ratio']:.2f}; "
         f"standard deviation from the shares {total['deviation']}"
     ]
     ends = [f"{word} {osd_words(total[word], names)}" for word in ("fullest", "emptiest") if total[word]]
     return found + ([f"over all pools: {', '.join(ends)}"] if ends else [])
 
 
-def put_df_json(view: ClusterView, sets: dict[str, Up], shares: Shares) -> None:
+def put_df_json(view: ClusterView, sets: dict[str, Up], shares: Shares, disks: Mapping[int, Disk]) -> None:
     """Puts out the tree, the pools and the totals as one object, with how often each OSD is a primary."""
     names, primaries = view.names, Counter(up.primary for up in sets.values())
-    tree, stray = nodes(shares, names), [node(shares, row, names) for row in shares.stray()]
+    tree, stray = nodes(shares, names, disks), [node(shares, row, names, disks) for row in shares.stray()]
     for own in (own for own in [*tree, *stray] if own["id"] >= 0):
         own["primaries"] = primaries[own["id"]]
     put_json(
@@ -53,7 +55,7 @@ def put_df_json(view: ClusterView, sets: dict[str, Up], shares: Shares) -> None:
         view.tree["epoch"],
         nodes=tree,
         stray=stray,
-        summary=summary(shares),
+        summary=summary(shares, disks),
         pools=[dict(pool, name=named(names, "pools", pool["id"])) for pool in shares.pools()],
         primary_affinity=told_affinities(view.affinities),
     )
@@ -61,33 +63,36 @@ def put_df_json(view: ClusterView, sets: dict[str, Up], shares: Shares) -> None:
 
 @dataclass(frozen=True)
 class DfOptions:
-    """What `df` works on, and whether it is told as JSON."""
+    """What `df` works on, the file of disks if there is one, and whether it is told as JSON."""
 
-    __slots__ = ("source", "is_json")
+    __slots__ = ("source", "osds", "is_json")
     source: Source
+    osds: str | None
     is_json: bool
 
 
 def options_of(arguments: Arguments) -> DfOptions:
     """The options of the command line."""
-    return DfOptions(source_of(arguments), arguments.json)
+    return DfOptions(source_of(arguments), arguments.osds, arguments.json)
 
 
 def work(options: DfOptions) -> None:
     """Tells the tree, the pools and the totals of a map or a cluster."""
     view, sets = view_with_sets(options.source)
     names, shares = view.names, view.shares(sets)
+    disks = disks_of(options.osds, shares, options.source.has_dumps)
     if options.is_json:
-        put_df_json(view, sets, shares)
+        put_df_json(view, sets, shares, disks)
         return
-    total, stray = summary(shares), [node(shares, row, names) for row in shares.stray()]
-    lines = tree_lines(nodes(shares, names), stray, total) + [pool_line(pool, names) for pool in shares.pools()]
+    total, stray = summary(shares, disks), [node(shares, row, names, disks) for row in shares.stray()]
+    lines = tree_lines(nodes(shares, names, disks), stray, total) + [pool_line(pool, names) for pool in shares.pools()]
     print("\n".join(lines + summary_lines(total, names)))
 
 
 def add_to(commands: Commands) -> None:
     """The subcommand."""
     own = commands.add_parser("df", help="the tree with the groups of each OSD", description=__doc__)
-    add_files(own, "[--json]")
+    add_files(own, "[--osds FILE]", "[--json]")
+    add_osds(own)
     add_json(own)
     set_work(own, options_of, work)

@@ -158,8 +158,8 @@ def add_to(commands_of: Commands) -> None:
         "words",
         metavar=FORMS,
         nargs="+",
-        help="what `ceph osd dump -f json` and `ceph osd crush dump` print today, and a change as `whatif` takes it; or "
-        "both before the change and behind it",
+        help="what `ceph osd dump -f json` and `ceph osd crush dump` print today, and a change as `whatif` takes it; "
+        "or both before the change and behind it",
     )
     add_change_words(own)
     own.add_argument("--at", metavar="PGS", help="what `ceph pg dump -f json` prints: hold the data where it is by it")

@@ -5,8 +5,8 @@ Ceph's monitor cleans such pairs away, which gives other sets. Here each group w
 from what its rule gives to what it has, and no explicit set beside them; the pairs stand in an order in which each OSD
 has left its place before it comes to another. Where OSDs change places in a ring, an explicit set stands alone. Groups
 with a place that is empty are left as they are, and so are pairs that are there already, in whatever order if they need
-none. The program checks that every set stays. Primaries that are named for groups (`pg_upmap_primaries`) stand in no map
-and no change says them; they stay as they are.
+none. The program checks that every set stays. Primaries that are named for groups (`pg_upmap_primaries`) stand in no
+map and no change says them; they stay as they are.
 """
 
 from __future__ import annotations

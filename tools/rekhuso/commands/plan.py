@@ -29,9 +29,11 @@ from ..cluster.map_files import map_monitor
 from ..cluster.misplaced import Misplaced, check_misplaced
 from ..cluster.names import Names, names_in, pools_named
 from ..cluster.outage import check_outage
-from ..cluster.pool_data import Data, data_in
 from ..cluster.primaries import rested_words
 from ..cluster.releases import least_client
+from ..cluster.data_files import DataFiles, KnownData, known_data
+from ..cluster.disks import NEARFULL
+from ..cluster.pool_data import Data
 from ..cluster.sources import Source
 from ..cluster.view import ClusterView, has_other_weights, no_plan_words, tree_in
 from ..faults import Fault, Misuse
@@ -40,7 +42,8 @@ from ..output.plan_scripts import Script, WATCH, balancer_words, client_words, p
 from ..output.plan_words import plan_lines, quiet_words, refusal_words
 from ..plans.after_plan import quiet_deviation, rested_after
 from ..plans.movement import PlaceBytes, place_bytes
-from ..plans.plan import ALL, Outcome, Wish, misplaced_in, outage_in, planned
+from ..plans.parts import ALL
+from ..plans.plan import Outcome, Wish, misplaced_in, outage_in, planned
 from ..plans.printed import Printed
 from ..plans.rounds import Live, MOST_MOVES
 from ..plans.steps import steps_by_pool
@@ -82,14 +85,29 @@ class ToldPlan:
 
 
 @dataclass(frozen=True)
+class Held:
+    """What a cluster holds: what files tell, and of it the data of its pools; the weights of all its OSDs; which OSDs
+    it has, None where not all are known; and how full one may get.
+    """
+
+    __slots__ = ("known", "data", "weights", "osds", "nearfull")
+
+    known: KnownData
+    data: Data | None
+    weights: list[int]
+    osds: frozenset[int] | None
+    nearfull: float
+
+
+@dataclass(frozen=True)
 class PlanOptions:
     """What is planned over, and how: which pools, at most how many commands, how near to the shares, whether each pool
-    by itself, whether amid an outage too, and by which file of data; and how it is put out: as the way back, in files
-    of so many commands in a folder, or as JSON.
+    by itself, whether for room alone, whether amid an outage too, and by which file of data; and how it is put out: as
+    the way back, in files of so many commands in a folder, or as JSON.
     """
 
     __slots__ = (
-        *("source", "pools", "most", "deviation", "is_alone", "is_anyway", "df"),
+        *("source", "pools", "most", "deviation", "is_alone", "is_room", "is_anyway", "data"),
         *("is_undo", "batch", "to", "is_json"),
     )
     source: Source
@@ -97,8 +115,9 @@ class PlanOptions:
     most: int | None
     deviation: Fraction | None
     is_alone: bool
+    is_room: bool
     is_anyway: bool
-    df: str | None
+    data: DataFiles
     is_undo: bool
     batch: int | None
     to: str | None
@@ -114,6 +133,10 @@ def options_of(arguments: Arguments) -> PlanOptions:
         raise Misuse("--json tells the plan and its undoing at once: --batch and --undo do not go with it")
     if own.deviation is not None and own.deviation < LEAST and not own.alone:
         raise Misuse(f"--deviation {float(own.deviation):g}: 0.5 is the whole plan; less goes with --alone")
+    if own.room and (own.df is own.pgs is None or own.alone or own.deviation is not None):
+        raise Misuse("--room goes by the data that --df tells; --alone and --deviation do not go with it")
+    if own.osds is not None and own.df is own.pgs is None:
+        raise Misuse("--osds goes with --df or --pgs, which tell what moves")
     if own.alone and own.max is not None and own.max > MOST_MOVES:
         raise Misuse(f"--max {own.max}: with --alone at most {MOST_MOVES} moves a pool")
     return PlanOptions(
@@ -122,8 +145,9 @@ def options_of(arguments: Arguments) -> PlanOptions:
         own.max,
         own.deviation,
         own.alone,
+        own.room,
         own.anyway,
-        own.df,
+        DataFiles(own.df, own.pgs, own.osds),
         own.undo,
         own.batch,
         own.to,
@@ -131,12 +155,17 @@ def options_of(arguments: Arguments) -> PlanOptions:
     )
 
 
-def wish_of(options: PlanOptions, pools: list[Pool], names: Names, data: Data | None) -> Wish:
-    """What is asked for. A fault for a word that names no pool."""
+def wish_of(options: PlanOptions, pools: list[Pool], names: Names, held: Held) -> Wish:
+    """What is asked for. A fault for a word that names no pool, and where room is wanted and some pool is unknown."""
     most = options.most or (MOST_MOVES if options.is_alone else ALL)
     own = {pool["id"]: names.get("pools", {}).get(str(pool["id"]), "") for pool in pools}
     named_pools = frozenset(pools_named(options.pools, own))
-    return Wish(named_pools, options.deviation, most, options.batch or ALL, options.is_alone, data)
+    batch, data = options.batch or ALL, held.data
+    beside = sorted((data.of_pool if data else {}).keys() - own.keys())
+    if options.is_room and beside:
+        raise Fault(f"--room wants all pools of the cluster: pool {beside[0]} holds data, and is in no map here")
+    forms = options.is_alone, options.is_room
+    return Wish(named_pools, options.deviation, most, batch, *forms, data, held.nearfull)
 
 
 def printed_over(lives: list[Live], outcome: Outcome, program: Program) -> Printed:
@@ -146,11 +175,15 @@ def printed_over(lives: list[Live], outcome: Outcome, program: Program) -> Print
     return Printed(maps, program, {step.group: step.now for step in outcome.steps}, outcome.measure, down, False)
 
 
-def told_by(lives: list[Live], options: PlanOptions, names: Names, data: Data | None, epoch: int) -> ToldPlan:
+def told_by(lives: list[Live], options: PlanOptions, names: Names, held: Held, epoch: int) -> ToldPlan:
     """The plans over some sessions, which end with them. A fault where a pool that is named gets none."""
     check_outage(outage_in(lives), options.is_anyway)
     pools = [pool for live in lives for pool in live.pools.values()]
-    wish = wish_of(options, pools, names, data)
+    data = held.data
+    if data is not None:
+        needed = {osd for live in lives for pool in live.pools.values() for osd in live.before.weights_for(pool)}
+        data = held.known.with_disks(data.weighed(held.weights), needed, held.osds)
+    wish = wish_of(options, pools, names, replace(held, data=data))
     outcome = planned(lives, wish, doing)
     refused = [parts for parts in outcome.pools if parts["refused"]]
     if refused and options.pools:
@@ -160,7 +193,7 @@ def told_by(lives: list[Live], options: PlanOptions, names: Names, data: Data | 
     return ToldPlan(epoch, outcome, place_bytes(weighed, data), names, quiet, [], None, None, printed)
 
 
-def plan_of_map(options: PlanOptions, data: Data | None) -> ToldPlan:
+def plan_of_map(options: PlanOptions, known: KnownData) -> ToldPlan:
     """The plans of a map in a file, and what is known of the data of its pools."""
     source = options.source
     if source.tree is not None or source.pools is not None:
@@ -169,16 +202,18 @@ def plan_of_map(options: PlanOptions, data: Data | None) -> ToldPlan:
     text, monitor = map_monitor(source.paths[0], source.program, stock=True)
     with monitor:
         value: Map = json.loads(text)
-        if has_other_weights(value, tree_in(source.names)):
+        tree = tree_in(source.names)
+        if has_other_weights(value, tree):
             raise Fault(no_plan_words(""))
-        if data is not None:
-            data.check(value["pools"], names["pools"], False)
+        data = known.of_cluster(value["pools"], names.get("pools", {}), False)
+        weights = {item: own for bucket in tree or value["buckets"] for item, own in bucket["items"] if item >= 0}
+        held = Held(known, data, list(weights.values()), None, NEARFULL)
         live = Live(value, value, names, judge_of_map(value, names), monitor)
-        told = told_by([live], options, names, data, value["epoch"])
+        told = told_by([live], options, names, held, value["epoch"])
     return told
 
 
-def plan_of_dumps(options: PlanOptions, data: Data | None) -> ToldPlan:
+def plan_of_dumps(options: PlanOptions, known: KnownData) -> ToldPlan:
     """The plans of two dumps, over all maps that the cluster takes. A fault where a weight set is in force."""
     source = options.source
     found = imported(source.dumps())
@@ -186,8 +221,9 @@ def plan_of_dumps(options: PlanOptions, data: Data | None) -> ToldPlan:
     whole = ClusterView(found.maps, names, found)
     if whole.has_weight_set:
         raise Fault(whole.no_plan(source.program))
-    if data is not None:
-        data.check([pool for value in found.maps for pool in value["pools"]], names["pools"], source.pools is None)
+    cluster, pools = found.cluster, [pool for value in found.maps for pool in value["pools"]]
+    data = known.of_cluster(pools, names["pools"], source.pools is None)
+    held = Held(known, data, list(cluster.osd_weights().values()), frozenset(cluster.osds), cluster.nearfull)
     with ExitStack() as stack:
         lives = [
             Live(
@@ -201,7 +237,7 @@ def plan_of_dumps(options: PlanOptions, data: Data | None) -> ToldPlan:
         ]
         misplaced = misplaced_in(lives, whole)
         check_misplaced(misplaced, options.is_anyway)
-        told = told_by(lives, options, names, data, found.cluster.epoch)
+        told = told_by(lives, options, names, held, found.cluster.epoch)
     rested = rested_after(whole, told.outcome.steps, source.program)
     # Ceph's own balancer takes a reweight above 1 as it is, and placement takes it as 1.
     is_known = all(own["weight"] <= 1 for own in found.cluster.osds.values())
@@ -216,6 +252,7 @@ def plan_of_dumps(options: PlanOptions, data: Data | None) -> ToldPlan:
 def put_plan_json(told: ToldPlan) -> None:
     """Puts out the plan, its undoing, how even it leaves the cluster, and what moves as one object."""
     weights, steps, outcome = told.weights, told.outcome.steps, told.outcome
+    stopped = [[osd, count] for osd, count in sorted(outcome.stopped.items())]
     own, pools = steps_by_pool(steps), []
     for parts in outcome.pools:
         moving = weights.moving(own.get(parts["id"], []))
@@ -226,6 +263,7 @@ def put_plan_json(told: ToldPlan) -> None:
         commands=[line for step in steps for line in step.commands],
         undo=[line for step in steps for line in step.undo],
         cluster={"before": outcome.before, "after": outcome.after, "largest": outcome.largest},
+        **({} if outcome.data is None else {"data": dict(outcome.data, stopped=stopped)}),
         taken_out=outcome.taken_out,
         idle_primaries=told.rested,
         upmap_max_deviation=told.quiet,
@@ -277,8 +315,8 @@ def check_printed(told: ToldPlan, scripts: list[str], options: PlanOptions) -> N
 
 def work(options: PlanOptions) -> None:
     """Asks the program for its plans, in one session a map, and tells them."""
-    data = data_in(options.df)
-    told = plan_of_dumps(options, data) if options.source.has_dumps else plan_of_map(options, data)
+    known = known_data(options.data)
+    told = plan_of_dumps(options, known) if options.source.has_dumps else plan_of_map(options, known)
     scripts = scripts_of(told, options)
     check_printed(told, scripts, options)
     print("\n".join(told.lines(options.deviation)), file=sys.stderr)
@@ -320,10 +358,11 @@ def add_to(commands_of: Commands) -> None:
         "[--max N]",
         "[--deviation D]",
         "[--alone]",
+        "[--room]",
         "[--undo]",
         "[--batch N --to FOLDER]",
     ]
-    add_files(own, *forms, "[--df FILE]", "[--anyway]", "[--json]")
+    add_files(own, *forms, "[--df FILE]", "[--pgs FILE]", "[--osds FILE]", "[--anyway]", "[--json]")
     add_json(own)
     own.add_argument(
         "--pool",
@@ -346,6 +385,11 @@ def add_to(commands_of: Commands) -> None:
     )
     own.add_argument("--alone", action="store_true", help="plan each pool by itself, whatever OSDs carry from others")
     own.add_argument(
+        "--room",
+        action="store_true",
+        help="with --df: only the moves that make room, from the OSD that is fullest by bytes; far fewer commands",
+    )
+    own.add_argument(
         "--undo",
         action="store_true",
         help="the commands that take the groups of the plan back to the exceptions that they have in the files given",
@@ -359,12 +403,24 @@ def add_to(commands_of: Commands) -> None:
     own.add_argument(
         "--anyway",
         action="store_true",
-        help="a plan also amid an outage, or while 5 %% of the places are still to come, when Ceph's balancer would wait",
+        help="a plan also amid an outage, or while 5 %% of the places are still to move: Ceph's balancer would wait",
     )
     own.add_argument("--to", metavar="FOLDER", help="the folder of these files: plan-001.sh, .. or undo-001.sh, ..")
     own.add_argument(
         "--df",
         metavar="FILE",
-        help="what `ceph df --format json` prints: even the data too, and tell how much of it moves",
+        help="what `ceph df --format json` prints: even the data too, and tell how much of it moves; by means of "
+        "pools, "
+        "without --pgs",
+    )
+    own.add_argument(
+        "--pgs",
+        metavar="FILE",
+        help="what `ceph pg dump -f json` prints: go by what each group holds; erasure pools want --df too",
+    )
+    own.add_argument(
+        "--osds",
+        metavar="FILE",
+        help="with --df or --pgs, what `ceph osd df -f json` prints: go by the disks, and let none get nearly full",
     )
     set_work(own, options_of, work)

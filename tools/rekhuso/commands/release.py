@@ -26,7 +26,7 @@ from ..output.plan_scripts import Script, WATCH, balancer_words, client_words, p
 from ..output.release_words import peak_words, release_lines
 from ..plans.hold_checks import check_still, moving_words
 from ..plans.movement import place_bytes
-from ..plans.plan import ALL
+from ..plans.parts import ALL
 from ..plans.release import Release, release_of
 from ..program.maps import Exceptions, altered
 from .arguments import Arguments, Commands, Files, add_dump_options, add_json, set_work, source_of
@@ -111,13 +111,12 @@ def check_printed(found: Release, scripts: list[str], options: ReleaseOptions) -
     """Has the program judge what is to be put out. A fault where it is not what is told."""
     parts = ["\n".join(line for step in part for line in step.commands) for part in found.parts]
     undo = ["\n".join(line for step in part for line in step.undo) for part in found.parts]
-    lengths = [sum(len(step.commands) for step in part) for part in found.parts]
     if options.is_json:
-        found.printed.check_scripts(parts, lengths, undo)
+        found.printed.check_scripts(parts, found.lengths, undo)
     elif options.is_undo:
-        found.printed.check_scripts(parts, lengths, scripts)
+        found.printed.check_scripts(parts, found.lengths, scripts)
     else:
-        found.printed.check_scripts(scripts, lengths, [])
+        found.printed.check_scripts(scripts, found.lengths, [])
 
 
 def put_release_json(found: Release) -> None:

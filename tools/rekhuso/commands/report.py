@@ -2,11 +2,14 @@
 
 from __future__ import annotations
 
+from dataclasses import dataclass
+
+from ..cluster.disks import disks_of
 from ..cluster.sources import Source
 from ..cluster.view import view_with_sets
 from ..files import json_of
 from ..output.page import page
-from .arguments import Commands, add_files, set_work, source_of
+from .arguments import Arguments, Commands, add_files, add_osds, set_work, source_of
 
 
 def title_of(source: Source) -> str:
@@ -15,14 +18,31 @@ def title_of(source: Source) -> str:
     return f"Cluster {cluster}" if isinstance(cluster, str) else source.paths[0]
 
 
-def work(source: Source) -> None:
+@dataclass(frozen=True)
+class ReportOptions:
+    """What the page is of, and the file of disks if there is one."""
+
+    __slots__ = ("source", "osds")
+    source: Source
+    osds: str | None
+
+
+def options_of(arguments: Arguments) -> ReportOptions:
+    """The options of the command line."""
+    return ReportOptions(source_of(arguments), arguments.osds)
+
+
+def work(options: ReportOptions) -> None:
     """Writes the page on standard output."""
+    source = options.source
     view, sets = view_with_sets(source)
-    print(page(view, sets, source.program, title_of(source)), end="")
+    disks = disks_of(options.osds, view.shares(sets), source.has_dumps)
+    print(page(view, sets, source.program, title_of(source), disks), end="")
 
 
 def add_to(commands_of: Commands) -> None:
     """The subcommand."""
     own = commands_of.add_parser("report", help="one HTML page of a map", description=__doc__)
-    add_files(own)
-    set_work(own, source_of, work)
+    add_files(own, "[--osds FILE]")
+    add_osds(own)
+    set_work(own, options_of, work)

@@ -2,17 +2,31 @@
 
 from __future__ import annotations
 
+from collections.abc import Iterable, Mapping
+
+from ..cluster.disks import Disk, KIB
 from ..cluster.evenness import Spread
 from ..cluster.names import Names, named
 from ..cluster.shares import Shares, spread_parts
 from ..files import JsonObject
+from ..words import size_words
 from .json_forms import RowParts
 from .tables import aligned
 
-COLUMNS = ["ID", "CLASS", "WEIGHT", "REWEIGHT", "SHARE", "DEVIATION", "VAR", "PGS", "STATUS", "TYPE NAME"]
+COLUMNS = ["ID", "CLASS", "WEIGHT", "REWEIGHT", "SHARE", "DEVIATION", "RATIO", "PGS", "STATUS", "TYPE NAME"]
+# The columns of disks, which stand behind REWEIGHT where these are known, as in Ceph's table.
+DISK_COLUMNS, DISKS_AT = ["SIZE", "RAW USE", "AVAIL", "%USE"], 4
 # The state of an OSD as Ceph tells it: one that is out has the reweight 0.
 STATUS = {"up": "up", "up,out": "up", "down": "down", "down,out": "down", "absent": "DNE"}
 INDENT = "    "
+# The keys of disks, by those that a row has: in the totals as Ceph has them there.
+NODE_KEYS = {key: key for key in ("kb", "kb_used", "kb_avail", "utilization")}
+SUMMARY_KEYS = {
+    "kb": "total_kb",
+    "kb_used": "total_kb_used",
+    "kb_avail": "total_kb_avail",
+    "utilization": "average_utilization",
+}
 
 
 def ratio(groups: int, share: float) -> float | None:
@@ -20,17 +34,26 @@ def ratio(groups: int, share: float) -> float | None:
     return groups / share if share > 0 else None if groups else 0.0
 
 
-def node(shares: Shares, row: RowParts, names: Names) -> JsonObject:
+def disk_parts(osds: Iterable[int], disks: Mapping[int, Disk]) -> JsonObject:
+    """What is told of the disks of some OSDs, under the keys of Ceph's own JSON; nothing where none is known."""
+    own = [disks[osd] for osd in osds if osd in disks]
+    size, used, free = (sum(getattr(disk, key) for disk in own) // KIB for key in ("size", "used", "free"))
+    found = {"kb": size, "kb_used": used, "kb_avail": free, "utilization": 100 * used / size if size else 0.0}
+    return found if disks else {}
+
+
+def node(shares: Shares, row: RowParts, names: Names, disks: Mapping[int, Disk]) -> JsonObject:
     """What is told of an OSD or a bucket, under the keys of Ceph's own JSON, and with its share."""
     number = row["id"]
-    var = ratio(row["groups"], sum(shares.wanted.get(osd, 0.0) for osd in shares.below(number)))
+    filled = ratio(row["groups"], sum(shares.wanted.get(osd, 0.0) for osd in shares.below(number)))
     found = {
         "id": number,
         "name": named(names, "buckets" if number < 0 else "osds", number),
         "crush_weight": row["weight"],
         "pgs": row["groups"],
         "share": row["share"],
-        "var": None if var is None else round(var, 4),
+        "ratio": None if filled is None else round(filled, 4),
+        **disk_parts(shares.below(number), disks),
     }
     if number < 0:
         kind = names.get("types", {}).get(str(row["type"]), f"type {row['type']}")
@@ -47,12 +70,13 @@ def node(shares: Shares, row: RowParts, names: Names) -> JsonObject:
     )
 
 
-def nodes(shares: Shares, names: Names) -> list[JsonObject]:
+def nodes(shares: Shares, names: Names, disks: Mapping[int, Disk]) -> list[JsonObject]:
     """The tree, each bucket before what stands in it, with its depth."""
-    return [dict(node(shares, row, names), depth=depth) for root in shares.roots() for depth, row in shares.rows(root)]
+    rows = [entry for root in shares.roots() for entry in shares.rows(root)]
+    return [dict(node(shares, row, names, disks), depth=depth) for depth, row in rows]
 
 
-def summary(shares: Shares) -> JsonObject:
+def summary(shares: Shares, disks: Mapping[int, Disk]) -> JsonObject:
     """The totals, how even the OSDs are that may have groups, the least and the greatest ratio to a share, and the OSDs
     that have them over all pools.
     """
@@ -64,12 +88,21 @@ def summary(shares: Shares) -> JsonObject:
         "share": total["share"],
         "min_pgs": even["least"],
         "max_pgs": even["greatest"],
-        "min_var": round(min(ratios, default=0.0), 4),
-        "max_var": round(max(ratios, default=0.0), 4),
+        "min_ratio": round(min(ratios, default=0.0), 4),
+        "max_ratio": round(max(ratios, default=0.0), 4),
         "deviation": even["deviation"],
         "fullest": fill["fullest"],
         "emptiest": fill["emptiest"],
+        **{SUMMARY_KEYS[key]: own for key, own in disk_parts(disks, disks).items()},
     }
+
+
+def disk_cells(own: JsonObject, keys: Mapping[str, str]) -> list[str]:
+    """What is told of disks, as Ceph's tables have it; nothing where none is known."""
+    if keys["kb"] not in own:
+        return []
+    sizes = [size_words(own[keys[key]] * KIB) for key in ("kb", "kb_used", "kb_avail")]
+    return [*sizes, decimal(own[keys["utilization"]], 2)]
 
 
 def decimal(number: float, places: int) -> str:
@@ -79,13 +112,19 @@ def decimal(number: float, places: int) -> str:
 
 def cells(own: JsonObject, depth: int) -> list[str]:
     """A row of the table, for an OSD or a bucket."""
+    found = group_cells(own, depth)
+    return [*found[:DISKS_AT], *disk_cells(own, NODE_KEYS), *found[DISKS_AT:]]
+
+
+def group_cells(own: JsonObject, depth: int) -> list[str]:
+    """The same without its disks."""
     weight, groups, share = decimal(own["crush_weight"], 5), str(own["pgs"]), decimal(own["share"], 2)
-    var = "-" if own["var"] is None else decimal(own["var"], 2)
+    filled = "-" if own["ratio"] is None else decimal(own["ratio"], 2)
     if own["id"] < 0:
         name = (
             f"{own['type']} {own['name']}" if not own["type"].startswith("type ") else f"{own['name']} of {own['type']}"
         )
-        return [str(own["id"]), "", weight, "-", share, "-", var, groups, "", INDENT * depth + name]
+        return [str(own["id"]), "", weight, "-", share, "-", filled, groups, "", INDENT * depth + name]
     return [
         str(own["id"]),
         own["device_class"],
@@ -93,7 +132,7 @@ def cells(own: JsonObject, depth: int) -> list[str]:
         decimal(own["reweight"], 5),
         share,
         f"{own['deviation']:+.2f}",
-        var,
+        filled,
         groups,
         own["status"],
         INDENT * depth + own["name"],
@@ -103,14 +142,16 @@ def cells(own: JsonObject, depth: int) -> list[str]:
 def total_row(total: JsonObject) -> list[str]:
     """The row of the totals."""
     weight, share = decimal(total["crush_weight"], 5), decimal(total["share"], 2)
-    return ["", "", weight, "", share, "", "", str(total["pgs"]), "", "TOTAL"]
+    disks = disk_cells(total, SUMMARY_KEYS)
+    return ["", "", weight, "", *disks, share, "", "", str(total["pgs"]), "", "TOTAL"]
 
 
 def tree_lines(tree: list[JsonObject], stray: list[JsonObject], total: JsonObject) -> list[str]:
     """The tree as a table of text, then the OSDs outside every bucket, then the totals."""
-    rows = [COLUMNS] + [cells(own, own["depth"]) for own in tree]
+    columns = [*COLUMNS[:DISKS_AT], *(DISK_COLUMNS if "total_kb" in total else []), *COLUMNS[DISKS_AT:]]
+    rows = [columns] + [cells(own, own["depth"]) for own in tree]
     if stray:
-        rows.append([""] * (len(COLUMNS) - 1) + ["outside every bucket"])
+        rows.append([""] * (len(columns) - 1) + ["outside every bucket"])
     rows += [cells(own, 1) for own in stray]
     rows.append(total_row(total))
     return aligned(rows)

@@ -4,7 +4,7 @@ from __future__ import annotations
 
 from ..cluster.names import Names, named
 from ..words import counted, size_words
-from .json_forms import FillParts, OsdFillParts, PoolSpreadParts
+from .json_forms import FillParts, OsdFillParts, PoolSpreadParts, UseParts
 
 
 def osd_words(fill: OsdFillParts, names: Names, is_bytes: bool = False) -> str:
@@ -30,6 +30,15 @@ def fill_words(fill: FillParts, names: Names, is_bytes: bool = False) -> str:
     deviation = f"{100 * fill['deviation']:.1f} % of a share" if is_bytes else f"{fill['deviation']:.2f}"
     fullest, emptiest = (osd_words(own, names, is_bytes) for own in (fill["fullest"], fill["emptiest"]))
     return f"fullest {fullest}, emptiest {emptiest}, standard deviation {deviation}"
+
+
+def use_words(use: UseParts, names: Names) -> str:
+    """What of their disks the fullest OSD and the emptiest have in use."""
+    found = [
+        f"{word} {named(names, 'osds', own['id'])} with {100 * own['ratio']:.1f} % of {size_words(own['share'])}"
+        for word, own in (("fullest", use["fullest"]), ("emptiest", use["emptiest"]))
+    ]
+    return ", ".join(found)
 
 
 def room_words(before: int, after: int) -> str:

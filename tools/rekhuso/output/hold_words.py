@@ -5,14 +5,11 @@ from __future__ import annotations
 from ..plans.hold import Hold
 from ..words import counted, some
 from .flow_words import move_words
-from .plan_scripts import comments
+from .plan_scripts import client_words, comments
 
 # How many groups that are not held are told by their names, for each reason.
 MOST_LEFT = 40
 # What is told above the commands.
-BEFORE = [
-    "before: ceph osd set-require-min-compat-client luminous (clients must know upmap; refused beside older ones)"
-]
 TO_COME = [
     "order:  the change comes first, and nothing moves meanwhile: give its command behind the name of this script, as",
     '        sh hold.sh ceph osd setcrushmap -i NEW; it is run where "$@" stands. Pairs before it are taken away again',
@@ -38,7 +35,8 @@ def hold_lines(hold: Hold) -> list[str]:
     """What is held, and what is not by which reason."""
     told = hold.told()
     words = move_words(told["groups"], told["places"])
-    lines = [f"{words} by the change alone; {told['held']} of the groups are held"]
+    are = "is" if told["held"] == 1 else "are"
+    lines = [f"{words} by the change alone; {told['held']} of the groups {are} held"]
     by_step: dict[str, list[str]] = {}
     places: dict[str, int] = {}
     for own in told["left"]:
@@ -52,8 +50,8 @@ def hold_lines(hold: Hold) -> list[str]:
         get = "group gets" if filled["groups"] == 1 else "groups get"
         lines.append(f"{filled['groups']} {get} {counted(filled['places'], 'place')} that they did not have")
     if told["other_primary"]:
-        have = "group has" if len(told["other_primary"]) == 1 else "groups have"
-        lines.append(f"{len(told['other_primary'])} held {have} another primary")
+        keep = "group keeps its" if len(told["other_primary"]) == 1 else "groups keep their"
+        lines.append(f"{len(told['other_primary'])} {keep} OSDs with another primary")
     return lines
 
 
@@ -74,7 +72,7 @@ def hold_script(hold: Hold, is_undo: bool, is_made: bool, part: int, parts: list
     if part == len(parts):
         lines.append(END)
     notes = [
-        *BEFORE,
+        *client_words(hold.client),
         *(order if part == 1 else [f"order:  part {part - 1} is run before"]),
         *([] if is_undo else AFTER),
     ]

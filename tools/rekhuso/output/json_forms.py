@@ -78,7 +78,20 @@ class FillParts(TypedDict):
     deviation: float
 
 
-class ClusterParts(TypedDict):
+class UseParts(TypedDict):
+    """The fullest OSD and the emptiest by what of their disks is in use: there a share is a disk."""
+
+    fullest: OsdFillParts
+    emptiest: OsdFillParts
+
+
+class KnownParts(TypedDict, total=False):
+    """What is told of a cluster whose disks are known."""
+
+    use: UseParts
+
+
+class ClusterParts(KnownParts):
     """What is told of a cluster over all pools: by groups and, where it is known what the pools hold, by bytes, and
     the bytes that the pool with most data may still take.
     """
@@ -86,6 +99,32 @@ class ClusterParts(TypedDict):
     groups: FillParts
     bytes: FillParts | None
     room: int | None
+
+
+class HindranceParts(TypedDict):
+    """A pool of which an OSD has many bytes in so many groups, and what keeps them there."""
+
+    id: int
+    groups: int
+    bytes: int
+    by: str
+
+
+class StayParts(OsdFillParts):
+    """An OSD that stays far above what it is to have, with the pools of which it has most."""
+
+    pools: list[HindranceParts]
+
+
+class DataParts(TypedDict):
+    """What is known of data: by means of pools or by groups, whether the disks are known, the pools that hold data and
+    are in no map of those that are planned, and the OSDs that stay far above what they are to have.
+    """
+
+    by: str
+    has_disks: bool
+    pools_beside: list[int]
+    stays: list[StayParts]
 
 
 class MovingParts(TypedDict):

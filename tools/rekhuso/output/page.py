@@ -4,9 +4,10 @@ from __future__ import annotations
 
 import html
 import json
-from collections.abc import Sequence
+from collections.abc import Mapping, Sequence
 from contextlib import ExitStack
 
+from ..cluster.disks import Disk
 from ..cluster.names import Names, named
 from ..cluster.shares import Shares, spread_parts
 from ..cluster.view import ClusterView
@@ -15,12 +16,12 @@ from ..program.answers import Up
 from ..program.maps import Map, Program, altered, entries_of, group_key, with_all_up
 from ..program.questions import up_sets
 from ..words import counted
-from .df_table import cells, node, nodes, summary, total_row
+from .df_table import DISK_COLUMNS, cells, node, nodes, summary, total_row
 from .osd_picture import osd_picture
 from .plan_words import page_words
 
 # The columns of `df`, those first that a narrow screen shows.
-PAGE_COLUMNS = ["PGS", "SHARE", "DEVIATION", "VAR", "STATUS", "WEIGHT", "REWEIGHT", "CLASS"]
+PAGE_COLUMNS = ["PGS", "SHARE", "DEVIATION", "RATIO", "STATUS", "WEIGHT", "REWEIGHT", "CLASS"]
 STYLE = """:root{color-scheme:light dark}body{font:15px/1.45 system-ui,sans-serif;margin:1rem auto;max-width:86rem;
 padding:0 1rem}
 table{border-collapse:collapse;width:100%;display:block;overflow-x:auto}
@@ -49,21 +50,26 @@ def table(columns: list[str], rows: Sequence[Sequence[object]], kind: str = "sor
 
 def page_row(row: list[str]) -> list[str]:
     """A row of `df` as the page has it: the name first, then the groups, so that a narrow screen shows both."""
-    number, kind, weight, reweight, share, deviation, var, groups, status, name = row
-    return [name, groups, share, deviation, var, status, weight, reweight, kind]
+    number, kind, weight, reweight, *disks, share, deviation, var, groups, status, name = row
+    return [name, groups, share, deviation, var, status, weight, reweight, *disks, kind]
 
 
-def tree_rows(shares: Shares, names: Names) -> list[list[str]]:
+def page_columns(disks: Mapping[int, Disk]) -> list[str]:
+    """The columns behind the name."""
+    return [*PAGE_COLUMNS[:-1], *(DISK_COLUMNS if disks else []), PAGE_COLUMNS[-1]]
+
+
+def tree_rows(shares: Shares, names: Names, disks: Mapping[int, Disk]) -> list[list[str]]:
     """The tree with its sums as rows, the OSDs outside every bucket, and the totals, as `df` has them."""
-    tree, stray = nodes(shares, names), [node(shares, row, names) for row in shares.stray()]
+    tree, stray = nodes(shares, names, disks), [node(shares, row, names, disks) for row in shares.stray()]
     rows = [[*cells(own, 0)[:-1], "  " * own["depth"] + own["name"]] for own in tree]
     rows += [[*cells(own, 0)[:-1], f"{own['name']} (outside every bucket)"] for own in stray]
-    return [page_row(row) for row in [*rows, total_row(summary(shares))]]
+    return [page_row(row) for row in [*rows, total_row(summary(shares, disks))]]
 
 
-def osd_rows(shares: Shares, names: Names) -> list[list[str]]:
+def osd_rows(shares: Shares, names: Names, disks: Mapping[int, Disk]) -> list[list[str]]:
     """Each OSD as a row, by its number."""
-    found = [node(shares, shares.osd_row(osd), names) for osd in sorted(shares.osds)]
+    found = [node(shares, shares.osd_row(osd), names, disks) for osd in sorted(shares.osds)]
     return [page_row([*cells(own, 0)[:-1], own["name"]]) for own in found]
 
 
@@ -125,8 +131,9 @@ def heading(value: Map, shares: Shares, title: str) -> str:
     )
 
 
-def page(whole: ClusterView, sets: dict[str, Up], program: Program, title: str) -> str:
-    """The page of a lawful map or of a cluster, as HTML."""
+def page(whole: ClusterView, sets: dict[str, Up], program: Program, title: str, disks: Mapping[int, Disk]) -> str:
+    """The page of a lawful map or of a cluster, with the disks that are known, as HTML."""
+    columns = page_columns(disks)
     names, value, shares = whole.names, whole.tree, whole.shares(sets)
     excepted = [row for own in whole.maps for row in exception_rows(own, program)]
     parts = [
@@ -134,9 +141,9 @@ def page(whole: ClusterView, sets: dict[str, Up], program: Program, title: str) 
         '<h2>Where the groups are</h2><div class="pair"><figure>',
         osd_picture([shares], names, [title]),
         '</figure><div class="tree">',
-        table(["NAME", *PAGE_COLUMNS], tree_rows(shares, names), "sums"),
+        table(["NAME", *columns], tree_rows(shares, names, disks), "sums"),
         "</div></div><h2>OSDs</h2>",
-        table(["OSD", *PAGE_COLUMNS], osd_rows(shares, names)),
+        table(["OSD", *columns], osd_rows(shares, names, disks)),
         "<h2>Pools</h2>",
         table(["POOL", "PGS", "SIZE", "RULE", "PLACES", "SHORT"], pool_rows(shares, names)),
         "<h2>Exceptions</h2>",

@@ -7,13 +7,23 @@ from fractions import Fraction
 from ..cluster.names import Names, named
 from ..plans.plan import Outcome
 from ..plans.rounds import MOST_MOVES
-from ..words import counted
-from .fill_words import fill_words, room_words, spread_words
-from .json_forms import PlanParts
+from ..words import counted, size_words, some
+from .fill_words import fill_words, osd_words, room_words, spread_words, use_words
+from .json_forms import PlanParts, StayParts
 
 # The number of the refusal of a pool whose rule has several blocks, and what is said of it.
 BLOCKS = "29 "
 OF_BLOCKS = "its rule takes OSDs in several steps, of which the balancer plans none"
+
+# Of how many OSDs that stay too full it is told why, and the words for what keeps a pool's groups there.
+MOST_STAYS = 5
+KEPT_BY = {
+    "not planned": "none of its groups is moved",
+    "failure domains": "all emptier OSDs stand in failure domains that have copies already",
+    "shares": "its pool or all pools would get far from their shares",
+    "sizes": "they would fill another OSD as much",
+    "monitor": "the program or Ceph's monitor would not keep them elsewhere",
+}
 
 
 def why_words(refusal: str) -> str:
@@ -57,6 +67,35 @@ def pool_words(parts: PlanParts, deviation: Fraction | None) -> str:
     )
 
 
+def stay_words(own: StayParts, names: Names) -> str:
+    """What keeps an OSD far above what it is to have."""
+    pools = [
+        f"{counted(pool['groups'], 'group')} of {named(names, 'pools', pool['id'])}, {size_words(pool['bytes'])}: "
+        f"{KEPT_BY[pool['by']]}"
+        for pool in own["pools"]
+    ]
+    return f"stays: {osd_words(own, names, True)}; there {'; '.join(pools)}"
+
+
+def data_words(outcome: Outcome, names: Names) -> list[str]:
+    """What is told of the data: how full disks are, by what it is known, and which OSDs stop a plan."""
+    before, after, data, found = outcome.before, outcome.after, outcome.data, list[str]()
+    if "use" in before and "use" in after:
+        found.append(f"by disks: before {use_words(before['use'], names)}; after {use_words(after['use'], names)}")
+    if data is not None and data["pools_beside"]:
+        beside = some([str(pool) for pool in data["pools_beside"]])
+        found.append(f"by bytes: nothing is told, and no last pass is made, as other pools hold data too: {beside}")
+    if data is not None and data["by"] == "means":
+        found.append("data: by the mean of each pool; --pgs tells what each group holds")
+    found += [stay_words(own, names) for own in (data["stays"] if data is not None else [])[:MOST_STAYS]]
+    for osd, count in sorted(outcome.stopped.items()):
+        found.append(
+            f"stopped: {named(names, 'osds', osd)} would get nearly full by {counted(count, 'more step')}, "
+            "which are left; --batch N --to FOLDER takes them in later parts, as far as there is room then"
+        )
+    return found
+
+
 def cluster_words(outcome: Outcome, names: Names) -> list[str]:
     """How even the cluster is before and after its plans, a line each by groups, by bytes, and for the pool with most
     data.
@@ -69,6 +108,7 @@ def cluster_words(outcome: Outcome, names: Names) -> list[str]:
     if outcome.largest is not None and before["room"] is not None and after["room"] is not None:
         name = named(names, "pools", outcome.largest)
         found.append(f"room of {name}, the pool with most data: {room_words(before['room'], after['room'])}")
+    found += data_words(outcome, names)
     if outcome.taken_out:
         count = len(outcome.taken_out)
         groups = "1 group is" if count == 1 else f"{count} groups are"

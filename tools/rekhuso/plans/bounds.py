@@ -14,18 +14,20 @@ ROUNDING = 1e-9
 
 @dataclass(frozen=True)
 class Measure:
-    """By what OSDs are full: their shares, what a place of each pool counts (else 1), and what they have once all of a
-    plan is done, of which the commands may be the first alone.
+    """By what OSDs are full: what they have and their shares, in bytes or else in groups; what a place of each group
+    counts (else 1); what they have once all of a plan is done, of which the commands may be the first alone; and up to
+    where OSDs may be filled, if that is known.
     """
 
-    __slots__ = ("share", "places", "end")
-    share: Mapping[int, float]
-    places: Mapping[int, float] | None
+    __slots__ = ("spread", "sizes", "end", "limits")
+    spread: Spread
+    sizes: Mapping[str, float] | None
     end: Mapping[int, float]
+    limits: Mapping[int, float]
 
-    def size(self, pool: int) -> float:
-        """What a place of a pool counts."""
-        return 1.0 if self.places is None else self.places[pool]
+    def size(self, group: str) -> float:
+        """What a place of a group counts."""
+        return 1.0 if self.sizes is None else self.sizes[group]
 
 
 @dataclass(frozen=True)
@@ -56,12 +58,16 @@ class Fullness:
 
     def fullest(self, has: Mapping[int, float]) -> float:
         """The greatest ratio of what an OSD has to its share."""
-        return Spread(has, self.measure.share).fullest()
+        return Spread(has, self.measure.spread.share).fullest()
 
     def fault(self, step: Step, high: Mapping[int, float], bound: float) -> str | None:
         """Why a step may not come into a part; None where it may."""
-        spread = Spread(high, self.measure.share)
+        spread, limits = Spread(high, self.measure.spread.share), self.measure.limits
         for osd in step.come:
+            if osd in limits and is_above(high[osd], limits[osd]):
+                return f"osd.{osd} would get nearfull"
+            if limits:
+                continue
             if is_above(spread.ratio(osd), bound):
                 return f"osd.{osd} would get to {spread.ratio(osd):.4f} of its share, where {bound:.4f} is the bound"
             if is_above(high[osd], self.most.get(osd, 0) + step.size):
@@ -70,8 +76,8 @@ class Fullness:
 
     def part(self, steps: Sequence[Step]) -> tuple[str, str] | None:
         """Takes a part: all that comes in it counts, and nothing that goes. The line of the first step by which an OSD
-        passes a bound, and how; None where there is none. One step alone may pass it, and steps from which no OSD gets
-        emptier.
+        passes a bound, and how; None where there is none. One step alone may pass it, where no disk is known, and steps
+        from which no OSD gets emptier.
         """
         bound, high = max(self.fullest(self.has), self.fullest(self.measure.end), EVEN), dict(self.has)
         found: tuple[str, str] | None = None
@@ -84,5 +90,5 @@ class Fullness:
         for step in steps:
             for osd in step.go:
                 self.has[osd] = self.has.get(osd, 0) - step.size
-        is_free = len(steps) < 2 or not any(step.go for step in steps)
+        is_free = not any(step.go for step in steps) or len(steps) < 2 and not self.measure.limits
         return None if is_free else found

@@ -111,17 +111,12 @@ class Play:
         return self.of_pool[group_key(group)[0]]
 
     def has(self, measure: Measure) -> dict[int, float]:
-        """What the OSDs that are up have before all commands."""
+        """What the OSDs that are up have before all commands: in groups by the program's counts."""
         found: defaultdict[int, float] = defaultdict(float)
-        if measure.places is None:
-            for osd, count in chain.from_iterable(own.counts.items() for own in self.courses):
-                found[osd] += count
-        else:
-            for group, places in self.sets.items():
-                for own in set(places):
-                    if own is not None:
-                        found[own] += measure.size(group_key(group)[0])
-        return {osd: size for osd, size in found.items() if osd not in self.down}
+        for osd, count in chain.from_iterable(own.counts.items() for own in self.courses):
+            found[osd] += count
+        own = found if measure.sizes is None else measure.spread.has
+        return {osd: size for osd, size in own.items() if osd not in self.down}
 
     def take(self, command: PrintedCommand) -> None:
         """Takes a command. A fault where a count is not what the sets come to."""
@@ -146,7 +141,7 @@ class Play:
             raise defect(line, f"the set of {group} gets shorter: {set_words(was)}, then {set_words(now)}")
         is_erasure = group_key(group)[0] in self.course(group).erasure
         come, go = coming(was, now, is_erasure), [osd for osd in leaving(was, now, is_erasure) if osd not in self.down]
-        return Step(line, come, go, 1.0 if measure is None else measure.size(group_key(group)[0]))
+        return Step(line, come, go, 1.0 if measure is None else measure.size(group))
 
     def play(self, parts: Sequence[Sequence[PrintedCommand]], measure: Measure | None) -> None:
         """Takes all parts. A fault where an OSD passes the bounds of a part, if there are any."""

@@ -18,6 +18,7 @@ from ..cluster.map_parts import map_clusters
 from ..cluster.moving import coming, has_moved, split_group
 from ..cluster.names import set_words
 from ..cluster.reasons import reasons
+from ..cluster.releases import least_client
 from ..faults import Fault
 from ..output.json_forms import HoldParts
 from ..program.maps import Exceptions, Map, Program, entries_of, group_key, groups_in, groups_of, with_all_up
@@ -42,13 +43,14 @@ class Sides:
 
 @dataclass(frozen=True)
 class Hold:
-    """What holds groups: the maps behind the change, each group that was there, the set that it would have by the change
-    alone, the commands, and those that take them back.
+    """What holds groups: the maps behind the change; the release that clients must have, if the dump tells it; each group
+    that was there, the set that it would have by the change alone, the commands, and those that take them back.
     """
 
-    __slots__ = ("epoch", "maps", "groups", "would", "commands", "undo")
+    __slots__ = ("epoch", "maps", "client", "groups", "would", "commands", "undo")
     epoch: int
     maps: list[Map]
+    client: str | None
     groups: list[Held]
     would: Mapping[str, Places]
     commands: list[str]
@@ -129,6 +131,15 @@ def check_held(new: Cluster, held: Iterable[Held], goal: Exceptions, program: Pr
         )
 
 
+def of_groups(exceptions: Exceptions, groups: Iterable[str]) -> Exceptions:
+    """The exceptions of some groups."""
+    own = set(groups)
+    return {
+        "pg_upmap": [entry for entry in entries_of(exceptions, "pg_upmap") if entry[0] in own],
+        "pg_upmap_items": [entry for entry in entries_of(exceptions, "pg_upmap_items") if entry[0] in own],
+    }
+
+
 def kept_apart(now: Exceptions, goal: Exceptions, lost: frozenset[str]) -> Exceptions:
     """Exceptions without those that the monitor takes away on the way to a change and that are to be given again."""
 
@@ -156,12 +167,13 @@ def hold_of(sides: Sides, program: Program) -> Hold:
     for group in sorted(there, key=group_key):
         source = group if group in sides.has else split_group(group, sides.counts[group_key(group)[0]])
         found.append(holder.hold(group, list(sides.has[source])))
-    goal, now = exceptions_of(found), exceptions_in(new.osd_dump)
+    goal, now = exceptions_of(found), of_groups(exceptions_in(new.osd_dump), there)
     check_held(new, found, goal, program)
     would = mapped_sets(with_exceptions(new, cleaned_at(new, program, raw)[0].kept), program)
     explicit, items = new.exceptions
-    undo = exception_commands(goal, {"pg_upmap": explicit, "pg_upmap_items": items})
-    return Hold(new.epoch, maps, found, would, exception_commands(kept_apart(now, goal, sides.lost), goal), undo)
+    undo = exception_commands(goal, of_groups({"pg_upmap": explicit, "pg_upmap_items": items}, there))
+    lines = exception_commands(kept_apart(now, goal, sides.lost), goal)
+    return Hold(new.epoch, maps, least_client(new.osd_dump), found, would, lines, undo)
 
 
 def hold_of_change(cluster: Cluster, steps: list[Command], program: Program) -> Hold:

@@ -3,9 +3,9 @@
 A pool's plan evens the pool, and beside it the cluster: the balancer counts on an OSD, beside its groups of the pool,
 what it carries from all other pools. There G is by how many groups an OSD is above its shares of the other pools, and
 B the same where each pool counts by what its places hold, of the mean over all places. Where s is what a place of the
-pool itself holds, an OSD carries (G + s * B) / (2 + s * s) groups, and without data G / 2; at most half of what two
-OSDs must differ by for a move. With the other pools held still, a plan then lowers the sum of the squares of all
-deviations: those of the pools, those of the groups over all pools, and those of the data.
+pool itself holds, an OSD carries (G + 10 * s * B) / (2 + 10 * s * s) groups, and without data G / 2; at most half of
+what two OSDs must differ by for a move. With the other pools held still, a plan then lowers the sum of the squares of
+all deviations: those of the pools, those of the groups over all pools, and ten times those of the data.
 
 All is reckoned in whole numbers of parts of a group, so no sum depends on its order.
 """
@@ -20,6 +20,8 @@ from fractions import Fraction
 GROUP_PARTS, MEAN_PARTS = 1 << 64, 1 << 32
 # The program is told 256ths of a group.
 STEP_PARTS = GROUP_PARTS >> 8
+# How many times as much as evenness by groups evenness by data counts.
+WEIGHT = 10
 
 
 @dataclass(frozen=True)
@@ -110,9 +112,9 @@ class Loads:
         """
         place, squared, found = self.pools[number].place, MEAN_PARTS * MEAN_PARTS, {}
         groups, data = self.groups, self.data
-        one = STEP_PARTS * (2 * squared + place * place)
+        one = STEP_PARTS * (2 * squared + WEIGHT * place * place)
         for osd, own in self.own[number].items():
-            parts = (groups[osd] - own) * squared + place * (data[osd] - own * place)
+            parts = (groups[osd] - own) * squared + WEIGHT * place * (data[osd] - own * place)
             nearest = (2 * parts + one) // (2 * one)
             found[osd] = -half if nearest < -half else half if nearest > half else nearest
         return found

@@ -4,16 +4,19 @@ from __future__ import annotations
 
 import math
 from collections import Counter
-from collections.abc import Iterable, Mapping
+from collections.abc import Iterable, Mapping, Sequence
 from operator import mul, sub
+from typing import cast
 
 from ..cluster.evenness import Spread, room, sums_by_osd
 from ..cluster.pool_data import Data
-from ..output.json_forms import ClusterParts, PoolSpreadParts
+from ..output.json_forms import ClusterParts, DataParts, HindranceParts, PoolSpreadParts, StayParts
 from ..program.maps import Pool
-from .bounds import Measure
+from .byte_aims import ByteAims
+from .hindrances import TOLD
 from .mend import Gauge
 from .rounds import Live
+from .step_order import has_after
 from .steps import PlanStep
 
 
@@ -45,51 +48,33 @@ class Measures:
     hold by bytes.
     """
 
-    def __init__(self, lives: list[Live], data: Data | None) -> None:
-        """Takes the maps of a cluster, and what its pools hold."""
-        self.lives, self.data = {number: live for live in lives for number in live.pools}, data
+    def __init__(self, lives: list[Live], data: Data | None, aims: ByteAims | None) -> None:
+        """Takes the maps of a cluster, what its pools hold, and what its OSDs are to hold."""
+        self.lives, self.data, self.aims = {number: live for live in lives for number in live.pools}, data, aims
         self.pools: dict[int, Pool] = {number: live.pools[number] for number, live in sorted(self.lives.items())}
         self.counts: dict[int, dict[int, int]] = {
             number: live.before.counts_in[number] for number, live in self.lives.items()
         }
         self.shares = {number: self.lives[number].before.shares_by[number] for number in self.pools}
-        self.places = None if data is None else {number: data.place(pool) for number, pool in self.pools.items()}
+        self.sizes = None if aims is None else aims.groups
         self.wanted = sums_by_osd(self.shares)
-        self.wanted_bytes = {} if self.places is None else sums_by_osd(self.shares, self.places)
         self.weights = {osd: own for live in lives for osd, own in live.before.items.items() if osd >= 0}
 
     def groups(self, counts: Mapping[int, Mapping[int, int]]) -> Spread:
         """What OSDs have in groups, by the counts of each pool."""
         return Spread(sums_by_osd(counts), self.wanted)
 
-    def bytes(self, counts: Mapping[int, Mapping[int, int]]) -> Spread | None:
-        """The same in bytes, where it is known what the pools hold."""
-        return None if self.places is None else Spread(sums_by_osd(counts, self.places), self.wanted_bytes)
-
-    def filling(self) -> tuple[Spread, dict[int, float] | None]:
-        """By what OSDs are full where steps are put in order: what they have before a plan, and what a place of each
-        pool counts (else 1).
-        """
-        used = self.bytes(self.counts)
-        is_known = used is not None and bool(used.osds())
-        return (used, self.places) if used is not None and is_known else (self.groups(self.counts), None)
-
-    def measure(self, steps: list[PlanStep]) -> Measure:
-        """The same as what the commands of a plan are judged by, all of whose steps these are."""
-        spread, places = self.filling()
-        end = dict(spread.has)
-        for step in steps:
-            size = 1.0 if places is None else places[step.pool]
-            for osds, more in ((step.comes(), size), (step.leaves(), -size)):
-                for osd in osds:
-                    end[osd] = end.get(osd, 0) + more
-        return Measure(spread.share, places, end)
+    def bytes(self, steps: Sequence[PlanStep] = ()) -> Spread | None:
+        """The same in bytes once steps are taken, where it is known what the pools hold."""
+        if self.aims is None:
+            return None
+        return Spread(has_after(self.aims.has, self.sizes, steps), self.aims.want)
 
     def gauges(self) -> list[Gauge]:
         """What no plan may leave less even."""
-        used = self.bytes(self.counts)
+        used = self.bytes()
         found = [Gauge(self.groups(self.counts), None, False)]
-        return found if used is None else found + [Gauge(used, self.places, True)]
+        return found if used is None else found + [Gauge(used, self.sizes, True)]
 
     def largest(self) -> int | None:
         """The pool of several groups with most data, the lowest of several; None where nobody tells or none has any."""
@@ -104,14 +89,38 @@ class Measures:
         if number is None or data is None:
             return None
         trees = self.lives[number].before.trees_for(self.pools[number])
-        own = [{osd: self.weights[osd] for osd in tree} for tree in trees]
-        return round(room(own, used.has, data.unit(self.weights.values()), data.rate(self.pools[number])))
+        own, unit = [{osd: self.weights[osd] for osd in tree} for tree in trees], data.unit(self.weights.values())
+        sizes = {
+            osd: data.disks[osd].size if data.disks else weight * unit for tree in own for osd, weight in tree.items()
+        }
+        return round(room(own, sizes, used.has, data.rate(self.pools[number])))
 
-    def told(self, counts: Mapping[int, Mapping[int, int]]) -> ClusterParts:
-        """What is told of the cluster."""
-        used = self.bytes(counts)
+    def data_parts(self, steps: Sequence[PlanStep], stays: dict[int, list[HindranceParts]]) -> DataParts | None:
+        """What is told of the data: whether each group's is known or only the mean of its pool, whether the disks are,
+        the pools that hold data and are not planned with the others, and the OSDs that stay far above what they are to
+        have once steps are taken, the fullest first.
+        """
+        data, used = self.data, self.bytes(steps)
+        if data is None or used is None:
+            return None
+        full = [osd for _, osd in sorted((-used.ratio(osd), osd) for osd in stays) if used.ratio(osd) > TOLD]
         return {
+            "by": "groups" if data.parts else "means",
+            "has_disks": bool(data.disks),
+            "pools_beside": sorted(data.of_pool.keys() - self.pools.keys()),
+            "stays": [cast(StayParts, dict(used.filled(osd), pools=stays[osd])) for osd in full],
+        }
+
+    def told(self, counts: Mapping[int, Mapping[int, int]], steps: Sequence[PlanStep] = ()) -> ClusterParts:
+        """What is told of the cluster once steps are taken, after which pools have these counts; by bytes only where
+        all pools are known.
+        """
+        used = self.bytes(steps) if self.aims is not None and self.aims.is_whole else None
+        found: ClusterParts = {
             "groups": self.groups(counts).fill(),
             "bytes": None if used is None else used.fill(True),
             "room": None if used is None else self.room(used),
         }
+        if used is not None and self.aims is not None and self.aims.disks:
+            found["use"] = Spread(used.has, {osd: disk.size for osd, disk in self.aims.disks.items()}).use(used.osds())
+        return found

@@ -22,11 +22,11 @@ class Gauge:
     they are from their shares, each by its scale.
     """
 
-    def __init__(self, before: Spread, places: Mapping[int, float] | None, is_relative: bool) -> None:
-        """Takes what OSDs have before the plan, what a place of each pool counts (else 1), and whether how far an OSD
+    def __init__(self, before: Spread, sizes: Mapping[str, float] | None, is_relative: bool) -> None:
+        """Takes what OSDs have before the plan, what a place of each group counts (else 1), and whether how far an OSD
         is counts as a part of its share.
         """
-        self.has, self.share, self.places = dict(before.has), before.share, places
+        self.has, self.share, self.sizes = dict(before.has), before.share, sizes
         self.scale = {osd: 1 / before.share[osd] if is_relative else 1.0 for osd in before.osds()}
         self.fullest = before.fullest() * (1 + ROUNDING)
         self.squares = self.before = sum(self.square(osd, 0.0) for osd in self.scale)
@@ -38,8 +38,8 @@ class Gauge:
         return ((self.has.get(osd, 0) + more - self.share[osd]) * self.scale[osd]) ** 2
 
     def size(self, step: PlanStep) -> float:
-        """What a place of a step's pool counts."""
-        return 1.0 if self.places is None else self.places[step.pool]
+        """What a place of a step's group counts."""
+        return 1.0 if self.sizes is None else self.sizes[step.group]
 
     def gain(self, step: PlanStep, sign: int) -> float:
         """By how much the sum of squares rises where a step is taken (1), or taken out (-1)."""

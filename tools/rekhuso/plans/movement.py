@@ -2,6 +2,7 @@
 
 from __future__ import annotations
 
+import math
 from collections import Counter
 from dataclasses import dataclass
 from typing import cast
@@ -14,22 +15,22 @@ from .steps import PlanStep, steps_by_pool
 
 @dataclass(frozen=True)
 class PlaceBytes:
-    """The pools of a plan, the bytes of one place of each, and the bytes of all pools of the cluster, where they are
-    known, else None.
+    """The pools of a plan, the bytes of a place of each of their groups, and the bytes of all pools of the cluster,
+    where they are known, else None.
     """
 
-    __slots__ = ("pools", "places", "total")
+    __slots__ = ("pools", "sizes", "total")
     pools: list[Pool]
-    places: dict[int, float]
+    sizes: dict[str, float]
     total: int | None
 
     def moving(self, steps: list[PlanStep]) -> MovingParts:
         """What some steps move: groups, places, and where it is known bytes and their share of all pools' data."""
-        places = Counter(step.pool for step in steps for _ in step.places_come())
-        size = sum(self.places.get(pool, 0.0) * count for pool, count in places.items())
+        places = [step.group for step in steps for _ in step.places_come()]
+        size = math.fsum(self.sizes.get(group, 0.0) for group in places)
         return {
             "groups": sum(map(PlanStep.is_moving, steps)),
-            "places": sum(places.values()),
+            "places": len(places),
             "bytes": None if self.total is None else round(size),
             "share": None if self.total is None else size / max(self.total, 1),
         }
@@ -46,7 +47,7 @@ class PlaceBytes:
         gone: Counter[int] = Counter()
         size: dict[tuple[int, bool], float] = {}
         for step in steps:
-            place = self.places.get(step.pool, 0.0)
+            place = self.sizes.get(step.group, 0.0)
             for counts, osds in ((come, step.places_come()), (gone, step.places_leave())):
                 for osd in osds:
                     counts[osd] += 1
@@ -69,4 +70,5 @@ def place_bytes(pools: list[Pool], data: Data | None) -> PlaceBytes:
     """What the places of some pools hold, by the output of `ceph df` where there is one."""
     if data is None:
         return PlaceBytes(pools, {}, None)
-    return PlaceBytes(pools, {pool["id"]: data.place(pool) for pool in pools}, sum(data.of_pool.values()))
+    sizes = {group: size for pool in pools for group, size in data.group_bytes(pool).items()}
+    return PlaceBytes(pools, sizes, sum(data.of_pool.values()))

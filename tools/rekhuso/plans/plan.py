@@ -2,7 +2,6 @@
 
 from __future__ import annotations
 
-import sys
 from collections.abc import Callable
 from contextlib import ExitStack
 from dataclasses import dataclass, replace
@@ -10,6 +9,7 @@ from fractions import Fraction
 
 from ..cluster.cleanup import going, reason_words
 from ..cluster.conversion import monitor_of
+from ..cluster.disks import NEARFULL
 from ..cluster.judge import Reason, judge_of_cluster, judge_of_map
 from ..cluster.misplaced import Misplaced, misplaced_of
 from ..cluster.names import named
@@ -17,15 +17,17 @@ from ..cluster.outage import Outage, outage_of
 from ..cluster.pool_data import Data
 from ..cluster.view import ClusterView
 from ..faults import Fault
-from ..output.json_forms import ClusterParts, PlanParts
+from ..output.json_forms import ClusterParts, DataParts, HindranceParts, PlanParts
 from ..program.maps import Program, group_key
 from .bounds import Measure
 from .measures import Measures, counts_after, pool_spread
+from .byte_aims import ByteAims
+from .byte_rounds import Passed, planned_by_data
 from .mend import mended
 from .pairs import settled
+from .parts import ALL, measure_of_steps, order_of_steps, ordered_parts
 from .pool_plans import PoolPlan, pool_plans
 from .rounds import Live, Planner, barred_words, left_out
-from .step_order import parts_in_order
 from .steps import PlanStep, appended_pairs, batches, in_old_order, steps_by_pool, steps_of
 
 # How many groups an OSD may be from its share after a plan, where nothing else is asked for.
@@ -36,37 +38,38 @@ DEVIATION = Fraction(1)
 class Wish:
     """What plans are asked for: the pools that are named (all of several groups where none is), how near its shares a
     plan brings OSDs, how many commands or moves there are at most, how many commands stand in a part, whether each pool
-    is planned by itself, and what the pools hold.
+    is planned by itself, whether the plan is for room alone, what the pools hold, and how full a disk may get.
     """
 
-    __slots__ = ("named", "deviation", "most", "batch", "is_alone", "data")
+    __slots__ = ("named", "deviation", "most", "batch", "is_alone", "is_room", "data", "nearfull")
 
     named: frozenset[int]
     deviation: Fraction | None
     most: int
     batch: int
     is_alone: bool
+    is_room: bool
     data: Data | None
+    nearfull: float
 
     def half(self) -> int:
         """Half of what two OSDs must differ by for a move, in 256ths of a group."""
         return round(256 * (DEVIATION if self.deviation is None else self.deviation))
 
 
-# As much as anyone asks for.
-ALL = sys.maxsize
 # The plan of a whole cluster, where nothing else is asked for.
-DEFAULT_WISH = Wish(frozenset(), None, ALL, ALL, False, None)
+DEFAULT_WISH = Wish(frozenset(), None, ALL, ALL, False, False, None, NEARFULL)
 
 
 @dataclass(frozen=True)
 class Outcome:
     """What plans are: the steps in the parts in which they are taken, the groups whose steps were taken out for the
     sake of the cluster, what is told of each pool and of the cluster before and after, the pool with most data, if it
-    is known, and by what OSDs are full on the way, where the steps stand in an order.
+    is known, the OSDs that would get nearfull by steps that are left for their sake, each with how many, what is told of
+    the data, and by what OSDs are full on the way, where the steps stand in an order.
     """
 
-    __slots__ = ("parts", "taken_out", "pools", "before", "after", "largest", "measure")
+    __slots__ = ("parts", "taken_out", "pools", "before", "after", "largest", "stopped", "data", "measure")
 
     parts: list[list[PlanStep]]
     taken_out: list[str]
@@ -74,6 +77,8 @@ class Outcome:
     before: ClusterParts
     after: ClusterParts
     largest: int | None
+    stopped: dict[int, int]
+    data: DataParts | None
     measure: Measure | None
 
     @property
@@ -85,15 +90,18 @@ class Outcome:
 @dataclass(frozen=True)
 class PlannedSteps:
     """What has been planned: why a pool has no plan, the groups that are left out, each with the reason, the plans of
-    pools by themselves, and the steps.
+    pools by themselves, the steps, the groups whose steps come first, and what keeps OSDs far above what they are to
+    have.
     """
 
-    __slots__ = ("refusals", "left", "plans", "steps")
+    __slots__ = ("refusals", "left", "plans", "steps", "first", "stays")
 
     refusals: dict[int, str]
     left: dict[str, Reason]
     plans: dict[int, PoolPlan]
     steps: list[PlanStep]
+    first: frozenset[str]
+    stays: dict[int, list[HindranceParts]]
 
 
 def alone_steps(lives: list[Live], wanted: list[int], wish: Wish) -> PlannedSteps:
@@ -117,19 +125,27 @@ def alone_steps(lives: list[Live], wanted: list[int], wish: Wish) -> PlannedStep
             plans[number] = PoolPlan(plan.moves - pairs, plan.refusal, plan.wanted, plan.whole)
         gone.update(left)
         steps += kept
-    return PlannedSteps({number: plan.refusal for number, plan in plans.items() if plan.refusal}, gone, plans, steps)
+    refusals = {number: plan.refusal for number, plan in plans.items() if plan.refusal}
+    return PlannedSteps(refusals, gone, plans, steps, frozenset(), {})
 
 
-def cluster_steps(lives: list[Live], wanted: list[int], wish: Wish, tell: Callable[[str], None]) -> PlannedSteps:
-    """Plans pools for the sake of the whole cluster."""
-    planner = Planner(lives, wanted, wish.data, wish.half())
-    planner.play(tell)
+def cluster_steps(
+    lives: list[Live], wanted: list[int], wish: Wish, aims: ByteAims | None, tell: Callable[[str], None]
+) -> PlannedSteps:
+    """Plans pools for the sake of the whole cluster, by data where it is known what all of them hold."""
+    planner, passed = Planner(lives, wanted, wish.data, wish.half()), Passed([], [], {})
+    if aims is not None and aims.is_whole:
+        passed = planned_by_data(planner, aims, wish.is_room, wish.most if wish.most < ALL else None, tell)
+    else:
+        planner.play(tell)
+    for number in {group_key(group)[0] for group in passed.moved}:
+        planner.refusals.pop(number, None)
     left, steps = planner.left, []
     for live in lives:
         kept, lost = steps_in(live)
         left.update(lost)
         steps += kept
-    return PlannedSteps(planner.refusals, left, {}, steps)
+    return PlannedSteps(planner.refusals, left, {}, steps, frozenset(passed.first), passed.stays)
 
 
 def steps_in(live: Live) -> tuple[list[PlanStep], dict[str, Reason]]:
@@ -141,29 +157,6 @@ def steps_in(live: Live) -> tuple[list[PlanStep], dict[str, Reason]]:
     steps = steps_of(live.value, live.kept, new, live.before.ups, ups)
     lost = going(live.judge, live.session, new, [step.group for step in steps])
     return [step for step in steps if step.group not in lost], lost
-
-
-def first_steps(parts: list[list[PlanStep]], most: int) -> list[list[PlanStep]]:
-    """The first steps of some parts, with at most so many commands."""
-    found: list[list[PlanStep]] = []
-    for part in parts:
-        own: list[PlanStep] = []
-        for step in part:
-            most -= len(step.commands)
-            if most < 0:
-                return found + ([own] if own else [])
-            own.append(step)
-        found.append(own)
-    return found
-
-
-def step_parts(measures: Measures, steps: list[PlanStep], wish: Wish) -> list[list[PlanStep]]:
-    """The steps of a plan in parts: of plans of pools by themselves as the groups are numbered, else those first that
-    are worth most.
-    """
-    if wish.is_alone:
-        return batches(steps, wish.batch)
-    return first_steps(parts_in_order(*measures.filling(), steps, wish.batch), wish.most)
 
 
 def wanted_of(lives: list[Live], wish: Wish) -> list[int]:
@@ -207,11 +200,6 @@ def silent(_: str) -> None:
     """Tells nobody how far a plan is."""
 
 
-def made_steps(lives: list[Live], wanted: list[int], wish: Wish, tell: Callable[[str], None]) -> PlannedSteps:
-    """Plans pools as they are asked for, and tells how far it is meanwhile."""
-    return alone_steps(lives, wanted, wish) if wish.is_alone else cluster_steps(lives, wanted, wish, tell)
-
-
 def kept_steps(measures: Measures, made: PlannedSteps, wish: Wish) -> list[PlanStep]:
     """The steps as the groups are numbered; for the sake of the cluster without those that leave it less even."""
     steps = sorted(made.steps, key=lambda step: group_key(step.group))
@@ -224,26 +212,38 @@ def without(steps: list[PlanStep], kept: list[PlanStep]) -> list[str]:
 
 
 def outcome_of(
-    measures: Measures, wanted: list[int], made: PlannedSteps, parts: list[list[PlanStep]], taken_out: list[str]
+    measures: Measures,
+    wanted: list[int],
+    made: PlannedSteps,
+    parts: list[list[PlanStep]],
+    taken_out: list[str],
+    stopped: dict[int, int],
 ) -> Outcome:
     """What plans are, with what is told of the pools that were planned and of the cluster, before and after the parts
     of what is kept.
     """
-    of_pool = steps_by_pool([step for part in parts for step in part])
+    steps = [step for part in parts for step in part]
+    of_pool = steps_by_pool(steps)
     after = {number: counts_after(own, of_pool.get(number, [])) for number, own in measures.counts.items()}
     pools = [pool_parts(measures, number, made, after[number], of_pool.get(number, [])) for number in wanted]
-    before = measures.told(measures.counts)
-    return Outcome(parts, taken_out, pools, before, measures.told(after), measures.largest(), None)
+    ends = measures.told(measures.counts), measures.told(after, steps)
+    data = measures.data_parts(steps, made.stays)
+    return Outcome(parts, taken_out, pools, *ends, measures.largest(), stopped, data, None)
 
 
 def planned(lives: list[Live], wish: Wish, tell: Callable[[str], None] = silent) -> Outcome:
     """Plans pools of a cluster, and tells how far it is meanwhile."""
     wanted = wanted_of(lives, wish)
-    made = made_steps(lives, wanted, wish, tell)
-    measures = Measures(lives, wish.data)
+    aims = None if wish.data is None else ByteAims(lives, wish.data)
+    made = alone_steps(lives, wanted, wish) if wish.is_alone else cluster_steps(lives, wanted, wish, aims, tell)
+    measures = Measures(lives, wish.data, aims)
     kept = kept_steps(measures, made, wish)
-    found = outcome_of(measures, wanted, made, step_parts(measures, kept, wish), without(made.steps, kept))
-    return found if wish.is_alone else replace(found, measure=measures.measure(kept))
+    if wish.is_alone:
+        return outcome_of(measures, wanted, made, batches(kept, wish.batch), without(made.steps, kept), {})
+    order = order_of_steps(measures, kept, made.first, wish.nearfull)
+    parts = ordered_parts(order, wish.most, wish.batch)
+    found = outcome_of(measures, wanted, made, parts, without(made.steps, kept), order.stopped())
+    return replace(found, measure=measure_of_steps(measures, kept, wish.nearfull))
 
 
 def pool_parts(

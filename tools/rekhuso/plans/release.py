@@ -24,20 +24,22 @@ from ..program.answers import Up
 from ..program.maps import Exceptions, Pool, Program, entries_of, group_key
 from ..words import counted
 from .bounds import Measure
+from .parts import ALL
 from .plan import DEFAULT_WISH, opened, planned
 from .printed import Printed
 from .question import sets_of_maps
-from .step_order import parts_in_order
+from .step_order import StepOrder, parts_in_order
 from .steps import PlanStep, by_group
 
 
 @dataclass(frozen=True)
 class Release:
     """How held groups are let go: the epoch, the pools, the steps in their parts, how many groups the fullest OSD has
-    before all of them, while each of them moves, and at the end; and by what the commands are judged.
+    before all of them, while each of them moves, and at the end; and by what the commands are judged, in
+    parts of so many.
     """
 
-    __slots__ = ("epoch", "pools", "parts", "peaks", "before", "after", "printed")
+    __slots__ = ("epoch", "pools", "parts", "peaks", "before", "after", "printed", "lengths")
     epoch: int
     pools: list[Pool]
     parts: list[list[PlanStep]]
@@ -45,6 +47,7 @@ class Release:
     before: int
     after: int
     printed: Printed
+    lengths: list[int]
 
     @property
     def steps(self) -> list[PlanStep]:
@@ -84,7 +87,8 @@ def check_end(ups: Mapping[str, Up], wanted: Mapping[str, list[int | None]]) -> 
     if unlike:
         first = unlike[0]
         raise Fault(
-            f"{counted(len(unlike), 'group')} would end elsewhere, the first {first}: {set_words(ups[first].places)} and "
+            f"{counted(len(unlike), 'group')} would end elsewhere, the first {first}: "
+            f"{set_words(ups[first].places)} and "
             f"not {set_words(wanted[first])}: a defect of the tools; nothing is put out"
         )
 
@@ -139,8 +143,11 @@ def release_of(cluster: Cluster, kept: Exceptions, is_planned: bool, most: int, 
         if group in was
     ]
     has, share = counts_of(was), end.shares(to).wanted
-    parts = parts_in_order(Spread(dict(has), share), None, steps, most)
+    parts = parts_in_order(StepOrder(Spread(dict(has), share), None, steps), most, False)
+    lengths = [sum(len(step.commands) for step in part) for part in parts]
+    if most == ALL and parts:
+        parts = [[step for part in parts for step in part]]
     after, down = counts_of(to), frozenset(osd for osd, own in cluster.osds.items() if not own["up"])
-    sets, measure = {step.group: step.now for step in steps}, Measure(share, None, dict(after))
+    sets, measure = {step.group: step.now for step in steps}, Measure(Spread({}, share), None, dict(after), {})
     peaks, printed = peaks_of(Counter(has), parts), Printed(before.maps, program, sets, measure, down, False)
-    return Release(cluster.epoch, pools, parts, peaks, most_of(has), most_of(after), printed)
+    return Release(cluster.epoch, pools, parts, peaks, most_of(has), most_of(after), printed, lengths)

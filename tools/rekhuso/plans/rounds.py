@@ -147,13 +147,18 @@ class Planner:
             shares = shares_of(live.before.trees_for(pools[number]), counts)
             self.laid[number] = Laid(of_place[number], shares, counts)
         self.order = order_of(wanted, places, held)
-        later = [number for number in wanted if self.live_of[number].has_one_block(pools[number])]
         self.refusals = {
             number: barred_words(why) for live in lives for number, why in live.barred.items() if number in wanted
         }
-        self.loads = Loads(self.laid, [number for number in later if number not in self.refusals], half * STEP_PARTS)
+        self.loads = self.begun()
         self.left: dict[str, Reason] = {}
         self.hopeless: set[int] = set()
+
+    def begun(self) -> Loads:
+        """What the pools lay on OSDs before any is planned."""
+        own = {number: live.pools[number] for number, live in self.live_of.items()}
+        later = [number for number in self.order if self.live_of[number].has_one_block(own[number])]
+        return Loads(self.laid, [number for number in later if number not in self.refusals], self.half * STEP_PARTS)
 
     def plan(self, number: int) -> int:
         """Plans a pool from where it is, and tells how many moves were made; the program may refuse it."""
@@ -204,6 +209,7 @@ class Planner:
         """Plans all pools in two rounds, and tells how far it is. There are more for pools of which groups have been
         left out.
         """
+        self.loads = self.begun()
         again: set[int] = set(self.order)
         for number in range(1, MOST_ROUNDS + 1):
             again = again if number > ROUNDS else set(self.order)

@@ -5,12 +5,14 @@ How full an OSD is, is what it has to its share: bytes where it is known what po
 one from the fullest OSD, of several the one to the emptiest. It comes into a part only if no OSD then gets above two
 bounds, where all that comes in the part counts and nothing that goes. The one is the fullest OSD before the part, or
 that after the whole plan, or 1.05 of a share, whichever is most. The other is each OSD's own: one place more than the
-most that it has before the whole plan or after it, as next to a share of nearly nothing no ratio is a bound.
+most that it has before the whole plan or after it, as next to a share of nearly nothing no ratio is a bound. Where the
+disks are known the nearfull ratio is the bound in place of both.
 """
 
 from __future__ import annotations
 
-from collections.abc import Mapping
+from collections import Counter
+from collections.abc import Mapping, Sequence
 from heapq import heapify, heappop, heappush
 
 from ..cluster.evenness import Spread
@@ -20,13 +22,36 @@ from .steps import PlanStep, batches
 EVEN, ROUNDING = 1.05, 1e-12
 
 
+def has_after(
+    has: Mapping[int, float], sizes: Mapping[str, float] | None, steps: Sequence[PlanStep]
+) -> dict[int, float]:
+    """What OSDs have once steps are taken, where a place of each group counts so much (else 1)."""
+    found = dict(has)
+    for step in steps:
+        size = 1.0 if sizes is None else sizes[step.group]
+        for osds, more in ((step.comes(), size), (step.leaves(), -size)):
+            for osd in osds:
+                found[osd] = found.get(osd, 0) + more
+    return found
+
+
 class StepOrder:
     """The steps that are still to be taken, and what the OSDs have meanwhile."""
 
-    def __init__(self, spread: Spread, places: Mapping[int, float] | None, steps: list[PlanStep]) -> None:
-        """Takes what the OSDs have before the steps, what a place of each pool counts (else 1), and the steps."""
+    def __init__(
+        self,
+        spread: Spread,
+        sizes: Mapping[str, float] | None,
+        steps: list[PlanStep],
+        first: frozenset[str] = frozenset(),
+        limits: Mapping[int, float] | None = None,
+    ) -> None:
+        """Takes what the OSDs have before the steps, what a place of each group counts (else 1), the steps, the groups
+        whose steps come first, and up to where OSDs may be filled, if that is known.
+        """
         self.steps, self.share, self.has = steps, spread.share, dict(spread.has)
-        self.sizes = [1.0 if places is None else places[step.pool] for step in steps]
+        self.first, self.limits = {at for at, step in enumerate(steps) if step.group in first}, limits or {}
+        self.sizes = [1.0 if sizes is None else sizes[step.group] for step in steps]
         self.come, self.go = [step.places_come() for step in steps], [step.places_leave() for step in steps]
         self.leaving: dict[int, list[int]] = {}
         for at, osds in enumerate(self.go):
@@ -63,6 +88,8 @@ class StepOrder:
 
     def is_allowed(self, at: int) -> bool:
         """Whether a step may come into the part."""
+        if self.limits:
+            return not self.over(at)
         is_below = all(self.high.get(osd, 0) <= self.most[osd] for osd in self.come[at])
         return is_below and self.peak(at) <= self.bound
 
@@ -71,10 +98,15 @@ class StepOrder:
         self.high = dict(self.has)
         self.bound = max(Spread(self.has, self.share).fullest(), self.end, EVEN) + ROUNDING
 
-    def next_from(self, osd: int) -> int | None:
+    def over(self, at: int) -> list[int]:
+        """The OSDs that a step would fill too far, beside all that comes in the part."""
+        size, limits = self.sizes[at], self.limits
+        return [osd for osd in self.come[at] if osd in limits and self.high.get(osd, 0) + size > limits[osd]]
+
+    def next_from(self, osd: int, first: bool) -> int | None:
         """The step from an OSD that comes next in the part, or None where none may come."""
         self.leaving[osd] = [at for at in self.leaving[osd] if at in self.left]
-        allowed = filter(self.is_allowed, self.leaving[osd])
+        allowed = [at for at in self.leaving[osd] if (at in self.first or not first) and self.is_allowed(at)]
         ranked = [(max(map(self.full, self.come[at]), default=0.0), at) for at in allowed]
         return min(ranked)[1] if ranked else None
 
@@ -87,40 +119,52 @@ class StepOrder:
 
     def part(self, most: int) -> list[PlanStep]:
         """The next part, with at most so many commands, or one step with more. Where no step may come, the one that
-        fills least.
+        fills least; none, where that would fill an OSD too far.
         """
         self.begin()
+        found: list[int] = []
+        if not self.first.isdisjoint(self.left):
+            self.take_some(found, most, True)
+        if not found or self.limits:
+            self.take_some(found, most, False)
+        if not found and not self.limits:
+            found = [min(self.left, key=lambda at: (self.peak(at), at))]
+            self.take(found[0])
+        return [self.steps[at] for at in found]
+
+    def take_some(self, found: list[int], most: int, first: bool) -> None:
+        """Takes steps of a part, of those that come first or of all, until it has so many commands."""
         heap = [(-self.full(osd), osd) for osd in self.leaving]
         heapify(heap)
-        found: list[int] = []
-        count = 0
+        count = sum(len(self.steps[at].commands) for at in found)
         while heap:
             key, osd = heappop(heap)
-            at = self.next_from(osd) if -key == self.full(osd) else None
+            at = self.next_from(osd, first) if -key == self.full(osd) else None
             if at is None:
                 continue
             count += len(self.steps[at].commands)
             if found and count > most:
-                break
+                return
             self.take(at)
             found.append(at)
             for other in self.come[at] + self.go[at]:
                 if other in self.leaving:
                     heappush(heap, (-self.full(other), other))
-        if not found:
-            found = [min(self.left, key=lambda at: (self.peak(at), at))]
-            self.take(found[0])
-        return [self.steps[at] for at in found]
+
+    def stopped(self) -> dict[int, int]:
+        """The OSDs that would be filled too far by steps that are still to be taken, each with how many of these."""
+        return Counter(osd for at in self.left for osd in self.over(at))
 
 
-def parts_in_order(
-    spread: Spread, places: Mapping[int, float] | None, steps: list[PlanStep], most: int
-) -> list[list[PlanStep]]:
-    """The steps of a plan in parts of at most so many commands, in the order in which they are taken; those from which
-    no OSD gets emptier stand at the end.
+def parts_in_order(order: StepOrder, most: int, is_one: bool) -> list[list[PlanStep]]:
+    """The steps of a plan in parts of at most so many commands, in the order in which they are taken, or those of one
+    part; the steps from which no OSD gets emptier stand at the end. Those are left that would fill a disk too far.
     """
-    order, found = StepOrder(spread, places, steps), []
-    while order.left:
-        found.append(order.part(most))
-    rest = [step for step, osds in zip(steps, order.go) if not osds]
+    found: list[list[PlanStep]] = []
+    while order.left and (not found or not is_one):
+        part = order.part(most)
+        if not part:
+            break
+        found.append(part)
+    rest = [step for step, osds in zip(order.steps, order.go) if not osds]
     return found + batches(rest, most)

@@ -1,0 +1,113 @@
+"""Plans by data: the last pass, plans for room alone, and pools whose rules have several blocks.
+
+What pools hold is made up. Sets are the program's, and how full OSDs are is reckoned from them here.
+"""
+
+import json
+import pathlib
+import random
+from collections.abc import Mapping
+
+from rekhuso.plans.blocks import MapBlocks
+
+from tests.cluster_plans import Measured, Model, is_of, random_cluster, stats_of
+from tests.clusters import STOCK, Json, below, commands, of_groups, places, with_commands
+from tests.tool_cases import StockCase
+
+MANY, HYBRID = "025-many-pools", "018-hybrid"
+
+
+def made_up(name: str, seed: int) -> dict[int, int]:
+    """What the pools of a stock cluster hold: a hundredfold apart, those of one group nearly nothing."""
+    rng = random.Random(seed)
+    pools = STOCK[name]["osd_dump"]["pools"]
+    return {
+        pool["pool"]: round(2**40 * 10 ** rng.uniform(-1, 1)) if pool["pg_num"] > 1 else 2**20 for pool in pools
+    }
+
+
+class DataPlans(StockCase):
+    """What `plan --df` does by the data of the pools."""
+
+    def with_data(self, name: str, held: Mapping[int, int]) -> tuple[list[pathlib.Path], list[Json], dict[int, float]]:
+        """The words of a plan over a stock cluster whose pools hold so much, its maps, and what a place of each
+        holds."""
+        pools = STOCK[name]["osd_dump"]["pools"]
+        rows = [{"id": own["pool"], "name": own["pool_name"], "stats": stats_of(held[own["pool"]])} for own in pools]
+        files = [*self.dumps(name), pathlib.Path("--df"), self.tools.put("df", {"pools": rows})]
+        of_place = {own["pool"]: held[own["pool"]] / (own["pg_num"] * own["size"]) for own in pools}
+        return files, list(self.maps_of(name).values()), of_place
+
+    def fullest(self, maps: list[Json], lines: list[str], of_place: Mapping[int, float]) -> float:
+        """The greatest ratio of bytes to its share that an OSD has once commands are given."""
+        after = [with_commands(value, [line for line in lines if is_of(line, value)]) for value in maps]
+        return max(Measured(after, self.sets(*after), of_place).ratios(1))
+
+    def test_room(self) -> None:
+        """A plan for room has far fewer commands than the plan by data and brings the fullest OSD to its share; after
+        each beginning of it no OSD is fuller than the fullest was before. These are the first commands too, where not
+        all are wanted."""
+        files, maps, of_place = self.with_data(MANY, made_up(MANY, 3))
+        whole, room = (commands(self.output("plan", *files, *words)) for words in ((), ("--room",)))
+        self.assertLess(len(room) * 3, len(whole))
+        found = [self.fullest(maps, room[:most], of_place) for most in range(0, len(room) + 1, 4)]
+        self.assertEqual(found, sorted(found, reverse=True))
+        self.assertGreater(found[0], 1.3)
+        for lines in (whole, room):
+            self.assertLess(self.fullest(maps, lines, of_place), 1.06)
+        for most in (5, len(room) + 10):
+            with self.subTest(most=most):
+                first = commands(self.output("plan", *files, "--max", most))
+                self.assertEqual(len(first), most)
+                self.assertLess(len(set(of_groups(first[: len(room)])) - set(of_groups(room))), 4)
+        self.assertEqual(commands(self.output("plan", *files, "--max", 5)), room[:5])
+
+    def test_several_blocks(self) -> None:
+        """A pool whose rule has two blocks is planned by data: each place goes to an OSD of its own block, each copy
+        on a host of its own, and the fullest OSD comes to its share. Without data it gets no plan, as before."""
+        held = made_up(HYBRID, 1)
+        files, maps, of_place = self.with_data(HYBRID, held)
+        value = next(own for own in maps if own["pools"][0]["id"] == 2)
+        output, error = self.ran("plan", *files, "--pool", "vms")
+        lines = commands(output)
+        self.assertNotIn("no plan", error)
+        self.assertGreater(self.fullest(maps, [], of_place), 1.3)
+        self.assertLess(self.fullest(maps, lines, of_place), 1.06)
+        steps = next(rule["steps"] for rule in value["rules"] if rule["id"] == value["pools"][0]["rule"])
+        fast, slow = (below(value, step[1]) for step in steps if step[0] == "take")
+        hosts = {osd: bucket["id"] for bucket in value["buckets"] if bucket["type"] == 1 for osd, _ in bucket["items"]}
+        after = self.sets(with_commands(value, lines))
+        for group in of_groups(lines):
+            first, *rest = places(after[group])
+            self.assertIn(first, fast)
+            self.assertEqual(set(rest) - slow, set())
+            self.assertEqual(len({hosts[osd] for osd in rest}), 2, group)
+        told = self.json("plan", *files)
+        self.assertEqual([parts["refused"] for parts in told["pools"]], [None])
+        self.assertIn("29 ", self.json("plan", *files[:2])["pools"][0]["refused"])
+
+    def test_where_a_group_may_go(self) -> None:
+        """Over random maps a group may go, by the blocks of its rule, from one OSD to another where the definition of
+        plans lets it."""
+        rng, may = random.Random(5), 0
+        for _ in range(30):
+            cluster = random_cluster(rng)
+            model, blocks = Model(cluster), MapBlocks(cluster[0])
+            for pool in cluster[0]["pools"]:
+                (block,) = blocks.of_pool(pool)
+                for group in model.groups(pool["id"]):
+                    for leaves in model.weights:
+                        for comes in model.weights:
+                            wanted = model.is_allowed(group, leaves, comes)
+                            found = block.may_go(model.mapped[group], leaves, comes)
+                            self.assertEqual(found, wanted, (group, leaves, comes))
+                            may += wanted
+        self.assertGreater(may, 1000)
+
+    def test_words(self) -> None:
+        """A plan for room without data, or with what would be passed over, is an error of use."""
+        files = self.dumps(HYBRID)
+        for words in (["--room"], ["--room", "--df", "df", "--alone"], ["--room", "--df", "df", "--deviation", "1"]):
+            with self.subTest(words=words):
+                told = "--room goes by the data that --df tells; --alone and --deviation do not go with it"
+                self.is_told(self.tools.run("plan", *files, *words), 2, told, words)

@@ -1,0 +1,92 @@
+"""What OSDs hold in bytes, and what each is to hold.
+
+Where nobody tells the disks, an OSD is to hold its shares of all pools, by weight and reweight. Where they are known,
+what is left on OSDs is to go by their weights, as MAX AVAIL counts it, among those that have pools in common.
+"""
+
+from __future__ import annotations
+
+from collections.abc import Iterable, Mapping
+
+from ..cluster.evenness import FULL, Spread
+from ..cluster.pool_data import BYTE_PARTS, Data
+from ..program.answers import Up
+from .rounds import Live
+
+# The least part of its disk that an OSD is to hold.
+LEAST = 0.05
+
+
+def held_in(sizes: list[int], ups: Iterable[Up]) -> dict[int, int]:
+    """What each OSD has of a pool, whose groups have these sets, each place with so much."""
+    found: dict[int, int] = {}
+    for size, up in zip(sizes, ups):
+        for osd in set(up.places):
+            if osd is not None:
+                found[osd] = found.get(osd, 0) + size
+    return found
+
+
+def joined(trees: Iterable[Iterable[int]]) -> list[set[int]]:
+    """Sets of OSDs, those with OSDs in common as one."""
+    found: list[set[int]] = []
+    for osds in trees:
+        tree = set(osds)
+        near = [own for own in found if own & tree]
+        found = [own for own in found if own not in near] + [tree.union(*near)]
+    return found
+
+
+class ByteAims:
+    """What a place of each group holds, by its pool and by its name; what OSDs have before a plan, and are to have, in
+    bytes; and where the disks are known what they have beside the pools, in parts of a byte.
+    """
+
+    def __init__(self, lives: list[Live], data: Data) -> None:
+        """Takes the maps of a cluster, and what its pools hold."""
+        self.sizes: dict[int, list[int]] = {}
+        self.groups: dict[str, float] = {}
+        held: dict[int, int] = {}
+        want: dict[int, float] = {}
+        trees: list[dict[int, int]] = []
+        for live in lives:
+            for number, pool in live.pools.items():
+                self.sizes[number] = data.sizes(pool)
+                self.groups.update(data.group_bytes(pool))
+                own = held_in(self.sizes[number], live.before.ups_in(pool))
+                for osd, size in own.items():
+                    held[osd] = held.get(osd, 0) + size
+                for tree in live.before.trees_for(pool):
+                    trees.append(tree)
+                    whole, total = sum(own.get(osd, 0) for osd in tree), sum(tree.values())
+                    for osd, weight in tree.items():
+                        want[osd] = want.get(osd, 0.0) + whole * weight / total
+        numbers = [number for live in lives for number in live.pools]
+        self.is_whole = data.is_whole(numbers)
+        self.disks = data.disks if self.is_whole else {}
+        self.base = {osd: self.disks[osd].used * BYTE_PARTS - held.get(osd, 0) for osd in want if self.disks}
+        self.has = {osd: (size + self.base.get(osd, 0)) / BYTE_PARTS for osd, size in held.items()}
+        self.want = {osd: own / BYTE_PARTS for osd, own in want.items()}
+        if self.disks:
+            weights = {osd: own for live in lives for osd, own in live.before.items.items() if osd >= 0}
+            self.has.update({osd: float(self.disks[osd].used) for osd in want})
+            self.want = self.by_room(joined(trees), weights)
+
+    def by_room(self, joint: list[set[int]], weights: Mapping[int, int]) -> dict[int, float]:
+        """What OSDs are to have so that what is left on them goes by their weights."""
+        found: dict[int, float] = {}
+        for osds in joint:
+            left = sum(FULL * self.disks[osd].size - self.disks[osd].used for osd in osds)
+            rate = left / sum(weights[osd] for osd in osds)
+            for osd in osds:
+                size = self.disks[osd].size
+                found[osd] = max(LEAST * size, FULL * size - rate * weights[osd])
+        return found
+
+    def spread(self) -> Spread:
+        """What OSDs have and are to have, in bytes."""
+        return Spread(self.has, self.want)
+
+    def limits(self, ratio: float) -> dict[int, float]:
+        """The bytes up to which OSDs may be filled, where their disks are known and may be used to this ratio."""
+        return {osd: ratio * disk.size for osd, disk in self.disks.items()}

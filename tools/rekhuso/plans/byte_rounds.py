@@ -1,0 +1,52 @@
+"""The rounds of a plan by data: the scheme over all pools, and the last pass, in the order that is asked for."""
+
+from __future__ import annotations
+
+from collections.abc import Callable
+from contextlib import ExitStack
+from dataclasses import dataclass
+
+from ..output.json_forms import HindranceParts
+from .byte_aims import ByteAims
+from .hindrances import hindrances
+from .last_pass import LastPass
+from .rounds import Planner
+
+
+@dataclass
+class Passed:
+    """The groups that the first pass has moved, where it came before the scheme; those of all passes; and what keeps
+    OSDs far above what they are to have.
+    """
+
+    first: list[str]
+    moved: list[str]
+    stays: dict[int, list[HindranceParts]]
+
+
+def last_pass(planner: Planner, aims: ByteAims, tell: Callable[[str], None]) -> tuple[list[str], LastPass]:
+    """Makes the moves of the last pass: the groups that have been moved, in the order in which they first were, and
+    what lies where then.
+    """
+    with ExitStack() as stack:
+        for live in planner.lives:
+            stack.enter_context(live.all_up())
+        found = LastPass(planner, aims)
+        found.play(tell)
+    return list(dict.fromkeys(found.moves)), found
+
+
+def planned_by_data(
+    planner: Planner, aims: ByteAims, is_room: bool, most: int | None, tell: Callable[[str], None]
+) -> Passed:
+    """Plans pools by data. For room there is the last pass alone. Where no more than so many commands are wanted, it
+    comes first too, and the scheme only where they are not enough.
+    """
+    first = list[str]()
+    if is_room or most is not None:
+        first, found = last_pass(planner, aims, tell)
+        if is_room or most is None or len(first) >= most:
+            return Passed(first, first, hindrances(found))
+    planner.play(tell)
+    more, found = last_pass(planner, aims, tell)
+    return Passed(first, first + more, hindrances(found))

@@ -1,0 +1,240 @@
+"""The last pass of a plan by data: from the OSD that is fullest by bytes to emptier ones, over all pools at once, one
+move after the other, until the fullest is near its share.
+
+A move is that of a place, of any pool, by which the sum of want * (ratio - 1) ** 2 over all OSDs falls most, and after
+which the OSD that gets it is less full than the other was before. So the fullest OSD never gets fuller, and any
+beginning of the pass is a plan. Where no move is left that takes something from an OSD, two groups change places. Pools
+stay near their shares, and so do all pools together.
+"""
+
+from __future__ import annotations
+
+from bisect import bisect_left
+from collections.abc import Callable, Iterable, Iterator
+from itertools import islice
+
+from ..program.maps import entries_of, groups_in
+from .blocks import MapBlocks
+from .byte_aims import ByteAims
+from .fullness import Fullness
+from .loads import GROUP_PARTS
+from .pool_places import PoolPlaces
+from .rounds import Live, Planner
+from .single_moves import moved, take_back
+
+# By how much the fullest OSD may be above its share, and how far a pool and all pools together may get from their
+# shares, in groups.
+NEAR, POOL, ALL_POOLS = 0.05, 2, 3
+# To how many of the emptiest OSDs a group may go at first, rather than to any; how many groups, and how many exchanges
+# are tried; and how many of the sizes that are nearest to the best one.
+FEW, GROUPS, TRIED, NEAREST = 32, 3, 64, 2
+
+# A move, the best first: what is lost by it, its pool, the OSD to which something goes, and how much that is. Of an
+# exchange also the pool of which something comes back, and how much.
+Way = tuple[float, int, int, int]
+Exchange = tuple[float, int, int, int, int, int]
+
+
+def pools_in(live: Live, fixed: Iterable[str]) -> Iterator[PoolPlaces]:
+    """The pools of a map as they lie, whose OSDs are all up. Some groups are not moved, nor are those with explicit
+    sets where a rule has several blocks.
+    """
+    blocks = MapBlocks(live.value)
+    pairs: dict[str, list[list[int]]] = dict(entries_of(live.session.dump(), "pg_upmap_items"))
+    explicit = {group for group, _ in entries_of(live.value, "pg_upmap")}
+    for pool in live.pools.values():
+        ups = live.session.ups(groups_in(pool))
+        own = PoolPlaces(live, pool, blocks.of_pool(pool), list(ups.values()), pairs)
+        left = explicit.union(fixed) if len(own.blocks) > 1 else set(fixed)
+        own.fixed = {at for at, group in enumerate(ups) if group in left}
+        yield own
+
+
+def is_near(more: int, less: int, most: int) -> bool:
+    """Whether two OSDs that have so many parts of a group above their shares get nearer to these, or stay within so
+    many groups of them, where a group goes from the first to the second.
+    """
+    return more - less > GROUP_PARTS or (less <= (most - 1) * GROUP_PARTS and more >= (1 - most) * GROUP_PARTS)
+
+
+class LastPass:
+    """The pass: the pools, and those of which groups may be moved; how full OSDs are; and how many groups each has
+    above its shares of all pools.
+    """
+
+    def __init__(self, planner: Planner, aims: ByteAims) -> None:
+        """Takes the pools as they have been planned, and what their groups hold and OSDs are to hold."""
+        self.laid, self.full, self.above = planner.laid, Fullness(aims.want), dict[int, int]()
+        self.pools = {own.number: own for live in planner.lives for own in pools_in(live, planner.left)}
+        for number, own in self.pools.items():
+            own.sizes = aims.sizes[number]
+            self.full.add(own.held())
+            for osd, parts in self.laid[number].deviations().items():
+                self.above[osd] = self.above.get(osd, 0) + parts
+        self.full.add(aims.base)
+        movable = [self.pools[number] for number in planner.order]
+        self.movable = [own for own in movable if own.blocks and not own.is_barred()]
+        self.ranked: list[int] = []
+        self.kept: dict[tuple[int, int], dict[int, set[int]]] = {}
+        self.shut: set[tuple[int, int, int, int]] = set()
+        self.moves: list[str] = []
+
+    # What may go
+
+    def keeps(self, number: int, leaves: int, comes: int) -> bool:
+        """Whether a pool stays near its shares, or gets nearer, where a group goes from an OSD to another."""
+        shares, counts = self.laid[number].shares, self.laid[number].counts
+        more, less = (counts.get(osd, 0) * GROUP_PARTS - shares[osd] for osd in (leaves, comes))
+        return is_near(more, less, POOL)
+
+    def keeps_all(self, leaves: int, comes: int) -> bool:
+        """The same of all pools together."""
+        return is_near(self.above[leaves], self.above[comes], ALL_POOLS)
+
+    def leaving(self, own: PoolPlaces, osd: int) -> dict[int, set[int]]:
+        """The groups of a pool that may go from an OSD, each with the failure domains to which it may not go. What is
+        found is kept until something moves.
+        """
+        key = own.number, osd
+        if key not in self.kept:
+            self.kept[key] = own.leaving(osd)
+        return self.kept[key]
+
+    def near(self, own: PoolPlaces, full: int, few: int) -> list[int]:
+        """The emptiest OSDs to which groups of a pool may go from an OSD."""
+        block, ratio, shares = own.block_of(full), self.full.ratio(full), self.laid[own.number].shares
+        leaving = self.leaving(own, full)
+        if block is None or full not in shares or not leaving:
+            return []
+        closed, domains = set.intersection(*leaving.values()), block.domains
+        there = (osd for osd in self.ranked if osd in shares and block.is_beside(full, osd))
+        return [osd for osd in islice(there, few) if domains[osd] not in closed and self.full.ratio(osd) < ratio]
+
+    def ways(self, full: int, few: int, is_whole: bool) -> list[Way]:
+        """The moves from an OSD by which something is gained, the best first: all, or those that gain more than any of
+        a pool which was passed over, as its places are too small for the best move.
+        """
+        found: list[Way] = []
+        best, floor, rise = 0.0, 0.0, 2 * (self.full.ratio(full) - self.full.ratio(self.ranked[0]))
+        there = [(own, [size for size, _ in own.by_size(full)]) for own in self.movable if own.on.get(full)]
+        for own, sizes in sorted(there, key=lambda entry: -entry[1][0]):
+            if not is_whole and sizes[0] * rise < best:
+                floor = max(floor, sizes[0] * rise)
+                continue
+            for osd in self.near(own, full, few):
+                if self.keeps(own.number, full, osd) and self.keeps_all(full, osd):
+                    found += [(-self.full.gain(full, osd, size), own.number, osd, size) for size in sizes]
+            best = max(best, -min(found, default=(0.0,))[0])
+        return sorted(way for way in found if way[0] < -floor)
+
+    def exchanges(self, full: int) -> list[Exchange]:
+        """The exchanges between an OSD and others by which something is gained, the best first."""
+        found: list[Exchange] = []
+        for own in self.movable:
+            sizes = [size for size, _ in own.by_size(full)] if own.on.get(full) else []
+            for osd in self.near(own, full, FEW) if sizes else []:
+                best = self.full.best_size(full, osd)
+                for other, back in self.back_to(own, full, osd):
+                    for size in sizes:
+                        at = bisect_left(back, size - best)
+                        for less in back[max(at - NEAREST, 0) : at + NEAREST]:
+                            gain = self.full.gain(full, osd, size - less)
+                            found.append((-gain, own.number, osd, size, other, less))
+        return sorted(way for way in found if way[0] < 0)
+
+    def back_to(self, own: PoolPlaces, full: int, osd: int) -> Iterator[tuple[int, list[int]]]:
+        """The pools of which groups may come back from an OSD where one of a pool goes to it, with what these hold."""
+        for other in self.movable:
+            block, number = other.block_of(osd), other.number
+            if not other.on.get(osd) or block is None or full not in self.laid[number].shares:
+                continue
+            is_same = other is own
+            if osd in self.laid[number].shares and block.is_beside(osd, full):
+                if is_same or (self.keeps(own.number, full, osd) and self.keeps(number, osd, full)):
+                    yield number, sorted(size for size, _ in other.by_size(osd))
+
+    # What goes
+
+    def free(self, own: PoolPlaces, size: int, leaves: int, comes: int) -> list[int]:
+        """The first groups of a pool that hold so much and may go from an OSD to another, as far as is known."""
+        block = own.block_of(leaves)
+        if block is None:
+            return []
+        domain, shut = block.domains[comes], self.shut
+        groups = (
+            group
+            for group, taken in self.leaving(own, leaves).items()
+            if own.sizes[group] == size and domain not in taken and (own.number, group, leaves, comes) not in shut
+        )
+        return list(islice((group for group in groups if own.would_stay(group, leaves, comes)), GROUPS))
+
+    def goes(self, own: PoolPlaces, size: int, leaves: int, comes: int) -> int | None:
+        """The group of a pool that has gone from an OSD to another, of those of a size; None where none has."""
+        for group in self.free(own, size, leaves, comes):
+            found = moved(own, group, leaves, comes)
+            if found is not None:
+                self.count(own, found, leaves, comes)
+                return found
+            self.shut.add((own.number, group, leaves, comes))
+        return None
+
+    def count(self, own: PoolPlaces, group: int, leaves: int, comes: int) -> None:
+        """Counts a group where it has gone."""
+        counts, totals = self.laid[own.number].counts, own.live.totals
+        self.kept.clear()
+        self.full.move(leaves, comes, own.sizes[group])
+        for osd, more in ((leaves, -1), (comes, 1)):
+            counts[osd] = counts.get(osd, 0) + more
+            totals[osd] = totals.get(osd, 0) + more
+            self.above[osd] += more * GROUP_PARTS
+        self.shut = {entry for entry in self.shut if entry[:2] != (own.number, group)}
+        self.moves.append(own.name(group))
+
+    def by_move(self, full: int, few: int) -> bool:
+        """Whether something has gone from an OSD by one move."""
+        return any(
+            self.goes(self.pools[number], size, full, osd) is not None
+            for is_whole in (False, True)
+            for _, number, osd, size in self.ways(full, few, is_whole)
+        )
+
+    def by_exchange(self, full: int) -> bool:
+        """Whether something has gone from an OSD as two groups have changed places."""
+        for _, number, osd, size, other, less in self.exchanges(full)[:TRIED]:
+            own, back = self.pools[number], self.pools[other]
+            gone = self.goes(own, size, full, osd) if self.free(back, less, osd, full) else None
+            if gone is None:
+                continue
+            if self.goes(back, less, osd, full) is not None:
+                return True
+            take_back(own, gone)
+            self.count(own, gone, osd, full)
+            del self.moves[-2:]
+        return False
+
+    def fullest(self, stuck: set[int]) -> int | None:
+        """The fullest OSD that is not near its share, of several the lowest; None where there is none but those that
+        are stuck.
+        """
+        bound = 1 + NEAR
+        left = [(-self.full.ratio(osd), osd) for osd in self.full.osds() if osd not in stuck]
+        worst = min(left, default=(0.0, 0))
+        return worst[1] if -worst[0] > bound else None
+
+    def play(self, tell: Callable[[str], None]) -> None:
+        """Makes moves until the fullest OSD from which anything can be taken is near its share. What nothing could be
+        taken from is tried again at the end, where there have been moves since.
+        """
+        stuck: set[int] = set()
+        since = len(self.moves)
+        while True:
+            full = self.fullest(stuck)
+            if full is None:
+                if not stuck or since == len(self.moves):
+                    return
+                stuck, since = set(), len(self.moves)
+                continue
+            tell(f"last pass: {len(self.moves)} moves, osd.{full} at {self.full.ratio(full):.2f} of its share")
+            self.ranked = sorted(self.full.osds(), key=lambda osd: (self.full.ratio(osd), osd))
+            if not (self.by_move(full, FEW) or self.by_move(full, len(self.ranked)) or self.by_exchange(full)):
+                stuck.add(full)
