@@ -50,6 +50,7 @@ OTHER_NAMES = {
     "hold_always_gives_back",
     "await",
     "fup",
+    "fkept",
     "fdump",
     "ok",
     "osdmaptool",
