@@ -51,6 +51,7 @@ OTHER_NAMES = {
     "hold_always_gives_back",
     "await",
     "fup",
+    "fkept",
     "fdump",
     "fkept",
     "verify_upmap",
