@@ -20,7 +20,6 @@ OPTIONS_OF_OTHERS = {
     "--long",
     "--only",
     "--reweight-item",
-    "--strict",
     "--table",
     "--test",
     "--tool",
