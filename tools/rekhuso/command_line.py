@@ -20,6 +20,7 @@ from . import __version__
 from .commands import COMMANDS
 from .faults import Fault, Misuse
 from .progress import PROGRESS
+from .terminal import shown
 
 
 class Parser(argparse.ArgumentParser):
@@ -51,7 +52,7 @@ def parser() -> argparse.ArgumentParser:
 
 def set_streams() -> None:
     """Sets standard streams to UTF-8, the two for output so that no character stops them; an input or errors that
-    are closed are empty. A fault where the output is closed.
+    are closed are empty. On a terminal they show each sign. A fault where the output is closed.
     """
     sys.stdin = sys.stdin or open(os.devnull, encoding="utf-8")
     sys.stderr = sys.stderr or open(os.devnull, "w", encoding="utf-8")
@@ -60,6 +61,7 @@ def set_streams() -> None:
     for stream, errors in ((sys.stdin, "strict"), (sys.stdout, "backslashreplace"), (sys.stderr, "backslashreplace")):
         if isinstance(stream, io.TextIOWrapper):
             stream.reconfigure(encoding="utf-8", errors=errors)
+    sys.stdout, sys.stderr = shown(sys.stdout), shown(sys.stderr)
 
 
 def put_out() -> None:
