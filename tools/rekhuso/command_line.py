@@ -2,6 +2,7 @@
 with.
 
 Status 0: the work is done. Status 1: something was refused or has failed. Status 2: the command was used wrongly.
+Status 143 or 129: the command was ended from outside.
 """
 
 from __future__ import annotations
@@ -14,6 +15,7 @@ import os
 import pathlib
 import signal
 import sys
+from types import FrameType
 from typing import IO, NoReturn
 
 from . import __version__
@@ -21,6 +23,9 @@ from .commands import COMMANDS
 from .faults import Fault, Misuse
 from .progress import PROGRESS
 from .terminal import shown
+
+# What ends a command from outside.
+ENDING = (signal.SIGTERM, signal.SIGHUP)
 
 
 class Parser(argparse.ArgumentParser):
@@ -85,6 +90,24 @@ def end_by_pipe() -> int:
     return 128 + signal.SIGPIPE
 
 
+class Ended(BaseException):
+    """A signal that ends the command from outside: what it has begun is put away before it does."""
+
+
+def end_by_signal(number: int, _: FrameType | None) -> NoReturn:
+    """Ends the command in order. Once it does, a signal more ends it at once."""
+    for other in ENDING:
+        signal.signal(other, signal.SIG_DFL)
+    raise Ended(number)
+
+
+def set_signals() -> None:
+    """Has the command end in order by those signals that are not held back."""
+    for number in ENDING:
+        if signal.getsignal(number) is signal.SIG_DFL:
+            signal.signal(number, end_by_signal)
+
+
 def run() -> int:
     """Does what the words of the command line ask for, and tells the status. Faults and OSError go on to who asked."""
     try:
@@ -108,12 +131,15 @@ def main() -> int:
     # A command soon ends, and needs what it has made until then.
     gc.disable()
     try:
+        set_signals()
         set_streams()
         return run()
     except Fault as fault:
         lines, status = fault.lines, fault.status
     except KeyboardInterrupt:
         lines, status = ["interrupted"], 1
+    except Ended as end:
+        return 128 + int(end.args[0])
     except BrokenPipeError:
         return end_by_pipe()
     except OSError as fault:

@@ -83,36 +83,43 @@ class Patience:
         self.since.pop(threading.get_ident(), None)
 
 
+# What may come as an exception: Ctrl-C, and what ends a command from outside.
+ENDINGS = (signal.SIGINT, signal.SIGTERM, signal.SIGHUP)
+
+
 class Held:
-    """Keeps Ctrl-C back while a program is being started, in a `with`: an exception then would leave it running with
-    nobody who holds it. It comes once it is let go. Only the main thread has it come. Blocking the signal would not do:
-    another thread would take it, and the program would be started with the signal blocked.
+    """Keeps Ctrl-C back while a program is being started, in a `with`, and what else ends a command: an exception then
+    would leave it running with nobody who holds it. It comes once it is let go. Only the main thread has it come.
+    Blocking the signal would not do: another thread would take it, and the program would be started with the signal
+    blocked.
     """
 
     def __init__(self) -> None:
         """Keeps nothing back yet."""
-        self.has_come = False
-        self.before: Callable[[int, FrameType | None], object] | None = None
+        self.come: list[int] = []
+        self.before: dict[int, Callable[[int, FrameType | None], object]] = {}
 
     def __enter__(self) -> Held:
         """Begins to keep it back, where somebody has it come as an exception, or otherwise as a call."""
-        before = signal.getsignal(signal.SIGINT) if threading.current_thread() is threading.main_thread() else None
-        if callable(before):
-            self.before = before
-            signal.signal(signal.SIGINT, self.came)
+        for number in ENDINGS if threading.current_thread() is threading.main_thread() else ():
+            before = signal.getsignal(number)
+            if callable(before):
+                self.before[number] = before
+                signal.signal(number, self.came)
         return self
 
-    def came(self, *_: object) -> None:
-        """It has come."""
-        self.has_come = True
+    def came(self, number: int, _: FrameType | None) -> None:
+        """One has come."""
+        self.come.append(number)
 
     def let_go(self) -> None:
         """Keeps it back no longer: it comes now, where it has come meanwhile."""
-        if self.before is not None:
-            signal.signal(signal.SIGINT, self.before)
-            self.before = None
-            if self.has_come:
-                signal.raise_signal(signal.SIGINT)
+        for number, before in self.before.items():
+            signal.signal(number, before)
+        self.before = {}
+        come, self.come = self.come, []
+        for number in come:
+            signal.raise_signal(number)
 
     def __exit__(self, *_: object) -> None:
         """Keeps it back no longer."""
