@@ -16,10 +16,11 @@ import pathlib
 import signal
 import sys
 from types import FrameType
-from typing import IO, NoReturn
+from typing import NoReturn
 
 from . import __version__
 from .commands import COMMANDS
+from .commands.arguments import Parser
 from .faults import Fault, Misuse
 from .progress import PROGRESS
 from .terminal import shown
@@ -28,30 +29,17 @@ from .terminal import shown
 ENDING = (signal.SIGTERM, signal.SIGHUP)
 
 
-class Parser(argparse.ArgumentParser):
-    """A parser that tells an error of use in one line, and fails where help cannot be written."""
-
-    def error(self, message: str) -> NoReturn:
-        """Ends the command with status 2 and a line on standard error."""
-        self.exit(2, f"{self.prog}: error: {message} (--help tells the use)\n")
-
-    def _print_message(self, message: str, file: IO[str] | None = None) -> None:
-        """Writes a message. OSError where it cannot be written, which argparse would pass over."""
-        (file or sys.stderr).write(message)
-
-
 def parser() -> argparse.ArgumentParser:
     """The command line: one parser with a subcommand for each module of COMMANDS."""
     top = Parser(prog="rekhuso", description="Tools beside osdmapd, for people with a cluster.")
     top.add_argument("--version", action="version", version=f"rekhuso {__version__}")
-    top.add_argument(
-        "--program", type=pathlib.Path, help="the built program (else that of this repository, or of PATH)"
-    )
+    about = "the built program (else that which REKHUSO_PROGRAM names, that of this repository, or of PATH)"
+    top.add_argument("--program", type=pathlib.Path, help=about)
     commands = top.add_subparsers(dest="command", required=True, metavar="COMMAND")
     for module in COMMANDS:
         module.add_to(commands)
     for own in commands.choices.values():
-        own.add_argument("--program", type=pathlib.Path, default=argparse.SUPPRESS, help="the built program")
+        own.add_argument("--program", type=pathlib.Path, default=argparse.SUPPRESS, help=about)
     return top
 
 

@@ -17,16 +17,19 @@ from .maps import Program
 
 # The crates, where the tools stand in their repository. A program is built in its crate, below `out`.
 CRATES = pathlib.Path(__file__).resolve().parents[3] / "crates"
+# The variable that names the program where no option does.
+VARIABLE = "REKHUSO_PROGRAM"
 # The programs, the options that name them, and the targets of the repository that prove and build them.
 OPTIONS = {"osdmapd": "--program", "osdmapstore": "--store-program"}
 TARGETS = {"osdmapd": "make run", "osdmapstore": "make store"}
 
 
 def built(name: str, beside: Program = None) -> pathlib.Path:
-    """A program where none is named: that beside another, if one is given, else that of the repository in which the
-    tools stand, else the one of this name on the path. A fault that tells where it was looked for.
+    """A program where none is named: that beside another, if one is given or the variable names one, else that of the
+    repository in which the tools stand, else the one of this name on the path. A fault that tells where it was looked
+    for.
     """
-    crate = CRATES / name
+    crate, beside = CRATES / name, beside or os.environ.get(VARIABLE)
     near = [pathlib.Path(beside).resolve().parent / name] if beside else []
     own = [crate / "out" / name] if crate.is_dir() else []
     found = next((str(path) for path in near + own if path.exists()), None) or shutil.which(name)
@@ -45,6 +48,7 @@ def chosen(program: Program, name: str) -> pathlib.Path:
     """The program that is run: the one that is given, else the one of this name that is found. A fault where it is
     none.
     """
+    program = program or (os.environ.get(VARIABLE) if name == "osdmapd" else None)
     found = pathlib.Path(program or built(name)).resolve()
     if not found.is_file() or not os.access(found, os.X_OK):
         raise Fault(
