@@ -12,9 +12,11 @@ CPU =
 # Another build of the program, which `bench` puts beside this one, and the folder in which it keeps its tables (empty: in none).
 OTHER =
 RESULTS = $(CURDIR)/bench/results
+# The log of the gate that the built programs have passed, for `dist`.
+LOG = gate.log
 BENCHES = placements tables steps sessions live store balancer reading cliffs tools wide whole_cluster
 
-.PHONY: help try prove run store test gate runs bench
+.PHONY: help try prove run store test gate runs bench dist
 
 help:
 	@echo 'make try    the example answered before any proof, by a program built with checks in place of proofs, which is not kept'
@@ -28,6 +30,8 @@ help:
 	@echo 'make runs   the runs of the built program alone (four to seven minutes)'
 	@echo 'make bench  what the built program costs, as tables: placements beside plain C (cc, and valgrind for instructions), table, sessions, balancer, reading, tools for operators, plans for whole clusters (of REKHUSO_CLUSTERS)'
 	@echo '            OTHER=/another/osdmapd measures another build of it beside; each whole table is kept in bench/results (RESULTS= in none)'
+	@echo 'make dist   one archive in dist/ of the programs that are built, the tools and their wheel, the pages, and the log of their gate:'
+	@echo '            LOG=gate.log names it (make gate 2>&1 | tee gate.log)'
 
 # Runs with checks in place of proofs. The map and the script are read here, so that they may be anywhere and be read once.
 try:
@@ -63,3 +67,6 @@ bench:
 	done; \
 	$(if $(OTHER),python3 bench/beside.py $(PROGRAM) '$(OTHER)' || failed=1;) \
 	test -z "$$failed"
+
+dist:
+	@python3 tools/dist.py '$(LOG)' dist $(PROGRAM) $(STORE)

@@ -573,12 +573,18 @@ class ClusterPlans(StockCase):
             group: places(answer) for group, answer in self.tools.sets(raised(value)).items()
         }
         weights = {item: weight / 65536 for bucket in value["buckets"] for item, weight in bucket["items"] if item >= 0}
+        # A group that is not split yet, as the number of groups is no power of two, holds twice as much as another.
+        half = 1 << ((pool["pg_num"] - 1).bit_length() - 1)
+        place = size / (2 * half * pool["size"])
         for key, own in (("before", before), ("after", sets)):
             with self.subTest(key=key):
-                counts = {osd: sum(osd in group for group in own.values()) for osd in weights}
-                place = size / (pool["pg_num"] * pool["size"])
+                has = dict.fromkeys(weights, 0.0)
+                for group, osds in own.items():
+                    number = int(group.split(".")[1], 16)
+                    for osd in osds:
+                        has[osd] += 2 * place if pool["pg_num"] - half <= number < half else place
                 room = min(
-                    (0.95 * weight * 2**40 - counts[osd] * place) * sum(weights.values()) / weight
+                    (0.95 * weight * 2**40 - has[osd]) * sum(weights.values()) / weight
                     for osd, weight in weights.items()
                 )
                 self.assertLessEqual(abs(told["cluster"][key]["room"] - room / pool["size"]), 1)

@@ -15,7 +15,7 @@ from collections.abc import Iterator
 
 from rekhuso.commands.shell import put_whole
 
-from tests.cases import EXAMPLE, HERE, Case
+from tests.cases import EXAMPLE, EXAMPLES, HERE, Case
 from tests.clusters import STOCK, Json, copied
 from tests.live_sessions import ran
 from tests.stores import StoreCase, store_program
@@ -173,19 +173,6 @@ class Dialogues(Case):
         for commands, typed, answers in found:
             self.assertEqual(in_a_shell({"osdmapd": self.program}, commands, typed), "".join(answers))
 
-
-class StoreDialogues(StoreCase):
-    """Those over a store."""
-
-    is_alone = True
-
-    def test_dialogues_over_a_store(self) -> None:
-        """Every block of README.md and of docs/LIVE.md that shows a dialogue with `osdmapstore` in a shell."""
-        found = [*of_program("osdmapstore", "README.md"), *of_program("osdmapstore", "docs/LIVE.md")]
-        self.assertEqual(len(found), 2)
-        for commands, typed, answers in found:
-            self.assertEqual(in_a_shell({"osdmapstore": store_program()}, commands, typed), "".join(answers))
-
     def test_guide(self) -> None:
         """Every block of docs/CEPH.md that shows a dialogue, in their order in one folder, over clusters that a monitor
         of Ceph dumped. What is told on standard error is put out too."""
@@ -193,10 +180,10 @@ class StoreDialogues(StoreCase):
             folder = pathlib.Path(name)
             other = copied(STOCK["008-rgw-ec83"])
             other["osd_dump"]["pools"][3]["size"] = 21
-            for cluster, before in ((STOCK["001-three-hosts"], ""), (other, "other-")):
-                for part in ("osd", "crush"):
-                    (folder / f"{before}{part}.json").write_text(json.dumps(cluster[f"{part}_dump"]))
-            (folder / "new.json").write_text(json.dumps(heavier(STOCK["001-three-hosts"]["crush_dump"], {0, 1, 2, 3})))
+            for part in ("osd", "crush"):
+                (folder / f"other-{part}.json").write_text(json.dumps(other[f"{part}_dump"]))
+            for file in ("osd.json", "crush.json", "new.json"):
+                (folder / file).write_bytes((EXAMPLES / "ceph" / file).read_bytes())
             command = folder / "rekhuso"
             command.write_text(f'#!/bin/sh\nexec {sys.executable} {TOOLS} --program {self.program} "$@"\n')
             command.chmod(0o755)
@@ -222,6 +209,13 @@ class StoreDialogues(StoreCase):
                 self.assertEqual(len(told), len(answers), (commands, told, answers))
                 self.assertTrue(all(map(like, told, answers)), (commands, told, answers))
 
+    def test_cluster_of_the_guide(self) -> None:
+        """The files of examples/ceph are the dumps that a monitor of Ceph made, and the CRUSH map with a heavier host"""
+        cluster = STOCK["001-three-hosts"]
+        wanted = cluster["osd_dump"], cluster["crush_dump"], heavier(cluster["crush_dump"], {0, 1, 2, 3})
+        for name, dump in zip(("osd", "crush", "new"), wanted):
+            self.assertEqual(json.loads((EXAMPLES / "ceph" / f"{name}.json").read_text()), dump)
+
     def test_first_screen(self) -> None:
         """The script of README.md and its answers beside it, where two points stand for the rest of a line."""
         block = next(
@@ -236,3 +230,16 @@ class StoreDialogues(StoreCase):
         self.assertEqual((status, len(answers)), (0, len(wanted)))
         for answer, text in zip(answers, wanted):
             self.assertEqual(answer[: len(text) - 2] + ".." if text.endswith("..") else answer, text)
+
+
+class StoreDialogues(StoreCase):
+    """Those over a store."""
+
+    is_alone = True
+
+    def test_dialogues_over_a_store(self) -> None:
+        """Every block of README.md and of docs/LIVE.md that shows a dialogue with `osdmapstore` in a shell."""
+        found = [*of_program("osdmapstore", "README.md"), *of_program("osdmapstore", "docs/LIVE.md")]
+        self.assertEqual(len(found), 2)
+        for commands, typed, answers in found:
+            self.assertEqual(in_a_shell({"osdmapstore": store_program()}, commands, typed), "".join(answers))

@@ -213,6 +213,16 @@ TIES = [
     Tie("docs/DECISIONS.md", "sleeps 250 microseconds after each 512 looks"),
     Tie("docs/PROVED.md", "searched for five to ten minutes"),
     Tie("bench/README.md", "`past 60 s`"),
+    Tie(
+        "docs/CEPH.md",
+        "Over {} stock clusters it had {} to {} in {} of them, and none in the others",
+        (
+            Cells("whole_cluster", ALL, "second plan", len),
+            Cells("whole_cluster", ALL, "second plan", lambda values: min(filter(None, values))),
+            Cells("whole_cluster", ALL, "second plan", max),
+            Cells("whole_cluster", ALL, "second plan", lambda values: sum(value > 0 for value in values)),
+        ),
+    ),
     Tie("docs/CEPH.md", "(G + 10 s B)"),
 ]
 

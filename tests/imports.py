@@ -209,7 +209,7 @@ class Imports(ToolCase):
 
     def test_fit(self) -> None:
         """Dumps of two clusters are told as such, three OSDs by name and more by their number, and come in by
-        --unmatched alone."""
+        --unmatched alone; a few OSDs to which no rule comes are told."""
         osd_dump, crush_dump = dumps_of("001-built")
         whole = list(osd_dump["osds"])
         for gone, told in (
@@ -232,13 +232,13 @@ class Imports(ToolCase):
         self.assertEqual(
             found, [f"36 OSDs are up and in, but the CRUSH dump does not list them among its devices: {FIT}"]
         )
-        found = self.reasons(dict(osd_dump, osds=[osd for osd in whole if osd["osd"] < 14]), dumps_of("002-built")[1])
+        beside = dict(osd_dump, osds=[osd for osd in whole if osd["osd"] < 14])
+        status, output, lines = self.imported(beside, dumps_of("002-built")[1])
+        self.assertEqual((status, output), self.imported(beside, dumps_of("002-built")[1], "--unmatched")[:2])
+        self.assertEqual(status, 0)
+        far = "is up and in, but the CRUSH dump does not list it among its devices"
         self.assertEqual(
-            found,
-            [
-                f"osd.{osd} is up and in, but the CRUSH dump does not list it among its devices: {FIT}"
-                for osd in (12, 13)
-            ],
+            [line for line in lines if "osd." in line], [f"taken as out of reach: osd.{osd} {far}" for osd in (12, 13)]
         )
         out = [dict(osd, up=osd["osd"] % 2, weight=1 - osd["osd"] % 2) if osd["osd"] >= 12 else osd for osd in whole]
         self.assertEqual(self.imported(dict(osd_dump, osds=out), dumps_of("002-built")[1])[0], 0)

@@ -90,6 +90,47 @@ class Interrupts(ToolCase):
         self.assertLess(time.monotonic(), begin + 30, (time.monotonic() - begin, gone))
         self.assertNotIn("sleep", gone, (time.monotonic() - begin, gone))
 
+    def test_ends_from_outside(self) -> None:
+        """A command or a shell that SIGTERM or SIGHUP ends tells nothing, and leaves no program and no folder
+        behind; under nohup a shell goes on."""
+        folder = self.tools.folder / "temporary"
+        folder.mkdir()
+        for number in (signal.SIGTERM, signal.SIGHUP):
+            with self.subTest(number=number):
+                shell = subprocess.Popen(
+                    self.tools.words("shell", EXAMPLE),
+                    stdin=subprocess.PIPE,
+                    stdout=subprocess.PIPE,
+                    stderr=subprocess.PIPE,
+                    text=True,
+                    env=os.environ | {"TMPDIR": str(folder)},
+                )
+                assert shell.stdin and shell.stdout
+                shell.stdin.write("epoch\n")
+                shell.stdin.flush()
+                self.assertEqual((shell.stdout.readline(), len(list(folder.iterdir()))), ("epoch 1\n", 1))
+                program = subprocess.run(
+                    ["ps", "-o", "pid=", "--ppid", str(shell.pid)], capture_output=True, text=True, check=True
+                ).stdout.strip()
+                shell.send_signal(number)
+                output, error = shell.communicate(timeout=SECONDS)
+                self.assertEqual((shell.returncode, output, error), (128 + number, "", ""))
+                self.assertEqual(list(folder.iterdir()), [])
+                self.assertFalse(os.path.exists(f"/proc/{program}"))
+        nohup = subprocess.Popen(
+            ["nohup", *self.tools.words("shell", EXAMPLE)],
+            stdin=subprocess.PIPE,
+            stdout=subprocess.PIPE,
+            stderr=subprocess.PIPE,
+            text=True,
+        )
+        assert nohup.stdin and nohup.stdout
+        nohup.stdin.write("epoch\n")
+        nohup.stdin.flush()
+        self.assertEqual(nohup.stdout.readline(), "epoch 1\n")
+        nohup.send_signal(signal.SIGHUP)
+        self.assertEqual(nohup.communicate("epoch\n", timeout=SECONDS), ("epoch 1\n", ""))
+
     def test_interrupts_at_the_start(self) -> None:
         """Ctrl-C that comes while a program is being started ends it too, whichever thread takes it, and comes
         through."""

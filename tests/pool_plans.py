@@ -121,7 +121,10 @@ class PoolPlans(ToolCase):
         self.assertEqual(named[2], by_id[2].replace("pool 1: ", f"{name}: "))
         of_dumps = self.tools.run("plan", *dumps, "--pool", name)
         self.assertEqual((commands(of_dumps[1]), of_dumps[2]), (commands(by_id[1]), named[2]))
-        self.assertEqual(of_dumps[1].replace(f"  {name}\n", "  pool 1\n"), by_id[1])
+        # A map does not tell which release clients have, so its script says when not to set one.
+        unsure = [line for line in by_id[1].splitlines(keepends=True) if "get-require-min-compat-client" in line]
+        self.assertEqual(len(unsure), 1)
+        self.assertEqual(of_dumps[1].replace(f"  {name}\n", "  pool 1\n"), by_id[1].replace(unsure[0], ""))
         bare = {key: value for key, value in json.loads(output).items() if not key.startswith("pg_upmap")}
         for words in ((), ("--deviation", "1")):
             with self.subTest(words=words):

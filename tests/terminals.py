@@ -9,6 +9,7 @@ import time
 from unittest import mock
 
 from tests.cases import EXAMPLE
+from tests.clusters import CLUSTERS, copied
 from tests.tool_cases import ToolCase, Tools
 from tests.tool_errors import SECONDS
 
@@ -65,6 +66,26 @@ class Terminals(ToolCase):
         self.assertEqual(shell.close(), 0)
         history = (self.tools.folder / ".rekhuso_history").read_text().splitlines()
         self.assertEqual(history[-2:], ["up 1.0", "nonsense"])
+
+    def test_signs_in_names(self) -> None:
+        """What a name has that a terminal would obey is shown there, and elsewhere stands as it is; a name ends no
+        line."""
+        name = "\x1b[31mred\nline\u202e\x9b"
+        own = copied(CLUSTERS["006-random"])
+        own["osd_dump"]["pools"][0]["pool_name"] = name
+        own["crush_dump"]["buckets"][0]["name"] = name
+        words = ["df", self.tools.put("osd", own["osd_dump"]), self.tools.put("crush", own["crush_dump"])]
+        terminal = Terminal(self.tools.words(*words), self.tools.folder)
+        found = terminal.type("", "over all pools")
+        terminal.close()
+        for sign in name.replace("\n", "").replace("[31mredline", ""):
+            self.assertNotIn(sign, found.replace("\x1b[K", ""))
+        self.assertIn("\\x1b[31mred\\nline\\u202e\\x9b: 16 groups", found)
+        output = self.output(*words)
+        self.assertIn("\x1b[31mred\\nline\u202e\x9b: 16 groups", output)
+        self.assertEqual(
+            self.output(*words, "--pools", name), self.output(*words, "--pools", own["osd_dump"]["pools"][0]["pool"])
+        )
 
     def test_long_commands(self) -> None:
         """A command that takes more than two seconds tells on a terminal what it does, in a line that goes before its

@@ -5,12 +5,14 @@ A status is 0 where the work is done, 1 where something was refused or has faile
 wrongly.
 """
 
+import os
 import subprocess
+import sys
 from collections.abc import Sequence
 
 from tests.cases import EXAMPLE
 from tests.clusters import CLUSTERS, STOCK, copied
-from tests.tool_cases import ToolCase, Tools
+from tests.tool_cases import TOOLS, ToolCase, Tools
 
 SECONDS = 30
 
@@ -240,10 +242,34 @@ class ToolErrors(ToolCase):
             [*host, *host],
             ["--out", "3", "--in", "3"],
             ["--weight", "3=1", "--weight", "3=2"],
-            ["--out", "3", "--reweight", "3", "0.5"],
+            ["--reweight", "3", "1", "--reweight", "3", "0.5"],
+            ["--js"],
         ):
             with self.subTest(words=words):
                 self.is_told(self.tools.run("whatif", EXAMPLE, *words), 2, "error: ", words)
+
+    def test_several_osds(self) -> None:
+        """Several OSDs stand behind one option as behind `ceph osd out`, and words count in their order."""
+        for words, other in (
+            (["--out", "1", "2"], ["--out", "1", "--out", "2"]),
+            (["--out", "1,osd.2"], ["--out", "1", "--out", "2"]),
+            (["--out=1", "2", "--down", "0", "3"], ["--out", "1", "--out", "2", "--down", "0", "--down", "3"]),
+            (["--reweight", "3", "0.5", "--out", "3"], ["--out", "3"]),
+            (["--out", "3", "--reweight", "3", "0.5"], ["--reweight", "3", "0.5"]),
+        ):
+            with self.subTest(words=words):
+                found, wanted = (self.json("whatif", EXAMPLE, *own) for own in (words, other))
+                self.assertEqual(found, wanted)
+        self.assertEqual(self.output("whatif", "--out", "1", "2", EXAMPLE), self.output("whatif", EXAMPLE, "--out=1,2"))
+
+    def test_named_programs(self) -> None:
+        """A variable names the program where no option does."""
+        words = [sys.executable, "-B", str(TOOLS), "check", str(EXAMPLE)]
+        for name, status in ((str(self.tools.program), 0), ("nowhere", 1)):
+            with self.subTest(name=name):
+                own = os.environ | {"REKHUSO_PROGRAM": name}
+                done = subprocess.run(words, env=own, capture_output=True, text=True, timeout=SECONDS, check=False)
+                self.assertEqual((done.returncode, "nowhere: no program" in done.stderr), (status, status == 1))
 
     def test_programs_that_are_none(self) -> None:
         """A program that is no program, does not start, is not this one, or has gone, is told in one line."""

@@ -2,6 +2,7 @@
 with.
 
 Status 0: the work is done. Status 1: something was refused or has failed. Status 2: the command was used wrongly.
+Status 143 or 129: the command was ended from outside.
 """
 
 from __future__ import annotations
@@ -14,44 +15,37 @@ import os
 import pathlib
 import signal
 import sys
-from typing import IO, NoReturn
+from types import FrameType
+from typing import NoReturn
 
 from . import __version__
 from .commands import COMMANDS
+from .commands.arguments import Parser
 from .faults import Fault, Misuse
 from .progress import PROGRESS
+from .terminal import shown
 
-
-class Parser(argparse.ArgumentParser):
-    """A parser that tells an error of use in one line, and fails where help cannot be written."""
-
-    def error(self, message: str) -> NoReturn:
-        """Ends the command with status 2 and a line on standard error."""
-        self.exit(2, f"{self.prog}: error: {message} (--help tells the use)\n")
-
-    def _print_message(self, message: str, file: IO[str] | None = None) -> None:
-        """Writes a message. OSError where it cannot be written, which argparse would pass over."""
-        (file or sys.stderr).write(message)
+# What ends a command from outside.
+ENDING = (signal.SIGTERM, signal.SIGHUP)
 
 
 def parser() -> argparse.ArgumentParser:
     """The command line: one parser with a subcommand for each module of COMMANDS."""
     top = Parser(prog="rekhuso", description="Tools beside osdmapd, for people with a cluster.")
     top.add_argument("--version", action="version", version=f"rekhuso {__version__}")
-    top.add_argument(
-        "--program", type=pathlib.Path, help="the built program (else that of this repository, or of PATH)"
-    )
+    about = "the built program (else that which REKHUSO_PROGRAM names, that of this repository, or of PATH)"
+    top.add_argument("--program", type=pathlib.Path, help=about)
     commands = top.add_subparsers(dest="command", required=True, metavar="COMMAND")
     for module in COMMANDS:
         module.add_to(commands)
     for own in commands.choices.values():
-        own.add_argument("--program", type=pathlib.Path, default=argparse.SUPPRESS, help="the built program")
+        own.add_argument("--program", type=pathlib.Path, default=argparse.SUPPRESS, help=about)
     return top
 
 
 def set_streams() -> None:
     """Sets standard streams to UTF-8, the two for output so that no character stops them; an input or errors that
-    are closed are empty. A fault where the output is closed.
+    are closed are empty. On a terminal they show each sign. A fault where the output is closed.
     """
     sys.stdin = sys.stdin or open(os.devnull, encoding="utf-8")
     sys.stderr = sys.stderr or open(os.devnull, "w", encoding="utf-8")
@@ -60,6 +54,7 @@ def set_streams() -> None:
     for stream, errors in ((sys.stdin, "strict"), (sys.stdout, "backslashreplace"), (sys.stderr, "backslashreplace")):
         if isinstance(stream, io.TextIOWrapper):
             stream.reconfigure(encoding="utf-8", errors=errors)
+    sys.stdout, sys.stderr = shown(sys.stdout), shown(sys.stderr)
 
 
 def put_out() -> None:
@@ -81,6 +76,24 @@ def end_by_pipe() -> int:
     signal.signal(signal.SIGPIPE, signal.SIG_DFL)
     signal.raise_signal(signal.SIGPIPE)
     return 128 + signal.SIGPIPE
+
+
+class Ended(BaseException):
+    """A signal that ends the command from outside: what it has begun is put away before it does."""
+
+
+def end_by_signal(number: int, _: FrameType | None) -> NoReturn:
+    """Ends the command in order. Once it does, a signal more ends it at once."""
+    for other in ENDING:
+        signal.signal(other, signal.SIG_DFL)
+    raise Ended(number)
+
+
+def set_signals() -> None:
+    """Has the command end in order by those signals that are not held back."""
+    for number in ENDING:
+        if signal.getsignal(number) is signal.SIG_DFL:
+            signal.signal(number, end_by_signal)
 
 
 def run() -> int:
@@ -106,12 +119,15 @@ def main() -> int:
     # A command soon ends, and needs what it has made until then.
     gc.disable()
     try:
+        set_signals()
         set_streams()
         return run()
     except Fault as fault:
         lines, status = fault.lines, fault.status
     except KeyboardInterrupt:
         lines, status = ["interrupted"], 1
+    except Ended as end:
+        return 128 + int(end.args[0])
     except BrokenPipeError:
         return end_by_pipe()
     except OSError as fault:

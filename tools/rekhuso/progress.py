@@ -11,6 +11,8 @@ import threading
 import time
 from typing import TextIO
 
+from .terminal import Shown
+
 # Seconds until a command is a long one, and between two looks at what it does.
 LONG, TICK = 2.0, 0.5
 
@@ -56,7 +58,7 @@ class Progress:
         self.erase()
 
 
-class Erasing(io.TextIOWrapper):
+class Erasing(Shown):
     """A stream before whose output the line of a progress is taken away."""
 
     progress: Progress | None = None
@@ -72,9 +74,9 @@ def erasing(stream: TextIO, progress: Progress) -> TextIO:
     """A stream like another, which it takes the place of."""
     if not isinstance(stream, io.TextIOWrapper):
         return stream
-    is_by_line, errors = stream.line_buffering, stream.errors
+    is_by_line, errors, is_terminal = stream.line_buffering, stream.errors, stream.isatty()
     found = Erasing(stream.detach(), encoding="utf-8", errors=errors, line_buffering=is_by_line)
-    found.progress = progress
+    found.progress, found.is_terminal = progress, is_terminal
     return found
 
 

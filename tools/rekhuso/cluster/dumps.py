@@ -9,6 +9,7 @@ from typing import cast
 from ..faults import Fault
 from ..files import JsonObject, json_of
 from ..progress import doing
+from ..terminal import in_one_line
 from .cluster import Cluster
 from .dump_forms import (
     CRUSH_DUMP,
@@ -29,6 +30,8 @@ from .dump_types import CrushDump, OsdDump, Tree
 from .names import pools_named
 from .sources import DumpFiles
 
+# Where a dump has names.
+NAMES = (("pools", "pool_name"), ("buckets", "name"), ("devices", "name"), ("rules", "rule_name"))
 # How many places at fault of one file are told one by one.
 MOST_MISFITS = 20
 
@@ -71,8 +74,17 @@ def read_dump(path: str, value: JsonObject, shape: DumpForm) -> tuple[JsonObject
     found = misfits(value, shape, "")
     if not found:
         names = [key.removeprefix("?") for key in shape]
-        return {name: value[name] for name in names if name in value}, frozenset(), []
-    return *fitting(value, shape), [misfit_at(path, place, value) for place in found]
+        return with_plain_names({name: value[name] for name in names if name in value}), frozenset(), []
+    kept, torn = fitting(value, shape)
+    return with_plain_names(kept), torn, [misfit_at(path, place, value) for place in found]
+
+
+def with_plain_names(dump: JsonObject) -> JsonObject:
+    """A dump in whose names no line ends."""
+    for kind, key in NAMES:
+        for own in dump.get(kind, []):
+            own[key] = in_one_line(own[key])
+    return dump
 
 
 def first_lines(faults: list[Misfit]) -> list[str]:

@@ -9,6 +9,7 @@ from typing import Dict
 from ..faults import Fault
 from ..files import is_text, json_of
 from ..program.maps import RuleStep
+from ..terminal import in_one_line
 
 # Of each kind of thing, names by numbers as texts.
 Names = Dict[str, Dict[str, str]]
@@ -54,7 +55,7 @@ def names_in(path: str | None) -> dict[str, dict[str, str]]:
                 raise Fault(f"{path}: {kind}.{number}: no number")
             if not is_text(name):
                 raise Fault(f"{path}: {kind}.{number}: no text")
-    return {kind: names.get(kind, {}) for kind in NAME_TABLES}
+    return {kind: {number: in_one_line(name) for number, name in names.get(kind, {}).items()} for kind in NAME_TABLES}
 
 
 def set_words(places: Sequence[int | None]) -> str:
@@ -104,7 +105,7 @@ def pools_named(texts: Iterable[str], names: Mapping[int, str]) -> set[int]:
     id. A fault for each word that is neither.
     """
     known = {**{name: number for number, name in names.items() if name}, **{str(number): number for number in names}}
-    words = [word for text in texts for word in words_of_pools(text, known)]
+    words = [word for text in texts for word in words_of_pools(in_one_line(text), known)]
     unknown = [word for word in words if word not in known]
     if unknown:
         raise Fault(*(f"no pool {word}" for word in unknown))

@@ -8,6 +8,7 @@ from dataclasses import dataclass, replace
 from ..faults import Fault
 from ..files import json_of
 from ..program.maps import Pool, groups_in
+from ..terminal import in_one_line
 from .disks import Disk
 from .dump_forms import DF, misfits
 
@@ -112,5 +113,5 @@ def data_in(path: str | None) -> Data | None:
     stats = {number: own["stats"] for number, own in pools.items()}
     used = {number: max(own["bytes_used"], 0) for number, own in stats.items()}
     rates = {number: used[number] / own["stored"] for number, own in stats.items() if own["stored"] > 0}
-    names = {number: own["name"] for number, own in pools.items() if "name" in own}
+    names = {number: in_one_line(own["name"]) for number, own in pools.items() if "name" in own}
     return Data(path, used, names, rates, max(value.get("stats", {}).get("total_bytes", 0), 0), 0, {}, {})

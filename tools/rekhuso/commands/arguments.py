@@ -3,8 +3,10 @@
 from __future__ import annotations
 
 import argparse
+import re
+import sys
 from collections.abc import Callable, Sequence
-from typing import TYPE_CHECKING, TypeVar
+from typing import IO, TYPE_CHECKING, Any, NoReturn, TypeVar
 
 from ..cluster.sources import Source
 
@@ -16,6 +18,49 @@ else:
     Commands = argparse._SubParsersAction
 
 Own = TypeVar("Own")
+# OSDs as Ceph takes several behind one another, or with a comma between them.
+SEVERAL = re.compile(r"(osd\.)?[0-9]+(,(osd\.)?[0-9]+)*")
+
+
+class Parser(argparse.ArgumentParser):
+    """A parser that tells an error of use in one line, fails where help cannot be written, and takes no option by its
+    beginning.
+    """
+
+    def __init__(self, **forms: Any) -> None:
+        """Takes what any parser takes."""
+        super().__init__(**forms)
+        self.allow_abbrev = False
+        self.repeated: frozenset[str] = frozenset()
+
+    def error(self, message: str) -> NoReturn:
+        """Ends the command with status 2 and a line on standard error."""
+        self.exit(2, f"{self.prog}: error: {message} (--help tells the use)\n")
+
+    def _print_message(self, message: str, file: IO[str] | None = None) -> None:
+        """Writes a message. OSError where it cannot be written, which argparse would pass over."""
+        (file or sys.stderr).write(message)
+
+    def parse_known_args(self, args: Any = None, namespace: Any = None) -> Any:
+        """Reads words, of which some options take several OSDs."""
+        words = None if args is None else repeated_words(list(args), self.repeated)
+        return super().parse_known_args(words, namespace)
+
+
+def repeated_words(words: list[str], options: frozenset[str]) -> list[str]:
+    """Words in which each of several OSDs has the option before it, where one takes several."""
+    found, option, is_first = list[str](), "", False
+    for word in words:
+        name, sign, _ = word.partition("=")
+        if name in options:
+            option, is_first = name, not sign
+        elif option and not is_first and SEVERAL.fullmatch(word):
+            found.append(option)
+        else:
+            option, is_first = option if is_first else "", False
+        found.append(word)
+    return found
+
 
 FILES = "MAP | OSD_DUMP CRUSH_DUMP"
 ABOUT_FILES = (

@@ -12,8 +12,8 @@ from ..faults import Fault, Misuse
 from ..files import text_of
 from ..plans.question import accepted
 from ..program.maps import Change, Program
-from .arguments import Arguments
-from .whatif_words import Word, WordAction, WordReader, change_in, change_value, is_change_text
+from .arguments import Arguments, Parser
+from .whatif_words import TOGETHER, Word, WordAction, WordReader, change_in, change_value, is_change_text
 
 # The options that stand for commands.
 OPTIONS = {
@@ -35,7 +35,7 @@ CHANGE_PARTS = frozenset(
 )
 # How they stand in the use of a command.
 USE = [
-    *(f"[--{word} OSD|BUCKET].." for word in ("out", "in", "down")),
+    *(f"[--{word} OSD|BUCKET ..].." for word in ("out", "in", "down")),
     "[--reweight OSD|BUCKET W]..",
     "[--weight OSD|BUCKET=W]..",
     "[--add-host NAME WEIGHTS [--under BUCKET] [--class CLASS]]",
@@ -106,12 +106,16 @@ def has_change(path: str) -> bool:
 
 def add_change_words(own: argparse.ArgumentParser) -> None:
     """The options that stand for commands."""
+    if isinstance(own, Parser):
+        own.repeated = frozenset(OPTIONS[word] for word in TOGETHER)
     for word, about in (
         ("out", "takes no groups"),
         ("in", "takes its share again, as before it went out"),
         ("down", "is down"),
     ):
-        own.add_argument(f"--{word}", metavar="OSD|BUCKET", action=WordAction, help=f"it {about}; as often as wanted")
+        own.add_argument(
+            f"--{word}", metavar="OSD|BUCKET", action=WordAction, help=f"it {about}; several as 1 2 or 1,2"
+        )
     own.add_argument("--reweight", metavar=("OSD|BUCKET", "W"), nargs=2, action=WordAction, help="its reweight, 0 to 1")
     own.add_argument(
         "--weight",

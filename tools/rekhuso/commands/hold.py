@@ -3,7 +3,8 @@
 The change is told in one of three forms: by the words of `whatif` behind two dumps of today; by the dumps before and
 behind it; or by `--at` and the dumps behind it, where `ceph pg dump -f json` tells where the data is. Standard error
 tells how many groups the change would move, how many of them are held, and each that cannot be, by its reason. The
-program is asked for the set of each group under these exceptions before anything is put out.
+program judges the commands as printed before anything is put out: each is accepted, each exception stays, and each
+group has the set that is told.
 
 The commands stand in a script that turns Ceph's balancer off and keeps data where it is until the last of them is
 given. The change comes first, as pairs before it are taken away or move data: where it is still to come the script is

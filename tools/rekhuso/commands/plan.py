@@ -12,6 +12,10 @@ by OSD. The commands are the difference of the two maps' exceptions, where each 
 its set (as `net` has them). With --undo the same words give the commands that take the exceptions of these groups back
 to what they are now, whichever part of the plan was run. With --batch the commands go into files that are run one
 after the other.
+
+Before anything is put out the program judges it as printed: it accepts each command in this order, tells every count
+on the way, and says of each exception that Ceph's monitor leaves it. Where something is wrong the command is named, and
+nothing is put out.
 """
 
 from __future__ import annotations
@@ -46,7 +50,7 @@ from ..plans.after_plan import quiet_deviation, rested_after
 from ..plans.movement import PlaceBytes, place_bytes
 from ..plans.parts import ALL
 from ..plans.plan import Outcome, Wish, misplaced_in, outage_in, planned
-from ..plans.printed import Printed
+from ..plans.printed import Asked, Printed
 from ..plans.rounds import Live, MOST_MOVES
 from ..plans.steps import steps_by_pool
 from ..program.maps import Map, Pool, Program, altered
@@ -174,7 +178,7 @@ def printed_over(lives: list[Live], outcome: Outcome, program: Program) -> Print
     """By what the commands of plans are judged."""
     maps = [live.value for live in lives]
     down = frozenset(osd["id"] for value in maps for osd in value["osds"] if osd["exists"] and not osd["up"])
-    return Printed(maps, program, {step.group: step.now for step in outcome.steps}, outcome.measure, down, False)
+    return Printed(maps, program, {step.group: step.now for step in outcome.steps}, outcome.measure, down, Asked.NAMED)
 
 
 def told_by(lives: list[Live], options: PlanOptions, names: Names, held: Held, epoch: int) -> ToldPlan:
@@ -291,7 +295,7 @@ def script_of(told: ToldPlan, options: PlanOptions, number: int = 1, count: int 
 
 
 def scripts_of(told: ToldPlan, options: PlanOptions) -> list[str]:
-    """The scripts of the plan, or of the way back from it: one, or one for each part of so many commands of the plan."""
+    """The scripts of the plan, or of the way back from it: one, or one for each part of so many commands."""
     parts = told.outcome.parts if options.batch is not None else [told.outcome.steps] if told.outcome.steps else []
     found = []
     for number, part in enumerate(parts, 1):

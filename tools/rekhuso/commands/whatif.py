@@ -1,7 +1,8 @@
 """`whatif`: what moves if a change is made: two runs over all groups, and their difference.
 
-The change is a line of a script (`change {..}`, or its JSON alone), also in a file, or is put together from options, which stand for
-commands in their order: at each, as at the change, Ceph's monitor takes away the exceptions that have become unlawful.
+The change is a line of a script (`change {..}`, or its JSON alone), also in a file, or is put together from options,
+which stand for commands in their order: at each, as at the change, Ceph's monitor takes away the exceptions that have
+become unlawful.
 An OSD is named by its number, several by the bucket that they stand below (its id, or its name where --names knows it,
 or the dumps do).
 """

@@ -242,20 +242,23 @@ class WordReader:
         is in force.
         """
         self.cluster, self.tree, self.names, self.has_weight_set = cluster, tree, names, has_weight_set
-        self.reweights: dict[int, int] = {}
+        self.reweights: dict[tuple[bool, int], int] = {}
+        self.now: dict[int, int] = {}
         self.weights: dict[int, int] = {}
 
-    def reweighed(self, word: str, weight: int) -> list[list[int]]:
-        """OSDs with a reweight. An error of use where one has another already."""
+    def reweighed(self, word: str, weight: int, is_state: bool = False) -> list[list[int]]:
+        """OSDs with a reweight, or that of a state. An error of use where one has another already by such a word."""
         osds = osds_named(self.tree, self.names, word)
         for osd in osds:
-            if self.reweights.setdefault(osd, weight) != weight:
+            if self.reweights.setdefault((is_state, osd), weight) != weight:
                 raise Misuse(f"osd.{osd} is given two reweights")
+        if not is_state:
+            self.now.update(dict.fromkeys(osds, weight))
         return [[osd, weight] for osd in osds]
 
     def is_out(self, osd: int) -> bool:
-        """Whether an OSD is out, so that `ceph osd in` does something."""
-        return osd in self.cluster.osds and self.cluster.osds[osd]["weight"] == 0
+        """Whether an OSD is out by then, so that `ceph osd in` does something."""
+        return osd in self.cluster.osds and self.now.get(osd, self.cluster.osds[osd]["weight"]) == 0
 
     def states(self, kind: str, words: list[str]) -> Command:
         """The command that puts OSDs out, in or down. An OSD that comes in has the reweight again with which it went
@@ -264,7 +267,7 @@ class WordReader:
         if kind == "down":
             down = {osd for word in words for osd in osds_named(self.tree, self.names, word)}
             return StateChange({"down": sorted(down)})
-        found = {osd: weight for word in words for osd, weight in self.reweighed(word, REWEIGHTS[kind])}
+        found = {osd: weight for word in words for osd, weight in self.reweighed(word, REWEIGHTS[kind], True)}
         if kind == "in":
             before = reweights_before(self.cluster)
             found = {osd: min(before.get(osd, FULL_WEIGHT), FULL_WEIGHT) for osd in found if self.is_out(osd)}
@@ -307,7 +310,7 @@ class WordReader:
         found: list[Command] = []
         for kind, run in groupby(words, key=lambda word: word.kind):
             if kind in TOGETHER:
-                found.append(self.states(kind, [word.values[0] for word in run]))
+                found.append(self.states(kind, [own for word in run for own in word.values[0].split(",")]))
             else:
                 found += [step for word in run for step in self.single(word, under, device_class)]
         return found

@@ -111,10 +111,8 @@ def cluster_words(outcome: Outcome, names: Names) -> list[str]:
     found += data_words(outcome, names)
     if outcome.taken_out:
         count = len(outcome.taken_out)
-        groups = "1 group is" if count == 1 else f"{count} groups are"
-        found.append(
-            f"as a whole: {groups} left where they are, or it would get less even, or an OSD fuller than the fullest"
-        )
+        groups = "1 group is left where it is" if count == 1 else f"{count} groups are left where they are"
+        found.append(f"as a whole: {groups}, or it would get less even, or an OSD fuller than the fullest")
     return [f"cluster {line}" for line in found]
 
 

@@ -24,7 +24,7 @@ from ..output.json_forms import HoldParts
 from ..program.maps import Exceptions, Map, Program, entries_of, group_key, groups_in, groups_of, with_all_up
 from ..words import counted
 from .holding import Held, Holder, exceptions_of
-from .printed import Printed
+from .printed import Asked, Printed
 
 
 @dataclass(frozen=True)
@@ -43,13 +43,15 @@ class Sides:
 
 @dataclass(frozen=True)
 class Hold:
-    """What holds groups: the maps behind the change; the release that clients must have, if the dump tells it; each group
-    that was there, the set that it would have by the change alone, the commands, and those that take them back.
+    """What holds groups: the maps behind the change, and of which groups exceptions are to stay there; the release that
+    clients must have, if the dump tells it; each group that was there, the set that it would have by the change alone,
+    the commands, and those that take them back.
     """
 
-    __slots__ = ("epoch", "maps", "client", "groups", "would", "commands", "undo")
+    __slots__ = ("epoch", "maps", "asked", "client", "groups", "would", "commands", "undo")
     epoch: int
     maps: list[Map]
+    asked: Asked
     client: str | None
     groups: list[Held]
     would: Mapping[str, Places]
@@ -58,7 +60,7 @@ class Hold:
 
     def printed(self, program: Program) -> Printed:
         """By what the commands are judged before they are put out."""
-        return Printed(self.maps, program, {own.group: own.now for own in self.groups}, None, frozenset(), True)
+        return Printed(self.maps, program, {own.group: own.now for own in self.groups}, None, frozenset(), self.asked)
 
     def moving(self) -> list[Held]:
         """The groups that would move by the change alone."""
@@ -173,7 +175,8 @@ def hold_of(sides: Sides, program: Program) -> Hold:
     explicit, items = new.exceptions
     undo = exception_commands(goal, of_groups({"pg_upmap": explicit, "pg_upmap_items": items}, there))
     lines = exception_commands(kept_apart(now, goal, sides.lost), goal)
-    return Hold(new.epoch, maps, least_client(new.osd_dump), found, would, lines, undo)
+    asked = Asked.NONE if new.has_weight_set else Asked.ALL
+    return Hold(new.epoch, maps, asked, least_client(new.osd_dump), found, would, lines, undo)
 
 
 def hold_of_change(cluster: Cluster, steps: list[Command], program: Program) -> Hold:

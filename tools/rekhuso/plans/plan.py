@@ -65,8 +65,8 @@ DEFAULT_WISH = Wish(frozenset(), None, ALL, ALL, False, False, None, NEARFULL)
 class Outcome:
     """What plans are: the steps in the parts in which they are taken, the groups whose steps were taken out for the
     sake of the cluster, what is told of each pool and of the cluster before and after, the pool with most data, if it
-    is known, the OSDs that would get nearfull by steps that are left for their sake, each with how many, what is told of
-    the data, and by what OSDs are full on the way, where the steps stand in an order.
+    is known, the OSDs that would get nearfull by steps that are left for their sake, each with how many, what is told
+    of the data, and by what OSDs are full on the way, where the steps stand in an order.
     """
 
     __slots__ = ("parts", "taken_out", "pools", "before", "after", "largest", "stopped", "data", "measure")

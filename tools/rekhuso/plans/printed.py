@@ -11,6 +11,7 @@ from __future__ import annotations
 
 from collections.abc import Mapping, Sequence
 from dataclasses import dataclass
+from enum import Enum
 from itertools import chain
 
 from ..cluster.names import set_words
@@ -20,6 +21,16 @@ from ..progress import doing
 from .bounds import Measure
 from .courses import Course, Places, Play, excepted_in
 from .printed_commands import DEFECT, PrintedCommand, commands_in, defect
+
+
+class Asked(Enum):
+    """Of which groups Ceph's monitor is to leave all exceptions: of all; of those that commands name; or of none, as
+    where a compat weight set is in force, which a map has in place of the weights by which a monitor judges.
+    """
+
+    ALL = 1
+    NAMED = 2
+    NONE = 3
 
 
 def cut_into(commands: list[PrintedCommand], lengths: Sequence[int]) -> list[list[PrintedCommand]]:
@@ -35,16 +46,16 @@ def cut_into(commands: list[PrintedCommand], lengths: Sequence[int]) -> list[lis
 class Printed:
     """What printed commands are judged by: the maps for which they were made, the program, where some groups are to be
     in the end (all others where they were), by what OSDs are full, without which no OSD has a bound, the OSDs that are
-    down, which stand in no set that is wanted; and whether the commands leave no exception that does not stay.
+    down, which stand in no set that is wanted; and of which groups the exceptions are to stay.
     """
 
-    __slots__ = ("maps", "program", "wanted", "measure", "down", "is_whole")
+    __slots__ = ("maps", "program", "wanted", "measure", "down", "asked")
     maps: Sequence[Map]
     program: Program
     wanted: Mapping[str, Sequence[int | None]]
     measure: Measure | None
     down: frozenset[int]
-    is_whole: bool
+    asked: Asked
 
     def courses(self, commands: Sequence[PrintedCommand], maps: Sequence[Map]) -> list[Course]:
         """The courses of commands over some maps. A fault for a command of no map."""
@@ -79,7 +90,8 @@ class Printed:
     def check_left(self, course: Course, last: Mapping[str, str]) -> None:
         """A fault where Ceph's monitor would not leave an exception, of a group that commands name or of any."""
         for group, what in course.left.items():
-            if what != "all" and (group in last or self.is_whole):
+            is_asked = self.asked is Asked.ALL or self.asked is Asked.NAMED and group in last
+            if what != "all" and is_asked:
                 verb = "takes its exceptions away" if what == "gone" else "takes some of its pairs away"
                 raise defect(last.get(group, "no command"), f"Ceph's monitor {verb}, those of {group}")
 

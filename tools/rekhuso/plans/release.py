@@ -26,7 +26,7 @@ from ..words import counted
 from .bounds import Measure
 from .parts import ALL
 from .plan import DEFAULT_WISH, opened, planned
-from .printed import Printed
+from .printed import Asked, Printed
 from .question import sets_of_maps
 from .step_order import StepOrder, parts_in_order
 from .steps import PlanStep, by_group
@@ -148,6 +148,7 @@ def release_of(cluster: Cluster, kept: Exceptions, is_planned: bool, most: int, 
     if most == ALL and parts:
         parts = [[step for part in parts for step in part]]
     after, down = counts_of(to), frozenset(osd for osd, own in cluster.osds.items() if not own["up"])
+    asked = Asked.NONE if cluster.has_weight_set else Asked.NAMED
     sets, measure = {step.group: step.now for step in steps}, Measure(Spread({}, share), None, dict(after), {})
-    peaks, printed = peaks_of(Counter(has), parts), Printed(before.maps, program, sets, measure, down, False)
+    peaks, printed = peaks_of(Counter(has), parts), Printed(before.maps, program, sets, measure, down, asked)
     return Release(cluster.epoch, pools, parts, peaks, most_of(has), most_of(after), printed, lengths)

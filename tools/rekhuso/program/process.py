@@ -17,16 +17,19 @@ from .maps import Program
 
 # The crates, where the tools stand in their repository. A program is built in its crate, below `out`.
 CRATES = pathlib.Path(__file__).resolve().parents[3] / "crates"
+# The variable that names the program where no option does.
+VARIABLE = "REKHUSO_PROGRAM"
 # The programs, the options that name them, and the targets of the repository that prove and build them.
 OPTIONS = {"osdmapd": "--program", "osdmapstore": "--store-program"}
 TARGETS = {"osdmapd": "make run", "osdmapstore": "make store"}
 
 
 def built(name: str, beside: Program = None) -> pathlib.Path:
-    """A program where none is named: that beside another, if one is given, else that of the repository in which the
-    tools stand, else the one of this name on the path. A fault that tells where it was looked for.
+    """A program where none is named: that beside another, if one is given or the variable names one, else that of the
+    repository in which the tools stand, else the one of this name on the path. A fault that tells where it was looked
+    for.
     """
-    crate = CRATES / name
+    crate, beside = CRATES / name, beside or os.environ.get(VARIABLE)
     near = [pathlib.Path(beside).resolve().parent / name] if beside else []
     own = [crate / "out" / name] if crate.is_dir() else []
     found = next((str(path) for path in near + own if path.exists()), None) or shutil.which(name)
@@ -45,6 +48,7 @@ def chosen(program: Program, name: str) -> pathlib.Path:
     """The program that is run: the one that is given, else the one of this name that is found. A fault where it is
     none.
     """
+    program = program or (os.environ.get(VARIABLE) if name == "osdmapd" else None)
     found = pathlib.Path(program or built(name)).resolve()
     if not found.is_file() or not os.access(found, os.X_OK):
         raise Fault(
@@ -83,36 +87,43 @@ class Patience:
         self.since.pop(threading.get_ident(), None)
 
 
+# What may come as an exception: Ctrl-C, and what ends a command from outside.
+ENDINGS = (signal.SIGINT, signal.SIGTERM, signal.SIGHUP)
+
+
 class Held:
-    """Keeps Ctrl-C back while a program is being started, in a `with`: an exception then would leave it running with
-    nobody who holds it. It comes once it is let go. Only the main thread has it come. Blocking the signal would not do:
-    another thread would take it, and the program would be started with the signal blocked.
+    """Keeps Ctrl-C back while a program is being started, in a `with`, and what else ends a command: an exception then
+    would leave it running with nobody who holds it. It comes once it is let go. Only the main thread has it come.
+    Blocking the signal would not do: another thread would take it, and the program would be started with the signal
+    blocked.
     """
 
     def __init__(self) -> None:
         """Keeps nothing back yet."""
-        self.has_come = False
-        self.before: Callable[[int, FrameType | None], object] | None = None
+        self.come: list[int] = []
+        self.before: dict[int, Callable[[int, FrameType | None], object]] = {}
 
     def __enter__(self) -> Held:
         """Begins to keep it back, where somebody has it come as an exception, or otherwise as a call."""
-        before = signal.getsignal(signal.SIGINT) if threading.current_thread() is threading.main_thread() else None
-        if callable(before):
-            self.before = before
-            signal.signal(signal.SIGINT, self.came)
+        for number in ENDINGS if threading.current_thread() is threading.main_thread() else ():
+            before = signal.getsignal(number)
+            if callable(before):
+                self.before[number] = before
+                signal.signal(number, self.came)
         return self
 
-    def came(self, *_: object) -> None:
-        """It has come."""
-        self.has_come = True
+    def came(self, number: int, _: FrameType | None) -> None:
+        """One has come."""
+        self.come.append(number)
 
     def let_go(self) -> None:
         """Keeps it back no longer: it comes now, where it has come meanwhile."""
-        if self.before is not None:
-            signal.signal(signal.SIGINT, self.before)
-            self.before = None
-            if self.has_come:
-                signal.raise_signal(signal.SIGINT)
+        for number, before in self.before.items():
+            signal.signal(number, before)
+        self.before = {}
+        come, self.come = self.come, []
+        for number in come:
+            signal.raise_signal(number)
 
     def __exit__(self, *_: object) -> None:
         """Keeps it back no longer."""

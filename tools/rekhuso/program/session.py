@@ -135,14 +135,14 @@ class Session:
         return int(self.one("follow").split(" ")[1])
 
     def follower_kept(self, group: str) -> Left:
-        """What Ceph's monitor would leave of a group's exceptions at the follower's map; of a group without any, whether
-        one could stay at the set that it has. A map under `stock` alone takes it.
+        """What Ceph's monitor would leave of a group's exceptions at the follower's map; of a group without any,
+        whether one could stay at the set that it has. A map under `stock` alone takes it.
         """
         return left_of(self.one(f"fkept {group}"))
 
     def left(self, groups: Iterable[str]) -> dict[str, str]:
-        """What Ceph's monitor would leave of the exceptions of each group at the map as it is: `all`, `fewer` or `gone`.
-        A fault where the program has no such line.
+        """What Ceph's monitor would leave of the exceptions of each group at the map as it is: `all`, `fewer` or
+        `gone`. A fault where the program has no such line.
         """
         asked = list(groups)
         try:

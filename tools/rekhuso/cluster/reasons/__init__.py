@@ -29,4 +29,4 @@ def reasons(cluster: Cluster, is_unmatched: bool, is_one: bool = True) -> list[s
         found += part(cluster)
     if not {"osds", "max_osd"} & cluster.torn:
         found += absent_reasons(cluster, True)
-    return found if is_unmatched else found + [own.reason() for own in unmatched(cluster)]
+    return found if is_unmatched else found + [own.reason() for own in unmatched(cluster) if not own.is_note]

@@ -29,6 +29,11 @@ class Unmatched:
     question: str
     osds: str
 
+    @property
+    def is_note(self) -> bool:
+        """Whether it keeps nothing out: a few OSDs to which no rule comes, and which so have no groups."""
+        return self.taken == FAR and not self.osds
+
     def reason(self) -> str:
         """The line of a reason against the cluster."""
         return self.line + self.question
