@@ -41,11 +41,14 @@ any_scripts_rule = record (new_rule (codes "SCRIPT")) {
 abbrev pub store_program : App
 store_program = on_top (λ s. record s { has_version = true }) (new_app (codes "osdmapstore"))
 
--- with its options
+-- with the options of sessions
+abbrev pub store_program_of_sessions : App
+store_program_of_sessions = with_rule (with_rule (with_rule store_program journal_rule) stock_rule) to_rule
+
+-- with all its options
 abbrev pub store_program_with_options : App
 store_program_with_options =
-    with_rule (with_rule (with_rule (with_rule (with_rule (with_rule store_program journal_rule) stock_rule) to_rule)
-    begin_rule) open_or_begin_rule) backup_rule
+    with_rule (with_rule (with_rule store_program_of_sessions begin_rule) open_or_begin_rule) backup_rule
 
 -- `osdmapstore [--journal N] [--stock] [--to ANSWERS].. [--begin MAP] [--open-or-begin MAP] [--backup FILE] STORE
 -- [SCRIPT..]`

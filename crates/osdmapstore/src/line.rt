@@ -7,7 +7,7 @@ ghost use Rattle.clap.specs.Walk.{first_of, rows_of};
 ghost use Rattle.epochlog.specs.Epochs.{max_capacity};
 ghost use Rattle.serving.specs.Serving.{max_scripts};
 ghost use Rattle.cli.specs.Arguments.{ArePaired, Chooses, IsReadBy};
-ghost use Rattle.osdmapstore.specs.CommandLine.{begin_rule, open_or_begin_rule, backup_rule, store_rule, any_scripts_rule, store_program, store_program_with_options, store_app};
+ghost use Rattle.osdmapstore.specs.CommandLine.{begin_rule, open_or_begin_rule, backup_rule, store_rule, any_scripts_rule, store_program, store_program_of_sessions, store_program_with_options, store_app};
 ghost use Rattle.osdmapstore.specs.CommandLine.{AreStoreFound, ReadsStoreLine};
 
 use crate::choices::Options;
@@ -94,14 +94,21 @@ fn program<'a>(alloc: Global) -> Command<'a>
         .version(VERSION)
 }
 
-/// The program with its options.
-fn program_with_options<'a>(alloc: Global) -> Result<Command<'a>, AllocError>
-    ensures { IfOk result (λ c. app_of c ≡ store_program_with_options) }
+/// The program with the options of its sessions.
+fn program_of_sessions<'a>(alloc: Global) -> Result<Command<'a>, AllocError>
+    ensures { IfOk result (λ c. app_of c ≡ store_program_of_sessions) }
 {
     program(alloc)
         .arg(journal_option(alloc))?
         .arg(stock_option(alloc))?
-        .arg(to_option(alloc))?
+        .arg(to_option(alloc))
+}
+
+/// The program with all its options.
+fn program_with_options<'a>(alloc: Global) -> Result<Command<'a>, AllocError>
+    ensures { IfOk result (λ c. app_of c ≡ store_program_with_options) }
+{
+    program_of_sessions(alloc)?
         .arg(begin_option(alloc))?
         .arg(open_or_begin_option(alloc))?
         .arg(backup_option(alloc))
