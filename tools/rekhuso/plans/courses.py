@@ -144,7 +144,7 @@ class Play:
         if len(now) - now.count(None) < len(was) - was.count(None):
             raise defect(line, f"the set of {group} gets shorter: {set_words(was)}, then {set_words(now)}")
         is_erasure = self.course[group].is_erasure(group)
-        come, go = coming(was, now, is_erasure), [osd for osd in leaving(was, now, is_erasure) if osd not in self.down]
+        come, go = ([osd for osd in moved(was, now, is_erasure) if osd not in self.down] for moved in (coming, leaving))
         return Step(line, come, go, 1.0 if measure is None else measure.size(group))
 
     def play(self, parts: Sequence[Sequence[PrintedCommand]], measure: Measure | None) -> None:
