@@ -271,6 +271,26 @@ class ToolErrors(ToolCase):
                 done = subprocess.run(words, env=own, capture_output=True, text=True, timeout=SECONDS, check=False)
                 self.assertEqual((done.returncode, "nowhere: no program" in done.stderr), (status, status == 1))
 
+    def test_what_is_imported(self) -> None:
+        """A command imports its own module and not those of other commands; a word that is none is told beside all
+        commands."""
+        own = "rekhuso.commands."
+        script = "import sys; sys.path.insert(0, sys.argv.pop(1)); from rekhuso.command_line import main; main(); "
+        script += f"print(*sorted(name for name in sys.modules if name.startswith({own!r})))"
+        for words, wanted in (
+            (f"df {EXAMPLE} --program {self.tools.program}", ["arguments", "df"]),
+            (f"--program {self.tools.program} history nowhere", ["arguments", "history"]),
+            ("--version", ["arguments"]),
+        ):
+            with self.subTest(words=words):
+                line = [sys.executable, "-c", script, str(TOOLS.parent), *words.split(" ")]
+                done = subprocess.run(line, capture_output=True, text=True, timeout=SECONDS, check=False)
+                self.assertEqual(done.stdout.splitlines()[-1].split(), [own + name for name in wanted], done.stderr)
+        for word in ("nothing", "--help"):
+            told = "".join(self.tools.run(word)[1:])
+            for name in ("import", "check", "plan", "hold", "release", "history"):
+                self.assertIn(name, told)
+
     def test_programs_that_are_none(self) -> None:
         """A program that is no program, does not start, is not this one, or has gone, is told in one line."""
         for name, text in (

@@ -20,6 +20,17 @@
 `arguments.py` has what several of them take, and `whatif_words.py` the words of `whatif`.
 """
 
-from . import check, df, diff, explain, history, hold, import_, net, picture, plan, release, report, shell, whatif
+from __future__ import annotations
 
-COMMANDS = [import_, check, plan, net, df, diff, whatif, hold, release, explain, picture, report, shell, history]
+import importlib
+from types import ModuleType
+
+COMMANDS = (
+    *("import", "check", "plan", "net", "df", "diff", "whatif", "hold", "release", "explain", "picture", "report"),
+    *("shell", "history"),
+)
+
+
+def module_of(command: str) -> ModuleType:
+    """The module of a command, which is imported once it is asked for."""
+    return importlib.import_module(f".{'import_' if command == 'import' else command}", __name__)
