@@ -19,7 +19,7 @@ from types import FrameType
 from typing import NoReturn
 
 from . import __version__
-from .commands import COMMANDS, module_of
+from .commands import COMMANDS, EXAMPLES, module_of
 from .commands.arguments import Parser
 from .faults import Fault, Misuse
 from .progress import PROGRESS
@@ -55,7 +55,8 @@ def parser(asked: tuple[str, ...]) -> argparse.ArgumentParser:
     commands = top.add_subparsers(dest="command", required=True, metavar="COMMAND")
     for command in asked:
         module_of(command).add_to(commands)
-    for own in commands.choices.values():
+    for command, own in commands.choices.items():
+        own.epilog = f"for example:\n\n    rekhuso {EXAMPLES[command]}"
         own.add_argument("--program", type=pathlib.Path, default=argparse.SUPPRESS, help=about)
     return top
 
