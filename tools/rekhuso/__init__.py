@@ -6,9 +6,9 @@ program's maps, sessions and answers; `output/` tables, JSON forms, pictures, sc
 """
 
 from .faults import Closed, Fault, Refused, Unopened
-from .program.answers import Made, Moved, Up
+from .program.answers import Left, Made, Moved, Up
 from .program.monitor import Monitor
 from .program.session import Session
 
-__all__ = ["Closed", "Fault", "Made", "Monitor", "Moved", "Refused", "Session", "Unopened", "Up", "__version__"]
+__all__ = ["Closed", "Fault", "Left", "Made", "Monitor", "Moved", "Refused", "Session", "Unopened", "Up", "__version__"]
 __version__ = "0.1.0"

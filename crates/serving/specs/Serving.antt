@@ -50,7 +50,7 @@ lets_all number passes = passes ≡ true
 abbrev pub unseen : ℕ → Sight
 unseen most = record {
   member = record { history = []; draws = 0; own = replicate most false };
-  follower = record { history = []; seen = [] };
+  follower = record { history = []; seen = []; runs = 0 };
 }
 
 -- the text of the session of a number: its heading, and the answers of its script, which go by these; the last of them

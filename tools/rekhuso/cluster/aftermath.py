@@ -8,7 +8,7 @@ from typing import Union
 
 from ..faults import Fault
 from ..program.maps import Change, Exceptions, Map, Program, altered, entries_of, with_all_up
-from .cleanup import Cleaned, cleaned, group_fault
+from .cleanup import Cleaned, cleaned, excepted_groups, group_fault
 from .cluster import Cluster
 from .conversion import map_of, monitor_of, pool_of
 from .dump_types import OsdDump
@@ -119,11 +119,6 @@ def with_exceptions(cluster: Cluster, kept: Exceptions) -> Cluster:
         ],
     )
     return Cluster(dump, cluster.crush, cluster.torn, cluster.gone)
-
-
-def excepted_groups(exceptions: Exceptions) -> set[str]:
-    """The groups that have exceptions."""
-    return {entry[0] for key in ("pg_upmap", "pg_upmap_items") for entry in entries_of(exceptions, key)}
 
 
 def raw_sets(maps: list[Map], groups: set[str], program: Program) -> dict[str, Places]:

@@ -124,6 +124,11 @@ def cleaned(judge: Judge, present: Present, raw: Mapping[str, Places], exception
 # Plans
 
 
+def excepted_groups(exceptions: Exceptions) -> set[str]:
+    """The groups that have exceptions."""
+    return {entry[0] for key in ("pg_upmap", "pg_upmap_items") for entry in entries_of(exceptions, key)}
+
+
 def barred(judge: Judge, value: Map, sets: Mapping[int, Sequence[Up]]) -> dict[int, Reason]:
     """Of a map's pools those in which no exception can stay, as each set that a pool has now breaks its rule as a
     monitor reads it; with the reason for the first one.
@@ -143,22 +148,32 @@ def barred(judge: Judge, value: Map, sets: Mapping[int, Sequence[Up]]) -> dict[i
 
 
 def going(judge: Judge, session: Session, new: Map, groups: list[str]) -> dict[str, Reason]:
-    """Which of some groups have exceptions in a new map that a monitor would take away, each with the reason. All
-    OSDs of the session's map are up; these groups have no exceptions in it afterwards.
+    """Which of some groups have exceptions in a new map, as the session has it, that a monitor would take away, by the
+    program; each with the reason as the tools read it. All OSDs of the session's map are up; these groups have no
+    exceptions in it afterwards.
     """
-    if not groups:
-        return {}
+    present, own = present_of(new), excepted_groups(new).intersection(groups)
+    shrinking = {group: group_fault(group, present.pools, judge.pending) for group in groups}
+    found = {group: why for group, why in shrinking.items() if why is not None}
+    left = session.left(group for group in groups if group in own and group not in found)
+    gone = [group for group, what in left.items() if what != "all"]
+    return {**found, **reasons_of(judge, session, new, gone)} if gone else found
+
+
+def reasons_of(judge: Judge, session: Session, new: Map, groups: list[str]) -> dict[str, Reason]:
+    """Why a monitor takes exceptions of some groups away that they have in a new map, which have none in the session
+    afterwards.
+    """
     session.change(old_upmap=groups, old_items=groups)
     raw, own = {group: up.places for group, up in session.ups(groups).items()}, set(groups)
     of_groups: Exceptions = {
         "pg_upmap": [entry for entry in entries_of(new, "pg_upmap") if entry[0] in own],
         "pg_upmap_items": [entry for entry in entries_of(new, "pg_upmap_items") if entry[0] in own],
     }
-    found = cleaned(judge, present_of(new), raw, of_groups)
-    return {
-        **found.gone,
-        **{group: Reason("pairs that do nothing", "some of them do nothing") for group in found.fewer},
-    }
+    found, idle = cleaned(judge, present_of(new), raw, of_groups), Reason(
+        "pairs that do nothing", "some of them do nothing"
+    )
+    return {group: found.gone.get(group, idle) for group in groups}
 
 
 def reason_words(reasons: Iterable[Reason]) -> str:

@@ -21,7 +21,7 @@ from ..cluster.imports import ImportedCluster, imported
 from ..cluster.sources import Source
 from ..cluster.view import ClusterView
 from ..faults import Misuse
-from ..output.hold_words import hold_lines, hold_script
+from ..output.hold_words import ROUND, hold_lines, hold_script
 from ..output.json_forms import put_json
 from ..output.plan_scripts import put_batches
 from ..plans.hold import Hold, Sides, counts_in, hold_of, mapped_sets, sides_of_change
@@ -111,26 +111,37 @@ def sides_of(options: HoldOptions) -> Sides:
     return Sides(mapped_sets(old, program), counts_in(old), new, frozenset())
 
 
-def put_scripts(hold: Hold, options: HoldOptions) -> None:
-    """Puts out the commands, or those that take them back, as one script or in files; nothing where there are none."""
+def scripts_of(hold: Hold, options: HoldOptions) -> list[str]:
+    """The commands, or those that take them back, as one script or in parts; none where there are no commands."""
     lines = hold.undo if options.is_undo else hold.commands
     size = options.batch or max(len(lines), 1)
     parts = [lines[at : at + size] for at in range(0, len(lines), size)]
-    texts = [hold_script(hold, options.is_undo, options.is_made, at + 1, parts) for at in range(len(parts))]
-    if options.to is not None:
-        put_batches(options.to, "undo" if options.is_undo else "hold", texts)
+    return [hold_script(hold, options.is_undo, options.is_made, at + 1, parts) for at in range(len(parts))]
+
+
+def check_printed(hold: Hold, scripts: list[str], options: HoldOptions) -> None:
+    """Has the program judge what is to be put out. A fault where it is not what is told."""
+    commands, undo, printed = "\n".join(hold.commands), "\n".join(hold.undo), hold.printed(options.old.program)
+    if options.is_json:
+        printed.check_scripts([commands], [], [undo])
+    elif options.is_undo:
+        printed.check_scripts([commands], [], scripts, ROUND)
     else:
-        print("".join(texts), end="")
+        printed.check_scripts(scripts, [], [], ROUND)
 
 
 def work(options: HoldOptions) -> None:
     """Tells the exceptions that hold groups, and which are not held."""
     hold = hold_of(sides_of(options), options.old.program)
+    scripts = scripts_of(hold, options)
+    check_printed(hold, scripts, options)
     print("\n".join(hold_lines(hold)), file=sys.stderr)
     if options.is_json:
         put_json("hold", hold.epoch, **hold.told(), commands=hold.commands, undo=hold.undo)
+    elif options.to is not None:
+        put_batches(options.to, "undo" if options.is_undo else "hold", scripts)
     else:
-        put_scripts(hold, options)
+        print("".join(scripts), end="")
 
 
 def add_to(commands_of: Commands) -> None:

@@ -1,8 +1,9 @@
 """`plan`: a plan that evens a whole cluster, as the commands that Ceph takes, on standard output.
 
 The proved balancer plans each pool beside what its OSDs carry from all others, so that the cluster gets more even too:
-by groups, and with --df by bytes. The plan ends where no two OSDs differ by more than twice --deviation groups; 0.5 is
-the whole plan. The first commands are worth most. With --pool only these pools are planned, for the sake of all; with
+by groups, and with --df by bytes. A plan of a pool moves only between OSDs that differ by more than twice --deviation
+groups; 0.5 is every move. Pools are planned in rounds, so a second plan over the first may find a few commands. The
+first commands are worth most. With --pool only these pools are planned, for the sake of all; with
 --alone each pool is planned by itself. Standard error tells how even the cluster is before and after, and then each
 pool.
 
@@ -45,9 +46,10 @@ from ..plans.after_plan import quiet_deviation, rested_after
 from ..plans.movement import PlaceBytes, place_bytes
 from ..plans.parts import ALL
 from ..plans.plan import Outcome, Wish, misplaced_in, outage_in, planned
+from ..plans.printed import Printed
 from ..plans.rounds import Live, MOST_MOVES
 from ..plans.steps import steps_by_pool
-from ..program.maps import Map, Pool, altered
+from ..program.maps import Map, Pool, Program, altered
 from ..progress import doing
 from .arguments import Arguments, Commands, add_files, add_json, set_work, source_of
 
@@ -62,10 +64,11 @@ LEAST, FARTHEST = Fraction(1, 2), 65536
 class ToldPlan:
     """What is told of plans: the epoch of the map, what the plans are, what the groups weigh, names, from which number
     on Ceph's own balancer leaves the plan alone, if that is known; and of dumps the groups whose named primary does
-    nothing any more afterwards, the release that clients must have at least, and what is still to come from before.
+    nothing any more afterwards, the release that clients must have at least, and what is still to come from before; and
+    by what the commands are judged before they are put out.
     """
 
-    __slots__ = ("epoch", "outcome", "weights", "names", "quiet", "rested", "client", "misplaced")
+    __slots__ = ("epoch", "outcome", "weights", "names", "quiet", "rested", "client", "misplaced", "printed")
 
     epoch: int
     outcome: Outcome
@@ -75,6 +78,7 @@ class ToldPlan:
     rested: list[str]
     client: str | None
     misplaced: Misplaced | None
+    printed: Printed
 
     def lines(self, deviation: Fraction | None) -> list[str]:
         """All that is told of plans on standard error."""
@@ -166,6 +170,13 @@ def wish_of(options: PlanOptions, pools: list[Pool], names: Names, held: Held) -
     return Wish(named_pools, options.deviation, most, batch, *forms, data, held.nearfull)
 
 
+def printed_over(lives: list[Live], outcome: Outcome, program: Program) -> Printed:
+    """By what the commands of plans are judged."""
+    maps = [live.value for live in lives]
+    down = frozenset(osd["id"] for value in maps for osd in value["osds"] if osd["exists"] and not osd["up"])
+    return Printed(maps, program, {step.group: step.now for step in outcome.steps}, outcome.measure, down, False)
+
+
 def told_by(lives: list[Live], options: PlanOptions, names: Names, held: Held, epoch: int) -> ToldPlan:
     """The plans over some sessions, which end with them. A fault where a pool that is named gets none."""
     check_outage(outage_in(lives), options.is_anyway)
@@ -180,7 +191,8 @@ def told_by(lives: list[Live], options: PlanOptions, names: Names, held: Held, e
     if refused and options.pools:
         raise Fault(*(f"{parts['name']}: {refusal_words(parts['refused'] or '')}" for parts in refused))
     weighed = [pool for pool in pools if pool["id"] in {parts["id"] for parts in outcome.pools}]
-    return ToldPlan(epoch, outcome, place_bytes(weighed, data), names, quiet_deviation(lives, outcome), [], None, None)
+    quiet, printed = quiet_deviation(lives, outcome), printed_over(lives, outcome, options.source.program)
+    return ToldPlan(epoch, outcome, place_bytes(weighed, data), names, quiet, [], None, None, printed)
 
 
 def plan_of_map(options: PlanOptions, known: KnownData) -> ToldPlan:
@@ -278,28 +290,44 @@ def script_of(told: ToldPlan, options: PlanOptions, number: int = 1, count: int 
     return Script(f"A plan over epoch {told.epoch}{part}", before + notes, told.weights, told.names)
 
 
-def put_parts(told: ToldPlan, options: PlanOptions) -> None:
-    """Writes the plan, or the way back from it, in parts of so many commands of the plan."""
-    parts, found = told.outcome.parts, []
+def scripts_of(told: ToldPlan, options: PlanOptions) -> list[str]:
+    """The scripts of the plan, or of the way back from it: one, or one for each part of so many commands of the plan."""
+    parts = told.outcome.parts if options.batch is not None else [told.outcome.steps] if told.outcome.steps else []
+    found = []
     for number, part in enumerate(parts, 1):
         steps = [step.undone() for step in part] if options.is_undo else part
         found.append(script_of(told, options, number, len(parts)).text(steps))
-    put_batches(options.to or "", "undo" if options.is_undo else "plan", found)
+    return found
+
+
+def check_printed(told: ToldPlan, scripts: list[str], options: PlanOptions) -> None:
+    """Has the program judge what is to be put out. A fault where it is not what is told."""
+    steps, lengths = told.outcome.steps, [sum(len(step.commands) for step in part) for part in told.outcome.parts]
+    commands = "\n".join(line for step in steps for line in step.commands)
+    undo = "\n".join(line for step in steps for line in step.undo)
+    if not steps:
+        return
+    if options.is_json:
+        told.printed.check_scripts([commands], lengths, [undo])
+    elif options.is_undo:
+        told.printed.check_scripts([commands], lengths, scripts)
+    else:
+        told.printed.check_scripts(scripts, lengths, [])
 
 
 def work(options: PlanOptions) -> None:
     """Asks the program for its plans, in one session a map, and tells them."""
     known = known_data(options.data)
     told = plan_of_dumps(options, known) if options.source.has_dumps else plan_of_map(options, known)
+    scripts = scripts_of(told, options)
+    check_printed(told, scripts, options)
     print("\n".join(told.lines(options.deviation)), file=sys.stderr)
     if options.is_json:
         put_plan_json(told)
-        return
-    if options.batch is not None:
-        put_parts(told, options)
-        return
-    steps = [step.undone() for step in told.outcome.steps] if options.is_undo else told.outcome.steps
-    print(script_of(told, options).text(steps) if steps else "", end="")
+    elif options.batch is not None:
+        put_batches(options.to or "", "undo" if options.is_undo else "plan", scripts)
+    else:
+        print("".join(scripts), end="")
 
 
 # The command line
@@ -355,8 +383,8 @@ def add_to(commands_of: Commands) -> None:
         "--deviation",
         metavar="D",
         type=distance,
-        help="move only between OSDs that differ by more than 2 D groups (1 where nothing is said; 0.5 is the whole "
-        "plan); with --alone: only as many moves as bring each OSD within D groups of its share",
+        help="move only between OSDs that differ by more than 2 D groups (1 where nothing is said; 0.5 is every "
+        "move); with --alone: only as many moves as bring each OSD within D groups of its share",
     )
     own.add_argument("--alone", action="store_true", help="plan each pool by itself, whatever OSDs carry from others")
     own.add_argument(

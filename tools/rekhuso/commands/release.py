@@ -98,16 +98,25 @@ def script_of(found: Release, cluster: Cluster, options: ReleaseOptions, number:
     return Script(f"Releases held groups over epoch {found.epoch}{part}", before + notes, weights, cluster.all_names())
 
 
-def put_scripts(found: Release, cluster: Cluster, options: ReleaseOptions) -> None:
-    """Puts out the parts, or the way back from them: as one script, or as files of a folder."""
+def scripts_of(found: Release, cluster: Cluster, options: ReleaseOptions) -> list[str]:
+    """The parts, or the way back from them, a script each."""
     texts = []
     for number, part in enumerate(found.parts, 1):
         steps = [step.undone() for step in part] if options.is_undo else part
         texts.append(script_of(found, cluster, options, number).text(steps))
-    if options.to is not None:
-        put_batches(options.to, "undo" if options.is_undo else "release", texts)
+    return texts
+
+
+def check_printed(found: Release, scripts: list[str], options: ReleaseOptions) -> None:
+    """Has the program judge what is to be put out. A fault where it is not what is told."""
+    parts = ["\n".join(line for step in part for line in step.commands) for part in found.parts]
+    undo = ["\n".join(line for step in part for line in step.undo) for part in found.parts]
+    if options.is_json:
+        found.printed.check_scripts(parts, found.lengths, undo)
+    elif options.is_undo:
+        found.printed.check_scripts(parts, found.lengths, scripts)
     else:
-        print("".join(texts), end="")
+        found.printed.check_scripts(scripts, found.lengths, [])
 
 
 def put_release_json(found: Release) -> None:
@@ -137,11 +146,15 @@ def work(options: ReleaseOptions) -> None:
     check_still(moving_words(cluster, program), options.is_anyway, "released")
     kept = kept_in(options.keep, cluster)
     found = release_of(cluster, kept, options.is_planned, options.batch or ALL, program)
+    scripts = scripts_of(found, cluster, options)
+    check_printed(found, scripts, options)
     print("\n".join(release_lines(found)), file=sys.stderr)
     if options.is_json:
         put_release_json(found)
+    elif options.to is not None:
+        put_batches(options.to, "undo" if options.is_undo else "release", scripts)
     else:
-        put_scripts(found, cluster, options)
+        print("".join(scripts), end="")
 
 
 class Dumps(Files):

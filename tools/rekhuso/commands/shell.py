@@ -44,6 +44,7 @@ HELP = {
     "and what an OSD counts as having beside its groups",
     "follow": "follow: the session's follower goes on to the last epoch",
     "fup": "fup PG: the up set of a group by the follower's map",
+    "fkept": "fkept PG: what Ceph's monitor would leave of a group's exceptions at the follower's map; under --stock",
     "fdump": "fdump: the follower's map as one line of JSON",
     "save": "save FILE: writes the map as it is, for a later start",
     "help": "help [COMMAND]: this",

@@ -27,6 +27,8 @@ AFTER = [
 ]
 NEEDS_CHANGE = '[ $# -gt 0 ] || { echo "give the command of the change behind the name of this script" >&2; exit 2; }'
 BEGIN, CHANGE, END = ["ceph balancer off", "ceph osd set norebalance"], '"$@"', "ceph osd unset norebalance"
+# The lines of a script that are no commands on exceptions.
+ROUND = [NEEDS_CHANGE, *BEGIN, CHANGE, END]
 
 
 def hold_lines(hold: Hold) -> list[str]:

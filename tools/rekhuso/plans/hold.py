@@ -21,9 +21,10 @@ from ..cluster.reasons import reasons
 from ..cluster.releases import least_client
 from ..faults import Fault
 from ..output.json_forms import HoldParts
-from ..program.maps import Exceptions, Program, entries_of, group_key, groups_in, groups_of, with_all_up
+from ..program.maps import Exceptions, Map, Program, entries_of, group_key, groups_in, groups_of, with_all_up
 from ..words import counted
 from .holding import Held, Holder, exceptions_of
+from .printed import Printed
 
 
 @dataclass(frozen=True)
@@ -42,17 +43,22 @@ class Sides:
 
 @dataclass(frozen=True)
 class Hold:
-    """What holds groups: the release that clients must have, if the dump tells it; each group that was there, the set
-    that it would have by the change alone, the commands, and those that take them back.
+    """What holds groups: the maps behind the change; the release that clients must have, if the dump tells it; each group
+    that was there, the set that it would have by the change alone, the commands, and those that take them back.
     """
 
-    __slots__ = ("epoch", "client", "groups", "would", "commands", "undo")
+    __slots__ = ("epoch", "maps", "client", "groups", "would", "commands", "undo")
     epoch: int
+    maps: list[Map]
     client: str | None
     groups: list[Held]
     would: Mapping[str, Places]
     commands: list[str]
     undo: list[str]
+
+    def printed(self, program: Program) -> Printed:
+        """By what the commands are judged before they are put out."""
+        return Printed(self.maps, program, {own.group: own.now for own in self.groups}, None, frozenset(), True)
 
     def moving(self) -> list[Held]:
         """The groups that would move by the change alone."""
@@ -155,7 +161,8 @@ def hold_of(sides: Sides, program: Program) -> Hold:
     new = sides.new
     groups = [group for pool in new.pools for group in groups_in(pool_of(pool))]
     there = [group for group in groups if group_key(group)[0] in sides.counts]
-    raw = raw_sets([map_of(part) for part in map_clusters(new)], set(groups), program)
+    maps = [map_of(part) for part in map_clusters(new)]
+    raw = raw_sets(maps, set(groups), program)
     holder, found = Holder(new, raw), []
     for group in sorted(there, key=group_key):
         source = group if group in sides.has else split_group(group, sides.counts[group_key(group)[0]])
@@ -166,7 +173,7 @@ def hold_of(sides: Sides, program: Program) -> Hold:
     explicit, items = new.exceptions
     undo = exception_commands(goal, of_groups({"pg_upmap": explicit, "pg_upmap_items": items}, there))
     lines = exception_commands(kept_apart(now, goal, sides.lost), goal)
-    return Hold(new.epoch, least_client(new.osd_dump), found, would, lines, undo)
+    return Hold(new.epoch, maps, least_client(new.osd_dump), found, would, lines, undo)
 
 
 def hold_of_change(cluster: Cluster, steps: list[Command], program: Program) -> Hold:

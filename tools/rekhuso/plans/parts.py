@@ -3,23 +3,40 @@
 from __future__ import annotations
 
 import sys
+from dataclasses import replace
 
+from .bounds import Measure
 from .measures import Measures
-from .step_order import StepOrder, parts_in_order
+from .step_order import StepOrder, has_after, parts_in_order
 from .steps import PlanStep
 
 # As much as anyone asks for.
 ALL = sys.maxsize
 
 
-def order_of_steps(measures: Measures, steps: list[PlanStep], first: frozenset[str], nearfull: float) -> StepOrder:
-    """The steps of a plan as they are to be put in order: those first that are worth most, and before all others those
-    of some groups. No disk that is known gets nearer to full than to a ratio.
+def filling(measures: Measures, nearfull: float) -> Measure:
+    """By what OSDs are full before a plan: bytes where it is known what pools hold, else groups. No disk that is known
+    gets nearer to full than to a ratio.
     """
     used = measures.bytes()
     if used is None or measures.aims is None or not used.osds():
-        return StepOrder(measures.groups(measures.counts), None, steps, first)
-    return StepOrder(used, measures.sizes, steps, first, measures.aims.limits(nearfull))
+        spread = measures.groups(measures.counts)
+        return Measure(spread, None, spread.has, {})
+    return Measure(used, measures.sizes, used.has, measures.aims.limits(nearfull))
+
+
+def order_of_steps(measures: Measures, steps: list[PlanStep], first: frozenset[str], nearfull: float) -> StepOrder:
+    """The steps of a plan as they are to be put in order: those first that are worth most, and before all others those
+    of some groups.
+    """
+    own = filling(measures, nearfull)
+    return StepOrder(own.spread, own.sizes, steps, first, own.limits)
+
+
+def measure_of_steps(measures: Measures, steps: list[PlanStep], nearfull: float) -> Measure:
+    """By what the commands of a plan are judged, all of whose steps these are."""
+    own = filling(measures, nearfull)
+    return replace(own, end=has_after(own.spread.has, own.sizes, steps))
 
 
 def ordered_parts(order: StepOrder, most: int, batch: int) -> list[list[PlanStep]]:

@@ -4,7 +4,7 @@ from __future__ import annotations
 
 from collections.abc import Callable
 from contextlib import ExitStack
-from dataclasses import dataclass
+from dataclasses import dataclass, replace
 from fractions import Fraction
 
 from ..cluster.cleanup import going, reason_words
@@ -19,12 +19,13 @@ from ..cluster.view import ClusterView
 from ..faults import Fault
 from ..output.json_forms import ClusterParts, DataParts, HindranceParts, PlanParts
 from ..program.maps import Program, group_key
+from .bounds import Measure
 from .measures import Measures, counts_after, pool_spread
 from .byte_aims import ByteAims
 from .byte_rounds import Passed, planned_by_data
 from .mend import mended
 from .pairs import settled
-from .parts import ALL, order_of_steps, ordered_parts
+from .parts import ALL, measure_of_steps, order_of_steps, ordered_parts
 from .pool_plans import PoolPlan, pool_plans
 from .rounds import Live, Planner, barred_words, left_out
 from .steps import PlanStep, appended_pairs, batches, in_old_order, steps_by_pool, steps_of
@@ -64,11 +65,11 @@ DEFAULT_WISH = Wish(frozenset(), None, ALL, ALL, False, False, None, NEARFULL)
 class Outcome:
     """What plans are: the steps in the parts in which they are taken, the groups whose steps were taken out for the
     sake of the cluster, what is told of each pool and of the cluster before and after, the pool with most data, if it
-    is known, the OSDs that would get nearfull by steps that are left for their sake, each with how many, and what is
-    told of the data.
+    is known, the OSDs that would get nearfull by steps that are left for their sake, each with how many, what is told of
+    the data, and by what OSDs are full on the way, where the steps stand in an order.
     """
 
-    __slots__ = ("parts", "taken_out", "pools", "before", "after", "largest", "stopped", "data")
+    __slots__ = ("parts", "taken_out", "pools", "before", "after", "largest", "stopped", "data", "measure")
 
     parts: list[list[PlanStep]]
     taken_out: list[str]
@@ -78,6 +79,7 @@ class Outcome:
     largest: int | None
     stopped: dict[int, int]
     data: DataParts | None
+    measure: Measure | None
 
     @property
     def steps(self) -> list[PlanStep]:
@@ -226,7 +228,7 @@ def outcome_of(
     pools = [pool_parts(measures, number, made, after[number], of_pool.get(number, [])) for number in wanted]
     ends = measures.told(measures.counts), measures.told(after, steps)
     data = measures.data_parts(steps, made.stays)
-    return Outcome(parts, taken_out, pools, *ends, measures.largest(), stopped, data)
+    return Outcome(parts, taken_out, pools, *ends, measures.largest(), stopped, data, None)
 
 
 def planned(lives: list[Live], wish: Wish, tell: Callable[[str], None] = silent) -> Outcome:
@@ -240,7 +242,8 @@ def planned(lives: list[Live], wish: Wish, tell: Callable[[str], None] = silent)
         return outcome_of(measures, wanted, made, batches(kept, wish.batch), without(made.steps, kept), {})
     order = order_of_steps(measures, kept, made.first, wish.nearfull)
     parts = ordered_parts(order, wish.most, wish.batch)
-    return outcome_of(measures, wanted, made, parts, without(made.steps, kept), order.stopped())
+    found = outcome_of(measures, wanted, made, parts, without(made.steps, kept), order.stopped())
+    return replace(found, measure=measure_of_steps(measures, kept, wish.nearfull))
 
 
 def pool_parts(

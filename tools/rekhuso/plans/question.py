@@ -7,17 +7,8 @@ from contextlib import ExitStack
 from dataclasses import dataclass
 
 from ..cluster.affinity import affinities_of, all_with_affinity, applied_words
-from ..cluster.aftermath import (
-    Aftermath,
-    Arrival,
-    Command,
-    NewMap,
-    StateChange,
-    aftermath,
-    excepted_groups,
-    exceptions_in,
-)
-from ..cluster.cleanup import reason_words
+from ..cluster.aftermath import Aftermath, Arrival, Command, NewMap, StateChange, aftermath, exceptions_in
+from ..cluster.cleanup import excepted_groups, reason_words
 from ..cluster.conversion import map_of, monitor_of
 from ..cluster.difference import moved_parts
 from ..cluster.flows import fewer_in, flows, fullest_by_count, fullest_by_share, short_in

@@ -23,8 +23,10 @@ from ..output.json_forms import PeakParts
 from ..program.answers import Up
 from ..program.maps import Exceptions, Pool, Program, entries_of, group_key
 from ..words import counted
+from .bounds import Measure
 from .parts import ALL
 from .plan import DEFAULT_WISH, opened, planned
+from .printed import Printed
 from .question import sets_of_maps
 from .step_order import StepOrder, parts_in_order
 from .steps import PlanStep, by_group
@@ -32,17 +34,20 @@ from .steps import PlanStep, by_group
 
 @dataclass(frozen=True)
 class Release:
-    """How held groups are let go: the epoch, the pools, the steps in their parts, and how many groups the fullest OSD
-    has before all of them, while each of them moves, and at the end.
+    """How held groups are let go: the epoch, the pools, the steps in their parts, how many groups the fullest OSD has
+    before all of them, while each of them moves, and at the end; and by what the commands are judged, in
+    parts of so many.
     """
 
-    __slots__ = ("epoch", "pools", "parts", "peaks", "before", "after")
+    __slots__ = ("epoch", "pools", "parts", "peaks", "before", "after", "printed", "lengths")
     epoch: int
     pools: list[Pool]
     parts: list[list[PlanStep]]
     peaks: list[PeakParts]
     before: int
     after: int
+    printed: Printed
+    lengths: list[int]
 
     @property
     def steps(self) -> list[PlanStep]:
@@ -93,6 +98,11 @@ def counts_of(ups: Mapping[str, Up]) -> Counter[int]:
     return Counter(osd for up in ups.values() for osd in set(up.places) if osd is not None)
 
 
+def most_of(counts: Counter[int]) -> int:
+    """How many groups the fullest OSD has."""
+    return max(counts.values(), default=0)
+
+
 def peaks_of(has: Counter[int], parts: list[list[PlanStep]]) -> list[PeakParts]:
     """How full the fullest OSD gets to which places come, part by part, where all that comes in a part counts and
     nothing that goes.
@@ -134,7 +144,10 @@ def release_of(cluster: Cluster, kept: Exceptions, is_planned: bool, most: int, 
     ]
     has, share = counts_of(was), end.shares(to).wanted
     parts = parts_in_order(StepOrder(Spread(dict(has), share), None, steps), most, False)
+    lengths = [sum(len(step.commands) for step in part) for part in parts]
     if most == ALL and parts:
         parts = [[step for part in parts for step in part]]
-    after = max(counts_of(to).values(), default=0)
-    return Release(cluster.epoch, pools, parts, peaks_of(Counter(has), parts), max(has.values(), default=0), after)
+    after, down = counts_of(to), frozenset(osd for osd, own in cluster.osds.items() if not own["up"])
+    sets, measure = {step.group: step.now for step in steps}, Measure(Spread({}, share), None, dict(after), {})
+    peaks, printed = peaks_of(Counter(has), parts), Printed(before.maps, program, sets, measure, down, False)
+    return Release(cluster.epoch, pools, parts, peaks, most_of(has), most_of(after), printed, lengths)

@@ -32,6 +32,13 @@ class Moved(NamedTuple):
     epoch: int
 
 
+class Left(NamedTuple):
+    """What Ceph's monitor would leave of a group's exceptions at an epoch: `all`, `fewer` or `gone`."""
+
+    epoch: int
+    what: str
+
+
 def up_of(answer: str) -> Up:
     """The up set that an answer tells."""
     _, epoch, _, places, primary = answer.split(" ")
@@ -46,6 +53,12 @@ def ups_of(answers: list[str]) -> list[Up]:
     sets = json.loads(f"[{','.join(words[3::5])}]".replace("none", "null"))
     primaries = (None if word == "-1" else int(word) for word in words[4::5])
     return list(map(Up, map(int, words[1::5]), sets, primaries))
+
+
+def left_of(answer: str) -> Left:
+    """What an answer tells of a group's exceptions."""
+    _, epoch, _, what = answer.split(" ")
+    return Left(int(epoch), what)
 
 
 def balance_line(pool: int, most: int, apart: int = 256, carried: Mapping[int, int] | None = None) -> str:

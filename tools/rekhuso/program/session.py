@@ -8,12 +8,15 @@ from collections.abc import Callable, Iterable, Mapping
 from itertools import islice
 from typing import IO, NoReturn
 
-from ..faults import Closed
+from ..faults import Closed, Fault, Refused
 from ..progress import doing
 from ..words import counted
-from .answers import Made, Moved, Up, accepted_answer, balance_line, up_of, ups_of
+from .answers import Left, Made, Moved, Up, accepted_answer, balance_line, left_of, up_of, ups_of
 from .maps import Map, written
 from .process import Patience
+
+# The number of the refusal of a line that the program does not have.
+NO_LINE = 33
 
 
 class Session:
@@ -124,6 +127,31 @@ class Session:
     def text(self) -> str:
         """The written form of the map as it is."""
         return self.one("dump").removeprefix("dump ")
+
+    # The follower
+
+    def follow(self) -> int:
+        """Takes the session's follower on to the last change, and tells the epoch that it has then reached."""
+        return int(self.one("follow").split(" ")[1])
+
+    def follower_kept(self, group: str) -> Left:
+        """What Ceph's monitor would leave of a group's exceptions at the follower's map; of a group without any, whether
+        one could stay at the set that it has. A map under `stock` alone takes it.
+        """
+        return left_of(self.one(f"fkept {group}"))
+
+    def left(self, groups: Iterable[str]) -> dict[str, str]:
+        """What Ceph's monitor would leave of the exceptions of each group at the map as it is: `all`, `fewer` or `gone`.
+        A fault where the program has no such line.
+        """
+        asked = list(groups)
+        try:
+            answers = self.ask(["follow", *(f"fkept {group}" for group in asked)])[1:]
+        except Refused as refused:
+            if refused.number != NO_LINE:
+                raise
+            raise Fault("the program has no line `fkept`: it is older than these tools, or has no --stock") from None
+        return {group: left_of(answer).what for group, answer in zip(asked, answers)}
 
     # Changes
 
