@@ -1,6 +1,6 @@
 #!/usr/bin/env python3
 """What lawful input costs that is not ordinary: unequal racks, plans that find little to move, rules that try in vain,
-clusters of a thousand disks, many exceptions, long journals and answers.
+clusters of a thousand disks, many exceptions, changes of all groups, long journals and answers.
 
     cliffs.py PROGRAM
 
@@ -45,19 +45,19 @@ CHANGES, MOVING, KEPT, ASKED = 40_000, 4_000, 20_000, 20_000
 MIDDLE = "16.800"
 
 
-def racks(hosts: Any, size: int = 3) -> Any:
-    """Racks of so many hosts of 8 OSDs each, and a pool of so many copies over racks."""
+def racks(hosts: Any, size: int = 3, groups: int = GROUPS, kind: str = "list") -> Any:
+    """Racks of so many hosts of 8 OSDs each, and a pool of so many groups and copies over racks."""
     count = sum(hosts) * 8
-    buckets = [{"id": -1, "items": [[-2 - r, n * 8 * 65536] for r, n in enumerate(hosts)], "kind": "list", "type": 3}]
+    buckets = [{"id": -1, "items": [[-2 - r, n * 8 * 65536] for r, n in enumerate(hosts)], "kind": kind, "type": 3}]
     host, first = -2 - len(hosts), 0
     for r, n in enumerate(hosts):
-        buckets.append({"id": -2 - r, "items": [[host - h, 8 * 65536] for h in range(n)], "kind": "list", "type": 2})
+        buckets.append({"id": -2 - r, "items": [[host - h, 8 * 65536] for h in range(n)], "kind": kind, "type": 2})
         for h in range(n):
-            buckets.append({"id": host - h, "items": [[first + i, 65536] for i in range(8)], "kind": "list", "type": 1})
+            buckets.append({"id": host - h, "items": [[first + i, 65536] for i in range(8)], "kind": kind, "type": 1})
             first += 8
         host -= n
-    stated = a_map(buckets, count, [["chooseleaf_firstn", 0, 2]], 1, GROUPS)
-    stated["pools"] = [pool(1, GROUPS, size)]
+    stated = a_map(buckets, count, [["chooseleaf_firstn", 0, 2]], 1, groups)
+    stated["pools"] = [pool(1, groups, size)]
     return stated
 
 
@@ -151,6 +151,42 @@ def a_key(runs: Folder, stated: Any, count: Any) -> Any:
     return a_change(runs, stated, [f'"new_items":[["{MIDDLE}",[[61,63]]]]', f'"old_items":["{MIDDLE}"]'], count)
 
 
+def wide_pools(count: int, size: int, groups: int = 65_536, pools: int = 1) -> Any:
+    """Pools of so many groups of a size over so many OSDs in one straw2 bucket."""
+    bucket = {"id": -1, "items": [[osd, 65536] for osd in range(count)], "kind": "straw2", "type": 10}
+    stated = a_map([bucket], count, [["choose_firstn", 0, 0]], pools, groups)
+    stated["pools"] = [pool(number, groups, size) for number in range(1, pools + 1)]
+    return stated
+
+
+def other_sets(stated: Any) -> str:
+    """The part of a change that gives each group of the first pool an explicit set."""
+    count, size = stated["max_osd"], stated["pools"][0]["size"]
+    sets = [
+        [f"1.{group:x}", [(group * 7 + place) % count for place in range(size)]]
+        for group in range(stated["pools"][0]["pg_num"])
+    ]
+    return f'"new_upmap":{json.dumps(sets, separators=(",", ":"))}'
+
+
+def a_pair_each(stated: Any) -> str:
+    """The part of a change that gives each group of all pools a pair."""
+    pairs = [[f"{own['id']}.{group:x}", [[62, 63]]] for own in stated["pools"] for group in range(own["pg_num"])]
+    return f'"new_items":{json.dumps(pairs, separators=(",", ":"))}'
+
+
+def many_at_once(runs: Folder) -> Iterator[Any]:
+    """Changes that name as many groups as a line may, beyond the same lines refused. Goals are waits that a person
+    hardly notices, or a little longer."""
+    for name, value, named, goal in (
+        ("explicit sets for 65,536 groups of size 20 over 40 OSDs", wide_pools(40, 20), other_sets, 300),
+        ("explicit sets for 65,536 groups of size 3 over 6 OSDs", wide_pools(6, 3), other_sets, 100),
+        ("a pair for each of 1,048,576 groups of 256 pools", wide_pools(64, 3, 4096, 256), a_pair_each, 800),
+    ):
+        stated = runs.map(value)
+        yield goal_row(f"one change: {name}", lambda: a_change(runs, stated, [named(value)], 1) / 1e3, "ms", goal)
+
+
 def kept(runs: Folder) -> Any:
     """The bytes that a change takes in the journal."""
 
@@ -182,6 +218,9 @@ def plans(runs: Folder) -> Iterator[Any]:
         ("3 racks of 32, 32, 64 hosts", racks((32, 32, 64)), 300),
         ("10 racks of 1 to 10 hosts, groups of 10", racks(range(1, 11), 10), None),
         ("64 OSDs in 8 hosts, one of a thousandfold weight", one_heavy(), None),
+        ("3 racks of 128, 128, 256 hosts, 65,536 groups, straw2", racks((128, 128, 256), 3, 65_536, "straw2"), 600),
+        ("20 racks of 2 to 21 hosts, groups of 20, straw2", racks(range(2, 22), 20, GROUPS, "straw2"), 300),
+        ("the same, 65,536 groups", racks(range(2, 22), 20, 65_536, "straw2"), 1_500),
     ):
         stated = runs.map(value)
         yield goal_row(f"`balance` over {name}", lambda: planned(runs, stated), "ms", goal)
@@ -306,7 +345,7 @@ def memory(runs: Folder) -> Iterator[Any]:
 
 def rows(runs: Folder) -> Iterator[Any]:
     """All rows, one after another."""
-    for part in (plans, stuck_rows, in_vain_rows, cluster_rows, exceptions, memory):
+    for part in (plans, stuck_rows, in_vain_rows, cluster_rows, exceptions, many_at_once, memory):
         yield from part(runs)
 
 

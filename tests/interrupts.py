@@ -44,6 +44,11 @@ except KeyboardInterrupt:
 class Interrupts(ToolCase):
     """Ctrl-C, and the end of a program beside its tool."""
 
+    def setUp(self) -> None:
+        super().setUp()
+        # In the background of a shell Ctrl-C is ignored, which what is started from there would take over.
+        self.addCleanup(signal.signal, signal.SIGINT, signal.signal(signal.SIGINT, signal.default_int_handler))
+
     def test_shell_whose_program_goes(self) -> None:
         """Where the program is ended beside the shell, the shell says so and has failed."""
         pipe = subprocess.PIPE

@@ -18,7 +18,8 @@ from typing import Any
 from tests import model
 from tests.cases import RowCase
 from tests.clusters import Json
-from tests.runs import Check
+from tests.rows import MAPS, with_values, written
+from tests.runs import Check, Run
 
 # The pools of a map by their numbers.
 Pools = dict[int, Json]
@@ -229,6 +230,25 @@ def histories(way: str, kinds: tuple[str, ...]) -> Iterator[Check]:
         yield Check(f"{CHANGES} tables that patches led to{way}, seed {seed}", work_of(seed))
 
 
+def idle_changes(count: int) -> Run:
+    """So many changes that evaluate nothing, over as many groups as a pool may have: each gives an OSD that no rule
+    reaches another reweight. A table that were built anew for each would take past the limit."""
+    osds = [{"exists": True, "id": osd, "up": True, "weight": 65536} for osd in range(11)]
+    pool = {"pools/0/pg_num": 65536, "pools/0/pgp_num": 65536, "pools/0/size": 10}
+    items = {"buckets/0/items": [[osd, 65536] for osd in range(10)], "max_osd": 11, "osds": osds}
+    lines, answers = [], ["session 1"]
+    for base in range(1, 1 + count):
+        lines.append("change " + written({"base": base, "weight": [[10, base]]}))
+        answers.append(f"ok {base + 1} evals 0")
+    files: dict[str, str | bytes | None] = {
+        "map": written(with_values(MAPS["one device"], pool | items)),
+        "script": "".join(line + "\n" for line in lines),
+    }
+    output = "".join(answer + "\n" for answer in answers)
+    words = ["--stock", "--journal", "65536", "map", "script"]
+    return Run(f"{count} changes without evaluations", files, output, arguments=words)
+
+
 class PatchedTables(RowCase):
     """Histories of random changes."""
 
@@ -239,3 +259,7 @@ class PatchedTables(RowCase):
     def test_stock(self) -> None:
         """Under `--stock` they are those of the model too."""
         self.check_runs(histories(" under --stock", STOCK))
+
+    def test_idle_changes(self) -> None:
+        """A change costs what it evaluates, however many groups there are."""
+        self.check_runs([idle_changes(10_000)])

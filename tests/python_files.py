@@ -3,6 +3,8 @@
 What needs a tool that is not there is not run, and that is told.
 """
 
+import os
+import pathlib
 import shutil
 import sys
 import tempfile
@@ -56,3 +58,15 @@ class PythonFiles(Case):
         first, *reasons = told.splitlines()
         self.assertEqual((status, first.split(" (")[0]), (0, "python_files: 0 of 0 runs passed, 1 NOT RUN"))
         self.assertEqual(reasons, [f"python_files: NOT RUN, since there is no mypy: {self.test_types.__doc__}"])
+
+    def test_what_has_failed(self) -> None:
+        """The summary of all tests names at its end each test that has failed."""
+        with tempfile.TemporaryDirectory() as folder:
+            mypy = pathlib.Path(folder) / "mypy"
+            mypy.write_text("#!/bin/sh\nexit 1\n")
+            mypy.chmod(0o755)
+            words = [sys.executable, HERE / "run.py", "--table", "python_files", "--only", "test_types", self.program]
+            status, told = ran(["env", f"PATH={folder}:{os.environ['PATH']}", *words])
+        head, name = told.splitlines()[-2:]
+        self.assertEqual((status, head.split(",")[0]), (1, "FAILED: 3 runs"))
+        self.assertEqual(name, "    tests.python_files.PythonFiles.test_types: 3")

@@ -7,7 +7,8 @@ PROGRAM is `osdmapd`, and STORE `osdmapstore`, whose tests are told as NOT RUN w
 A line is put out for each table and for each other module of tests: how many runs it had, how many passed and how many
 were not run, and how long they took. A run is a row of a test, or a test without rows. What is being run is told on
 standard error meanwhile. The tests of the tools are run four at a time. Behind them come, one by one, those that fill
-the processors themselves or must be alone. The status is 1 where a run has failed.
+the processors themselves or must be alone. Where runs have failed, their tests are named at the end, and the status is
+1.
 """
 
 import argparse
@@ -129,6 +130,7 @@ class Summary:
     def __init__(self, names: Iterable[str], most: int, shown: Shown) -> None:
         self.most, self.shown, self.passed, self.failed = most, shown, 0, 0
         self.groups: dict[str, list[Outcome]] = {}
+        self.wrong: dict[str, int] = {}
         self.left = [group_of(name) for name in names]
 
     def take(self, own: Outcome) -> None:
@@ -136,6 +138,8 @@ class Summary:
         group = group_of(own.name)
         self.left.remove(group)
         self.groups.setdefault(group, []).append(own)
+        if own.failed:
+            self.wrong[own.name] = len(own.failed)
         if group not in self.left:
             self.tell(group, [one for one in self.groups[group] if one.not_run != NO_ROW])
 
@@ -150,6 +154,12 @@ class Summary:
             line = f"{group}: {runs - len(failed)} of {runs} runs passed{lacking} ({seconds:.1f} s)"
             reasons = [f"{group}: NOT RUN, since {own.not_run}: {own.about}" for own in not_run]
             self.shown.print(*failed[: self.most], line, *reasons)
+
+    def end(self) -> Iterator[str]:
+        """Lines that name each test that has failed, with how many of its runs have."""
+        if self.wrong:
+            yield f"FAILED: {self.failed} runs, of these tests (`python3 -m unittest NAME` runs one alone):"
+            yield from (f"    {name}: {count}" for name, count in sorted(self.wrong.items()))
 
 
 def chosen(tests: Iterable[Case], only: str) -> list[tuple[Case, str]]:
@@ -210,6 +220,7 @@ def main() -> int:
     with Shown() as shown:
         summary = Summary((test.id() for test, _ in tests), options.show, shown)
         run_all(tests, summary, shown)
+    print(*summary.end(), sep="\n", end="\n" if summary.wrong else "")
     if options.total:
         print(f"{summary.passed} passed, {summary.failed} failed")
     return 1 if summary.failed else 0

@@ -9,6 +9,7 @@ import subprocess
 from collections.abc import Sequence
 
 from tests.cases import EXAMPLE
+from tests.clusters import CLUSTERS, STOCK, copied
 from tests.tool_cases import ToolCase, Tools
 
 SECONDS = 30
@@ -102,6 +103,45 @@ class ToolErrors(ToolCase):
         for files in ([osd], [osd, crush, osd]):
             with self.subTest():
                 self.is_told(self.tools.run("diff", *files), 2, "diff takes two maps, or the two dumps of each", files)
+
+    def test_changes_as_texts_and_files(self) -> None:
+        """`whatif` and `check` take a change as a text or as a file, and a file that is not there is told as that."""
+        text = '{"base":1,"weight":[[3,0]]}'
+        wanted = self.tools.run("whatif", EXAMPLE, "--out", "3", "--json")
+        self.assertEqual(wanted[0], 0, wanted)
+        lawful = self.tools.run("check", EXAMPLE, text)
+        self.assertEqual(lawful, (0, "the change: lawful: ok 2 evals 1\n", ""))
+        for change in (text, f"change {text}", f"  change {text}\n"):
+            path = self.tools.put("change", change)
+            for word in (change, path):
+                with self.subTest(change=change, word=word):
+                    self.assertEqual(self.tools.run("whatif", EXAMPLE, word, "--json"), wanted)
+                    told = "the change" if word == change else path
+                    self.assertEqual(self.tools.run("check", EXAMPLE, word), (0, f"{told}: lawful: ok 2 evals 1\n", ""))
+        osd, crush = self.tools.dumps("001-built")
+        for words in ([osd, "crash"], [osd, crush, "crash"]):
+            with self.subTest(words=words):
+                self.is_told(self.tools.run("whatif", *words, "--out", "3"), 1, "crash: No such file", words)
+        for text in ("[]", "{", ""):
+            with self.subTest(text=text):
+                path = self.tools.put("none", text)
+                self.is_told(self.tools.run("whatif", osd, crush, path), 1, f"{path}: no change: no JSON", text)
+
+    def test_dumps_of_another_kind(self) -> None:
+        """A report of a cluster, and the pools of a release before Luminous, are told as what they are."""
+        own = CLUSTERS["001-built"]
+        report = self.tools.put("report", {"osdmap": own["osd_dump"], "crushmap": own["crush_dump"], "health": {}})
+        told = "report: this is what `ceph report` prints, with the OSD dump at .osdmap and the CRUSH dump at .crushmap"
+        for words in (["import", report, report], ["check", report], ["df", report], ["whatif", report, "--out", "3"]):
+            with self.subTest(words=words):
+                self.is_told(self.tools.run(*words), 1, told, words)
+        osd = copied(STOCK["001-three-hosts"]["osd_dump"])
+        for pool in osd["pools"]:
+            pool["crush_ruleset"] = pool.pop("crush_rule")
+        crush = self.tools.put("crush", STOCK["001-three-hosts"]["crush_dump"])
+        status, _, error = self.tools.run("import", self.tools.put("osd", osd), crush)
+        older = "missing, and crush_ruleset in its place: is it a dump of Ceph before 12.2?"
+        self.assertEqual((status, error.count(older), error.count("no monitor dumps it so")), (1, len(osd["pools"]), 0))
 
     def test_changes_that_are_none(self) -> None:
         """A what-if without a change is an error of use, and so is what only a balance needs; a balance amid an

@@ -1,15 +1,21 @@
 #!/usr/bin/env python3
-"""Passes on what `rt ci` prints, and tells at its end when each crate's proof, tests and edits were done.
+"""Passes on what `rt ci` prints, and tells at its end when each crate's proof, tests and edits were done, and what
+processor time each took.
 
     rt ci 2>&1 | clock.py
 
 `rt ci` prints the lines of a part when the part has ended, so what is told is the minute by the clock at which it came,
 from the beginning on: parts run side by side, and one that was kept from an earlier run comes at once. The processor
-time of all is told by the shell (`times`).
+time is that of the provers and compilers which the caller's shell has started, as /proc has it twice a second: the last
+half second of each is not counted. The processor time of all is told by the shell (`times`). `bench/gate.py` makes a
+table of such a log.
 """
 
+import os
+import pathlib
 import re
 import sys
+import threading
 import time
 
 NAME = r"([a-z_0-9]+)"
@@ -18,6 +24,79 @@ COLUMNS = (
     ("tests", re.compile(rf"rt: {NAME}: its tests (?:are proved|are kept)\b")),
     ("edits", re.compile(rf"rt: must-fail {NAME}/")),
 )
+
+PARTS = ("proof", "tests", "edits", "builds")
+TICKS, PAUSE = os.sysconf("SC_CLK_TCK"), 0.5
+
+
+def part_of(process):
+    """The crate and the part for which a process proves or compiles; None where it does neither."""
+    words = (process / "cmdline").read_bytes().decode(errors="replace").split("\0")
+    if "--crate-name" not in words or not words[0].endswith("rattle"):
+        return None
+    crate = words[words.index("--crate-name") + 1]
+    if "rt-edit-" in os.readlink(process / "cwd"):
+        return crate, "edits"
+    if "--test" in words:
+        return crate, "tests"
+    return crate, "builds" if "--crate-checked" in words else "proof"
+
+
+def stat_of(process):
+    """The parent of a process, when it began, and the seconds of its processor time."""
+    words = (process / "stat").read_text().rpartition(")")[2].split()
+    return int(words[1]), words[19], (int(words[11]) + int(words[12])) / TICKS
+
+
+class Sampler:
+    """The processor time of each process below another that proves or compiles, by its number and its beginning."""
+
+    def __init__(self, top):
+        self.top, self.seconds, self.ended = top, {}, threading.Event()
+        self.thread = threading.Thread(target=self.run, daemon=True)
+        self.thread.start()
+
+    def run(self):
+        while not self.ended.wait(PAUSE):
+            self.sample()
+
+    def sample(self):
+        """Notes what each of these processes has taken by now."""
+        stats = {}
+        for process in pathlib.Path("/proc").glob("[0-9]*"):
+            try:
+                stats[int(process.name)] = (process, *stat_of(process))
+            except OSError:  # It has ended meanwhile.
+                continue
+        for number, (process, _, began, seconds) in stats.items():
+            try:
+                if self.is_below(number, stats) and (part := part_of(process)):
+                    self.seconds[number, began, *part] = seconds
+            except OSError:
+                continue
+
+    def is_below(self, number, stats):
+        """Whether a process stands below the top one."""
+        while number in stats and number != self.top:
+            number = stats[number][1]
+        return number == self.top
+
+    def end(self):
+        """The minutes of each crate and part."""
+        self.ended.set()
+        self.thread.join()
+        found = {}
+        for (*_, crate, part), seconds in self.seconds.items():
+            row = found.setdefault(crate, {})
+            row[part] = row.get(part, 0) + seconds / 60
+        return found
+
+
+def minutes_table(found):
+    """The lines of the table of processor minutes, the dearest crate first."""
+    yield "processor minutes: " + ", ".join(PARTS)
+    for crate, row in sorted(found.items(), key=lambda one: -sum(one[1].values())):
+        yield f"    {crate:<14}" + "".join(f"{row.get(name, 0):9.2f}" for name in PARTS)
 
 
 def read(line, minutes, came):
@@ -37,12 +116,12 @@ def table(came):
 def main():
     sys.stdin.reconfigure(encoding="utf-8", errors="replace")
     sys.stdout.reconfigure(encoding="utf-8", errors="replace")
-    begin, came = time.monotonic(), {}
+    begin, came, sampler = time.monotonic(), {}, Sampler(os.getppid())
     for line in sys.stdin:
         sys.stdout.write(line)
         sys.stdout.flush()
         read(line, (time.monotonic() - begin) / 60, came)
-    print(*table(came), sep="\n")
+    print(*table(came), *minutes_table(sampler.end()), sep="\n")
 
 
 if __name__ == "__main__":

@@ -39,7 +39,7 @@ use Rattle.balancer.specs.Greedy.{after_moves}
 use Rattle.balancer.specs.Plans.{is_moved, items_at, moved_items, change_of}
 use Rattle.balancer.specs.Boards.{IsReached}
 use Rattle.balancer.proofs.UntouchedByMoves.{with_pairs, moves_stay}
-use Rattle.balancer.proofs.Ancestors.{none_passes}
+use Rattle.crush.proofs.Ancestors.{none_passes}
 use Rattle.balancer.proofs.BestCovers.{contains_filter, contains_range}
 use Rattle.balancer.proofs.RisingListsEqual.{rising_same}
 

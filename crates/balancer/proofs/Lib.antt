@@ -1,10 +1,11 @@
 pub mod UntouchedByMoves
+pub mod StoredDomains
+pub mod MovedGroups
 pub mod MappedSetsMoved
 pub mod WeightsOfCandidates
 pub mod GroupsOnOsds
 pub mod FirstPlaceReplaced
 pub mod DeviationsSmall
-pub mod Ancestors
 pub mod MovesCompare
 pub mod AllowedByTests
 pub mod MarksHold

@@ -10,3 +10,4 @@ pub mod Marks
 pub mod Reached
 pub mod Requests
 pub mod Widths
+pub mod Frames

@@ -1,13 +1,11 @@
 -- Moves of a group from one OSD to another, by one more pair among its exceptions; and which of them are allowed.
-use Rattle.std.specs.Prelude.{ℕ, ◌-◌, ◌==◌, Bool, true, false, not, ◌&&◌, nat_lt, ℤ, pos, List, [], ◌∷◌, ◌++◌, length, take, Option, Some, None, is_some, unwrap_or, slice_index, if◌then◌else◌}
-use Rattle.std.specs.List.{filter_map, find, list_all, list_any, count_by}
-use Rattle.std.specs.Option.{option_eq, option_map, option_map_or}
+use Rattle.std.specs.Prelude.{ℕ, ◌-◌, ◌==◌, Bool, true, false, not, ◌&&◌, nat_lt, ℤ, pos, List, [], ◌∷◌, ◌++◌, length, map, take, Option, Some, None, is_some, unwrap_or, slice_index, if◌then◌else◌}
+use Rattle.std.specs.List.{filter_map, list_all, list_any, count_by}
+use Rattle.std.specs.Option.{option_eq, option_map_or}
 use Rattle.std.specs.Ordering.{int_eq}
-use Rattle.buckets.specs.declared.bucket.Bucket.{Bucket}
 use Rattle.crush.specs.declared.step.Step.{Step}
 use Rattle.crush.specs.declared.step.Step.TheVariants as step
-use Rattle.crush.specs.Forest.{level_of}
-use Rattle.crush.specs.Paths.{is_above}
+use Rattle.crush.specs.Paths.{ancestor_of}
 use Rattle.keylist.specs.Puts.{put}
 use Rattle.maptypes.specs.declared.exception.Exception.{Exception}
 use Rattle.maptypes.specs.declared.exception.Pair.{Pair}
@@ -18,7 +16,7 @@ use Rattle.osdmap.specs.Maps.{ClusterMap}
 use Rattle.maptypes.specs.Sets.{replace, is_of, stands}
 use Rattle.osdmap.specs.Placement.{group_of, steps_of, mapped_set, up_set}
 use Rattle.balancer.specs.declared.moves.Move.{Move}
-use Rattle.balancer.specs.Shares.{is_candidate}
+use Rattle.balancer.specs.Shares.{osds_of, is_candidate}
 
 -- the move of a group from an OSD to another
 abbrev pub move_of : ℕ → ℕ → ℕ → Move
@@ -47,14 +45,6 @@ after_move m p v = record m { items = put key_of m.items (items_with_move m p v)
 
 -- ---- what stands above an OSD
 
--- whether a bucket is of a type, and above an item
-abbrev pub is_ancestor : List Bucket → ℤ → ℕ → Bucket → Bool
-is_ancestor buckets item level b = (level_of buckets b.id == level) && is_above buckets b.id item
-
--- the bucket of a type above an item, if there is one
-unfoldable pub ancestor_of : List Bucket → ℤ → ℕ → Option ℤ
-ancestor_of buckets item level = option_map (λ b. b.id) (find (is_ancestor buckets item level) buckets)
-
 -- the type that a step chooses
 abbrev pub level_chosen : Step → Option ℕ
 level_chosen (step.Choose c) = Some c.level
@@ -77,6 +67,10 @@ earlier_levels levels = take (length levels - 1) levels
 -- the failure domain of an OSD: the bucket of a type above it, and for type 0 the OSD itself
 unfoldable pub domain_of : ClusterMap → ℕ → ℕ → Option ℤ
 domain_of m level osd = if level == 0 then Some (pos osd) else ancestor_of m.buckets (pos osd) level
+
+-- the failure domains of all OSDs, by number
+abbrev pub domains_of : ClusterMap → ℕ → List (Option ℤ)
+domains_of m level = map (domain_of m level) (osds_of m)
 
 -- whether two OSDs have the same bucket of a type above them, or neither has one
 abbrev pub are_under_same : ClusterMap → ℕ → ℕ → ℕ → Bool

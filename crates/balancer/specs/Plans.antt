@@ -1,5 +1,5 @@
 -- Plans as changes of a map, and what a plan is worth.
-use Rattle.std.specs.Prelude.{◌≡◌, ℕ, ◌+◌, ◌*◌, ◌≤◌, ◌==◌, Bool, List, [], length, map, Option, Some, None, IfSome}
+use Rattle.std.specs.Prelude.{◌≡◌, ℕ, ◌+◌, ◌*◌, ◌<◌, ◌≤◌, ◌==◌, Bool, false, List, [], length, slice_index_or, map, Option, Some, None, IfSome}
 use Rattle.std.specs.List.{filter, list_any, range_with_len}
 use Rattle.std.specs.Option.{option_map_or}
 use Rattle.refusal.specs.declared.refused.Refusal.{Refusal}
@@ -33,6 +33,11 @@ plan_fault m pool = plan_fault_of m (pool_at m.pools pool)
 -- whether some move moves a group
 abbrev pub is_moved : List Move → ℕ → Bool
 is_moved moves n = list_any (λ v. v.group == n) moves
+
+-- of so many groups, by number, it is known whether some move moves them
+pub record AreMoved (moves : List Move) (count : ℕ) (moved : List Bool) : Type 0 where
+  pub all : length moved ≡ count
+  pub each : (n : ℕ) → n < count → slice_index_or moved n false ≡ is_moved moves n
 
 -- the pairs of a group of a pool, as an exception
 abbrev pub items_at : ClusterMap → PoolFacts → ℕ → Exception Pair

@@ -1,6 +1,6 @@
 //! The state of a plan: the groups of a pool and the deviations of OSDs after the moves so far.
 
-ghost use Rattle.std.specs.Prelude.{◌≡◌, ◌*◌, ◌+◌, ◌<◌, ◌≤◌, ◌^◌, pos, neg_ℤ, ◌+ℤ◌, ◌-ℤ◌, ◌*ℤ◌, ◌<ℤ◌, length, Some, IfOk};
+ghost use Rattle.std.specs.Prelude.{◌≡◌, ◌*◌, ◌+◌, ◌<◌, ◌≤◌, ◌^◌, pos, neg_ℤ, ◌+ℤ◌, ◌-ℤ◌, ◌*ℤ◌, ◌<ℤ◌, length, true, slice_set, Some, IfOk};
 ghost use Rattle.buckets.specs.Limits.{max_devices};
 ghost use Rattle.mapparts.specs.Limits.{max_groups};
 ghost use Rattle.osdmap.specs.Maps.{pool_at};
@@ -9,7 +9,7 @@ ghost use Rattle.balancer.specs.Shares.{above_share, carried_by, deviation, plac
 ghost use Rattle.balancer.specs.Shares.{places as places_in};
 ghost use Rattle.balancer.specs.Boards.{deviations_of, IsBoardOf, IsReached};
 ghost use Rattle.balancer.specs.Greedy.{after_moves};
-ghost use Rattle.balancer.specs.Plans.{is_moved};
+ghost use Rattle.balancer.specs.Plans.{AreMoved};
 ghost use Rattle.balancer.specs.Standing.{AreRowsOf};
 
 use crate::frame::Frame;
@@ -123,11 +123,26 @@ fn deviations(alloc: Global, frame: &Frame, table: &PgTable) -> Result<Vec<i128>
     Ok(deviations)
 }
 
-/// Whether some move moves a group.
-fn is_moved(moves: &[Move], number: u32) -> bool
-    ensures { result ≡ is_moved moves.now number }
+/// Whether some move moves each of so many groups, by number; or `Memory` (30).
+fn moved_of(alloc: Global, moves: &[Move], count: u32) -> Result<Vec<bool>, Memory>
+    ensures { IfOk result (λ moved. AreMoved moves.now count moved.items) }
 {
-    moves.iter().any(|step| step.group == number)
+    let mut moved = Vec::new(alloc);
+    moved.resize(count as usize, false)?;
+    for step in moves {
+        mark_moved(&mut moved, step.group);
+    }
+    Ok(moved)
+}
+
+/// A group is moved, where there is one of this number.
+fn mark_moved(moved: &mut Vec<bool>, number: u32)
+    ensures { moved.new.items ≡ slice_set moved.old.items number true }
+{
+    let at = number as usize;
+    if at < moved.len() {
+        moved[at] = true;
+    }
 }
 
 /// The state of a plan for a pool.
@@ -224,8 +239,9 @@ impl<'a> Board<'a> {
             ≡ moved_items (cluster self.now) self.now.frame.pool self.now.moves.items) }
     {
         let mut items = Vec::with_capacity(alloc, self.moves.len())?;
+        let moved = moved_of(alloc, &self.moves, self.frame.pool.pg_num())?;
         for number in 0..self.frame.pool.pg_num() {
-            if is_moved(&self.moves, number) {
+            if moved[number as usize] {
                 items.push(self.items_at(number))?;
             }
         }

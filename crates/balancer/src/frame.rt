@@ -6,9 +6,9 @@ ghost use Rattle.osdmap.specs.Maps.{pool_at};
 ghost use Rattle.std.specs.List.{list_all};
 ghost use Rattle.osdmap.specs.Placement.{steps_of};
 ghost use Rattle.balancer.specs.Shares.{candidate_osds, total_weight, group_weight, least_gap, aim_of, AreSmall};
-ghost use Rattle.balancer.specs.Moves.{level_chosen, levels_of, are_under_same};
+ghost use Rattle.balancer.specs.Moves.{level_chosen, levels_of, last_level, domains_of, are_under_same};
 
-use crate::domains::{are_under_same, count_places, domain_of, has_way, stands};
+use crate::domains::{are_under_same, count_places, domains_of, stands};
 use crate::group::Group;
 use crate::request::Request;
 use crate::shares::{are_small, candidates, total};
@@ -50,6 +50,13 @@ fn levels(alloc: Global, map: &OsdMap, pool: &Pool) -> Result<Vec<u8>, Memory>
     }
 }
 
+/// The last of some types.
+fn last_of(levels: &[u8]) -> u8
+    ensures { result ≡ last_level levels.now }
+{
+    levels.last().copied().unwrap_or(0)
+}
+
 /// Whether two OSDs are under the same bucket of each of some types, or under none.
 fn are_under_same_all(map: &OsdMap, some: u32, other: u32, levels: &[u8]) -> bool
     ensures { result ≡ list_all (are_under_same map.now.map some other) levels.now }
@@ -79,6 +86,8 @@ pub(crate) struct Frame<'a> {
     pub apart: u32,
     /// The types that the pool's rule chooses, in order.
     pub levels: Vec<u8>,
+    /// The failure domains of all OSDs, by number.
+    pub domains: Vec<Option<i64>>,
     /// The candidates, by number upwards.
     pub osds: Vec<u32>,
     /// What they weigh together.
@@ -87,6 +96,7 @@ pub(crate) struct Frame<'a> {
     ghost carried_small: { AreSmall carried.now },
     ghost apart_least: { 256 ≤ apart },
     ghost levels_are: { levels.items ≡ levels_of (steps_of map.now.map pool) },
+    ghost domains_are: { domains.items ≡ domains_of map.now.map (last_level levels.items) },
     ghost osds_are: { osds.items ≡ candidate_osds map.now.map pool },
     ghost osds_few: { length osds.items ≤ max_devices },
     ghost weight_is: { weight ≡ total_weight map.now.map pool },
@@ -115,6 +125,7 @@ impl<'a> Frame<'a> {
         let Request { carried, apart, .. } = request;
         are_small(carried);
         let levels = levels(alloc, map, &pool)?;
+        let domains = domains_of(alloc, map, last_of(&levels))?;
         let osds = candidates(alloc, map, &pool)?;
         let weight = total(map, &osds);
         Ok(Frame {
@@ -123,6 +134,7 @@ impl<'a> Frame<'a> {
             carried,
             apart,
             levels,
+            domains,
             osds,
             weight,
         })
@@ -133,7 +145,7 @@ impl Frame<'_> {
     ghost use Rattle.std.specs.Prelude.{◌≡◌, ◌<◌, pos, length, position, IfSome, true, false};
     ghost use Rattle.std.specs.List.{list_all};
     ghost use Rattle.osdmap.specs.Placement.{steps_of};
-    ghost use Rattle.balancer.specs.Moves.{are_under_same, are_beside, domain_of, earlier_levels, last_level, levels_of, is_allowed};
+    ghost use Rattle.balancer.specs.Moves.{are_under_same, are_beside, earlier_levels, last_level, levels_of, is_allowed};
     ghost use Rattle.balancer.specs.Boards.{may_go};
     ghost use Rattle.maptypes.specs.Sets.{stands};
     ghost use Rattle.balancer.specs.declared.moves.Move.{Move};
@@ -178,18 +190,10 @@ impl Frame<'_> {
     }
 
     /// The last type that the pool's rule chooses.
-    fn last_level(&self) -> u8
+    pub fn last_level(&self) -> u8
         ensures { result ≡ last_level (levels_of (steps_of self.now.map.now.map self.now.pool)) }
     {
-        self.levels.last().copied().unwrap_or(0)
-    }
-
-    /// The failure domain of an OSD, by the last type that the pool's rule chooses.
-    pub fn domain(&self, osd: u32) -> Option<i64>
-        ensures { result ≡ domain_of self.now.map.now.map
-            (last_level (levels_of (steps_of self.now.map.now.map self.now.pool))) osd }
-    {
-        domain_of(self.map, self.last_level(), osd)
+        last_of(&self.levels)
     }
 
     /// Whether a group may go from one OSD to another, where both are candidates and beside one another.
@@ -203,6 +207,6 @@ impl Frame<'_> {
             && count_places(places, from) == 1
             && !stands(places, to)
             && group.pairs.as_slice().len() < usize::from(self.pool.size())
-            && has_way(self.map, self.last_level(), from, to, places)
+            && self.has_way(from, to, places)
     }
 }

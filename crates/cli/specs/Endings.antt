@@ -10,12 +10,13 @@ use Rattle.cli.specs.declared.choices.LineError.TheVariants as line
 use Rattle.serving.specs.declared.fault.Fault.{Fault}
 use Rattle.serving.specs.declared.fault.Fault.TheVariants as fault
 use Rattle.cli.specs.declared.ending.Ending.{Ending}
-use Rattle.cli.specs.declared.ending.Ending.TheVariants.{Usage, NoText, TooManyScripts, Unpaired, TwoInputs, TwoOutputs, Map, File, Output, Told, Memory}
+use Rattle.cli.specs.declared.ending.Ending.TheVariants.{Usage, NoText, TooManyScripts, Unpaired, TwoInputs, TwoOutputs, Map, File, Output, Told, Lost, Memory}
 use Rattle.cli.specs.Arguments.{is_standard}
 
 -- ---- what is seen of an ending
 
--- the exit status: 1 for the command line, 2 for the map, 3 for files and the output, 4 for memory
+-- the exit status: 1 for the command line, 2 for the map, 3 for files and the output, 4 for memory, 7 for a change that
+-- is lost
 abbrev pub status_of : Ending → ℕ
 status_of (Usage text) = 1
 status_of NoText = 1
@@ -27,6 +28,7 @@ status_of (Map refusal) = 2
 status_of (File path) = 3
 status_of Output = 3
 status_of Told = 3
+status_of Lost = 7
 status_of Memory = 4
 
 -- what is told: the parser's own text, or a line, or nothing where all was told before
@@ -41,6 +43,7 @@ text_of (Map refusal) = codes "map: " ++ name_of refusal ++ codes "\n"
 text_of (File path) = codes "file: " ++ path.now ++ codes "\n"
 text_of Output = codes "output\n"
 text_of Told = []
+text_of Lost = codes "a change is lost\n"
 text_of Memory = codes "memory\n"
 
 -- the exit status of a run: 0 where all is done
@@ -65,6 +68,7 @@ abbrev pub fault_ending : Fault → Ending
 fault_ending (fault.Map refusal) = Map refusal
 fault_ending fault.Output = Memory
 fault_ending fault.Told = Told
+fault_ending fault.Lost = Lost
 fault_ending fault.Memory = Memory
 
 -- a command line that asks for no run: help is a text to show, and all else is an ending

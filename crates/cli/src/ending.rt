@@ -29,6 +29,8 @@ pub enum Ending<'a> {
     Output,
     /// What live sessions have told.
     Told,
+    /// A change that a session has seen is not in what the monitor ends with, or not of one session.
+    Lost,
     /// Out of memory.
     Memory,
 }
@@ -67,6 +69,7 @@ impl<'a> Ending<'a> {
         match fault {
             Fault::Map(refusal) => Ending::Map(refusal),
             Fault::Told => Ending::Told,
+            Fault::Lost => Ending::Lost,
             Fault::Output | Fault::Memory => Ending::Memory,
         }
     }
@@ -84,7 +87,7 @@ impl<'a> Ending<'a> {
         }
     }
 
-    /// The exit status of the program: 1 to 4.
+    /// The exit status of the program: 1 to 4, or 7.
     pub fn status(&self) -> u8
         ensures { result ≡ status_of self.now }
     {
@@ -94,6 +97,7 @@ impl<'a> Ending<'a> {
             Ending::Map(_) => 2,
             Ending::File(_) | Ending::Output | Ending::Told => 3,
             Ending::Memory => 4,
+            Ending::Lost => 7,
         }
     }
 }
@@ -116,6 +120,7 @@ impl<'a> fmt::Display for Ending<'a> {
             Ending::File(path) => writeln!(f, "file: {path}"),
             Ending::Output => f.write_str("output\n"),
             Ending::Told => f.write_str(""),
+            Ending::Lost => f.write_str("a change is lost\n"),
             Ending::Memory => f.write_str("memory\n"),
         }
     }

@@ -7,6 +7,7 @@ pub mod Segments
 pub mod ForestLimits
 pub mod Above
 pub mod Climbs
+pub mod Ancestors
 pub mod OwnIds
 pub mod Made
 pub mod ItemMarks

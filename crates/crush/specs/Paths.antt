@@ -1,8 +1,8 @@
 -- What stands above what in a forest: chains of buckets, each an item of the one before (CRUSH paper, SC 2006,
 -- section 3.3).
-use Rattle.std.specs.Prelude.{◌≡◌, ℕ, zero, suc, Bool, false, ◌&&◌, ℤ, List, [], ◌∷◌, map, IsTrue}
-use Rattle.std.specs.List.{list_any, flat_map}
-use Rattle.std.specs.Option.{option_map_or}
+use Rattle.std.specs.Prelude.{◌≡◌, ◌==◌, ℕ, zero, suc, Bool, false, ◌&&◌, ℤ, List, [], ◌∷◌, map, Option, IsTrue}
+use Rattle.std.specs.List.{list_any, find, flat_map}
+use Rattle.std.specs.Option.{option_map, option_map_or}
 use Rattle.std.specs.Ordering.{int_eq}
 use Rattle.buckets.specs.declared.bucket.Bucket.{Bucket}
 use Rattle.crush.specs.declared.step.Step.{Step}
@@ -37,6 +37,14 @@ is_above buckets top item = list_any (λ between. is_path buckets top between it
 pub record IsAncestor (buckets : List Bucket) (item : ℤ) (level : ℕ) (bucket : ℤ) : Type 0 where
   pub above : IsTrue (is_above buckets bucket item)
   pub of_level : level_of buckets bucket ≡ level
+
+-- whether a bucket is of a type, and above an item
+abbrev pub is_ancestor : List Bucket → ℤ → ℕ → Bucket → Bool
+is_ancestor buckets item level b = (level_of buckets b.id == level) && is_above buckets b.id item
+
+-- the bucket of a type above an item, if there is one
+unfoldable pub ancestor_of : List Bucket → ℤ → ℕ → Option ℤ
+ancestor_of buckets item level = option_map (λ b. b.id) (find (is_ancestor buckets item level) buckets)
 
 -- whether a step takes a bucket above a device
 abbrev pub takes_above : List Bucket → ℤ → Step → Bool

@@ -1,6 +1,6 @@
 -- The run of a rule (CRUSH paper, algorithm 1; Ceph, mapper.c, crush_do_rule).
-use Rattle.std.specs.Prelude.{ℕ, ◌-◌, ℤ, List, [], ◌∷◌, ◌++◌, length, map, take, min, ◌==◌, Option, Some, None, if◌then◌else◌}
-use Rattle.std.specs.List.{fold}
+use Rattle.std.specs.Prelude.{ℕ, ◌+◌, ◌-◌, ◌^◌, Bool, true, false, ℤ, List, [], ◌∷◌, ◌++◌, length, map, take, min, ◌==◌, Option, Some, None, if◌then◌else◌}
+use Rattle.std.specs.List.{fold, count_by}
 use Rattle.buckets.specs.declared.bucket.Bucket.{Bucket}
 use Rattle.crush.specs.declared.choose.Tries.{Tries}
 use Rattle.crush.specs.declared.step.Choose.{Choose}
@@ -69,7 +69,24 @@ after_step w size s Emit = record s { working = []; emitted = take size (s.emitt
 unfoldable pub run_of : World → List Step → ℕ → List (Option ℤ)
 run_of w steps size = (fold (after_step w size) no_progress steps).emitted
 
--- what is known of a Work: what its last run left, and how many runs there were
+-- whether a step is a choose step
+abbrev pub is_choose : Step → Bool
+is_choose (SetChooseTries _) = false
+is_choose (SetChooseleafTries _) = false
+is_choose (Take _) = false
+is_choose (Chooses _) = true
+is_choose Emit = false
+
+-- how many of some steps are choose steps
+abbrev pub count_choose : List Step → ℕ
+count_choose steps = count_by is_choose steps
+
+-- a count of choose steps after one more step; it stays at the greatest number
+abbrev pub counted_with : Step → ℕ → ℕ
+counted_with step n = if is_choose step then min (n + 1) (2 ^ 64 - 1) else n
+
+-- what is known of a Work: what its last run left, and how many runs and choose steps there were
 pub record Ran : Type 0 where
   pub result : List (Option ℤ)
   pub runs : ℕ
+  pub choose_steps : ℕ

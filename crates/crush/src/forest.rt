@@ -35,14 +35,14 @@ impl Model for Forest {
 }
 
 impl Forest {
-    ghost use Rattle.std.specs.Prelude.{◌≡◌, ◌↔◌, ℤ, pos, IfSome, IfOk, IsTrue, IsPermutation, true, is_some};
+    ghost use Rattle.std.specs.Prelude.{◌≡◌, ℤ, pos, IfSome, IfOk, IsTrue, IsPermutation, true, is_some};
     ghost use Rattle.std.specs.List.{find};
     ghost use Rattle.std.specs.Option.{option_copied};
     ghost use Rattle.refusal.specs.Outcomes.{Judges, refused_unless};
     ghost use Rattle.crush.specs.Forest.{bucket_at};
     ghost use Rattle.buckets.specs.Buckets.{IsPickable};
     ghost use Rattle.crush.specs.Order.{by_id};
-    ghost use Rattle.crush.specs.Paths.{has_item, is_above, IsAncestor};
+    ghost use Rattle.crush.specs.Paths.{has_item, is_above, ancestor_of};
     ghost use Rattle.crush.specs.WellFormed.{forest_limits_ok, forest_ok, forest_fault, plain_forest_fault, IsForest, IsDescending};
 
     /// The forest of a plain cluster.
@@ -128,7 +128,7 @@ impl Forest {
 
     /// The bucket of type `level` above an item, a device as a rule. There is no more than one.
     pub fn ancestor(&self, item: i32, level: u8) -> Option<i32>
-        ensures { (a : ℤ) → (result ≡ Some a) ↔ IsAncestor self.now item level a }
+        ensures { result ≡ ancestor_of self.now item level }
     {
         let mut below = item;
         while let Some(bucket) = self.parent(below) {
@@ -138,6 +138,18 @@ impl Forest {
             below = bucket.id;
         }
         None
+    }
+
+    /// The bucket of type `level` above the device of a number.
+    pub fn ancestor_of_device(&self, osd: u32, level: u8) -> Option<i32>
+        ensures { result ≡ ancestor_of self.now (pos osd) level }
+    {
+        // No bucket of a well-formed forest has a device of so great a number.
+        let _ = &self.buckets;
+        match i32::try_from(osd) {
+            Ok(device) => self.ancestor(device, level),
+            Err(_) => None,
+        }
     }
 
     /// Whether a bucket stands above an item: it has it, or a bucket above it.

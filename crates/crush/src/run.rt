@@ -28,7 +28,7 @@ fn numrep(choose: Choose, size: u8) -> u8
 }
 
 impl Chooser<'_> {
-    ghost use Rattle.std.specs.Prelude.{◌≡◌, ◌-◌, ◌<◌, ◌≤◌, length, OnOk, ◌++◌};
+    ghost use Rattle.std.specs.Prelude.{◌≡◌, ◌+◌, ◌-◌, ◌^◌, ◌<◌, ◌≤◌, length, min, OnOk, ◌++◌};
     ghost use Rattle.buckets.specs.Buckets.{IsPickable};
     ghost use Rattle.crush.specs.Limits.{max_size};
     ghost use Rattle.crush.specs.Placed.{world, choosing};
@@ -111,22 +111,31 @@ impl Chooser<'_> {
         }
     }
 
-    /// Makes the working list of a choose step, a segment for each bucket of the one before.
-    fn segments(
-        &self,
-        picks: &mut Picks,
-        working: &[Option<i32>],
-        chosen: &mut Vec<Choice>,
-        found: &mut Vec<Option<i32>>,
-    ) -> Result<(), AllocError>
+    /// Makes the working list of a choose step, a segment for each bucket of the one before. The step is counted here,
+    /// and nowhere else.
+    fn segments(&self, lists: &mut Lists) -> Result<(), AllocError>
         requires some { 0 < self.now.numrep }
         requires few { self.now.size ≤ max_size }
-        requires picks { Remembers (world self.now.placement) picks.old }
-        ensures value { OnOk result (found.new.items ≡ chosen_from (choosing self.now) self.now.size working.now) }
-        ensures picks { Remembers (world self.now.placement) picks.new }
+        requires picks { Remembers (world self.now.placement) lists.old.picks }
+        ensures value { OnOk result (lists.new.found.items
+            ≡ chosen_from (choosing self.now) self.now.size lists.old.working.items) }
+        ensures counted { lists.new.choose_steps ≡ min (lists.old.choose_steps + 1) (2 ^ 64 - 1) }
+        ensures emitted { lists.new.emitted ≡ lists.old.emitted }
+        ensures tries { lists.new.tries ≡ lists.old.tries }
+        ensures picks { Remembers (world self.now.placement) lists.new.picks }
     {
+        let Lists {
+            tries: _,
+            working,
+            found,
+            emitted: _,
+            chosen,
+            picks,
+            choose_steps,
+        } = lists;
+        *choose_steps = choose_steps.saturating_add(1);
         found.clear();
-        for entry in working {
+        for entry in working.iter() {
             self.add_entry(picks, *entry, chosen, found)?;
         }
         Ok(())
@@ -138,7 +147,7 @@ impl Placement<'_> {
     ghost use Rattle.crush.specs.Limits.{max_size};
     ghost use Rattle.crush.specs.Placed.{world, progress};
     ghost use Rattle.crush.specs.Remembered.{Remembers};
-    ghost use Rattle.crush.specs.Run.{choosing_of, chosen_from, after_step, run_of};
+    ghost use Rattle.crush.specs.Run.{choosing_of, chosen_from, after_step, counted_with, count_choose, run_of};
 
     /// Chooses below the buckets of the working list.
     fn choose(&self, choose: Choose, size: u8, lists: &mut Lists) -> Result<(), AllocError>
@@ -148,6 +157,7 @@ impl Placement<'_> {
         ensures working { OnOk result (lists.new.working.items
             ≡ chosen_from (choosing_of (world self.now) size lists.old.tries choose) size lists.old.working.items) }
         ensures emitted { lists.new.emitted ≡ lists.old.emitted }
+        ensures counted { lists.new.choose_steps ≡ min (lists.old.choose_steps + 1) (2 ^ 64 - 1) }
         ensures tries { lists.new.tries ≡ lists.old.tries }
         ensures picks { Remembers (world self.now) lists.new.picks }
     {
@@ -158,12 +168,7 @@ impl Placement<'_> {
             tries: lists.tries,
             numrep: numrep(choose, size),
         };
-        chooser.segments(
-            &mut lists.picks,
-            &lists.working,
-            &mut lists.chosen,
-            &mut lists.found,
-        )?;
+        chooser.segments(lists)?;
         mem::swap(&mut lists.working, &mut lists.found);
         Ok(())
     }
@@ -175,6 +180,7 @@ impl Placement<'_> {
         requires few { size ≤ max_size }
         requires picks { Remembers (world self.now) lists.old.picks }
         ensures value { OnOk result (progress lists.new ≡ after_step (world self.now) size (progress lists.old) step) }
+        ensures counted { lists.new.choose_steps ≡ counted_with step lists.old.choose_steps }
         ensures picks { Remembers (world self.now) lists.new.picks }
     {
         match step {
@@ -201,8 +207,10 @@ impl Placement<'_> {
         requires few { size ≤ max_size }
         ensures placed { OnOk result (work.new.result ≡ run_of (world self.now) steps.now size) }
         ensures counted { OnOk result (work.new.runs ≡ min (work.old.runs + 1) (2 ^ 64 - 1)) }
+        ensures chosen { OnOk result (work.new.choose_steps ≡ min (work.old.choose_steps + count_choose steps.now) (2 ^ 64 - 1)) }
         ensures uncounted { OnErr result (work.new.runs ≡ work.old.runs) }
     {
+        let _count = work.lists.choose_steps;
         work.lists.picks.forget();
         work.lists.tries = FIRST_TRIES;
         work.lists.working.clear();
@@ -219,7 +227,7 @@ impl Rule {
     ghost use Rattle.std.specs.Prelude.{◌≡◌, ◌+◌, ◌-◌, ◌^◌, ◌≤◌, min, OnOk, OnErr};
     ghost use Rattle.crush.specs.Limits.{max_size};
     ghost use Rattle.crush.specs.Placed.{world};
-    ghost use Rattle.crush.specs.Run.{run_of};
+    ghost use Rattle.crush.specs.Run.{count_choose, run_of};
 
     /// Places an input by the rule in a pool of `size` places, 1 to 20, as many as a pool may have.
     ///
@@ -231,6 +239,7 @@ impl Rule {
         requires few { size ≤ max_size }
         ensures placed { OnOk result (work.new.result ≡ run_of (world placement.now) self.now.steps size) }
         ensures counted { OnOk result (work.new.runs ≡ min (work.old.runs + 1) (2 ^ 64 - 1)) }
+        ensures chosen { OnOk result (work.new.choose_steps ≡ min (work.old.choose_steps + count_choose self.now.steps) (2 ^ 64 - 1)) }
         ensures uncounted { OnErr result (work.new.runs ≡ work.old.runs) }
     {
         Ok(placement.steps(self.steps(), size, work)?)

@@ -23,13 +23,15 @@ pub(crate) struct Lists {
     pub chosen: Vec<Choice>,
     /// What the present run remembers.
     pub picks: Picks,
+    /// How many choose steps there were, of all runs.
+    pub choose_steps: u64,
 }
 
 /// How often the choose steps of a rule try that sets no tries: 50 tries after the first one (Ceph's
 /// `choose_total_tries`), and one for a leaf (`chooseleaf_descend_once`).
 pub(crate) const FIRST_TRIES: Tries = Tries { total: 51, leaf: 1 };
 
-/// What the last run left, the number of runs, and the room that runs work in. It serves any forest.
+/// What the last run left, the numbers of runs and of choose steps, and the room that runs work in. It serves any forest.
 #[derive(Debug, Drop)]
 pub struct Work {
     pub(crate) lists: Lists,
@@ -41,7 +43,7 @@ impl Model for Work {
 
     ghost Value = { Ran };
 
-    ghost view = { λ w. record { result = w.lists.emitted.items; runs = w.runs } };
+    ghost view = { λ w. record { result = w.lists.emitted.items; runs = w.runs; choose_steps = w.lists.choose_steps } };
 }
 
 impl Work {
@@ -55,6 +57,7 @@ impl Work {
     pub fn new(alloc: Global, _forest: &Forest) -> Result<Work, Memory>
         ensures result { IfOk result (λ work. work.result ≡ []) }
         ensures runs { IfOk result (λ work. work.runs ≡ 0) }
+        ensures choose_steps { IfOk result (λ work. work.choose_steps ≡ 0) }
     {
         let lists = Lists {
             tries: FIRST_TRIES,
@@ -67,6 +70,7 @@ impl Work {
                 is_on: false,
                 by_place: Vec::with_capacity(alloc, PLACES)?,
             },
+            choose_steps: 0,
         };
         Ok(Work { lists, runs: 0 })
     }
@@ -83,5 +87,12 @@ impl Work {
         ensures { result ≡ self.now.runs }
     {
         self.runs
+    }
+
+    /// How many choose steps the runs have taken. The count stays at the greatest number.
+    pub fn choose_steps(&self) -> u64
+        ensures { result ≡ self.now.choose_steps }
+    {
+        self.lists.choose_steps
     }
 }

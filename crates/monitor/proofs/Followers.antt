@@ -47,10 +47,10 @@ one_begins_part n xs ys (inr p) = begun_both (take n xs) ys xs (begins_by (take 
 -- ---- followers
 
 -- a follower at the first map, which has seen nothing
-pub followed_new : (first m : ClusterMap) (pass : Seen) → m ≡ first → pass.history ≡ [] → pass.row.first ≡ first.epoch
-    → IsFollowed (followed first pass m)
+pub followed_new : (first m : ClusterMap) (pass : Seen) (runs : ℕ) → m ≡ first → pass.history ≡ [] → pass.row.first ≡ first.epoch
+    → IsFollowed (followed first pass m runs)
 unfolding IsLawful
-followed_new first m pass same none begins =
+followed_new first m pass runs same none begins =
     let nothing : applied first m pass.history ≡ [] = take_none (m.epoch - first.epoch) pass.history none in
     record {
       begins = begins;
@@ -71,11 +71,11 @@ unfolding apply
 epoch_made m step = refl
 
 -- a follower that has seen more: what it stands at
-module _ (first m : ClusterMap) (seen more : Seen) (is : IsFollowed (followed first seen m)) (rows : more.row ≡ seen.row)
+module _ (first m : ClusterMap) (seen more : Seen) (runs : ℕ) (is : IsFollowed (followed first seen m runs)) (rows : more.row ≡ seen.row)
     (goes : Begins seen.history more.history) where
   -- what is so of it with this map
   abbrev pub Stands : ClusterMap → Type 0
-  Stands m2 = IsFollowed (followed first more m2) × GoesOnFrom (followed first seen m) (followed first more m2)
+  Stands m2 = IsFollowed (followed first more m2 runs) × GoesOnFrom (followed first seen m runs) (followed first more m2 runs)
 
   -- it had seen all that it had applied
   few : (m.epoch - first.epoch) ≤ length seen.history
@@ -97,7 +97,7 @@ module _ (first m : ClusterMap) (seen more : Seen) (is : IsFollowed (followed fi
       map = map ∙ ap (after first) (sym history);
       epoch = epoch ∙ ap (epoch_after first) (sym history);
     },
-    record { first = refl; row = rows; begins = (rest, sym history); seen = goes },
+    record { first = refl; row = rows; begins = (rest, sym history); seen = goes; runs = refl },
   )
 
   -- nothing is applied
@@ -142,28 +142,28 @@ module _ (first m : ClusterMap) (seen more : Seen) (is : IsFollowed (followed fi
   count_is = omega (arith, is.epoch, ap length same_part)
 
   -- all that is seen is applied
-  pub caught_up : more.row.first + length more.history ≤ m.epoch → IsCaughtUp (followed first more m)
+  pub caught_up : more.row.first + length more.history ≤ m.epoch → IsCaughtUp (followed first more m runs)
   caught_up few = inl (take_all (m.epoch - first.epoch) more.history (omega (arith, few, ap (λ (l : Line). l.first) rows, is.begins)))
 
   -- the next change is refused
   refused : (step : Step) → slice_get more.history (m.epoch - seen.row.first) ≡ Some step → IsSome (change_fault m step.change)
-      → IsCaughtUp (followed first more m)
+      → IsCaughtUp (followed first more m runs)
   refused step place fault =
       inr (step, ap (slice_get more.history) (omega (arith, count_is, is.begins)) ∙ place, fault)
 
   advances_step : (m2 : ClusterMap) (step : Step) (made : Bool) → step.epoch ≡ m.epoch + 1
       → slice_get more.history (m.epoch - seen.row.first) ≡ Some step → Steps m m2 step made
-      → Advances (followed first seen m) (followed first more m2) made
+      → Advances (followed first seen m runs) (followed first more m2 runs) made
   advances_step m2 step true next place steps =
       let epoch : m2.epoch ≡ m.epoch + 1 = ap (λ (x : ClusterMap). x.epoch) steps.1 ∙ epoch_made m step ∙ next in
       omega (arith, epoch, is.epoch, (stands_step m2 step true next place steps).0.epoch)
   advances_step m2 step false next place steps =
-      subst (λ (x : ClusterMap). IsCaughtUp (followed first more x)) (sym steps.1) (refused step place steps.0)
+      subst (λ (x : ClusterMap). IsCaughtUp (followed first more x runs)) (sym steps.1) (refused step place steps.0)
 
   -- a step that is made, or is not: that it is one more, or why it is not
   pub advances_on : {E : Type 0} → (m2 : ClusterMap) (step : Step) (r : Result Bool E) → step.epoch ≡ m.epoch + 1
       → slice_get more.history (m.epoch - seen.row.first) ≡ Some step → IfOk r (Steps m m2 step)
-      → IfOk r (Advances (followed first seen m) (followed first more m2))
+      → IfOk r (Advances (followed first seen m runs) (followed first more m2 runs))
   advances_on m2 step (Ok made) next place steps = advances_step m2 step made next place steps
   advances_on m2 step (Err e) next place steps = tt
 

@@ -6,6 +6,7 @@ ghost use Rattle.monitor.specs.Followers.{Steps};
 
 use crate::member::Member;
 use crate::monitor::Monitor;
+use cleanup::{Remnant, remnant_of};
 use crush::Work;
 use epochlog::{Pass, Row};
 use keeping::Keeps;
@@ -31,9 +32,9 @@ impl Model for Follower {
 
     ghost Value = { Followed };
 
-    ghost view = { λ f. followed f.first.map f.pass f.map.map };
+    ghost view = { λ f. followed f.first.map f.pass f.map.map f.work.runs };
 
-    ghost invariant = { λ f. IsFollowed (followed f.first.map f.pass f.map.map) };
+    ghost invariant = { λ f. IsFollowed (followed f.first.map f.pass f.map.map f.work.runs) };
 }
 
 /// The incremental of the next epoch after this one, if a pass has seen it, or sees it now.
@@ -80,7 +81,8 @@ impl Follower {
     ghost use Rattle.epochlog.specs.Epochs.{Begins, OneBegins, longer};
     ghost use Rattle.pgtable.specs.Index.{up_at};
     ghost use Rattle.mapjson.specs.Written.{written};
-    ghost use Rattle.monitor.specs.Followers.{Follows, GoesOnFrom, Advances, IsCaughtUp};
+    ghost use Rattle.cleanup.specs.Kept.{remnant_at};
+    ghost use Rattle.monitor.specs.Followers.{Follows, GoesOnFrom, Advances, IsCaughtUp, RunsForOne};
 
     /// A follower of this monitor, at the first map.
     ///
@@ -89,7 +91,8 @@ impl Follower {
     /// `Memory` (30) where there is no memory for it.
     pub fn new<K: Keeps + Drop>(alloc: Global, monitor: &Monitor<K>) -> Result<Follower, Memory>
         ensures { IfOk result (λ follower.
-            Follows monitor.now follower × (follower.history ≡ []) × (follower.map ≡ monitor.now.first)) }
+            Follows monitor.now follower × (follower.history ≡ []) × (follower.map ≡ monitor.now.first)
+            × (follower.runs ≡ 0)) }
     {
         let first = monitor.first.copy(alloc)?;
         let map = monitor.first.copy(alloc)?;
@@ -163,7 +166,7 @@ impl Follower {
         Ok(self.epoch())
     }
 
-    /// The epoch and the up set of a group by the follower's map.
+    /// The epoch and the up set of a group by the follower's map. It takes one run of the group's rule.
     ///
     /// # Errors
     ///
@@ -172,10 +175,26 @@ impl Follower {
     pub fn up(&mut self, pg: Pg) -> Result<(u64, UpSet), Refusal>
         ensures answer { Gives result (group_fault self.old.map pg)
             (λ answer. (answer.0 ≡ self.old.map.epoch) × (Some answer.1 ≡ up_at self.old.map pg)) }
-        ensures same { self.new ≡ self.old }
+        ensures run { RunsForOne self.old self.new result }
     {
         let set = self.map.up_of(pg, &mut self.work)?;
         Ok((self.map.epoch(), set))
+    }
+
+    /// The epoch, and what a Ceph monitor would leave of the exceptions of a group of the follower's map. It takes one
+    /// run of the group's rule.
+    ///
+    /// # Errors
+    ///
+    /// `UnknownPool` (23) where the map has no such pool; else `UnknownGroup` (25) where the pool has no such group;
+    /// else `Memory` (30) where there is no memory for it.
+    pub fn kept(&mut self, pg: Pg) -> Result<(u64, Remnant), Refusal>
+        ensures answer { Gives result (group_fault self.old.map pg)
+            (λ answer. (answer.0 ≡ self.old.map.epoch) × (Some answer.1 ≡ remnant_at self.old.map pg)) }
+        ensures run { RunsForOne self.old self.new result }
+    {
+        let left = remnant_of(&self.map, pg, &mut self.work)?;
+        Ok((self.map.epoch(), left))
     }
 
     /// The text of the follower's map, as `mapjson::write_map` writes it.

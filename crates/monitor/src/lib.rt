@@ -23,6 +23,7 @@ mod shared;
 mod turns;
 
 pub use balancer::Request;
+pub use cleanup::Remnant;
 pub use follower::Follower;
 pub use keeping::{Keeps, Nothing};
 pub use look::Look;

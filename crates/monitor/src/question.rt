@@ -4,6 +4,7 @@ ghost use Rattle.std.specs.Prelude.{◌≡◌, ◌≢◌, IsUtf8, IfErr};
 ghost use Rattle.refusal.specs.declared.refused.Refusal.TheVariants.{SeatSpent};
 ghost use Rattle.monitor.specs.Questions.{Finds, IsDump};
 
+use cleanup::Remnant;
 use keeping::Keeps;
 use mapjson::write_map;
 use maptypes::{Pg, UpSet};
@@ -50,6 +51,12 @@ pub enum Answer {
     Epoch(u64),
     /// The text of the map, as `mapjson::write_map` writes it.
     Dump(String),
+    /// What a Ceph monitor would leave of a group's exceptions. A follower alone tells it.
+    Kept {
+        epoch: u64,
+        pg: Pg,
+        left: Remnant,
+    },
 }
 
 impl Answer {

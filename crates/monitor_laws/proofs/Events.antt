@@ -2,7 +2,8 @@
 use Rattle.std.proofs.Common.{◌≡◌, ℕ, List, [], ◌∷◌, None, slice_set, refl, arith}
 use Rattle.ticketlock.specs.declared.view.View.{View}
 use Rattle.ticketlock.specs.declared.view.Kind.TheVariants.{Read, Write}
-use Rattle.ticketlock.specs.Rule.{LockWorld, draws, reader_looks, writer_looks, reader_enters, writer_closes, writer_leaves, newcomer, drawn_for, looked_at, gone_in, gone_out, with_view, draw_word_up, reader_word_up, writer_word_up}
+use Rattle.ticketlock.specs.declared.view.Step.TheVariants.{Draws, ReaderLooks, WriterLooks, ReaderEnters, WriterCloses, WriterLeaves}
+use Rattle.ticketlock.specs.Rule.{LockWorld, newcomer, drawn_for, looked_at, gone_in, gone_out, with_view, draw_word_up, reader_word_up, writer_word_up}
 use Rattle.ticketlock.specs.Law.{start}
 use Rattle.maptypes.specs.Incrementals.{Step}
 use Rattle.maptypes.specs.declared.change.ChangeParts.{ChangeParts}
@@ -103,9 +104,9 @@ module _ (first : ClusterMap) (row : Line) (table other : TableFacts) (parts : C
 
   abbrev events : List (Event × ℕ)
   events =
-      (acts (at_lock (draws Write)), 0) ∷ (acts (at_lock writer_looks), 0) ∷ (acts (seals step), 0) ∷ (acts (makes present other), 0)
-      ∷ (acts (at_lock writer_closes), 0) ∷ (acts (at_lock writer_leaves), 0) ∷ (acts (at_lock (draws Read)), 0)
-      ∷ (acts (at_lock reader_looks), 0) ∷ (acts (at_lock reader_enters), 0) ∷ (acts looks, 0) ∷ (follows, 0) ∷ []
+      (acts (at_lock (Draws Write)), 0) ∷ (acts (at_lock WriterLooks), 0) ∷ (acts (seals step), 0) ∷ (acts (makes present other), 0)
+      ∷ (acts (at_lock WriterCloses), 0) ∷ (acts (at_lock WriterLeaves), 0) ∷ (acts (at_lock (Draws Read)), 0)
+      ∷ (acts (at_lock ReaderLooks), 0) ∷ (acts (at_lock ReaderEnters), 0) ∷ (acts looks, 0) ∷ (follows, 0) ∷ []
 
   -- the change is lawful
   lawful : change_fault first parts ≡ None → IsLawful first (step ∷ [])

@@ -9,7 +9,9 @@ use Rattle.ticketlock.specs.declared.view.View.{View}
 use Rattle.ticketlock.specs.declared.view.Stage.{Stage}
 use Rattle.ticketlock.specs.declared.view.Stage.TheVariants.{Idle, Waiting, Next, Reading, Writing, Closing}
 use Rattle.ticketlock.specs.Rule as lock
-use Rattle.ticketlock.specs.Rule.{LockWorld, Step as LockStep, KeepsRule}
+use Rattle.ticketlock.specs.declared.view.Step.TheVariants as lockstep
+use Rattle.ticketlock.specs.declared.view.Step.{Step as LockStep}
+use Rattle.ticketlock.specs.Rule.{LockWorld, KeepsRule}
 use Rattle.ticketlock.specs.Law.{start, IsWriting, IsReading, IsIn, IsAlone}
 use Rattle.ticketlock.proofs.Runs.{starts, alone_writes}
 use Rattle.ticketlock.proofs.Steps.{step_keeps}
@@ -115,13 +117,13 @@ last_epoch_by_place first before s lawful = omega (arith, epoch_by_place first (
 -- a step at the words that is no leaving of a writer leaves the state present where it was
 stays : (first : ClusterMap) (w : MonitorWorld) (s : LockStep) (seat : ℕ) (v : View) (words : LockWorld) → get_elem? w.lock.views seat ≡ some v → lock.Takes s w.lock seat v words
     → PutsBack first w s → (NoneWrites w.lock.views → IsPresent first w) → NoneWrites words.views → IsPresent first w
-stays first w (lock.draws kind) seat v words at t back was none = was (none_before w.lock.views seat v _ at (λ x. subst IsWriting t.0 x) (subst (λ (x : LockWorld). NoneWrites x.views) t.2 none))
-stays first w lock.reader_looks seat v words at t back was none = was (none_before w.lock.views seat v _ at (λ x. subst IsWriting t.1 x) (subst (λ (x : LockWorld). NoneWrites x.views) t.2 none))
-stays first w lock.writer_looks seat v words at t back was none = was (none_before w.lock.views seat v _ at (λ x. subst IsWriting t.1 x) (subst (λ (x : LockWorld). NoneWrites x.views) t.2 none))
-stays first w lock.reader_enters seat v words at t back was none = was (none_before w.lock.views seat v _ at (λ x. subst IsWriting t.1 x) (subst (λ (x : LockWorld). NoneWrites x.views) t.2 none))
-stays first w lock.reader_leaves seat v words at t back was none = was (none_before w.lock.views seat v _ at (λ x. subst IsWriting t.1 x) (subst (λ (x : LockWorld). NoneWrites x.views) t.2 none))
-stays first w lock.writer_closes seat v words at t back was none = back
-stays first w lock.writer_leaves seat v words at t back was none = was (none_before w.lock.views seat v _ at (λ x. subst IsWriting t.1 x) (subst (λ (x : LockWorld). NoneWrites x.views) t.2 none))
+stays first w (lockstep.Draws kind) seat v words at t back was none = was (none_before w.lock.views seat v _ at (λ x. subst IsWriting t.0 x) (subst (λ (x : LockWorld). NoneWrites x.views) t.2 none))
+stays first w lockstep.ReaderLooks seat v words at t back was none = was (none_before w.lock.views seat v _ at (λ x. subst IsWriting t.1 x) (subst (λ (x : LockWorld). NoneWrites x.views) t.2 none))
+stays first w lockstep.WriterLooks seat v words at t back was none = was (none_before w.lock.views seat v _ at (λ x. subst IsWriting t.1 x) (subst (λ (x : LockWorld). NoneWrites x.views) t.2 none))
+stays first w lockstep.ReaderEnters seat v words at t back was none = was (none_before w.lock.views seat v _ at (λ x. subst IsWriting t.1 x) (subst (λ (x : LockWorld). NoneWrites x.views) t.2 none))
+stays first w lockstep.ReaderLeaves seat v words at t back was none = was (none_before w.lock.views seat v _ at (λ x. subst IsWriting t.1 x) (subst (λ (x : LockWorld). NoneWrites x.views) t.2 none))
+stays first w lockstep.WriterCloses seat v words at t back was none = back
+stays first w lockstep.WriterLeaves seat v words at t back was none = was (none_before w.lock.views seat v _ at (λ x. subst IsWriting t.1 x) (subst (λ (x : LockWorld). NoneWrites x.views) t.2 none))
 
 -- each act of a seat keeps it
 act_keeps : (first : ClusterMap) (a : Act) (w : MonitorWorld) (seat : ℕ) (v : View) (next : MonitorWorld) → get_elem? w.lock.views seat ≡ some v → Acts first a w seat v next → Holds first w → Holds first next

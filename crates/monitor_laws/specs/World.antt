@@ -5,7 +5,9 @@ use mathlib.Core.Option.{some}
 use lib.ListN.{get_elem?}
 use Rattle.ticketlock.specs.declared.view.View.{View}
 use Rattle.ticketlock.specs.Rule as lock
-use Rattle.ticketlock.specs.Rule.{LockWorld, Step as LockStep}
+use Rattle.ticketlock.specs.declared.view.Step.TheVariants as lockstep
+use Rattle.ticketlock.specs.declared.view.Step.{Step as LockStep}
+use Rattle.ticketlock.specs.Rule.{LockWorld}
 use Rattle.ticketlock.specs.Law.{IsWriting, IsReading}
 use Rattle.maptypes.specs.Incrementals.{Step}
 use Rattle.osdmap.specs.Maps.{ClusterMap}
@@ -51,13 +53,13 @@ pub record IsPresent (first : ClusterMap) (w : MonitorWorld) : Type 0 where
 
 -- a writer has put such a state back when it begins to leave
 abbrev pub PutsBack : ClusterMap → MonitorWorld → LockStep → Type 0
-PutsBack first w (lock.draws kind) = Unit {0}
-PutsBack first w lock.reader_looks = Unit {0}
-PutsBack first w lock.writer_looks = Unit {0}
-PutsBack first w lock.reader_enters = Unit {0}
-PutsBack first w lock.reader_leaves = Unit {0}
-PutsBack first w lock.writer_closes = IsPresent first w
-PutsBack first w lock.writer_leaves = Unit {0}
+PutsBack first w (lockstep.Draws kind) = Unit {0}
+PutsBack first w lockstep.ReaderLooks = Unit {0}
+PutsBack first w lockstep.WriterLooks = Unit {0}
+PutsBack first w lockstep.ReaderEnters = Unit {0}
+PutsBack first w lockstep.ReaderLeaves = Unit {0}
+PutsBack first w lockstep.WriterCloses = IsPresent first w
+PutsBack first w lockstep.WriterLeaves = Unit {0}
 
 -- the world once a seat was told of the history, and once an incremental is sealed by a seat
 abbrev pub with_look : MonitorWorld → ℕ → MonitorWorld

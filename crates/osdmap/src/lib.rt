@@ -31,4 +31,4 @@ pub use maptypes::{
     Change, ChangeParts, CrushMap, Exception, Explicit, Grow, Incremental, Items, NumberedRule,
     OsdState, Pair, Pg, Pool, Presence, Reweight, UpSet,
 };
-pub use placing::{Placing, stable_mod};
+pub use placing::{GroupSets, Placing, stable_mod};

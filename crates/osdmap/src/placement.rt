@@ -1,6 +1,7 @@
 //! Where a map places the groups of its pools (Ceph, OSDMap.cc).
 
 use crate::map::OsdMap;
+use crate::placing::GroupSets;
 use crush::Work;
 use maptypes::{Pair, Pg, Pool, UpSet};
 use refusal::Refusal;
@@ -55,6 +56,22 @@ impl OsdMap {
     {
         let pool = self.pool_of(pg)?;
         Ok(self.placing_in(&pool).mapped_set(pg.number, work)?)
+    }
+
+    /// The raw set and the mapped set of a group, by one run of the rule, which `work` counts.
+    ///
+    /// # Errors
+    ///
+    /// Those of [`OsdMap::raw_of`].
+    pub fn sets_of(&self, pg: Pg, work: &mut Work) -> Result<GroupSets, Refusal>
+        ensures raw { Gives result (group_fault self.now.map pg)
+            (λ sets. IsPlacedBy raw_set self.now.map pg sets.raw) }
+        ensures mapped { Gives result (group_fault self.now.map pg)
+            (λ sets. IsPlacedBy mapped_set self.now.map pg sets.mapped) }
+        ensures run { RunsOnce work.old work.new result }
+    {
+        let pool = self.pool_of(pg)?;
+        Ok(self.placing_in(&pool).sets(pg.number, work)?)
     }
 
     /// The mapped set that a group would have if an explicit set and pairs were its exceptions, in place of those that

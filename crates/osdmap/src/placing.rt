@@ -46,6 +46,15 @@ pub struct Placing<'a> {
     ghost folds: { mask ≡ mask_of pool.pgp_num },
 }
 
+/// The raw set of a group, and its mapped set.
+#[derive(Clone, Copy, Debug)]
+pub struct GroupSets {
+    /// What the rule gives: the OSDs that exist.
+    pub raw: UpSet,
+    /// The raw set under the exceptions of the group.
+    pub mapped: UpSet,
+}
+
 impl Placing<'_> {
     ghost use Rattle.std.specs.Prelude.{◌≡◌, IfOk};
     ghost use Rattle.osdmap.specs.Placement.{placement_input, raw_set, mapped_set, RunsOnce};
@@ -100,6 +109,23 @@ impl Placing<'_> {
                 Ok(map.with_exceptions(raw, explicit, items))
             }
         }
+    }
+
+    /// The raw set and the mapped set of the group of a number, by one run of the rule.
+    #[tactic(auto, unfolding(crate::specs::Placement::mapped_set))]
+    pub(crate) fn sets(&self, number: u32, work: &mut Work) -> Result<GroupSets, Memory>
+        ensures raw { IfOk result (λ sets. sets.raw ≡ raw_set self.now.map.now.map self.now.pool number) }
+        ensures mapped { IfOk result (λ sets. sets.mapped ≡ mapped_set self.now.map.now.map self.now.pool number) }
+        ensures run { RunsOnce work.old work.new result }
+    {
+        let map = self.map;
+        let pg = Pg {
+            pool: self.pool.id(),
+            number,
+        };
+        let raw = self.raw_set(number, work)?;
+        let mapped = map.with_exceptions(raw, map.explicit(pg), map.items(pg));
+        Ok(GroupSets { raw, mapped })
     }
 }
 

@@ -5,6 +5,7 @@ pub mod Carrying
 pub mod Keeping
 pub mod Making
 pub mod Concerning
+pub mod Slicing
 pub mod States
 pub mod ToldBefore
 pub mod PatchedInPlace

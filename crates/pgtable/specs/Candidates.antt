@@ -1,5 +1,5 @@
 -- The groups that a change can concern, found without looking at all groups.
-use Rattle.std.specs.Prelude.{◌≡◌, true, ℕ, ◌*◌, ◌-◌, ◌^◌, Bool, ◌&&◌, nat_lt, nat_le, List, [], ◌∷◌, map, filter_map, Option, Some, None, if◌then◌else◌}
+use Rattle.std.specs.Prelude.{◌≡◌, true, ℕ, ◌+◌, ◌*◌, ◌-◌, ◌^◌, Bool, ◌&&◌, nat_lt, nat_le, List, [], ◌∷◌, map, filter_map, Option, Some, None, if◌then◌else◌}
 use Rattle.std.specs.List.{fold}
 use Rattle.keylist.specs.Keys.{has_key}
 use Rattle.keylist.specs.Order.{IsRising}
@@ -51,6 +51,10 @@ number_at q base n key =
 -- the number in a pool of a group that a change concerns
 abbrev pub concerned_number : ClusterMap → ChangeParts → PoolFacts → Pg → Option ℕ
 concerned_number m c p g = number_at (λ n. concerns m c (group_of p n)) (p.id * 2 ^ 32) p.pg_num (pg_key g)
+
+-- whether a group stands in a pool
+abbrev pub is_in : PoolFacts → Pg → Bool
+is_in p g = nat_le (p.id * 2 ^ 32) (pg_key g) && nat_lt (pg_key g) (p.id * 2 ^ 32 + p.pg_num)
 
 -- the numbers in a pool of those of some groups that a change concerns
 abbrev pub numbers_in : ClusterMap → ChangeParts → PoolFacts → List Pg → List ℕ

@@ -1,16 +1,22 @@
 //! The groups that a change can concern.
 
-ghost use Rattle.std.specs.Prelude.{◌≡◌, [], true, None, IfOk, OnOk};
+ghost use Rattle.std.specs.Prelude.{◌≡◌, ◌<◌, ◌≤◌, ℕ, [], true, None, length, nat_le, nat_lt, filter, slice_index_or, IfOk, OnOk};
 ghost use Rattle.keylist.specs.Order.{IsRising};
 ghost use Rattle.maptypes.specs.Exceptions.{pg_key, key_of};
+ghost use Rattle.maptypes.specs.declared.pg.Pg.{Pg};
+ghost use Rattle.maptypes.specs.declared.change.ChangeParts.{ChangeParts};
 ghost use Rattle.osdmap.specs.Changes.{change_fault};
-ghost use Rattle.pgtable.specs.Candidates.{excepted_groups, union_of, NamedRise, IsCandidates, named_groups, candidates};
+ghost use Rattle.osdmap.specs.Maps.{ClusterMap};
+ghost use Rattle.pgtable.specs.Candidates.{excepted_groups, union_of, NamedRise, IsCandidates, named_groups, candidates, is_in, numbers_in};
 
-use keylist::put_all;
-use maptypes::{Blank, Change, Exception, Explicit, Items, Pg};
+use keylist::{Keyed, put_all};
+use maptypes::{Blank, Change, Exception, Explicit, Items, Pg, Pool};
 use osdmap::OsdMap;
 use refusal::Memory;
 use std::alloc::Global;
+
+/// From so many groups on a pool's are sought by halving. Below it, that costs more than it spares.
+const MANY: usize = 16;
 
 /// The groups of some exceptions, in their order; or `Memory` (30).
 fn groups_of<E: Blank>(alloc: Global, exceptions: &[Exception<E>]) -> Result<Vec<Pg>, Memory>
@@ -111,4 +117,56 @@ pub(crate) fn candidates(
     names_rise(before, change);
     let groups = with_excepted(alloc, change, after)?;
     Ok(groups)
+}
+
+/// How many of some groups, in ascending order, come before a key; by halving.
+fn count_below(groups: &[Pg], key: u64) -> usize
+    requires { IsRising pg_key groups.now }
+    ensures within { result ≤ length groups.now }
+    ensures below { (k : ℕ) (d : Pg) → k < result → pg_key (slice_index_or groups.now k d) < key }
+    ensures above { (k : ℕ) (d : Pg) → result ≤ k → k < length groups.now → key ≤ pg_key (slice_index_or groups.now k d) }
+{
+    groups.partition_point(|group| group.key() < key)
+}
+
+/// Those of some groups, in ascending order, that do not come before a key.
+fn from_key(groups: &[Pg], key: u64) -> &[Pg]
+    requires { IsRising pg_key groups.now }
+    ensures { result.now ≡ filter (λ g. nat_le key (pg_key g)) groups.now }
+{
+    &groups[count_below(groups, key)..]
+}
+
+/// Those of some groups, in ascending order, that come before a key.
+fn below_key(groups: &[Pg], key: u64) -> &[Pg]
+    requires { IsRising pg_key groups.now }
+    ensures { result.now ≡ filter (λ g. nat_lt (pg_key g) key) groups.now }
+{
+    &groups[..count_below(groups, key)]
+}
+
+/// Those of some groups, in ascending order, that stand in a pool; by halving.
+fn slice_in<'a>(pool: &Pool, groups: &'a [Pg]) -> &'a [Pg]
+    requires { IsRising pg_key groups.now }
+    ensures { result.now ≡ filter (is_in pool.now) groups.now }
+{
+    let first = Pg {
+        pool: pool.id(),
+        number: 0,
+    };
+    let end = first.key() + u64::from(pool.pg_num());
+    below_key(from_key(groups, first.key()), end)
+}
+
+/// Among which of some groups, in ascending order, those of a pool are sought: where there are many, only these.
+pub(crate) fn groups_for<'a>(pool: &Pool, groups: &'a [Pg]) -> &'a [Pg]
+    requires { IsRising pg_key groups.now }
+    ensures { (m : ClusterMap) (c : ChangeParts)
+        → numbers_in m c pool.now result.now ≡ numbers_in m c pool.now groups.now }
+{
+    if groups.len() < MANY {
+        groups
+    } else {
+        slice_in(pool, groups)
+    }
 }

@@ -11,6 +11,7 @@ ghost use Rattle.osdmap.specs.Evals.{is_named, names_reweighted, concerns};
 ghost use Rattle.pgtable.specs.Candidates.{IsCandidates, number_at, concerned_number, numbers_in};
 ghost use Rattle.pgtable.specs.Patches.{concerned_numbers};
 
+use crate::candidates::groups_for;
 use keylist::{Keyed, has};
 use maptypes::{Change, Entry, Pg, Pool, Reweight};
 use osdmap::OsdMap;
@@ -133,6 +134,6 @@ pub(crate) fn concerned_numbers(
     requires { IsCandidates map.now.map change.now candidates.now }
     ensures { IfOk result (λ numbers. numbers.items ≡ concerned_numbers map.now.map change.now pool.now) }
 {
-    let numbers = numbers_in(alloc, map, change, pool, candidates)?;
+    let numbers = numbers_in(alloc, map, change, pool, groups_for(pool, candidates))?;
     Ok(numbers)
 }

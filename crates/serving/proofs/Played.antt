@@ -23,7 +23,7 @@ use Rattle.serving.specs.declared.part.Part.{Part}
 use Rattle.serving.specs.declared.left.Left.{Left}
 use Rattle.serving.specs.declared.left.LeftOf.{LeftOf}
 use Rattle.serving.specs.declared.fault.Fault.{Fault}
-use Rattle.serving.specs.declared.fault.Fault.TheVariants.{Map, Output, Told, Memory}
+use Rattle.serving.specs.declared.fault.Fault.TheVariants.{Lost, Map, Output, Told, Memory}
 use Rattle.serving.specs.Players.{IsStartedFor, KeepsPromise}
 use Rattle.serving.specs.Pairs.{Pairs}
 use Rattle.serving.specs.Serving.{LeftFacts, heading, facts_left, texts_of, text_left, unseen, lets_all, journal_of, KeepsAll, IsTextBy, IsLeftBy, IsLeftIn, AreLeftBy, AreLeftFrom, run_basis, ServesFrom, Serves, has_output_failed}
@@ -108,6 +108,7 @@ served_stated IsKept (Err Output) m journal profile stated parts before after no
     (none, (m, states, (lefts, rest, left_anyhow IsKept m journal profile parts lefts left, out)))
 served_stated IsKept (Err Told) m journal profile stated parts before after none states opens (lefts, left, told, out) =
     (none, (m, states, (lefts, left_anyhow IsKept m journal profile parts lefts left, told, out)))
+served_stated IsKept (Err Lost) m journal profile stated parts before after none states opens same = (none, (m, states, same))
 served_stated IsKept (Err Memory) m journal profile stated parts before after none states opens same = same
 
 -- and the sink has not failed

@@ -23,7 +23,14 @@ use Rattle.serving.specs.declared.left.Left.{Left}
 use Rattle.serving.specs.declared.part.Part.{Part}
 use Rattle.serving.specs.declared.part.Part.TheVariants.{Script, Live}
 use Rattle.serving.specs.declared.fault.Fault.{Fault}
-use Rattle.serving.specs.declared.fault.Fault.TheVariants.{Map, Output, Told, Memory}
+use Rattle.serving.specs.declared.fault.Unplayed.{Unplayed}
+use Rattle.serving.specs.declared.fault.Unplayed.TheVariants as unplayed
+use Rattle.serving.specs.declared.fault.Fault.TheVariants.{Map, Output, Told, Lost, Memory}
+
+-- the fault of a run of which no session is left
+abbrev pub fault_of : Unplayed → Fault
+fault_of unplayed.Memory = Memory
+fault_of unplayed.Lost = Lost
 
 -- the most sessions of a run
 abbrev pub max_scripts : ℕ
@@ -43,7 +50,7 @@ lets_all number passes = passes ≡ true
 abbrev pub unseen : ℕ → Sight
 unseen most = record {
   member = record { history = []; draws = 0; own = replicate most false };
-  follower = record { history = []; seen = [] };
+  follower = record { history = []; seen = []; runs = 0 };
 }
 
 -- the text of the session of a number: its heading, and the answers of its script, which go by these; the last of them
@@ -142,8 +149,8 @@ IsServedFrom IsKept m journal profile parts told before after =
     × (list_any (λ left. left.told) lefts ≡ told) × (after ≡ before ++ texts_of lefts)
 
 -- what is out at the end of a run from this map: the texts, at `Told` where a live session has told that a file of it
--- failed; a beginning of them where the output fails; nothing where no monitor begins at the map's epoch or memory is
--- short
+-- failed; a beginning of them where the output fails; nothing where no monitor begins at the map's epoch, memory is
+-- short or a change is lost
 abbrev pub ServesFrom : (List Step → Type 0) → ClusterMap → ℕ → Profile → List Part → List ℕ → List ℕ
     → Result Unit Fault → Type 0
 ServesFrom IsKept m journal profile parts before after (Ok done) =
@@ -155,6 +162,7 @@ ServesFrom IsKept m journal profile parts before after (Err Output) =
     × HasPut before (texts_of lefts) rest after
 ServesFrom IsKept m journal profile parts before after (Err Told) =
     IsServedFrom IsKept m journal profile parts true before after
+ServesFrom IsKept m journal profile parts before after (Err Lost) = after ≡ before
 ServesFrom IsKept m journal profile parts before after (Err Memory) = after ≡ before
 
 -- a text states a map that is not refused, and what is out at the end of a run is from it
@@ -173,6 +181,8 @@ Serves journal profile stated parts before after (Err Output) =
     ServesStated journal profile stated parts before after (Err Output)
 Serves journal profile stated parts before after (Err Told) =
     ServesStated journal profile stated parts before after (Err Told)
+Serves journal profile stated parts before after (Err Lost) =
+    ServesStated journal profile stated parts before after (Err Lost)
 Serves journal profile stated parts before after (Err Memory) = after ≡ before
 
 -- whether the sink has failed: where the output is told to have, and else not
@@ -181,4 +191,5 @@ has_output_failed (Ok done) = false
 has_output_failed (Err (Map refusal)) = false
 has_output_failed (Err Output) = true
 has_output_failed (Err Told) = false
+has_output_failed (Err Lost) = false
 has_output_failed (Err Memory) = false

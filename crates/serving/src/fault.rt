@@ -19,9 +19,40 @@ pub enum Fault {
     /// The files of a live session have failed, which its thread has told.
     #[error("told")]
     Told,
+    /// A change that a session has seen is not in what the monitor ends with, or not of one session.
+    #[error("a change is lost")]
+    Lost,
     /// Out of memory.
     #[error("memory")]
     Memory,
+}
+
+/// Why nothing is left of sessions.
+#[derive(Clone, Copy, Debug, PartialEq, Eq)]
+pub enum Unplayed {
+    /// Out of memory.
+    Memory,
+    /// A change that a session has seen is not in what the monitor ends with, or not of one session.
+    Lost,
+}
+
+impl From<Memory> for Unplayed {
+    fn from(_memory: Memory) -> Unplayed {
+        Unplayed::Memory
+    }
+}
+
+impl From<Unplayed> for Fault {
+    ghost use Rattle.serving.specs.Serving.{fault_of};
+
+    ghost from_gives = { λ unplayed fault. fault ≡ fault_of unplayed };
+
+    fn from(unplayed: Unplayed) -> Fault {
+        match unplayed {
+            Unplayed::Memory => Fault::Memory,
+            Unplayed::Lost => Fault::Lost,
+        }
+    }
 }
 
 impl From<WriteFailed> for Fault {

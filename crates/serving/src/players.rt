@@ -1,12 +1,14 @@
 //! The threads that play the sessions of a run: started, joined, and what they have seen made one history, which the
 //! store has kept.
 ghost use Rattle.std.specs.Prelude.{◌≡◌, ◌↔◌, ◌==◌, ◌<◌, ◌+◌, ℕ, true, All, IfOk, MatchOption, length, vec_len};
+ghost use Rattle.std.specs.Bool.{OnTrue};
 ghost use Rattle.epochlog.specs.Epochs.{Begins};
 ghost use Rattle.monitor.specs.Members.{IsMemberOf, IsNewMemberOf, IsPassOf, IsStateOf};
 ghost use Rattle.serving.specs.Pairs.{Pairs};
 ghost use Rattle.serving.specs.Serving.{journal_of, seen_left, KeepsAll, IsLeftBy, AreLeftBy};
 ghost use Rattle.serving.specs.Players.{IsStartedFor, KeepsPromise, IsSeenBy, made_by};
 
+use crate::fault::Unplayed;
 use crate::left::{Left, LeftOf};
 use crate::part::Part;
 use crate::playing::{Stage, play};
@@ -156,59 +158,33 @@ fn are_made_once(all: &Pass, first: u64, lefts: &[Left]) -> bool
     true
 }
 
-/// Returns where each epoch after a first one that a pass has seen is one that exactly one member of those that are
-/// left has made, and else never: nobody else commits, so it does not wait.
-fn wait_until_made<R: Wait>(rt: &R, all: &Pass, first: u64, lefts: &[Left])
-    requires { first ≡ all.now.row.first }
-    ensures { (at : ℕ) → at < length all.now.history → made_by lefts.now at ≡ 1 }
-{
-    for _ in rt.forever() {
-        if are_made_once(all, first, lefts) {
-            return;
-        }
-    }
-    unreachable!()
-}
-
-/// The state, with which a monitor ends; nobody at its lock has lost it, so it does not wait.
-fn end<R: Wait, K: Keeps + Drop>(rt: &R, monitor: Monitor<K>) -> Box<State<K>>
-    ensures { IsStateOf monitor result.value }
-{
-    if let Some(state) = monitor.into_state() {
-        return state;
-    }
-    for _ in rt.forever() {}
-    unreachable!()
-}
-
-/// Returns where a pass that has seen what a state has seen has seen no more, and else never: no change is lost, so it
-/// does not wait.
-fn wait_until_all<R: Wait, K: Keeps + Drop>(rt: &R, all: &Pass, state: &State<K>)
+/// Whether a state has seen all that a pass has which has seen what the state has.
+fn has_seen_all<K: Keeps + Drop>(all: &Pass, state: &State<K>) -> bool
     requires row { state.now.pass.row ≡ all.now.row }
     requires begins { Begins state.now.pass.history all.now.history }
-    ensures { all.now.history ≡ state.now.pass.history }
+    ensures { (result ≡ true) ↔ (all.now.history ≡ state.now.pass.history) }
 {
-    for _ in rt.forever() {
-        if state.pass().epoch() == all.epoch() {
-            return;
-        }
-    }
-    unreachable!()
+    state.pass().epoch() == all.epoch()
 }
 
-/// Ends a monitor, and joins what its state has seen: that is all, and whatever a crash leaves of the store is all of
-/// it, and at most one change more.
-fn join_state<R: Wait, K: Keeps + Drop>(rt: &R, monitor: Monitor<K>, all: &mut Pass)
+/// Ends a monitor, and joins what its state has seen: whether that is all, and whatever a crash leaves of the store is
+/// all of it, and at most one change more.
+fn join_state<K: Keeps + Drop>(monitor: Monitor<K>, all: &mut Pass) -> bool
     requires { IsPassOf monitor all.old }
     ensures pass { IsPassOf monitor all.new }
     ensures begins { Begins all.old.history all.new.history }
-    ensures kept { KeepsAll K.may_leave (journal_of monitor.first all.new.history) }
+    ensures kept { OnTrue result (KeepsAll K.may_leave (journal_of monitor.first all.new.history)) }
 {
-    let state = end(rt, monitor);
+    let Some(state) = monitor.into_state() else {
+        return false;
+    };
     all.join(state.pass());
-    wait_until_all(rt, all, &state);
+    if !has_seen_all(all, &state) {
+        return false;
+    }
     let _ = state.store();
     let _ = state.map();
+    true
 }
 
 /// What is left of the sessions of these parts, in their order, each played by a thread of its own, for which it takes
@@ -246,21 +222,22 @@ fn play_in_threads<R: Threads + Wait + Eprint + Sync, K: Keeps + Drop + Send + S
 
 /// What is left of the sessions of these parts, in their order, each played by a thread of its own at a monitor, which
 /// ends with them. What their members have seen at the end is of one history, each of whose epochs exactly one of them
-/// has made, and all of which the store has kept. The one error is that memory is short, or that a thread cannot be
-/// made.
+/// has made, and all of which the store has kept. An error is that memory is short, that a thread cannot be made, or
+/// that this is not so.
 pub fn play_all<R: Threads + Wait + Eprint + Sync, K: Keeps + Drop + Send + Sync>(
     system: &System<'_, R>,
     monitor: Monitor<K>,
     members: Vec<Member>,
     parts: &[Part],
-) -> Result<Vec<Left>, Memory>
+) -> Result<Vec<Left>, Unplayed>
     requires members { All (IsNewMemberOf monitor) members.items }
     requires count { vec_len members ≡ length parts.now }
     ensures { IfOk result (λ lefts. AreLeftBy K.may_leave monitor parts.now lefts.items) }
 {
     let (lefts, mut all) = play_in_threads(system, &monitor, members, parts)?;
     let first = monitor.first_epoch();
-    join_state(system.rt, monitor, &mut all);
-    wait_until_made(system.rt, &all, first, lefts.as_slice());
+    if !join_state(monitor, &mut all) || !are_made_once(&all, first, lefts.as_slice()) {
+        return Err(Unplayed::Lost);
+    }
     Ok(lefts)
 }

@@ -519,6 +519,7 @@ fn errors_tell_what_they_are(rt: HostRuntime) -> Result<(), Fail> {
     assert!(rt; tells(alloc, &Fault::Map(Refusal::BadForest), "map: BadForest"));
     assert!(rt; tells(alloc, &Fault::Output, "output"));
     assert!(rt; tells(alloc, &Fault::Told, "told"));
+    assert!(rt; tells(alloc, &Fault::Lost, "a change is lost"));
     assert!(rt; tells(alloc, &Fault::Memory, "memory"));
     Ok(())
 }

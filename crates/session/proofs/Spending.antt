@@ -4,7 +4,7 @@ use Rattle.maptypes.specs.declared.change.ChangeParts.{ChangeParts}
 use Rattle.refusal.specs.declared.refused.Refusal.{Refusal}
 use Rattle.state.specs.declared.state.Commit.{Commit}
 use Rattle.state.specs.declared.balancing.Balance.{Balance}
-use Rattle.session.specs.Commands.{Beside, Command, ask, change, wait, balance, follower, command_in}
+use Rattle.session.specs.Commands.{Beside, Command, ask, change, wait, balance, follower, command_by}
 use Rattle.session.specs.Transcripts.{IsTranscript, TakesLine}
 use Rattle.session.specs.Answers.{Basis, Account, Sight, Changes, Plans, Does, session_by}
 
@@ -42,7 +42,7 @@ module _ (basis : Basis) (lets : ℕ → Bool → Type 0) where
       → left.member.draws ≤ before.member.draws + 1
   line_draws number before [] answer left (none, same) = omega (arith, ap (λ (s : Sight). s.member.draws) same)
   line_draws number before (c ∷ cs) answer left (passed, answered) =
-      command_draws basis before left (command_in (c ∷ cs)) answer answered.0
+      command_draws basis before left (command_by basis.profile (c ∷ cs)) answer answered.0
 
   -- a seat draws at most as often as there are lines: so before each line of a script that has fewer lines than the seat has draws,
   -- draws are left, and the line does not answer 31

@@ -1,12 +1,15 @@
 -- What a line answers to a session of a monitor, by what its member and its follower have seen before and after it.
-use Rattle.std.specs.Prelude.{◌≡◌, ◌⊎◌, ℕ, ◌+◌, ◌<◌, ◌≤◌, ℤ, Bool, true, List, length, slice_get, if◌then◌else◌, [], ◌∷◌, ◌++◌, codes, Option, Some, None, Result, Err, MatchResult, IfErr, OnOk, IsSome}
+use Rattle.std.specs.Prelude.{◌≡◌, ◌⊎◌, ℕ, ◌+◌, ◌-◌, ◌^◌, ◌<◌, ◌≤◌, ℤ, Bool, true, List, length, min, slice_get, if◌then◌else◌, [], ◌∷◌, ◌++◌, codes, Option, Some, None, Result, Ok, Err, MatchResult, IfErr, OnOk, IsSome}
 use Rattle.maptypes.specs.declared.change.ChangeParts.{ChangeParts}
+use Rattle.maptypes.specs.declared.pg.Pg.{Pg}
 use Rattle.maptypes.specs.Incrementals.{Step}
 use Rattle.refusal.specs.declared.refused.Refusal.{Refusal}
 use Rattle.refusal.specs.declared.refused.Refusal.TheVariants.{BadCommand, SeatSpent, AwaitSpent, Memory as OutOfMemory}
 use Rattle.refusal.specs.Outcomes.{Makes}
 use Rattle.osdmap.specs.Maps.{ClusterMap}
 use Rattle.osdmap.specs.Changes.{after, change_fault}
+use Rattle.osdmap.specs.Placement.{group_fault}
+use Rattle.cleanup.specs.Kept.{remnant_at}
 use Rattle.epochlog.specs.Epochs.{OneBegins}
 use Rattle.mapparts.specs.declared.profile.Profile.{Profile}
 use Rattle.mapparts.specs.Profiles.{is_stock}
@@ -16,6 +19,7 @@ use Rattle.balancer.specs.Shares.{Aim, aim_of}
 use Rattle.state.specs.declared.state.Commit.{Commit}
 use Rattle.state.specs.declared.balancing.Balance.{Balance}
 use Rattle.monitor.specs.declared.question.Answer.{Answer}
+use Rattle.monitor.specs.declared.question.Answer.TheVariants as answer
 use Rattle.monitor.specs.declared.question.Question.{Question}
 use Rattle.monitor.specs.declared.question.Question.TheVariants.{Up, Epoch, Dump}
 use Rattle.monitor.specs.Histories.{GoesOn, Looks, AnswersCommit}
@@ -25,7 +29,7 @@ use Rattle.monitor.specs.Balances.{AnswersBalance}
 use Rattle.session.specs.declared.command.Task.{Task}
 use Rattle.session.specs.declared.command.Task.TheVariants as task
 use Rattle.session.specs.declared.reply.Speaker.TheVariants as speaker
-use Rattle.session.specs.Commands.{Beside, Command, ask, change, wait, balance, follower, command_in}
+use Rattle.session.specs.Commands.{Beside, Command, ask, change, wait, balance, follower, command_by}
 use Rattle.session.specs.Transcripts.{Manner}
 use Rattle.session.specs.Replies.{answer_text, changed_text, planned_text}
 use Rattle.session.specs.Texts.{epoch_text, ok_text, moved_text, refusal_text, line_of}
@@ -39,10 +43,12 @@ pub record Basis : Type 0 where
   pub profile : Profile
   pub alone : Bool
 
--- what a session's follower has: its history, and what its pass has seen, of which that is a beginning
+-- what a session's follower has: its history, what its pass has seen, of which that is a beginning, and how many runs of
+-- rules it has taken
 pub record Track : Type 0 where
   pub history : List Step
   pub seen : List Step
+  pub runs : ℕ
 
 -- what a session's member has: its history, how often its seat has drawn, and of each epoch of the journal whether the
 -- member has made it
@@ -146,13 +152,31 @@ HasCaughtUp first t =
 abbrev pub FindsThere : ClusterMap → Question → Result Answer Refusal → Type 0
 FindsThere m question r = (r ≡ Err OutOfMemory) ⊎ Finds m question r
 
+-- what a Ceph monitor would leave of a group's exceptions, where `Memory` may come in place of any answer
+abbrev pub FindsKept : ClusterMap → Pg → Result Answer Refusal → Type 0
+FindsKept m pg (Ok (answer.Kept epoch of left)) =
+    (of ≡ pg) × (group_fault m pg ≡ None) × (epoch ≡ m.epoch) × (Some left ≡ remnant_at m pg)
+FindsKept m pg (Ok other) = ⊥
+FindsKept m pg (Err e) = (e ≡ OutOfMemory) ⊎ (group_fault m pg ≡ Some e)
+
+-- a follower tells what its map says after the same history as before, and has run no rule for it
+abbrev pub TellsIdle : Track → Track → Type 0
+TellsIdle before now = (now.history ≡ before.history) × (now.runs ≡ before.runs)
+
+-- the same, but that it has run one rule for an answer
+abbrev pub TellsByRun : Track → Track → Result Answer Refusal → Type 0
+TellsByRun before now r = (now.history ≡ before.history)
+    × MatchResult r (λ _. now.runs ≡ min (before.runs + 1) (2 ^ 64 - 1)) (λ _. now.runs ≡ before.runs)
+
 -- what a follower's task answers: the epoch of its history, which goes on from the one before as far as it can; or what
--- its map says, after the same history as before
-abbrev pub Tells : ClusterMap → List Step → Track → Task → Result Answer Refusal → Type 0
+-- its map says, after the same history as before; and how many rules it runs for that
+abbrev pub Tells : ClusterMap → Track → Track → Task → Result Answer Refusal → Type 0
 Tells first before now task.CatchUp r =
-    GoesOn first before now.history × OnOk r (HasCaughtUp first now) × FindsThere (after first now.history) Epoch r
-Tells first before now (task.Up pg) r = (now.history ≡ before) × FindsThere (after first now.history) (Up pg) r
-Tells first before now task.Dump r = (now.history ≡ before) × FindsThere (after first now.history) Dump r
+    GoesOn first before.history now.history × OnOk r (HasCaughtUp first now)
+    × FindsThere (after first now.history) Epoch r × (now.runs ≡ before.runs)
+Tells first before now (task.Up pg) r = TellsByRun before now r × FindsThere (after first now.history) (Up pg) r
+Tells first before now task.Dump r = TellsIdle before now × FindsThere (after first now.history) Dump r
+Tells first before now (task.Kept pg) r = TellsByRun before now r × FindsKept (after first now.history) pg r
 
 -- ---- lines
 
@@ -172,7 +196,7 @@ Does basis before (Some (balance pool limit beside)) line now =
     IsLineOf (Plans basis pool limit beside before.member now.member) planned_text line
     × (now.follower ≡ before.follower)
 Does basis before (Some (follower t)) line now =
-    IsLineOf (Tells basis.first before.follower.history now.follower t) (answer_text speaker.Follower) line
+    IsLineOf (Tells basis.first before.follower now.follower t) (answer_text speaker.Follower) line
     × (now.member ≡ before.member) × OneBegins now.follower.history now.member.history
 
 -- a history stays, or is longer by one incremental, whose epoch an answer tells
@@ -190,7 +214,7 @@ AddsOwn alone before answer now = alone ≡ true → AddsTold before answer now
 -- what a line answers, and what the session has seen then
 abbrev pub IsAnswered : Basis → Sight → List ℕ → List ℕ → Sight → Type 0
 IsAnswered basis before line answer now =
-    Does basis before (command_in line) answer now × AddsOwn basis.alone before.member.history answer now.member.history
+    Does basis before (command_by basis.profile line) answer now × AddsOwn basis.alone before.member.history answer now.member.history
 
 -- how a session goes behind a gate
 abbrev pub session_by : Basis → (ℕ → Bool → Type 0) → Manner Sight

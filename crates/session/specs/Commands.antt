@@ -1,9 +1,11 @@
 -- The lines of a script, and the command of a line.
-use Rattle.std.specs.Prelude.{ℕ, ◌==◌, ◌^◌, ◌+◌, ◌&&◌, Bool, List, [], ◌∷◌, length, take, drop, codes, nat_le, position, Option, Some, None, if◌then◌else◌}
+use Rattle.std.specs.Prelude.{ℕ, ◌==◌, ◌^◌, ◌+◌, ◌&&◌, Bool, true, List, [], ◌∷◌, length, take, drop, codes, nat_le, position, Option, Some, None, if◌then◌else◌}
 use Rattle.std.specs.List.{onto_first}
 use Rattle.std.specs.Option.{option_map, option_and_then}
 use Rattle.std.specs.Str.{bytes_eq}
 use Rattle.balancer.specs.Limits.{max_moves}
+use Rattle.mapparts.specs.declared.profile.Profile.{Profile}
+use Rattle.mapparts.specs.Profiles.{is_stock}
 use Rattle.mapparts.specs.Digits.{below, number_in}
 use Rattle.maptypes.specs.GroupText.{group_in}
 use Rattle.monitor.specs.declared.question.Question.{Question}
@@ -111,12 +113,15 @@ question_in line =
       ]
     ]
 
--- the task of a line: `follow`, `fdump`, `fup ` and a group
+-- the task of a line: `follow`, `fdump`, `fup ` or `fkept ` and a group
 unfoldable pub task_in : List ℕ → Option Task
 task_in line =
     if bytes_eq line (codes "follow") then Some task.CatchUp
     else if bytes_eq line (codes "fdump") then Some task.Dump
-    else option_and_then (λ group. option_map task.Up (group_in group)) (behind (codes "fup ") line)
+    else elim (behind (codes "fup ") line) [
+      | Some group ↦ option_map task.Up (group_in group)
+      | None ↦ option_and_then (λ group. option_map task.Kept (group_in group)) (behind (codes "fkept ") line)
+    ]
 
 -- what a text says is to be counted beside a pool: a number, a space and a text
 unfoldable pub beside_in : List ℕ → Option Beside
@@ -156,3 +161,23 @@ command_in line = elim (question_in line) [
     ]
   ]
 ]
+
+-- whether a script of maps of a profile may have a task of the follower: a script of plain maps has no `fkept`
+abbrev pub is_task_in : Profile → Task → Bool
+is_task_in profile task.CatchUp = true
+is_task_in profile (task.Up pg) = true
+is_task_in profile task.Dump = true
+is_task_in profile (task.Kept pg) = is_stock profile
+
+-- the command, where a script of maps of this profile may have it
+abbrev pub known_in : Profile → Option Command → Option Command
+known_in profile None = None
+known_in profile (Some (ask question)) = Some (ask question)
+known_in profile (Some (change text)) = Some (change text)
+known_in profile (Some (wait epoch)) = Some (wait epoch)
+known_in profile (Some (balance pool limit beside)) = Some (balance pool limit beside)
+known_in profile (Some (follower t)) = if is_task_in profile t then Some (follower t) else None
+
+-- the command of a line in such a script
+abbrev pub command_by : Profile → List ℕ → Option Command
+command_by profile line = known_in profile (command_in line)

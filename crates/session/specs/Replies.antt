@@ -3,12 +3,12 @@ use Rattle.std.specs.Prelude.{List, ℕ, codes, string_bytes}
 use Rattle.state.specs.declared.state.Commit.{Commit}
 use Rattle.state.specs.declared.balancing.Balance.{Balance}
 use Rattle.monitor.specs.declared.question.Answer.{Answer}
-use Rattle.monitor.specs.declared.question.Answer.TheVariants.{Up, Count, Groups, Epoch, Dump}
+use Rattle.monitor.specs.declared.question.Answer.TheVariants.{Up, Count, Groups, Epoch, Dump, Kept}
 use Rattle.session.specs.declared.reply.Speaker.{Speaker}
 use Rattle.session.specs.declared.reply.Speaker.TheVariants.{Monitor, Follower}
 use Rattle.session.specs.declared.reply.Reply.{Reply}
 use Rattle.session.specs.declared.reply.Reply.TheVariants.{Found, Changed, Moved}
-use Rattle.session.specs.Texts.{up_text, count_text, groups_text, epoch_text, dump_text, ok_text, moved_text}
+use Rattle.session.specs.Texts.{up_text, count_text, groups_text, epoch_text, dump_text, kept_text, ok_text, moved_text}
 
 -- the first word of an up set, of an epoch and of a map's text, by whom it is of
 abbrev pub up_word : Speaker → List ℕ
@@ -30,6 +30,7 @@ answer_text by (Count epoch osd count) = count_text epoch osd count
 answer_text by (Groups epoch osd groups) = groups_text epoch osd groups.items
 answer_text by (Epoch epoch) = epoch_text (epoch_word by) epoch
 answer_text by (Dump text) = dump_text (dump_word by) (string_bytes text)
+answer_text by (Kept epoch pg left) = kept_text epoch pg left
 
 -- the line of a change: the new epoch, and its evaluations
 abbrev pub changed_text : Commit → List ℕ

@@ -21,12 +21,12 @@ use Rattle.session.specs.Readings.{whole_text, Stand, Reader, StopsReading}
 
 -- what a follower has
 abbrev pub track : Followed → Track
-track follower = record { history = follower.history; seen = follower.seen }
+track follower = record { history = follower.history; seen = follower.seen; runs = follower.runs }
 
 -- what a session has by its follower, which has nothing where there is none yet
 abbrev pub track_of : Option Followed → Track
 track_of (Some follower) = track follower
-track_of None = record { history = []; seen = [] }
+track_of None = record { history = []; seen = []; runs = 0 }
 
 -- what a member has
 abbrev pub account : Member → Account

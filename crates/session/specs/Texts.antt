@@ -2,6 +2,8 @@
 use Rattle.std.specs.Prelude.{ℕ, List, [], ◌∷◌, ◌++◌, codes, Option, Result, Ok, Err}
 use Rattle.std.specs.Fmt.{decimal}
 use Rattle.maptypes.specs.declared.pg.Pg.{Pg}
+use Rattle.cleanup.specs.declared.kept.Remnant.{Remnant}
+use Rattle.cleanup.specs.declared.kept.Remnant.TheVariants.{All, Fewer, Gone}
 use Rattle.refusal.specs.declared.refused.Refusal.{Refusal}
 use Rattle.refusal.specs.declared.refused.Refusal.TheVariants.{BadJson, BadField, BadLimit, BadForest, BadRule, BadPool, BadOsd, BadException, StaleEpoch, UnknownOsd, BadWeight, UnknownPool, PoolExists, UnknownGroup, BadNewException, DuplicatePart, JournalFull, BalanceRule, Memory, SeatSpent, NotSealed, BadCommand, AwaitSpent, NotStored}
 use Rattle.refusal.specs.Refusals.{number_of, name_of}
@@ -42,6 +44,17 @@ epoch_text word epoch = word ++ codes " " ++ decimal epoch ++ newline
 -- `WORD TEXT`
 unfoldable pub dump_text : List ℕ → List ℕ → List ℕ
 dump_text word text = word ++ codes " " ++ text ++ newline
+
+-- the word of what is left
+abbrev pub remnant_word : Remnant → List ℕ
+remnant_word All = codes "all"
+remnant_word Fewer = codes "fewer"
+remnant_word Gone = codes "gone"
+
+-- `fkept EPOCH PG WORD`
+unfoldable pub kept_text : ℕ → Pg → Remnant → List ℕ
+kept_text epoch pg left =
+    codes "fkept" ++ codes " " ++ decimal epoch ++ codes " " ++ group_text pg ++ codes " " ++ remnant_word left ++ newline
 
 -- `ok EPOCH evals N`
 unfoldable pub ok_text : ℕ → ℕ → List ℕ

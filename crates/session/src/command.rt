@@ -37,6 +37,8 @@ pub(crate) enum Task {
     Up(Pg),
     /// To tell the written form of its map.
     Dump,
+    /// To tell what a Ceph monitor would leave of a group's exceptions. Only a script of stock maps asks it.
+    Kept(Pg),
 }
 
 /// A command of a script.

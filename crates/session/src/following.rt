@@ -4,8 +4,8 @@ ghost use Rattle.osdmap.specs.Changes.{after};
 ghost use Rattle.epochlog.specs.Epochs.{OneBegins};
 ghost use Rattle.monitor.specs.declared.question.Question.TheVariants as question;
 ghost use Rattle.monitor.specs.Histories.{GoesOn};
-ghost use Rattle.monitor.specs.Followers.{Follows};
-ghost use Rattle.session.specs.Answers.{FindsThere, HasCaughtUp, Tells};
+ghost use Rattle.monitor.specs.Followers.{Follows, RunsForOne};
+ghost use Rattle.session.specs.Answers.{FindsThere, FindsKept, HasCaughtUp, TellsIdle, Tells};
 ghost use Rattle.session.specs.Sessions.{track, track_of, IsFollowerOf};
 
 use crate::command::Task;
@@ -23,7 +23,7 @@ fn need_follower<K: Keeps + Drop>(
 ) -> Result<(), Memory>
     requires { IsFollowerOf monitor.now follower.old }
     ensures there { OnOk result (IsSomeAnd follower.new (Follows monitor.now)
-        × ((track_of follower.new).history ≡ (track_of follower.old).history)) }
+        × TellsIdle (track_of follower.old) (track_of follower.new)) }
     ensures none { OnErr result ((follower.old ≡ None) × (follower.new ≡ None)) }
 {
     if follower.is_none() {
@@ -43,6 +43,7 @@ fn catch_up<K: Keeps + Drop>(
     ensures goes_on { GoesOn monitor.now.first follower.old.history follower.new.history }
     ensures finds { FindsThere (after monitor.now.first follower.new.history) question.Epoch result }
     ensures ends { OnOk result (HasCaughtUp monitor.now.first (track follower.new)) }
+    ensures runs { follower.new.runs ≡ follower.old.runs }
 {
     let reached = follower.catch_up(alloc, monitor);
     let _ = follower.epoch();
@@ -51,12 +52,22 @@ fn catch_up<K: Keeps + Drop>(
 
 /// Finds the up set of a group in the follower's map.
 fn find_up(follower: &mut Follower, pg: Pg) -> Result<Answer, Refusal>
-    ensures follower { follower.new ≡ follower.old }
+    ensures run { RunsForOne follower.old follower.new result }
     ensures finds { FindsThere (after follower.old.first follower.old.history) (question.Up pg) result }
 {
     let _ = follower.epoch();
     let (epoch, set) = follower.up(pg)?;
     Ok(Answer::Up { epoch, pg, set })
+}
+
+/// Finds what a Ceph monitor would leave of the exceptions that the follower's map has of a group.
+fn find_kept(follower: &mut Follower, pg: Pg) -> Result<Answer, Refusal>
+    ensures run { RunsForOne follower.old follower.new result }
+    ensures finds { FindsKept (after follower.old.first follower.old.history) pg result }
+{
+    let _ = follower.epoch();
+    let (epoch, left) = follower.kept(pg)?;
+    Ok(Answer::Kept { epoch, pg, left })
 }
 
 /// Finds the written form of the follower's map.
@@ -76,12 +87,13 @@ fn tell<K: Keeps + Drop>(
 ) -> Result<Answer, Refusal>
     requires { Follows monitor.now follower.old }
     ensures follower { Follows monitor.now follower.new }
-    ensures tells { Tells monitor.now.first follower.old.history (track follower.new) task result }
+    ensures tells { Tells monitor.now.first (track follower.old) (track follower.new) task result }
 {
     match task {
         Task::CatchUp => catch_up(alloc, monitor, follower),
         Task::Up(pg) => find_up(follower, pg),
         Task::Dump => find_text(alloc, follower),
+        Task::Kept(pg) => find_kept(follower, pg),
     }
 }
 
@@ -98,7 +110,7 @@ pub(crate) fn follow<K: Keeps + Drop>(
     requires follower { IsFollowerOf monitor.now follower.old }
     ensures member { member.new ≡ member.old }
     ensures follower { IsFollowerOf monitor.now follower.new }
-    ensures tells { Tells monitor.now.first (track_of follower.old).history (track_of follower.new) task result }
+    ensures tells { Tells monitor.now.first (track_of follower.old) (track_of follower.new) task result }
     ensures meets { OneBegins (track_of follower.new).history member.new.pass.history }
 {
     need_follower(alloc, monitor, follower)?;

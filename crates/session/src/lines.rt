@@ -5,6 +5,7 @@ use crate::desk::Desk;
 use crate::error::SessionError;
 use crate::gate::Gate;
 use crate::line::{Asking, FirstLine, Line, cut, read_line};
+use crate::parse::known_in;
 use crate::progress::Progress;
 use crate::sink::Sink;
 use crate::telling::{flush_if_full, tell};
@@ -38,7 +39,8 @@ impl<'a, R: Wait, G: Gate, K: Keeps + Drop> Desk<'a, R, G, K> {
         if !self.gate.pass(progress.number) {
             return Err(SessionError::Held);
         }
-        let reply = self.do_command(member, &mut progress.follower, line.command);
+        let command = known_in(self.monitor.profile(), line.command);
+        let reply = self.do_command(member, &mut progress.follower, command);
         tell(reply, &mut progress.text, sink)
     }
 

@@ -2,12 +2,12 @@
 ghost use Rattle.std.specs.Prelude.{◌≡◌, ◌<◌, ◌≤◌, ◌==◌, ◌+◌, ◌*◌, ◌^◌, length, position, IfSome};
 ghost use Rattle.std.specs.Option.{option_map, option_and_then};
 ghost use Rattle.balancer.specs.Limits.{max_moves};
-ghost use Rattle.session.specs.Commands.{osd_in, epoch_in, two_words, words_of, limit_in, apart_in, beside_in, plan_for, plan_in, question_in, task_in, command_of, beside_of, command_in};
+ghost use Rattle.session.specs.Commands.{osd_in, epoch_in, two_words, words_of, limit_in, apart_in, beside_in, plan_for, plan_in, question_in, task_in, command_of, beside_of, command_in, known_in};
 ghost use Rattle.session.specs.declared.command.Command.TheVariants.{Balance};
 
 use crate::command::{Beside, Command, Plan, Task};
 use balancer::limits::{LEAST_APART, MAX_MOVES};
-use mapparts::number;
+use mapparts::{Profile, number};
 use maptypes::Pg;
 use monitor::Question;
 
@@ -35,6 +35,8 @@ const FOLLOW: &[u8] = b"follow";
 const FOLLOWER_DUMP: &[u8] = b"fdump";
 
 const FOLLOWER_UP: &[u8] = b"fup ";
+
+const FOLLOWER_KEPT: &[u8] = b"fkept ";
 
 /// The first word of a text, and what stands behind its space.
 #[derive(Clone, Copy)]
@@ -175,8 +177,11 @@ fn read_task(line: &[u8]) -> Option<Task>
     if line == FOLLOWER_DUMP {
         return Some(Task::Dump);
     }
-    let group = line.strip_prefix(FOLLOWER_UP)?;
-    Some(Task::Up(Pg::parse(group)?))
+    if let Some(group) = line.strip_prefix(FOLLOWER_UP) {
+        return Some(Task::Up(Pg::parse(group)?));
+    }
+    let group = line.strip_prefix(FOLLOWER_KEPT)?;
+    Some(Task::Kept(Pg::parse(group)?))
 }
 
 /// The command of a line; `None` where the line is none.
@@ -197,4 +202,14 @@ pub(crate) fn read_command(line: &[u8]) -> Option<Command<'_>>
         return Some(Command::Balance(read_plan(plan)?));
     }
     Some(Command::Follower(read_task(line)?))
+}
+
+/// The command of a line in a script of maps of this profile: a script of plain maps has no `fkept`.
+pub(crate) fn known_in(profile: Profile, command: Option<Command<'_>>) -> Option<Command<'_>>
+    ensures { option_map command_of result ≡ known_in profile (option_map command_of command.entry) }
+{
+    match command {
+        Some(Command::Follower(Task::Kept(_))) if !profile.is_stock() => None,
+        _ => command,
+    }
 }

@@ -4,12 +4,12 @@ ghost use Rattle.std.specs.String.{string_bytes};
 ghost use Rattle.maptypes.specs.SetText.{list_text};
 ghost use Rattle.maptypes.specs.GroupText.{group_text};
 ghost use Rattle.session.specs.declared.reply.Speaker.TheVariants.{Monitor};
-ghost use Rattle.session.specs.Texts.{count_text, epoch_text, dump_text, up_text, groups_text, refusal_text, line_of};
+ghost use Rattle.session.specs.Texts.{count_text, epoch_text, dump_text, up_text, groups_text, remnant_word, kept_text, refusal_text, line_of};
 ghost use Rattle.session.specs.Replies.{up_word, epoch_word, dump_word, answer_text, reply_text};
 
 use crate::text::{push_group, push_list, push_number, push_osd, push_places};
 use maptypes::{Pg, UpSet};
-use monitor::Answer;
+use monitor::{Answer, Remnant};
 use refusal::Refusal;
 use std::alloc::AllocError;
 
@@ -141,6 +141,30 @@ fn push_groups(text: &mut String, epoch: u64, osd: u32, groups: &[Pg]) -> Result
     text.push_str("]\n")
 }
 
+/// The word of what is left of exceptions.
+fn remnant_word(left: Remnant) -> &'static str
+    ensures { result.now ≡ remnant_word left }
+{
+    match left {
+        Remnant::All => "all",
+        Remnant::Fewer => "fewer",
+        Remnant::Gone => "gone",
+    }
+}
+
+/// Adds the line of what is left of a group's exceptions.
+#[tactic(auto, unfolding(crate::specs::Texts::kept_text))]
+fn push_kept(text: &mut String, epoch: u64, pg: Pg, left: Remnant) -> Result<(), AllocError>
+    ensures { OnOk result (string_bytes text.new ≡ string_bytes text.old ++ kept_text epoch pg left) }
+{
+    push_word(text, "fkept", epoch)?;
+    text.push_str(" ")?;
+    push_group(text, pg)?;
+    text.push_str(" ")?;
+    text.push_str(remnant_word(left))?;
+    text.push_str("\n")
+}
+
 /// Adds the line of a refusal.
 #[tactic(auto, unfolding(crate::specs::Texts::refusal_text))]
 fn push_refusal(text: &mut String, refusal: Refusal) -> Result<(), AllocError>
@@ -163,6 +187,7 @@ fn push_answer(text: &mut String, by: Speaker, answer: &Answer) -> Result<(), Al
         Answer::Groups { epoch, osd, groups } => push_groups(text, *epoch, *osd, groups),
         Answer::Epoch(epoch) => push_epoch(text, by.epoch_word(), *epoch),
         Answer::Dump(map) => push_dump(text, by.dump_word(), map),
+        Answer::Kept { epoch, pg, left } => push_kept(text, *epoch, *pg, *left),
     }
 }
 

@@ -2,11 +2,10 @@
 use Rattle.std.proofs.Common.{◌≡◌, ℕ, ◌+◌, ◌^◌, ◌<◌, ◌≤◌, List, [], ◌∷◌, ◌++◌, set, sym, refl, ap, subst, ◌∙◌, ⊎_elim, arith, length-append}
 use mathlib.Core.Option.{some}
 use lib.ListN.{get_elem?}
-use Rattle.atomic_table.specs.Table.{Splits}
 use Rattle.atomic_table.proofs.Lists.{at_snoc}
 use Rattle.ticketlock.specs.declared.view.View.{View}
 use Rattle.ticketlock.specs.Rule.{LockWorld, KeepsRule, IsInTurn, Each, has, inside, total, newcomer}
-use Rattle.ticketlock.specs.Places.{IsRuled, one_cut}
+use Rattle.ticketlock.specs.Places.{one_cut}
 use Rattle.ticketlock.proofs.Totals.{total_set, total_append}
 use Rattle.ticketlock.proofs.Views.{each_set, length_set}
 
@@ -33,7 +32,3 @@ cut_keeps w id v k at some_spare = let views : List View = set w.views id (one_c
             let a = total_append (λ u. u.spare) views newcomer in let s = total_set (λ u. u.spare) w.views id v (one_cut v) at in omega arith;
       };
     }
-
--- so a seat may be cut off
-pub may_cut : (id : ℕ) (v : View) → 0 < v.spare → Splits {S = ℕ} IsRuled id v (one_cut v) newcomer
-may_cut id v some_spare s line at = (line.0, line.1, line.2, line.3, cut_keeps (record { draw_word = line.0; reader_word = line.1; writer_word = line.2; views = s.views }) id v line.4 at some_spare)

@@ -6,6 +6,9 @@ pub mod Entering
 pub mod Leaving
 pub mod Steps
 pub mod Runs
+pub mod Traced
+pub mod KnownRuns
 pub mod Moves
+pub mod Splitting
 pub mod Cutting
 pub mod Made

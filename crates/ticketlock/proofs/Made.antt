@@ -1,11 +1,13 @@
 -- The rule holds where a lock is made, and after every list of steps and cuts.
-use Rattle.std.proofs.Common.{◌≡◌, ◌≢◌, ℕ, zero, suc, ◌+◌, ◌-◌, ◌^◌, ◌<◌, ◌≤◌, List, [], ◌∷◌, length, sym, refl, ap, subst, ◌∙◌, arith}
+use Rattle.std.proofs.Common.{◌≡◌, ℕ, zero, suc, ◌<◌, ◌≤◌, List, [], ◌∷◌, sym, refl, ap, subst, arith}
 use mathlib.Core.Option.{some, some-injective, some-ne-none}
 use lib.ListN.{get_elem?}
 use Rattle.ticketlock.specs.declared.view.View.{View}
 use Rattle.ticketlock.specs.Rule.{LockWorld, IsInTurn, KeepsRule}
 use Rattle.ticketlock.specs.Places.{opener}
-use Rattle.ticketlock.specs.Law.{made_with, Event, takes, cuts, Leads}
+use Rattle.ticketlock.specs.declared.view.Event.{Event}
+use Rattle.ticketlock.specs.declared.view.Event.TheVariants.{Took, CutOff}
+use Rattle.ticketlock.specs.Law.{made_with, Leads}
 use Rattle.ticketlock.proofs.Steps.{step_keeps}
 use Rattle.ticketlock.proofs.Cutting.{cut_keeps}
 
@@ -35,5 +37,5 @@ starts_made seats one few = record {
 -- a list of steps and cuts keeps the rule
 pub lasts_made : (w : LockWorld) (events : List Event) (last : LockWorld) → KeepsRule w → Leads w events last → KeepsRule last
 lasts_made w [] last k run = subst KeepsRule (sym run) k
-lasts_made w (takes s seat ∷ events) last k run = lasts_made run.0 events last (step_keeps s w seat run.1 run.0 k run.2 run.3) run.4
-lasts_made w (cuts seat ∷ events) last k run = lasts_made _ events last (cut_keeps w seat run.0 k run.1 run.2) run.3
+lasts_made w (Took s seat ∷ events) last k run = lasts_made run.0 events last (step_keeps s w seat run.1 run.0 k run.2 run.3) run.4
+lasts_made w (CutOff seat ∷ events) last k run = lasts_made _ events last (cut_keeps w seat run.0 k run.1 run.2) run.3

@@ -7,7 +7,8 @@ use lib.ListN.{get_elem?}
 use Rattle.ticketlock.specs.declared.view.View.{View}
 use Rattle.ticketlock.specs.declared.view.Stage.{Stage}
 use Rattle.ticketlock.specs.declared.view.Stage.TheVariants.{Idle, Waiting, Next, Reading, Writing, Closing}
-use Rattle.ticketlock.specs.Rule.{LockWorld, Step, has, inside, IsInTurn, KeepsRule, newcomer}
+use Rattle.ticketlock.specs.declared.view.Step.{Step}
+use Rattle.ticketlock.specs.Rule.{LockWorld, has, inside, IsInTurn, KeepsRule, newcomer}
 use Rattle.ticketlock.specs.Law.{start, Runs, IsWriting, IsIn, IsAlone}
 use Rattle.ticketlock.proofs.Totals.{part_of, two_of, total_copies}
 use Rattle.ticketlock.proofs.Views.{is_at}

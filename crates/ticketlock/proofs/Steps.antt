@@ -5,7 +5,9 @@ use lib.ListN.{get_elem?}
 use Rattle.ticketlock.specs.declared.view.View.{View}
 use Rattle.ticketlock.specs.declared.view.Kind.TheVariants.{Read, Write}
 use Rattle.ticketlock.specs.declared.view.Stage.{Stage}
-use Rattle.ticketlock.specs.Rule.{LockWorld, Step, draws, reader_looks, writer_looks, reader_enters, reader_leaves, writer_closes, writer_leaves, has, inside, IsInTurn, KeepsRule, moved_on, gone_in, Takes}
+use Rattle.ticketlock.specs.declared.view.Step.{Step}
+use Rattle.ticketlock.specs.declared.view.Step.TheVariants.{Draws, ReaderLooks, WriterLooks, ReaderEnters, ReaderLeaves, WriterCloses, WriterLeaves}
+use Rattle.ticketlock.specs.Rule.{LockWorld, has, inside, IsInTurn, KeepsRule, moved_on, gone_in, Takes}
 use Rattle.ticketlock.proofs.Totals.{bounded}
 use Rattle.ticketlock.proofs.Views.{one, at_one, not_past}
 use Rattle.ticketlock.proofs.Draws.{draw_keeps}
@@ -28,16 +30,16 @@ goes_in w v s e had has_none was_out is_in served = record {
 
 -- each of the seven kinds keeps the rule
 pub step_keeps : (s : Step) (w : LockWorld) (seat : ℕ) (v : View) (next : LockWorld) → KeepsRule w → get_elem? w.views seat ≡ some v → Takes s w seat v next → KeepsRule next
-step_keeps (draws kind) w seat v next k at h = subst KeepsRule (sym h.2) (draw_keeps w kind seat v k at h.0 h.1)
-step_keeps reader_looks w seat v next k at h = subst KeepsRule (sym h.2) (look_keeps w seat v h.0 Read w.reader_word k at h.1 (reader_served w.reader_word w.writer_word h.0))
-step_keeps writer_looks w seat v next k at h = subst KeepsRule (sym h.2)
+step_keeps (Draws kind) w seat v next k at h = subst KeepsRule (sym h.2) (draw_keeps w kind seat v k at h.0 h.1)
+step_keeps ReaderLooks w seat v next k at h = subst KeepsRule (sym h.2) (look_keeps w seat v h.0 Read w.reader_word k at h.1 (reader_served w.reader_word w.writer_word h.0))
+step_keeps WriterLooks w seat v next k at h = subst KeepsRule (sym h.2)
     (look_keeps w seat v h.0 Write w.writer_word k at h.1 (writer_served w.reader_word w.writer_word h.0 k.order.0 (not_past w seat v h.0 k.tickets at (ap (has h.0) h.1 ∙ at_one h.0))))
-step_keeps reader_enters w seat v next k at h = let now : w.reader_word ≡ h.0 = subst (IsInTurn w.reader_word w.writer_word) h.1 (k.served seat v at) in
+step_keeps ReaderEnters w seat v next k at h = let now : w.reader_word ≡ h.0 = subst (IsInTurn w.reader_word w.writer_word) h.1 (k.served seat v at) in
     subst KeepsRule (sym h.2) (enter_keeps w seat v (gone_in v) k at (goes_in w v _ h.1 (λ x. ap (one x) (sym now)) (λ x. refl) refl refl tt))
-step_keeps reader_leaves w seat v next k at h = subst KeepsRule (sym h.2) (leave_keeps w seat v k at (λ x. ap (has x) h.1) (ap inside h.1))
-step_keeps writer_closes w seat v next k at h = let now : (w.reader_word ≡ h.0) × (w.writer_word ≡ h.0) = subst (IsInTurn w.reader_word w.writer_word) h.1 (k.served seat v at) in
+step_keeps ReaderLeaves w seat v next k at h = subst KeepsRule (sym h.2) (leave_keeps w seat v k at (λ x. ap (has x) h.1) (ap inside h.1))
+step_keeps WriterCloses w seat v next k at h = let now : (w.reader_word ≡ h.0) × (w.writer_word ≡ h.0) = subst (IsInTurn w.reader_word w.writer_word) h.1 (k.served seat v at) in
     subst KeepsRule (sym h.2) (enter_keeps w seat v (gone_in v) k at (goes_in w v _ h.1 (λ x. ap (one x) (sym now.0)) (λ x. refl) refl refl tt))
-step_keeps writer_leaves w seat v next k at h = subst KeepsRule (sym h.2) (leave_keeps w seat v k at (λ x. ap (has x) h.1) (ap inside h.1))
+step_keeps WriterLeaves w seat v next k at h = subst KeepsRule (sym h.2) (leave_keeps w seat v k at (λ x. ap (has x) h.1) (ap inside h.1))
 
 -- there are at most 2^50 draws
 pub few_draws : (w : LockWorld) → KeepsRule w → w.draw_word ≤ 2 ^ 50

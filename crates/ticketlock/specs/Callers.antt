@@ -11,12 +11,13 @@ use Rattle.ticketlock.specs.declared.tokens.TurnWrite.{TurnWrite}
 use Rattle.ticketlock.specs.declared.read_guard.ReadGuard.{ReadGuard}
 use Rattle.ticketlock.specs.declared.write_guard.WriteGuard.{WriteGuard}
 use Rattle.ticketlock.specs.Rule.{newcomer}
-use Rattle.ticketlock.specs.Standing.{IsAt, view_of}
+use Rattle.ticketlock.specs.Places.{unseeing}
+use Rattle.ticketlock.specs.Standing.{IsAt, sight_of}
 use Rattle.ticketlock.specs.Guards.{first_of_read, first_of_write}
 
--- a seat at these words that has made no step
+-- a seat at these words that has seen nothing and made no step
 abbrev pub IsNewAt : Words → Seat → Type 0
-IsNewAt words seat = IsAt words seat.place × (view_of seat.place ≡ newcomer)
+IsNewAt words seat = IsAt words seat.place × (sight_of seat.place ≡ unseeing newcomer)
 
 module _ {T : Type 0} {f : fact.Ghosts T} (lock : Lock T f) where
   -- the value that the lock was made with

@@ -5,7 +5,10 @@ use lib.ListN.{get_elem?}
 use Rattle.ticketlock.specs.declared.view.View.{View}
 use Rattle.ticketlock.specs.declared.view.Stage.{Stage}
 use Rattle.ticketlock.specs.declared.view.Stage.TheVariants.{Idle, Waiting, Next, Reading, Writing, Closing}
-use Rattle.ticketlock.specs.Rule.{LockWorld, Step, Takes, KeepsRule, newcomer}
+use Rattle.ticketlock.specs.declared.view.Step.{Step}
+use Rattle.ticketlock.specs.declared.view.Event.{Event}
+use Rattle.ticketlock.specs.declared.view.Event.TheVariants.{Took, CutOff}
+use Rattle.ticketlock.specs.Rule.{LockWorld, Takes, KeepsRule, newcomer}
 use Rattle.ticketlock.specs.Places.{opener, one_cut}
 
 -- so many seats that are idle, and three words of 0
@@ -55,17 +58,12 @@ made_with seats = record { draw_word = 0; reader_word = 0; writer_word = 0; view
 abbrev pub with_cut : LockWorld → ℕ → View → LockWorld
 with_cut w seat v = record w { views = slice_set w.views seat (one_cut v) ++ newcomer ∷ [] }
 
--- what befalls a lock: a seat takes a step, or another seat is cut off from one
-pub data Event : Type 0 where
-  takes : Step → ℕ → Event
-  cuts : ℕ → Event
-
 -- the events lead from the first world to the last
 abbrev pub Leads : LockWorld → List Event → LockWorld → Type 0
 Leads first [] last = last ≡ first
-Leads first (takes s seat ∷ events) last = (next : LockWorld) × (v : View) × (get_elem? first.views seat ≡ some v)
+Leads first (Took s seat ∷ events) last = (next : LockWorld) × (v : View) × (get_elem? first.views seat ≡ some v)
     × Takes s first seat v next × Leads next events last
-Leads first (cuts seat ∷ events) last = (v : View) × (get_elem? first.views seat ≡ some v) × (0 < v.spare)
+Leads first (CutOff seat ∷ events) last = (v : View) × (get_elem? first.views seat ≡ some v) × (0 < v.spare)
     × Leads (with_cut first seat v) events last
 
 -- The law of the lock as it is made: from one seat, from which up to 1,023 others may be cut off between the steps,

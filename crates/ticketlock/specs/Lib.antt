@@ -7,3 +7,4 @@ pub mod Guards
 pub mod Callers
 pub mod Errors
 pub mod Lending
+pub mod Traces

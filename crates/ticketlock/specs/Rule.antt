@@ -8,6 +8,8 @@ use Rattle.ticketlock.specs.declared.view.Kind.{Kind}
 use Rattle.ticketlock.specs.declared.view.Kind.TheVariants.{Read, Write}
 use Rattle.ticketlock.specs.declared.view.Stage.{Stage}
 use Rattle.ticketlock.specs.declared.view.Stage.TheVariants.{Idle, Waiting, Next, Reading, Writing, Closing}
+use Rattle.ticketlock.specs.declared.view.Step.{Step}
+use Rattle.ticketlock.specs.declared.view.Step.TheVariants.{Draws, ReaderLooks, WriterLooks, ReaderEnters, ReaderLeaves, WriterCloses, WriterLeaves}
 
 -- THE WORDS AND THE VIEWS
 -- Three words, each a ticket: the draw word (U below) is the next to be drawn, the reader word (R) the one that may
@@ -61,15 +63,6 @@ abbrev pub gone_out : View → View
 gone_out v = record v { stage = Idle }
 
 -- THE SEVEN KINDS OF STEP
-pub data Step : Type 0 where
-  draws : Kind → Step
-  reader_looks : Step
-  writer_looks : Step
-  reader_enters : Step
-  reader_leaves : Step
-  writer_closes : Step
-  writer_leaves : Step
-
 -- the world where the seat has the view v and no other seat another, with the words as they were
 abbrev pub with_view : LockWorld → ℕ → View → LockWorld
 with_view w seat v = record w { views = slice_set w.views seat v }
@@ -93,16 +86,16 @@ writer_word_up w seat v = record w { writer_word = w.writer_word + 1; views = sl
 --   writer leaves, first   R + 1    Writing(t) to Closing(t)
 --   writer leaves, second  W + 1    Closing(t) to Idle
 abbrev pub Takes : Step → LockWorld → ℕ → View → LockWorld → Type 0
-Takes (draws kind) w seat v next =
+Takes (Draws kind) w seat v next =
     (v.stage ≡ Idle) × (v.draws < 2 ^ 40) × (next ≡ draw_word_up w seat (drawn_for kind w.draw_word v))
-Takes reader_looks w seat v next =
+Takes ReaderLooks w seat v next =
     (t : ℕ) × (v.stage ≡ Waiting t Read) × (next ≡ with_view w seat (looked_at w.reader_word v))
-Takes writer_looks w seat v next =
+Takes WriterLooks w seat v next =
     (t : ℕ) × (v.stage ≡ Waiting t Write) × (next ≡ with_view w seat (looked_at w.writer_word v))
-Takes reader_enters w seat v next = (t : ℕ) × (v.stage ≡ Next t) × (next ≡ reader_word_up w seat (gone_in v))
-Takes reader_leaves w seat v next = (t : ℕ) × (v.stage ≡ Reading t) × (next ≡ writer_word_up w seat (gone_out v))
-Takes writer_closes w seat v next = (t : ℕ) × (v.stage ≡ Writing t) × (next ≡ reader_word_up w seat (gone_in v))
-Takes writer_leaves w seat v next = (t : ℕ) × (v.stage ≡ Closing t) × (next ≡ writer_word_up w seat (gone_out v))
+Takes ReaderEnters w seat v next = (t : ℕ) × (v.stage ≡ Next t) × (next ≡ reader_word_up w seat (gone_in v))
+Takes ReaderLeaves w seat v next = (t : ℕ) × (v.stage ≡ Reading t) × (next ≡ writer_word_up w seat (gone_out v))
+Takes WriterCloses w seat v next = (t : ℕ) × (v.stage ≡ Writing t) × (next ≡ reader_word_up w seat (gone_in v))
+Takes WriterLeaves w seat v next = (t : ℕ) × (v.stage ≡ Closing t) × (next ≡ writer_word_up w seat (gone_out v))
 
 -- THE RULE
 -- f of each view, added up

@@ -1,14 +1,19 @@
 -- The places of seats: where a seat stands, and at which words.
 use Rattle.std.specs.Prelude.{◌≡◌, ◌≤◌, ℕ}
 use Rattle.ticketlock.specs.declared.view.View.{View}
+use Rattle.ticketlock.specs.declared.view.Sight.{Sight}
 use Rattle.ticketlock.specs.declared.view.Stage.{Stage}
 use Rattle.ticketlock.specs.declared.table.Place.{Place}
 use Rattle.ticketlock.specs.declared.table.Words.{Words}
 use Rattle.ticketlock.specs.Rule.{looked_at, gone_in}
 
 -- what the seat at this place knows
+abbrev pub sight_of : Place → Sight
+sight_of place = place.token.me.0
+
+-- its view
 abbrev pub view_of : Place → View
-view_of place = place.token.me.0
+view_of place = (sight_of place).view
 
 -- where it stands
 abbrev pub stage_of : Place → Stage

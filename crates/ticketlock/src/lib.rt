@@ -36,7 +36,7 @@ mod writing;
 pub use error::LockError;
 pub use fact::Fact;
 pub use laws::{interleavings, sharing};
-pub use lock::Lock;
+pub use lock::{Ended, Lock};
 pub use read_guard::ReadGuard;
 pub use tokens::{QueuedRead, QueuedWrite, Seat, TurnRead, TurnWrite};
 pub use turn::Turn;

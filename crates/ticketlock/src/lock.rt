@@ -1,9 +1,9 @@
 //! The lock, and its seats.
 ghost use Rattle.std.specs.Prelude.{◌≡◌, ◌<◌, ◌≤◌, ◌^◌, IfOk, IfErr, IfSome, All, vec_len};
-ghost use Rattle.ticketlock.specs.Rule.{newcomer};
-ghost use Rattle.ticketlock.specs.Places.{opener};
-ghost use Rattle.ticketlock.specs.Standing.{IsAt, view_of};
-ghost use Rattle.ticketlock.specs.Callers.{IsNewOf, IsNewAt, first_of, limit_of};
+ghost use Rattle.ticketlock.specs.Places.{opener, unseeing};
+ghost use Rattle.ticketlock.specs.Standing.{IsAt, sight_of};
+ghost use Rattle.ticketlock.specs.Traces.{EndsIn};
+ghost use Rattle.ticketlock.specs.Callers.{IsNewOf, IsNewAt, IsSeatOf, first_of, limit_of};
 ghost use Rattle.ticketlock.specs.Errors.{IsWithin, IsFault};
 
 use crate::error::LockError;
@@ -13,6 +13,19 @@ use crate::slots::Slots;
 use crate::table::{Place, Words};
 use crate::tokens::Seat;
 use std::alloc::{AllocError, Global};
+
+/// What a lock ends with.
+#[derive(Drop)]
+pub struct Ended<T> {
+    /// The value, as [`Lock::into_value`] has it.
+    pub value: Option<T>,
+    /// The ticket that is the next to be drawn: how many were.
+    pub draw_word: u64,
+    /// The ticket that may enter to read.
+    pub reader_word: u64,
+    /// The ticket that may enter to write.
+    pub writer_word: u64,
+}
 
 /// A value behind a line of tickets.
 #[derive(Drop)]
@@ -29,7 +42,7 @@ fn seats_of(
     count: u32,
 ) -> Result<Vec<Seat>, AllocError>
     requires count { 0 < count }
-    requires own { IsAt words.now place × (view_of place ≡ opener count) }
+    requires own { IsAt words.now place × (sight_of place ≡ unseeing (opener count)) }
     ensures { IfOk result (λ v. (vec_len v ≡ count) × All (IsNewAt words.now) v.items) }
 {
     let mut seats = Vec::new(alloc);
@@ -94,5 +107,24 @@ impl<T: Fact + Drop> Lock<T> {
     {
         let Lock { slots, .. } = self;
         slots.into_value()
+    }
+
+    /// The value and the three words, with which the lock ends at one of its seats. Some list of steps, with the seats
+    /// that were cut off between them, has led to these words. It begins with what the seat has seen, and has of the seat
+    /// the steps that it took and no others.
+    pub fn end_at(self, seat: Seat) -> Ended<T>
+        requires own { IsSeatOf self seat }
+        ensures value { IfSome result.value (T.fact (first_of self)) }
+        ensures words { EndsIn result.draw_word result.reader_word result.writer_word (sight_of seat.place) }
+    {
+        let Lock { words, slots } = self;
+        let Seat { place } = seat;
+        let (draw_word, reader_word, writer_word) = words.close_at(place);
+        Ended {
+            value: slots.into_value(),
+            draw_word,
+            reader_word,
+            writer_word,
+        }
     }
 }

@@ -18,9 +18,11 @@ pub struct ReadGuard<'a, T: Fact> {
 }
 
 impl<'a, T: Fact + Drop> ReadGuard<'a, T> {
-    ghost use Rattle.std.specs.Prelude.{◌≡◌};
+    ghost use Rattle.std.specs.Prelude.{◌≡◌, [], ◌∷◌};
+    ghost use Rattle.ticketlock.specs.declared.view.Step.TheVariants.{ReaderLeaves};
     ghost use Rattle.ticketlock.specs.Rule.{gone_out};
-    ghost use Rattle.ticketlock.specs.Standing.{Becomes, view_of};
+    ghost use Rattle.ticketlock.specs.Standing.{Becomes, sight_of, view_of};
+    ghost use Rattle.ticketlock.specs.Traces.{Follows};
     ghost use Rattle.ticketlock.specs.Guards.{Shows, first_of_read};
 
     /// The value, the same at each call while the guard lasts. It meets the fact.
@@ -36,7 +38,8 @@ impl<'a, T: Fact + Drop> ReadGuard<'a, T> {
 
     /// Leaves the lock.
     pub fn leave(self) -> Seat
-        ensures { Becomes self.entry.turn.place result.place (gone_out (view_of self.entry.turn.place)) }
+        ensures becomes { Becomes self.entry.turn.place result.place (gone_out (view_of self.entry.turn.place)) }
+        ensures run { Follows (ReaderLeaves ∷ []) (sight_of self.entry.turn.place) (sight_of result.place) }
     {
         let ReadGuard { words, turn, claim } = self;
         let back = read_no_more(claim);

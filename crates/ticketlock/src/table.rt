@@ -1,10 +1,12 @@
 //! The table of the lock: three words, the places of its seats, and the rule over both.
-ghost use Rattle.std.specs.Prelude.{◌≡◌, ◌≤◌, ◌^◌};
+ghost use Rattle.std.specs.Prelude.{◌≡◌, ◌≤◌, ◌^◌, [], ◌∷◌};
 ghost use Rattle.ticketlock.specs.declared.view.Kind.TheVariants.{Read, Write};
+ghost use Rattle.ticketlock.specs.declared.view.Step.TheVariants.{Draws, ReaderLooks, WriterLooks, ReaderEnters, ReaderLeaves, WriterCloses, WriterLeaves};
 ghost use Rattle.ticketlock.specs.Rule.{drawn_for, looked_at, gone_in, gone_out, newcomer};
-ghost use Rattle.ticketlock.specs.Places.{one_cut};
+ghost use Rattle.ticketlock.specs.Places.{sight_cut, unseeing};
+ghost use Rattle.ticketlock.specs.Traces.{Follows};
 
-use crate::view::View;
+use crate::view::Sight;
 use atomic_table::{Play, Seat, Split, Table, TableRule};
 use std::alloc::Global;
 
@@ -18,71 +20,102 @@ pub(crate) const WRITER_WORD: usize = 2;
 /// A seat's place at the words, and how often it has drawn.
 #[derive(Drop)]
 pub(crate) struct Place {
-    pub(crate) token: Seat<u8, View>,
+    pub(crate) token: Seat<u8, Sight>,
     pub(crate) draws: u64,
-    pub ghost counted: { draws ≡ token.me.0.draws },
+    pub ghost counted: { draws ≡ token.me.0.view.draws },
 }
 
 /// The rule of the three words and of all views. It is told the number of seats.
 pub(crate) struct InOrder;
 
-impl TableRule<u8, View, u32> for InOrder {
-    ghost use Rattle.ticketlock.specs.Places.{IsRuled, opener};
+impl TableRule<u8, Sight, u32> for InOrder {
+    ghost use Rattle.ticketlock.specs.Places.{opener, unseeing};
+    ghost use Rattle.ticketlock.specs.Traces.{IsTraced};
 
-    ghost holds = { λ _. IsRuled };
+    ghost holds = { IsTraced };
 
-    ghost first = { opener };
+    ghost first = { λ seats. unseeing (opener seats) };
 }
 
 /// A draw to read: the ticket that was found.
 pub(crate) struct DrawRead;
 
-impl Play<u8, View> for DrawRead {
-    ghost then = { λ _ me n you. you ≡ (drawn_for Read n me.0, me.1) };
+impl Play<u8, Sight> for DrawRead {
+    ghost then = { λ _ me n you. (you.1 ≡ me.1) × (you.0.view ≡ drawn_for Read n me.0.view)
+        × Follows (Draws Read ∷ []) me.0 you.0 };
 }
 
 /// A draw to write: the ticket that was found.
 pub(crate) struct DrawWrite;
 
-impl Play<u8, View> for DrawWrite {
-    ghost then = { λ _ me n you. you ≡ (drawn_for Write n me.0, me.1) };
+impl Play<u8, Sight> for DrawWrite {
+    ghost then = { λ _ me n you. (you.1 ≡ me.1) × (you.0.view ≡ drawn_for Write n me.0.view)
+        × Follows (Draws Write ∷ []) me.0 you.0 };
 }
 
-/// A look: the word that was found.
-pub(crate) struct Look;
+/// A reader's look: the word that was found.
+pub(crate) struct LookRead;
 
-impl Play<u8, View> for Look {
-    ghost then = { λ _ me n you. you ≡ (looked_at n me.0, me.1) };
+impl Play<u8, Sight> for LookRead {
+    ghost then = { λ _ me n you. (you.1 ≡ me.1) × (you.0.view ≡ looked_at n me.0.view)
+        × Follows (ReaderLooks ∷ []) me.0 you.0 };
 }
 
-/// An add to the reader word.
+/// A writer's look: the word that was found.
+pub(crate) struct LookWrite;
+
+impl Play<u8, Sight> for LookWrite {
+    ghost then = { λ _ me n you. (you.1 ≡ me.1) × (you.0.view ≡ looked_at n me.0.view)
+        × Follows (WriterLooks ∷ []) me.0 you.0 };
+}
+
+/// An add to the reader word, by which a reader enters.
 pub(crate) struct Enter;
 
-impl Play<u8, View> for Enter {
-    ghost then = { λ _ me _ you. you ≡ (gone_in me.0, me.1) };
+impl Play<u8, Sight> for Enter {
+    ghost then = { λ _ me n you. (you.1 ≡ me.1) × (you.0.view ≡ gone_in me.0.view)
+        × Follows (ReaderEnters ∷ []) me.0 you.0 };
 }
 
-/// An add to the writer word.
+/// An add to the reader word, by which a writer lets the next reader enter.
+pub(crate) struct Close;
+
+impl Play<u8, Sight> for Close {
+    ghost then = { λ _ me n you. (you.1 ≡ me.1) × (you.0.view ≡ gone_in me.0.view)
+        × Follows (WriterCloses ∷ []) me.0 you.0 };
+}
+
+/// An add to the writer word, by which a reader leaves.
 pub(crate) struct Leave;
 
-impl Play<u8, View> for Leave {
-    ghost then = { λ _ me _ you. you ≡ (gone_out me.0, me.1) };
+impl Play<u8, Sight> for Leave {
+    ghost then = { λ _ me n you. (you.1 ≡ me.1) × (you.0.view ≡ gone_out me.0.view)
+        × Follows (ReaderLeaves ∷ []) me.0 you.0 };
+}
+
+/// An add to the writer word, by which a writer leaves.
+pub(crate) struct End;
+
+impl Play<u8, Sight> for End {
+    ghost then = { λ _ me n you. (you.1 ≡ me.1) × (you.0.view ≡ gone_out me.0.view)
+        × Follows (WriterLeaves ∷ []) me.0 you.0 };
 }
 
 /// Another seat is cut off.
 pub(crate) struct Cut;
 
-impl Split<View> for Cut {
-    ghost left = { one_cut };
+impl Split<Sight> for Cut {
+    ghost left = { sight_cut };
 
-    ghost right = { λ _. newcomer };
+    ghost right = { λ _. unseeing newcomer };
 }
 
 /// The three words, with the lock's limit of draws.
 #[derive(Drop)]
 pub(crate) struct Words {
-    pub(crate) table: Table<u8, View, u32, InOrder, Global>,
+    pub(crate) table: Table<u8, Sight, u32, InOrder, Global>,
     pub(crate) limit: u64,
     pub ghost three_words: { table.shared.table_id.words ≡ 3 },
+    pub ghost no_slots: { table.shared.table_id.slots ≡ 0 },
     pub ghost limited: { limit ≤ 2 ^ 40 },
 }

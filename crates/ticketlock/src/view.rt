@@ -1,4 +1,6 @@
-//! What a seat knows of the lock. Contracts alone speak of views: no value of these types is made.
+//! What befalls a lock, and what a seat knows of it. Contracts alone speak of these: no value of them is made.
+
+use std::collections::LinkedList;
 
 /// What a ticket is drawn for.
 pub enum Kind {
@@ -36,4 +38,40 @@ pub struct View {
     pub noted: u64,
     /// How many seats may still be cut off from it.
     pub spare: u64,
+}
+
+/// A step of a seat.
+pub enum Step {
+    /// It draws a ticket.
+    Draws(Kind),
+    /// It looks at the reader word.
+    ReaderLooks,
+    /// It looks at the writer word.
+    WriterLooks,
+    /// It enters to read.
+    ReaderEnters,
+    /// It has read, and leaves.
+    ReaderLeaves,
+    /// It has written, and lets the next reader enter.
+    WriterCloses,
+    /// It leaves, and lets the next writer enter.
+    WriterLeaves,
+}
+
+/// What befalls a lock.
+pub enum Event {
+    /// The seat of this number takes a step.
+    Took(Step, u64),
+    /// Another seat is cut off from the seat of this number.
+    CutOff(u64),
+}
+
+/// What a seat knows of its lock.
+pub struct Sight {
+    /// Where it stands.
+    pub view: View,
+    /// All events up to its last step.
+    pub seen: LinkedList<Event>,
+    /// The steps that it has taken.
+    pub mine: LinkedList<Step>,
 }

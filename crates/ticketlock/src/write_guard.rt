@@ -18,10 +18,12 @@ pub struct WriteGuard<'a, T: Fact> {
 }
 
 impl<'a, T: Fact + Drop> WriteGuard<'a, T> {
-    ghost use Rattle.std.specs.Prelude.{◌≡◌};
+    ghost use Rattle.std.specs.Prelude.{◌≡◌, [], ◌∷◌};
     ghost use Rattle.std.specs.Borrow.{sem};
+    ghost use Rattle.ticketlock.specs.declared.view.Step.TheVariants.{WriterCloses, WriterLeaves};
     ghost use Rattle.ticketlock.specs.Rule.{gone_in, gone_out};
-    ghost use Rattle.ticketlock.specs.Standing.{Becomes, view_of};
+    ghost use Rattle.ticketlock.specs.Standing.{Becomes, sight_of, view_of};
+    ghost use Rattle.ticketlock.specs.Traces.{Follows};
     ghost use Rattle.ticketlock.specs.Guards.{first_of_write};
     ghost use Rattle.ticketlock.specs.Lending.{LendsValue};
 
@@ -43,7 +45,10 @@ impl<'a, T: Fact + Drop> WriteGuard<'a, T> {
     /// Puts the value back, which meets the fact, and leaves the lock.
     pub fn leave(self) -> Seat
         requires { T.fact (first_of_write self) self.value }
-        ensures { Becomes self.entry.turn.place result.place (gone_out (gone_in (view_of self.entry.turn.place))) }
+        ensures becomes { Becomes self.entry.turn.place result.place
+            (gone_out (gone_in (view_of self.entry.turn.place))) }
+        ensures run { Follows (WriterCloses ∷ WriterLeaves ∷ []) (sight_of self.entry.turn.place)
+            (sight_of result.place) }
     {
         let WriteGuard {
             words,

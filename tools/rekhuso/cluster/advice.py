@@ -67,6 +67,7 @@ ADVICES = (
     ),
     Advice(r"^tunable ", "`ceph osd crush tunables jewel` sets all of them, and moves data once{moves}"),
     Advice(r"^no tunable ", "take the dump by Ceph 10.2 or later"),
+    Advice(r"crush_ruleset in its place", "the tools take the dumps of later ones alone"),
     Advice(
         r"^pool (\d+) is without hashpspool",
         f"`ceph osd pool set POOL hashpspool true --yes-i-really-mean-it` sets it, and moves its data once; {POOLS}",

@@ -7,12 +7,20 @@ What has keys that are not fixed, or lists of several kinds as JSON has them, st
 from __future__ import annotations
 
 import math
-from typing import Any, Dict, cast
+from typing import Any, Dict, NamedTuple, cast
 
 from ..files import JsonObject
 
 # The form of a dump: what stands at each key.
 DumpForm = Dict[str, Any]
+# What every number of a dump is below, whatever its sign: Ceph's own have 64 bits.
+WIDEST = 2**64
+
+
+class Part(NamedTuple):
+    """The form of a number from 0 to another."""
+
+    most: int
 
 
 # A key that may be missing begins with a question mark; a list of one shape stands for any number of such entries.
@@ -35,7 +43,7 @@ OSD_DUMP = {
             "?pg_num_pending": int,
         }
     ],
-    "osds": [{"osd": int, "up": int, "weight": float, "?state": [str], "?primary_affinity": float}],
+    "osds": [{"osd": int, "up": int, "weight": float, "?state": [str], "?primary_affinity": Part(1)}],
     "?fsid": str,
     "?pg_upmap": [dict(GROUP_KEYS, osds=[int])],
     "?pg_upmap_items": [dict(GROUP_KEYS, mappings=[{"from": int, "to": int}])],
@@ -84,6 +92,8 @@ DF = {
 PG_STATS = [{"pgid": str, "stat_sum": {"num_bytes": int, "?num_omap_bytes": int}}]
 # What `ceph osd df -f json` tells of OSDs; with `tree` also buckets stand there, with negative ids.
 OSD_DF = {"nodes": [{"id": int, "kb": int, "kb_used": int, "kb_avail": int}]}
+# What is said of the report of a cluster in place of a dump.
+REPORT = "what `ceph report` prints, with the OSD dump at .osdmap and the CRUSH dump at .crushmap"
 # What a step must have beside its word.
 STEP_KEYS = {
     "take": ("item",),
@@ -105,12 +115,27 @@ TYPE_WORDS = {int: "whole number", float: "number", str: "text"}
 
 
 def is_kind(value: object, kind: type) -> bool:
-    """Whether a value is of a kind; a truth value is no number, nor is what JSON has no number for."""
+    """Whether a value is of a kind; a truth value is no number, nor is what JSON has no number for, and none has more
+    than 64 bits.
+    """
     if kind is object:
         return True
-    if kind is float:
-        return isinstance(value, (int, float)) and not isinstance(value, bool) and math.isfinite(value)
+    if kind in (int, float):
+        return is_number(value, kind) and abs(cast(float, value)) < WIDEST
     return isinstance(value, kind) and not isinstance(value, bool)
+
+
+def is_number(value: object, kind: type) -> bool:
+    """Whether a value is a whole number, or a number of any kind, however great it is."""
+    if isinstance(value, float):
+        return kind is float and math.isfinite(value)
+    return isinstance(value, int) and not isinstance(value, bool)
+
+
+def kind_fault(value: object, kind: type) -> str:
+    """What is wrong with a value that is not of a kind."""
+    is_wide = kind in (int, float) and is_number(value, kind)
+    return "a number of more than 64 bits" if is_wide else f"no {TYPE_WORDS[kind]}"
 
 
 def doubtful(entries: list[object], shape: object) -> list[int]:
@@ -121,10 +146,13 @@ def doubtful(entries: list[object], shape: object) -> list[int]:
     if not isinstance(shape, dict) or not is_plain:
         return list(range(len(entries)))
     keys, kinds = list(shape), list(shape.values())
+    numbers = [key for key in keys if shape[key] is int]
     return [
         at
         for at, entry in enumerate(entries)
-        if not isinstance(entry, dict) or [type(entry.get(key)) for key in keys] != kinds
+        if not isinstance(entry, dict)
+        or [type(entry.get(key)) for key in keys] != kinds
+        or not all(-WIDEST < entry[key] < WIDEST for key in numbers)
     ]
 
 
@@ -149,8 +177,11 @@ def misfits(value: object, shape: object, place: str) -> list[str]:
         if "op" in shape and not found:
             found += [f"{place}.{name}: missing" for name in STEP_KEYS.get(value["op"], ()) if name not in value]
         return found
+    if isinstance(shape, Part):
+        is_part = is_kind(value, float) and 0 <= cast(float, value) <= shape.most
+        return [] if is_part else [f"{place}: no number from 0 to {shape.most}"]
     kind = cast(type, shape)
-    return [] if is_kind(value, kind) else [f"{place}: no {TYPE_WORDS[kind]}"]
+    return [] if is_kind(value, kind) else [f"{place}: {kind_fault(value, kind)}"]
 
 
 def fitting(value: object, shape: DumpForm) -> tuple[JsonObject, frozenset[str]]:
@@ -217,6 +248,13 @@ def is_map(value: object) -> bool:
     return isinstance(value, dict) and {"buckets", "osds", "pools", "rules"} <= value.keys()
 
 
+def is_report(value: object) -> bool:
+    """Whether a value is what `ceph report` prints, in which both dumps stand (Ceph, OSDMonitor.cc `dump_info`)."""
+    return isinstance(value, dict) and {"osdmap", "crushmap"} <= value.keys()
+
+
 def dump_name(value: object) -> str | None:
     """Which dump a value is, in words; None where it is none."""
+    if is_report(value):
+        return REPORT
     return "an OSD dump" if is_osd_dump(value) else "a CRUSH dump" if is_crush_dump(value) else None

@@ -14,12 +14,14 @@ from .dump_forms import (
     CRUSH_DUMP,
     DumpForm,
     OSD_DUMP,
+    REPORT,
     TREE,
     fitting,
     is_crush_dump,
     is_map,
     is_kind,
     is_osd_dump,
+    is_report,
     misfits,
     with_steps_by_word,
 )
@@ -56,6 +58,8 @@ def misfit_at(path: str, place: str, value: JsonObject) -> Misfit:
     found = re.match(r"(pools|rules)\[(\d+)\]", place)
     own = value[found[1]][int(found[2])] if found else None
     number = own.get("pool" if found and found[1] == "pools" else "rule_id") if isinstance(own, dict) else None
+    if place.endswith(".crush_rule: missing") and isinstance(own, dict) and "crush_ruleset" in own:
+        place = f"{place}, and crush_ruleset in its place: is it a dump of Ceph before 12.2?"
     if found is None or not is_kind(number, int):
         return Misfit(f"{path}: {place}", None, None)
     return Misfit(f"{path}: {place}", *((number, None) if found[1] == "pools" else (None, number)))
@@ -118,6 +122,9 @@ def both_dumps(osd_dump: str, crush_dump: str, tree: str | None = None) -> tuple
     maps = [path for (path, _), value in zip(files, values) if is_map(value)]
     if maps:
         raise Fault(*(f"{path}: this is a map, and no dump: give both dumps, or one map alone" for path in maps))
+    reports = dict.fromkeys(path for (path, _), value in zip(files, values) if is_report(value))
+    if reports:
+        raise Fault(*(f"{path}: this is {REPORT}: give these two" for path in reports))
     if is_crush_dump(values[0]) and is_osd_dump(values[1]):
         raise Fault(
             f"the dumps are swapped: {osd_dump} is the CRUSH dump, and {crush_dump} the OSD dump, which comes first"

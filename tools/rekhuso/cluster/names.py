@@ -50,7 +50,7 @@ def names_in(path: str | None) -> dict[str, dict[str, str]]:
         if not isinstance(own, dict):
             raise Fault(f"{path}: {kind}: no object")
         for number, name in own.items():
-            if not re.fullmatch("-?[0-9]+", number):
+            if not re.fullmatch("-?[0-9]{1,20}", number):
                 raise Fault(f"{path}: {kind}.{number}: no number")
             if not is_text(name):
                 raise Fault(f"{path}: {kind}.{number}: no text")

@@ -3,17 +3,17 @@
 from __future__ import annotations
 
 import argparse
-import os
 from dataclasses import dataclass
 
 from ..cluster.aftermath import Command
 from ..cluster.cluster import Cluster
 from ..cluster.view import ClusterView
-from ..faults import Misuse
+from ..faults import Fault, Misuse
+from ..files import text_of
 from ..plans.question import accepted
 from ..program.maps import Change, Program
 from .arguments import Arguments
-from .whatif_words import Word, WordAction, WordReader, change_in
+from .whatif_words import Word, WordAction, WordReader, change_in, change_value, is_change_text
 
 # The options that stand for commands.
 OPTIONS = {
@@ -26,6 +26,13 @@ OPTIONS = {
     "crush": "--crush",
     "pool": "--pool",
 }
+# What stands in a change as JSON.
+CHANGE_PARTS = frozenset(
+    [
+        *("base", "old_pools", "new_crush", "new_pools", "grow_pool", "down", "up", "weight"),
+        *("old_upmap", "old_items", "new_upmap", "new_items"),
+    ]
+)
 # How they stand in the use of a command.
 USE = [
     *(f"[--{word} OSD|BUCKET].." for word in ("out", "in", "down")),
@@ -80,11 +87,21 @@ def change_words(arguments: Arguments, change: Change | None) -> ChangeWords:
 
 
 def files_and_change(words: list[str]) -> tuple[list[str], Change | None]:
-    """The files that words name, and the change behind them if there is one: a last word that is no file. An error
-    of use where it is no change either.
+    """The files that words name, and the change behind them if there is one: a last word that is a change, a third
+    one, or a second one that is the file of a change. A fault, or an error of use, where it is none.
     """
-    is_change = len(words) > 1 and words[-1] != "-" and not os.path.exists(words[-1])
-    return (words[:-1], change_in(words[-1])) if is_change else (words, None)
+    last, count = words[-1], len(words)
+    is_change = count > 1 and (is_change_text(last) or count == 3 or count == 2 and has_change(last))
+    return (words[:-1], change_in(last)) if is_change else (words, None)
+
+
+def has_change(path: str) -> bool:
+    """Whether a file has a change: its JSON object has a part of one, and else nothing."""
+    try:
+        value = change_value("" if path == "-" else text_of(path))
+    except (Fault, ValueError):
+        return False
+    return bool(value) and value.keys() <= CHANGE_PARTS
 
 
 def add_change_words(own: argparse.ArgumentParser) -> None:

@@ -22,6 +22,7 @@ from ..program.map_forms import Defect, REFUSALS
 from ..program.maps import Program, has_straw2
 from ..program.questions import answers_of, raw_answers
 from .arguments import Arguments, Commands, add_json, set_work
+from .whatif_words import is_change_text
 
 OWNERS = re.compile(r"(buckets|osds|pools|rules)\[([0-9]+)\]")
 REFUSAL_NUMBERS = {name: number for number, name in reversed(REFUSALS.items())}
@@ -90,8 +91,8 @@ def check_map(path: str, program: Program, names: Names) -> str:
 
 @dataclass(frozen=True)
 class CheckOptions:
-    """The files of a map, of a change and of names, where there are these; the program; and whether it is told as
-    JSON.
+    """The files of a map and of names, and a change or its file, where there are these; the program; and whether it is
+    told as JSON.
     """
 
     __slots__ = ("path", "change", "names", "program", "is_json")
@@ -100,6 +101,11 @@ class CheckOptions:
     names: str | None
     program: Program
     is_json: bool
+
+    @property
+    def of_change(self) -> str:
+        """What the change is told as: its path, where it is a file."""
+        return "the change" if self.change is None or is_change_text(self.change) else self.change
 
 
 def options_of(arguments: Arguments) -> CheckOptions:
@@ -115,12 +121,14 @@ def checked(options: CheckOptions) -> tuple[str, str | None]:
     text = check_map(options.path, options.program, names)
     if options.change is None:
         return text, None
-    change = text_of(options.change).strip().removeprefix("change ").replace("\n", " ")
+    is_text = is_change_text(options.change)
+    change = (options.change if is_text else text_of(options.change)).strip().removeprefix("change ")
+    change = change.replace("\n", " ")
     answer = raw_answers(options.program, text, [f"change {change}"])[0]
     if answer.startswith("err "):
         number, name = answer.split(" ")[1:3]
         found = [] if number == "10" else change_defects(json.loads(text), json_or_none(change), has_straw2(text))
-        raise Unlawful(options.change, int(number), name, None, found, names)
+        raise Unlawful(options.of_change, int(number), name, None, found, names)
     return text, answer
 
 
@@ -135,14 +143,14 @@ def work(options: CheckOptions) -> None:
     if options.is_json:
         put_json("check", json.loads(text)["epoch"], lawful=True, answer=answer, refused=None, places=[])
     else:
-        print(f"{options.path}: lawful" if answer is None else f"{options.change}: lawful: {answer}")
+        print(f"{options.path}: lawful" if answer is None else f"{options.of_change}: lawful: {answer}")
 
 
 def add_to(commands: Commands) -> None:
     """The subcommand."""
     own = commands.add_parser("check", help="whether a map or a change is lawful, and where not", description=__doc__)
     own.add_argument("map", metavar="MAP", help="a map, as `import` writes it; - is standard input")
-    own.add_argument("change", metavar="CHANGE", nargs="?", help="a file with a change")
+    own.add_argument("change", metavar="CHANGE", nargs="?", help="a change as JSON, or a file with one")
     own.add_argument("--names", metavar="FILE", help="names, as `import --names` wrote them")
     add_json(own)
     set_work(own, options_of, work)

@@ -9,6 +9,7 @@ program, change by change.
 from __future__ import annotations
 
 import argparse
+import re
 from dataclasses import dataclass
 
 from ..cluster.epochs import epochs_of, first_of
@@ -72,7 +73,7 @@ def work(options: HistoryOptions) -> None:
 
 def epoch_number(word: str) -> int:
     """An epoch; an error of use where a word is none."""
-    if not (word.isascii() and word.isdecimal()):
+    if not re.fullmatch("[0-9]{1,20}", word):
         raise argparse.ArgumentTypeError(f"{word}: no epoch")
     return int(word)
 

@@ -1,8 +1,9 @@
 """`plan`: a plan that evens a whole cluster, as the commands that Ceph takes, on standard output.
 
 The proved balancer plans each pool beside what its OSDs carry from all others, so that the cluster gets more even too:
-by groups, and with --df by bytes. The plan ends where no two OSDs differ by more than twice --deviation groups; 0.5 is
-the whole plan. The first commands are worth most. With --pool only these pools are planned, for the sake of all; with
+by groups, and with --df by bytes. A plan of a pool moves only between OSDs that differ by more than twice --deviation
+groups; 0.5 is every move. Pools are planned in rounds, so a second plan over the first may find a few commands. The
+first commands are worth most. With --pool only these pools are planned, for the sake of all; with
 --alone each pool is planned by itself. Standard error tells how even the cluster is before and after, and then each
 pool.
 
@@ -21,6 +22,7 @@ from __future__ import annotations
 
 import argparse
 import json
+import re
 import sys
 from contextlib import ExitStack
 from dataclasses import dataclass, replace
@@ -337,7 +339,7 @@ def work(options: PlanOptions) -> None:
 
 def commands_a_file(word: str) -> int:
     """A number of commands; an error of use where it is none."""
-    number = int(word) if word.isdecimal() else 0
+    number = int(word) if re.fullmatch("[0-9]{1,20}", word) else 0
     if not 1 <= number <= 2**31:
         raise argparse.ArgumentTypeError(f"{word}: no number of commands from 1 on")
     return number
@@ -346,7 +348,8 @@ def commands_a_file(word: str) -> int:
 def distance(word: str) -> Fraction:
     """A number of groups from a share; an error of use where it is none."""
     try:
-        number = Fraction(word)
+        # Of a great exponent Python makes a number of as many digits, which takes long.
+        number = Fraction(word if len(word) <= 40 and not re.search("[eE].*[0-9]{3}", word) else -1)
     except (ValueError, ZeroDivisionError):
         number = Fraction(-1)
     if not 0 <= number <= FARTHEST:
@@ -384,8 +387,8 @@ def add_to(commands_of: Commands) -> None:
         "--deviation",
         metavar="D",
         type=distance,
-        help="move only between OSDs that differ by more than 2 D groups (1 where nothing is said; 0.5 is the whole "
-        "plan); with --alone: only as many moves as bring each OSD within D groups of its share",
+        help="move only between OSDs that differ by more than 2 D groups (1 where nothing is said; 0.5 is every "
+        "move); with --alone: only as many moves as bring each OSD within D groups of its share",
     )
     own.add_argument("--alone", action="store_true", help="plan each pool by itself, whatever OSDs carry from others")
     own.add_argument(

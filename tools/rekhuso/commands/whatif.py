@@ -1,6 +1,6 @@
 """`whatif`: what moves if a change is made: two runs over all groups, and their difference.
 
-The change is a line of a script (`change {..}`, or its JSON alone), or is put together from options, which stand for
+The change is a line of a script (`change {..}`, or its JSON alone), also in a file, or is put together from options, which stand for
 commands in their order: at each, as at the change, Ceph's monitor takes away the exceptions that have become unlawful.
 An OSD is named by its number, several by the bucket that they stand below (its id, or its name where --names knows it,
 or the dumps do).
@@ -165,7 +165,7 @@ def add_to(commands: Commands) -> None:
         "words",
         metavar=f"{FILES} [CHANGE]",
         nargs="+",
-        help=f"{ABOUT_FILES}; behind them a change as JSON, without its base or " "with it",
+        help=f"{ABOUT_FILES}; behind them a change as JSON, without its base or with it, or a file with one",
     )
     add_change_words(own)
     own.add_argument("--each", metavar="TYPE", help="instead: each bucket of this type out, in turn")

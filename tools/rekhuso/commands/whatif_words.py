@@ -19,6 +19,7 @@ from ..cluster.names import Names, named, pools_named
 from ..cluster.new_crush import NewCrush, PoolChange, crush_in
 from ..cluster.shadows import SIGN
 from ..faults import Fault, Misuse
+from ..files import text_of
 from ..program.maps import Change, Map, entries_of
 
 # The words that each make one command of all that they name, with the reweight that they give.
@@ -68,15 +69,35 @@ def number_in(word: str) -> float:
         return math.nan
 
 
-def change_in(text: str) -> Change:
-    """The change that a word on the command line is, `change ` before it or not; else an error of use."""
+def is_change_text(word: str) -> bool:
+    """Whether a word of the command line is a change itself; another one is the path of a file."""
+    return word.lstrip().startswith(("{", "change "))
+
+
+def change_value(text: str) -> Change:
+    """The change that a text is, `change ` before it or not. ValueError with what is wrong where it is none."""
     try:
-        value = json.loads(text.removeprefix("change "))
+        value = json.loads(text.strip().removeprefix("change "))
     except (ValueError, RecursionError) as fault:
-        raise Misuse(f"argument CHANGE: no change: no JSON: {fault}") from None
+        raise ValueError(f"no change: no JSON: {fault}") from None
     if not isinstance(value, dict):
-        raise Misuse("argument CHANGE: no change: no JSON object")
+        raise ValueError("no change: no JSON object")
     return value
+
+
+def change_in(word: str) -> Change:
+    """The change that a word on the command line is, as a text or as a file; else an error of use, or a fault of the
+    file.
+    """
+    if not is_change_text(word):
+        try:
+            return change_value(text_of(word))
+        except ValueError as fault:
+            raise Fault(f"{word}: {fault}") from None
+    try:
+        return change_value(word)
+    except ValueError as fault:
+        raise Misuse(f"argument CHANGE: {fault}") from None
 
 
 def reweight_in(word: str) -> int:
@@ -128,7 +149,7 @@ def osds_below(value: Map, number: int) -> list[int]:
 
 def number_of(word: str, known: dict[str, str]) -> int | None:
     """The number that a word is, or that has it as its name; None where there is none."""
-    if re.fullmatch("-?[0-9]+", word):
+    if re.fullmatch("-?[0-9]{1,20}", word):
         return int(word)
     return next((int(number) for number, name in known.items() if name == word), None)
 

@@ -28,7 +28,7 @@ WATCH = [
 
 def balancer_words(quiet: int | None) -> list[str]:
     """That Ceph's own balancer stays off, and from which number on it leaves a plan alone, if that is known."""
-    found = ["before: ceph balancer off, and it stays off: else its module undoes the moves, or goes on from them"]
+    found = ["before: ceph balancer off, and it stays off, or it will undo or extend the moves"]
     if quiet is not None:
         found.append(
             f"        (in mode upmap, with upmap_max_deviation {quiet} or more, it leaves the whole plan alone)"

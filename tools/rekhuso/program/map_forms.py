@@ -39,7 +39,9 @@ STEP_LENGTHS = {
 TRIES = {"set_choose_tries": 1, "set_chooseleaf_tries": 1}
 # The ranges of the numbers of a step; of one that chooses, those of its count and its type.
 RANGES: dict[str, list[tuple[int, int]]] = {"take": [(-65536, -1)], "emit": [], **{op: [(1, 200)] for op in TRIES}}
-GROUP_PATTERN = re.compile(r"(0|[1-9][0-9]*)\.(0|[1-9a-f][0-9a-f]*)")
+# A group's text; what has more digits names no pool, and Python reads not any number of them.
+GROUP_PATTERN = re.compile(r"(0|[1-9][0-9]{0,19})\.(0|[1-9a-f][0-9a-f]*)")
+LONG_PATTERN = re.compile(r"[1-9][0-9]{20,}\.(0|[1-9a-f][0-9a-f]*)")
 POOL_KINDS = ("replicated", "erasure")
 
 
@@ -124,10 +126,11 @@ def one_of(*words: str) -> Form:
 
 def group(value: object, path: str) -> Defects:
     """A group's text."""
-    match = GROUP_PATTERN.fullmatch(value) if isinstance(value, str) else None
-    if match is None:
+    text = value if isinstance(value, str) else ""
+    match = GROUP_PATTERN.fullmatch(text)
+    if match is None and not LONG_PATTERN.fullmatch(text):
         yield Defect(11, path, "no group; one is written as 1.1f")
-    elif not 1 <= int(match[1]) <= 65535 or int(match[2], 16) >= 2**32:
+    elif match is None or not 1 <= int(match[1]) <= 65535 or int(match[2], 16) >= 2**32:
         yield Defect(12, path, "the pool's id is outside 1 to 65,535, or the number has more than 32 bits")
 
 

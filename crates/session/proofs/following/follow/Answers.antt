@@ -6,8 +6,8 @@ use Rattle.session.proofs.following.follow.Goals as goal
 
 pub returns-in_err-need_follower-clause-tells : goal.returns-in_err-need_follower-clause-tells
 returns-in_err-need_follower-clause-tells g c =
-    no_follower_told c.args.monitor.now.first c.args.task (track_of c.args.follower.now).history (track_of c.need_follower.new.follower) c.from_residual.result
-    (ap (λ (t : Track). t.history) (ap track_of c.in_err-need_follower.ensures.none.0)) (ap track_of c.in_err-need_follower.ensures.none.1) c.from_residual.ensures.1
+    no_follower_told c.args.monitor.now.first c.args.task (track_of c.args.follower.now) (track_of c.need_follower.new.follower) c.from_residual.result
+    (ap track_of c.in_err-need_follower.ensures.none.0) (ap track_of c.in_err-need_follower.ensures.none.1) c.from_residual.ensures.1
 
 pub returns-in_err-need_follower-clause-meets : goal.returns-in_err-need_follower-clause-meets
 returns-in_err-need_follower-clause-meets g c =

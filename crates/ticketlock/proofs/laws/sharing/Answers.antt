@@ -2,7 +2,8 @@
 use Rattle.std.proofs.Common.{ℕ, [], ◌∷◌, refl, arith}
 use Rattle.ticketlock.specs.declared.view.View.{View}
 use Rattle.ticketlock.specs.declared.view.Kind.TheVariants.{Read}
-use Rattle.ticketlock.specs.Rule.{LockWorld, draws, reader_looks, reader_enters, newcomer, drawn_for, looked_at, gone_in, with_view, draw_word_up, reader_word_up}
+use Rattle.ticketlock.specs.declared.view.Step.TheVariants.{Draws, ReaderLooks, ReaderEnters}
+use Rattle.ticketlock.specs.Rule.{LockWorld, newcomer, drawn_for, looked_at, gone_in, with_view, draw_word_up, reader_word_up}
 use Rattle.ticketlock.specs.Law.{start}
 use Rattle.ticketlock.proofs.laws.sharing.Goals as goal
 
@@ -34,7 +35,7 @@ both_read = reader_word_up other_next 1 (gone_in (looked 1))
 
 pub returns : goal.returns
 returns c = (
-  (draws Read, 0) ∷ (draws Read, 1) ∷ (reader_looks, 0) ∷ (reader_enters, 0) ∷ (reader_looks, 1) ∷ (reader_enters, 1) ∷ [],
+  (Draws Read, 0) ∷ (Draws Read, 1) ∷ (ReaderLooks, 0) ∷ (ReaderEnters, 0) ∷ (ReaderLooks, 1) ∷ (ReaderEnters, 1) ∷ [],
   both_read,
   (
     one_drawn,

@@ -1,6 +1,7 @@
 use Rattle.std.proofs.Common.{◌≡◌, w32, find, Some, None, ℤ, sym, rules}
 use Rattle.std.proofs.lemmas.Int.{to_z-of_z}
 use Rattle.crush.specs.Paths.{has_item}
+use Rattle.crush.proofs.Ancestors.{ancestor_is}
 use Rattle.crush.proofs.Climbs.{climb-level, climb-there, climb-nowhere, climb-smaller}
 use Rattle.crush.proofs.forest.Forest.ancestor.Goals as goal
 use mir.Val.{SFits}
@@ -11,7 +12,8 @@ returns-then-bucket-level c =
     let item = to_z-of_z w32 c.args.item c.ranges.item in
     let found : find (has_item c.loop-bucket.below) c.args.self.now ≡ Some c.in-Some.bucket.now = sym (rw c.loop-bucket.below-is at c.in-Some.ensures.value) in
     let so_far = λ (a : ℤ). rw (item, c.loop-bucket.below-is) at (c.loop-bucket.invariant a) in
-    λ a. rw (to_z-of_z w32 c.in-Some.bucket.now.id fits) (climb-there c.args.self.now c.parent.ensures.forest c.args.item c.loop-bucket.below c.args.level c.in-Some.bucket.now found c.if-bucket-level.true so_far a)
+    rw (to_z-of_z w32 c.in-Some.bucket.now.id fits) (ancestor_is c.args.self.now c.args.item c.args.level (Some c.in-Some.bucket.now.id)
+    (climb-there c.args.self.now c.parent.ensures.forest c.args.item c.loop-bucket.below c.args.level c.in-Some.bucket.now found c.if-bucket-level.true so_far))
 
 pub loop-bucket-smaller : goal.loop-bucket-smaller
 loop-bucket-smaller c =
@@ -32,4 +34,5 @@ returns c =
     let item = to_z-of_z w32 c.args.item c.ranges.item in
     let absent : find (has_item c.loop-bucket.below) c.args.self.now ≡ None = sym (rw c.loop-bucket.below-is at c.in_default.ensures.value) in
     let so_far = λ (a : ℤ). rw (item, c.loop-bucket.below-is) at (c.loop-bucket.invariant a) in
-    climb-nowhere c.args.self.now c.parent.ensures.forest c.args.item c.loop-bucket.below c.args.level absent so_far
+    ancestor_is c.args.self.now c.args.item c.args.level None
+    (climb-nowhere c.args.self.now c.parent.ensures.forest c.args.item c.loop-bucket.below c.args.level absent so_far)

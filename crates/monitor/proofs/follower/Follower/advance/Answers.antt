@@ -5,9 +5,9 @@ use Rattle.monitor.proofs.follower.Follower.advance.Goals as goal
 
 -- the follower once the next incremental is looked at
 abbrev now : goal.After-step_on → Followed
-now c = followed c.self.inside.first.map c.next_after.new.pass c.step_on.new.map.map
+now c = followed c.self.inside.first.map c.next_after.new.pass c.step_on.new.map.map c.self.inside.work.runs
 
-stands : (c : goal.After-step_on) → IsFollowed (now c) × GoesOnFrom (followed c.self.inside.first.map c.self.inside.pass c.self.inside.map.map) (now c) × IfOk c.step_on.result (Advances (followed c.self.inside.first.map c.self.inside.pass c.self.inside.map.map) (now c))
+stands : (c : goal.After-step_on) → IsFollowed (now c) × GoesOnFrom (followed c.self.inside.first.map c.self.inside.pass c.self.inside.map.map c.self.inside.work.runs) (now c) × IfOk c.step_on.result (Advances (followed c.self.inside.first.map c.self.inside.pass c.self.inside.map.map c.self.inside.work.runs) (now c))
 stands c =
     let f = c.self.inside in
     let next = c.in-Some.ensures in
@@ -15,9 +15,9 @@ stands c =
     let place : slice_get c.next_after.new.pass.history (f.map.map.epoch - f.pass.row.first) ≡ Some c.in-Some.step.now =
     rw (rows, ← c.epoch.ensures) next.place in
     let step = next.epoch ∙ ap (λ n. n + 1) c.epoch.ensures in
-    let on = stands_on f.first.map f.map.map f.pass c.next_after.new.pass c.self.invariant (next.row ∙ sym rows) next.begins
+    let on = stands_on f.first.map f.map.map f.pass c.next_after.new.pass f.work.runs c.self.invariant (next.row ∙ sym rows) next.begins
     c.step_on.new.map.map c.in-Some.step.now c.step_on.result step place c.step_on.ensures.made c.step_on.ensures.same in
-    let advances = advances_on f.first.map f.map.map f.pass c.next_after.new.pass c.self.invariant (next.row ∙ sym rows) next.begins
+    let advances = advances_on f.first.map f.map.map f.pass c.next_after.new.pass f.work.runs c.self.invariant (next.row ∙ sym rows) next.begins
     c.step_on.new.map.map c.in-Some.step.now c.step_on.result step place c.step_on.ensures.made in
     (on.0, on.1, advances)
 

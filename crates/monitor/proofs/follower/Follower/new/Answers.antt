@@ -8,5 +8,5 @@ pub invariant_of-result : goal.invariant_of-result
 invariant_of-result g c =
     let row = ap (λ (l : Line). l.first) c.in_ok-pass.ensures.row in
     let epoch = ap (λ (m : ClusterMap). m.epoch) (sym c.in_ok-first.ensures) in
-    followed_new c.in_ok-first.first.map c.in_ok-map.map.map c.in_ok-pass.pass (c.in_ok-map.ensures ∙ sym c.in_ok-first.ensures)
+    followed_new c.in_ok-first.first.map c.in_ok-map.map.map c.in_ok-pass.pass c.in_ok-work.work.runs (c.in_ok-map.ensures ∙ sym c.in_ok-first.ensures)
     c.in_ok-pass.ensures.history (row ∙ c.monitor.invariant.begins ∙ epoch)

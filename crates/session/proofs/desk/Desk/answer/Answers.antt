@@ -1,4 +1,7 @@
-use Rattle.std.proofs.Common.{sym, subst, append-nil, []}
+use Rattle.std.proofs.Common.{◌∙◌, ap, sym, subst, append-nil, []}
+use Rattle.std.specs.Option.{option_map}
+use Rattle.mapparts.specs.declared.profile.Profile.{Profile}
+use Rattle.session.specs.Commands.{command_of, known_in}
 use Rattle.session.specs.Answers.{Does}
 use Rattle.session.specs.Replies.{reply_text}
 use Rattle.session.specs.Sessions.{sight_by, session_of, basis_of}
@@ -21,6 +24,8 @@ returns-clause-answers g c =
     let now = sight_by c.do_command-reply.new.member c.do_command-reply.new.follower in
     let answer = line_of reply_text c.do_command-reply.result in
     let done = c.do_command-reply.ensures in
-    let does = subst (λ k. Does (basis_of c.args.self.now.monitor.now) before k answer now) c.args.line.read done.does in
+    let known = c.known_in-command.ensures ∙ (ap (λ (p : Profile). known_in p (option_map command_of c.args.line.command)) c.profile.ensures
+    ∙ ap (known_in c.args.self.now.monitor.now.profile) c.args.line.read) in
+    let does = subst (λ k. Does (basis_of c.args.self.now.monitor.now) before k answer now) known done.does in
     told_line m (record { number = c.args.progress.now.number; seen = before }) (record { number = c.args.progress.now.number; seen = now })
     c.args.line.text.now answer _ _ c.tell.result (some_text _ _ c.is_empty.ensures c.if-is_empty.false) passed (does, done.own) c.tell.ensures.out

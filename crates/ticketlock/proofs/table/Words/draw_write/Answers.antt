@@ -3,4 +3,4 @@ use Rattle.ticketlock.proofs.Moves.{may_draw_write}
 use Rattle.ticketlock.proofs.table.Words.draw_write.Goals as goal
 
 pub fetch_add-ticket-requires : goal.fetch_add-ticket-requires
-fetch_add-ticket-requires c = (c.requires.own.0, omega arith, may_draw_write _ _ c.args.place.now.token.me c.requires.idle (omega arith))
+fetch_add-ticket-requires c = (c.requires.own.0, omega arith, may_draw_write _ _ _ c.args.place.now.token.me c.requires.idle (omega arith))

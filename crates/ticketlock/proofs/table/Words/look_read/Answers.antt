@@ -3,4 +3,4 @@ use Rattle.ticketlock.proofs.Moves.{may_look_read}
 use Rattle.ticketlock.proofs.table.Words.look_read.Goals as goal
 
 pub load-requires : goal.load-requires
-load-requires c = (c.requires.own.0, omega arith, may_look_read _ _ c.args.place.now.token.me c.requires.waits.0 c.requires.waits.1)
+load-requires c = (c.requires.own.0, omega arith, may_look_read _ _ _ c.args.place.now.token.me c.requires.waits.0 c.requires.waits.1)
