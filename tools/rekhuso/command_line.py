@@ -46,7 +46,7 @@ def asked_commands(words: list[str]) -> tuple[str, ...]:
     return COMMANDS
 
 
-def parser(asked: tuple[str, ...]) -> argparse.ArgumentParser:
+def parser(asked: tuple[str, ...] = COMMANDS) -> argparse.ArgumentParser:
     """The command line: one parser with a subcommand for each module of the commands that are asked for."""
     top = Parser(prog="rekhuso", description="Tools beside osdmapd, for people with a cluster.")
     top.add_argument("--version", action="version", version=f"rekhuso {__version__}")
