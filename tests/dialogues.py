@@ -210,7 +210,7 @@ class Dialogues(Case):
                 self.assertTrue(all(map(like, told, answers)), (commands, told, answers))
 
     def test_cluster_of_the_guide(self) -> None:
-        """The files of examples/ceph are the dumps that a monitor of Ceph made, and the CRUSH map with a heavier host"""
+        """The files of examples/ceph are dumps of a monitor, and the CRUSH map with a heavier host"""
         cluster = STOCK["001-three-hosts"]
         wanted = cluster["osd_dump"], cluster["crush_dump"], heavier(cluster["crush_dump"], {0, 1, 2, 3})
         for name, dump in zip(("osd", "crush", "new"), wanted):

@@ -19,7 +19,7 @@ class JsonOutput(ToolCase):
         return path, self.tools.put("other", other), value, other
 
     def test_heads(self) -> None:
-        """Each object begins with its command and the map's epoch."""
+        """Each object begins with its command, the map's epoch and the version of its form."""
         path, other, value, _ = self.maps()
         for name, *words in (
             ("df", path),
@@ -29,10 +29,12 @@ class JsonOutput(ToolCase):
             ("explain", other, "1.4"),
             ("net", other),
             ("whatif", path, "--out", "3"),
+            ("whatif", path, "--each", "1"),
         ):
             with self.subTest(name=name):
                 found = self.json(name, *words)
-                self.assertEqual(list(found.items())[:2], [("command", name), ("epoch", value["epoch"])])
+                head = [("command", name), ("epoch", value["epoch"]), ("version", 1)]
+                self.assertEqual(list(found.items())[:3], head)
 
     def test_diff(self) -> None:
         """`diff` has the change, what no change says, what moves, and from where to where."""

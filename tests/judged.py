@@ -211,8 +211,7 @@ class Judged(StockCase):
         with mock.patch.object(rounds, "left_out", none_of(None)), mock.patch.object(plan, "going", none_of(None)):
             output, fault = self.printed("plan", *files)
         self.assertEqual(output, "")
-        self.assertIn("Ceph's monitor takes its exceptions away, those of ", str(fault))
-        self.assertIn(": a defect of the tools", str(fault))
+        self.assertIn("Ceph's monitor takes its exceptions away, those of 3.", str(fault))
 
     def test_undo(self) -> None:
         """So does each fault in what takes a plan back."""

@@ -169,7 +169,7 @@ class SeveralMaps(StockCase):
             (['{"new_items":[["9.0",[[1,2]]]]}'], 1, "23 UnknownPool"),
             (["--add-host", "new", "1,1"], 1, "new: of which device class? --class one of hdd, ssd"),
             (["{", "5"], 2, "error: "),
-            (["5"], 2, "error: "),
+            (["5"], 1, "5: No such file or directory"),
         ):
             with self.subTest(words=words):
                 _, error = self.ran("whatif", *files, *words, status=status)

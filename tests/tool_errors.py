@@ -10,6 +10,9 @@ import subprocess
 import sys
 from collections.abc import Sequence
 
+from rekhuso.command_line import parser
+from rekhuso.commands import COMMANDS as COMMAND_NAMES
+
 from tests.cases import EXAMPLE
 from tests.clusters import CLUSTERS, STOCK, copied
 from tests.tool_cases import TOOLS, ToolCase, Tools
@@ -270,6 +273,38 @@ class ToolErrors(ToolCase):
                 own = os.environ | {"REKHUSO_PROGRAM": name}
                 done = subprocess.run(words, env=own, capture_output=True, text=True, timeout=SECONDS, check=False)
                 self.assertEqual((done.returncode, "nowhere: no program" in done.stderr), (status, status == 1))
+
+    def test_help(self) -> None:
+        """The help of a command keeps the paragraphs of its description, and ends with an example that the command
+        understands."""
+        for command in COMMAND_NAMES:
+            with self.subTest(command=command):
+                told = self.output(command, "--help")
+                self.assertIn(f"\n\n`{command}`: ", told)
+                _, example = told.split("\n\nfor example:\n\n    rekhuso ")
+                self.assertStarts(example, f"{command} ")
+                parser((command,)).parse_args(example.split(" > ")[0].split())
+        self.assertIn("\n\nComments above the commands", self.output("plan", "--help"))
+
+    def test_what_is_imported(self) -> None:
+        """A command imports its own module and not those of other commands; a word that is none is told beside all
+        commands."""
+        own = "rekhuso.commands."
+        script = "import sys; sys.path.insert(0, sys.argv.pop(1)); from rekhuso.command_line import main; main(); "
+        script += f"print(*sorted(name for name in sys.modules if name.startswith({own!r})))"
+        for words, wanted in (
+            (f"df {EXAMPLE} --program {self.tools.program}", ["arguments", "df"]),
+            (f"--program {self.tools.program} history nowhere", ["arguments", "history"]),
+            ("--version", ["arguments"]),
+        ):
+            with self.subTest(words=words):
+                line = [sys.executable, "-c", script, str(TOOLS.parent), *words.split(" ")]
+                done = subprocess.run(line, capture_output=True, text=True, timeout=SECONDS, check=False)
+                self.assertEqual(done.stdout.splitlines()[-1].split(), [own + name for name in wanted], done.stderr)
+        for word in ("nothing", "--help"):
+            told = "".join(self.tools.run(word)[1:])
+            for name in ("import", "check", "plan", "hold", "release", "history"):
+                self.assertIn(name, told)
 
     def test_programs_that_are_none(self) -> None:
         """A program that is no program, does not start, is not this one, or has gone, is told in one line."""

@@ -63,7 +63,8 @@ class ToolOutput(ToolCase):
                             (1, "", f"{word}: no type of the map's buckets; there are {', '.join(map(str, wanted))}\n"),
                         )
         hosts = [bucket["id"] for bucket in value["buckets"] if bucket["type"] == 1]
-        rows, before = self.json("whatif", path, "--each", "host", "--names", names), self.tools.sets(value)
+        rows = self.json("whatif", path, "--each", "host", "--names", names)["buckets"]
+        before = self.tools.sets(value)
         self.assertEqual([row["id"] for row in rows], hosts)
         self.assertEqual([row["name"] for row in rows], [known["buckets"][str(host)] for host in hosts])
         for row in rows:
@@ -216,7 +217,7 @@ class ToolOutput(ToolCase):
     def test_help(self) -> None:
         """Every argument of every command has its help, and each form of `plan` its line of usage."""
         commands = re.findall("^    ([a-z]+) ", self.output("--help"), re.MULTILINE)
-        self.assertEqual(len(commands), 12)
+        self.assertEqual(len(commands), 14)
         for command in commands:
             usage, _, *parts = self.output(command, "--help").split("\n\n")
             listed = [

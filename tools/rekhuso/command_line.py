@@ -19,7 +19,7 @@ from types import FrameType
 from typing import NoReturn
 
 from . import __version__
-from .commands import COMMANDS
+from .commands import COMMANDS, EXAMPLES, module_of
 from .commands.arguments import Parser
 from .faults import Fault, Misuse
 from .progress import PROGRESS
@@ -29,16 +29,34 @@ from .terminal import shown
 ENDING = (signal.SIGTERM, signal.SIGHUP)
 
 
-def parser() -> argparse.ArgumentParser:
-    """The command line: one parser with a subcommand for each module of COMMANDS."""
+def asked_commands(words: list[str]) -> tuple[str, ...]:
+    """The command that words ask for; all, where they ask for none of them or for help before one, and none where they
+    ask for the version.
+    """
+    if words[:1] == ["--version"]:
+        return ()
+    ahead = iter(words)
+    for word in ahead:
+        if word in COMMANDS:
+            return (word,)
+        if word == "--program":
+            next(ahead, None)
+        elif not word.startswith("--program="):
+            break
+    return COMMANDS
+
+
+def parser(asked: tuple[str, ...] = COMMANDS) -> argparse.ArgumentParser:
+    """The command line: one parser with a subcommand for each module of the commands that are asked for."""
     top = Parser(prog="rekhuso", description="Tools beside osdmapd, for people with a cluster.")
     top.add_argument("--version", action="version", version=f"rekhuso {__version__}")
     about = "the built program (else that which REKHUSO_PROGRAM names, that of this repository, or of PATH)"
     top.add_argument("--program", type=pathlib.Path, help=about)
     commands = top.add_subparsers(dest="command", required=True, metavar="COMMAND")
-    for module in COMMANDS:
-        module.add_to(commands)
-    for own in commands.choices.values():
+    for command in asked:
+        module_of(command).add_to(commands)
+    for command, own in commands.choices.items():
+        own.epilog = f"for example:\n\n    rekhuso {EXAMPLES[command]}"
         own.add_argument("--program", type=pathlib.Path, default=argparse.SUPPRESS, help=about)
     return top
 
@@ -99,7 +117,7 @@ def set_signals() -> None:
 def run() -> int:
     """Does what the words of the command line ask for, and tells the status. Faults and OSError go on to who asked."""
     try:
-        options = parser().parse_args()
+        options = parser(asked_commands(sys.argv[1:])).parse_args()
         if sys.stderr.isatty() and options.command != "shell":
             PROGRESS.begin(options.command)
         options.work(options)

@@ -20,6 +20,34 @@
 `arguments.py` has what several of them take, and `whatif_words.py` the words of `whatif`.
 """
 
-from . import check, df, diff, explain, history, hold, import_, net, picture, plan, release, report, shell, whatif
+from __future__ import annotations
 
-COMMANDS = [import_, check, plan, net, df, diff, whatif, hold, release, explain, picture, report, shell, history]
+import importlib
+from types import ModuleType
+
+COMMANDS = (
+    *("import", "check", "plan", "net", "df", "diff", "whatif", "hold", "release", "explain", "picture", "report"),
+    *("shell", "history"),
+)
+# What each is typed as.
+EXAMPLES = {
+    "import": "import osd.json crush.json --names names.json > map.json",
+    "check": "check map.json change.json",
+    "plan": "plan osd.json crush.json --df df.json > plan.sh",
+    "net": "net map.json --ceph",
+    "df": "df osd.json crush.json",
+    "diff": "diff old-osd.json old-crush.json osd.json crush.json",
+    "whatif": "whatif osd.json crush.json --out 1 2",
+    "hold": "hold osd.json crush.json --crush new.json > hold.sh",
+    "release": "release osd.json crush.json > release.sh",
+    "explain": "explain osd.json crush.json 2.1f",
+    "picture": "picture osd.json crush.json > osds.svg",
+    "report": "report osd.json crush.json > report.html",
+    "shell": "shell osd.json crush.json",
+    "history": "history cluster.store --json",
+}
+
+
+def module_of(command: str) -> ModuleType:
+    """The module of a command, which is imported once it is asked for."""
+    return importlib.import_module(f".{'import_' if command == 'import' else command}", __name__)

@@ -22,6 +22,18 @@ Own = TypeVar("Own")
 SEVERAL = re.compile(r"(osd\.)?[0-9]+(,(osd\.)?[0-9]+)*")
 
 
+class Paragraphs(argparse.HelpFormatter):
+    """Help whose texts keep their paragraphs; an example, which is indented, keeps its line."""
+
+    def _fill_text(self, text: str, width: int, indent: str) -> str:
+        """A text, each paragraph of its own."""
+        parts = [part for part in text.split("\n\n") if part.strip()]
+        return "\n\n".join(
+            part.rstrip() if part.startswith("    ") else super(Paragraphs, self)._fill_text(part, width, indent)
+            for part in parts
+        )
+
+
 class Parser(argparse.ArgumentParser):
     """A parser that tells an error of use in one line, fails where help cannot be written, and takes no option by its
     beginning.
@@ -30,7 +42,7 @@ class Parser(argparse.ArgumentParser):
     def __init__(self, **forms: Any) -> None:
         """Takes what any parser takes."""
         super().__init__(**forms)
-        self.allow_abbrev = False
+        self.allow_abbrev, self.formatter_class = False, Paragraphs
         self.repeated: frozenset[str] = frozenset()
 
     def error(self, message: str) -> NoReturn:

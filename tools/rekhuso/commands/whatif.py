@@ -9,7 +9,6 @@ or the dumps do).
 
 from __future__ import annotations
 
-import json
 from dataclasses import dataclass
 
 from ..cluster.aftermath import Command, StateChange
@@ -47,7 +46,7 @@ def level_of(value: Map, names: Names, word: str) -> int:
 
 
 def drill(question: Question, word: str, is_json: bool) -> None:
-    """Tells what each bucket of a type would move if it went out, one after the other: a line each, or a list as
+    """Tells what each bucket of a type would move if it went out, one after the other: a line each, or all as
     JSON.
     """
     value, names = question.whole.tree, question.whole.names
@@ -69,7 +68,7 @@ def drill(question: Question, word: str, is_json: bool) -> None:
                 f"{low} {'falls' if low == 1 else 'fall'} below min_size{unbalanced}"
             )
     if is_json:
-        print(json.dumps(rows, indent=1))
+        put_json("whatif", value["epoch"], buckets=rows)
 
 
 @dataclass(frozen=True)

@@ -7,6 +7,9 @@ from typing import TypedDict
 
 from ..program.maps import Entry, Pool
 
+# The version of all forms: a key that comes leaves it, and one that goes or means something else raises it.
+VERSION = 1
+
 
 class ItemParts(TypedDict):
     """What is told of a bucket or an OSD."""
@@ -349,6 +352,6 @@ class EpochParts(TypedDict):
 
 def put_json(command: str, epoch: int | None, **parts: object) -> None:
     """Puts out what a command tells as one object: which command it is, of which epoch it tells (None where there is
-    no lawful map), and its own parts.
+    no lawful map), the version of its form, and its own parts.
     """
-    print(json.dumps({"command": command, "epoch": epoch, **parts}, indent=1))
+    print(json.dumps({"command": command, "epoch": epoch, "version": VERSION, **parts}, indent=1))

@@ -2,7 +2,7 @@
 
 from __future__ import annotations
 
-from collections import Counter, defaultdict
+from collections import defaultdict
 from collections.abc import Iterable, Iterator, Sequence
 from dataclasses import dataclass
 from itertools import chain, groupby
@@ -70,6 +70,10 @@ class Course:
                 self.left = session.left(excepted_in(now))
         self.last = now
 
+    def is_erasure(self, group: str) -> bool:
+        """Whether the places of a group each hold a part of their own."""
+        return bool(self.erasure) and group_key(group)[0] in self.erasure
+
     def sets(self, session: Session) -> Sets:
         """The set of each group."""
         return {group: up.places for group, up in session.ups(self.groups).items()}
@@ -86,13 +90,16 @@ class Course:
             [f"change {written({**own.change, 'base': epoch + at})}", f"up {own.group}", *map("count {}".format, osds)]
             for at, (own, osds) in enumerate(zip(commands, near))
         ]
-        answers = iter(session.raw(list(chain.from_iterable(lines))))
+        answers, at, ups = session.raw(list(chain.from_iterable(lines))), 0, []
         for own, osds in zip(commands, near):
-            made, up, counts = next(answers), next(answers), [next(answers) for _ in osds]
-            if not made.startswith("ok "):
-                raise defect(own.line, f"the program refuses it ({made.removeprefix('err ')})")
-            places = ups_of([up])[0].places
-            self.given.append(Given(places, {osd: int(own.split(" ")[3]) for osd, own in zip(osds, counts)}))
+            if not answers[at].startswith("ok "):
+                raise defect(own.line, f"the program refuses it ({answers[at].removeprefix('err ')})")
+            ups.append(answers[at + 1])
+            counts = [int(answer.split(" ")[3]) for answer in answers[at + 2 : at + 2 + len(osds)]]
+            self.given.append(Given([], dict(zip(osds, counts))))
+            at += 2 + len(osds)
+        for given, up in zip(self.given[-len(ups) :], ups_of(ups)):
+            given.places.extend(up.places)
 
 
 class Play:
@@ -101,14 +108,10 @@ class Play:
     def __init__(self, courses: Sequence[Course], down: frozenset[int]) -> None:
         """Takes the courses, and the OSDs that are down in the cluster."""
         self.courses, self.down = courses, down
-        self.of_pool = {pool["id"]: own for own in courses for pool in own.first["pools"]}
+        self.course = {group: own for own in courses for group in own.groups}
         self.sets = {group: places for own in courses for group, places in own.before.items()}
-        self.counts: dict[int, Counter[int]] = {id(own): Counter(own.counts) for own in courses}
+        self.counts: dict[int, dict[int, int]] = {id(own): dict(own.counts) for own in courses}
         self.answers = {id(own): iter(own.given) for own in courses}
-
-    def course(self, group: str) -> Course:
-        """The course of a group's map."""
-        return self.of_pool[group_key(group)[0]]
 
     def has(self, measure: Measure) -> dict[int, float]:
         """What the OSDs that are up have before all commands: in groups by the program's counts."""
@@ -120,14 +123,15 @@ class Play:
 
     def take(self, command: PrintedCommand) -> None:
         """Takes a command. A fault where a count is not what the sets come to."""
-        course = self.course(command.group)
+        course = self.course[command.group]
         given, was = next(self.answers[id(course)]), self.sets[command.group]
         counts = self.counts[id(course)]
-        counts.subtract(set(leaving(was, given.places, False)))
-        counts.update(set(coming(was, given.places, False)))
+        for osds, more in ((leaving(was, given.places, False), -1), (coming(was, given.places, False), 1)):
+            for osd in set(osds):
+                counts[osd] = counts.get(osd, 0) + more
         for osd, count in given.counts.items():
-            if counts[osd] != count:
-                raise defect(command.line, f"osd.{osd} has {count} groups and not {counts[osd]}")
+            if counts.get(osd, 0) != count:
+                raise defect(command.line, f"osd.{osd} has {count} groups and not {counts.get(osd, 0)}")
         self.sets[command.group] = given.places
 
     def step(self, group: str, commands: Iterable[PrintedCommand], measure: Measure | None) -> Step:
@@ -139,9 +143,8 @@ class Play:
         now = self.sets[group]
         if len(now) - now.count(None) < len(was) - was.count(None):
             raise defect(line, f"the set of {group} gets shorter: {set_words(was)}, then {set_words(now)}")
-        is_erasure = group_key(group)[0] in self.course(group).erasure
-        come = [osd for osd in coming(was, now, is_erasure) if osd not in self.down]
-        go = [osd for osd in leaving(was, now, is_erasure) if osd not in self.down]
+        is_erasure = self.course[group].is_erasure(group)
+        come, go = ([osd for osd in moved(was, now, is_erasure) if osd not in self.down] for moved in (coming, leaving))
         return Step(line, come, go, 1.0 if measure is None else measure.size(group))
 
     def play(self, parts: Sequence[Sequence[PrintedCommand]], measure: Measure | None) -> None:

@@ -59,10 +59,11 @@ class Printed:
 
     def courses(self, commands: Sequence[PrintedCommand], maps: Sequence[Map]) -> list[Course]:
         """The courses of commands over some maps. A fault for a command of no map."""
-        pools = {pool["id"] for value in maps for pool in value["pools"]}
+        pools = {pool["id"]: pool["pg_num"] for value in maps for pool in value["pools"]}
         for command in commands:
-            if group_key(command.group)[0] not in pools:
-                raise defect(command.line, "there is no such pool")
+            pool, number = group_key(command.group)
+            if number >= pools.get(pool, 0):
+                raise defect(command.line, "there is no such group")
         found = []
         for value in maps:
             numbers = {pool["id"] for pool in value["pools"]}
@@ -72,6 +73,8 @@ class Printed:
 
     def as_up(self, places: Sequence[int | None], is_erasure: bool) -> Places:
         """What OSDs that are down leave of a set."""
+        if not self.down:
+            return list(places)
         if is_erasure:
             return [None if osd in self.down else osd for osd in places]
         return [osd for osd in places if osd not in self.down]
@@ -79,7 +82,7 @@ class Printed:
     def check_ends(self, course: Course, last: Mapping[str, str], wanted: Mapping[str, Sequence[int | None]]) -> None:
         """A fault where a group of a map ends elsewhere than it is told to be."""
         for group, places in course.after.items():
-            was, is_erasure = course.before[group], group_key(group)[0] in course.erasure
+            was, is_erasure = course.before[group], course.is_erasure(group)
             if group not in last and places != was:
                 raise Fault(f"{group} moves, and no command names it: {DEFECT}")
             goal = list(wanted[group]) if group in wanted else self.as_up(was, is_erasure)
@@ -124,8 +127,7 @@ class Printed:
         for maps in (self.maps, after):
             for course in self.courses(commands, maps):
                 for group, places in course.before.items():
-                    is_erasure = group_key(group)[0] in course.erasure
-                    goal.setdefault(group, self.as_up(places, is_erasure))
+                    goal.setdefault(group, self.as_up(places, course.is_erasure(group)))
                 self.check_ends(course, last, goal)
                 self.check_same(course, last, exceptions)
 
