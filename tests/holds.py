@@ -399,6 +399,25 @@ class Releases(StockCase):
         self.assertEqual({group: set(places) for group, places in found.items()}, {g: set(was[g]) for g in was})
         self.assertEqual(told["moving"]["groups"], moved_in(self.record))
 
+    def test_stays(self) -> None:
+        """Groups for which the rule finds fewer places, as in the monitor behind the change, stay held, and are told;
+        so they do on the way to a plan."""
+        record = RECORDS["takes", "rulerack"]
+        dump = dict(
+            record["new_osd_dump"],
+            pg_upmap=[{"pgid": group, "osds": osds} for group, osds in record["kept"]["pg_upmap"]],
+            pg_upmap_items=[],
+        )
+        files = self.tools.put("whole", dump), self.tools.put("racks", record["new_crush_dump"])
+        new = record["new_up"]
+        short = [group for group, own in record["up"].items() if group in new and len(new[group][0]) < len(own[0])]
+        self.assertGreater(len(short), 100)
+        for more in ("", "--to-plan"):
+            told = self.json("release", *files, *more.split())
+            self.assertEqual((sorted(told["stay"]), told["parts"]), (sorted(short), []))
+        _, error = self.ran("release", *files)
+        self.assertIn(f"{len(short)} groups stay held, as they would have fewer places without: ", error)
+
     def test_to_plan(self) -> None:
         """Straight to a plan: the end is what `plan` makes of the cluster without the hold, and nothing is left to
         plan there."""
