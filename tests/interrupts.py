@@ -48,6 +48,7 @@ class Interrupts(ToolCase):
         super().setUp()
         # In the background of a shell Ctrl-C is ignored, which what is started from there would take over.
         self.addCleanup(signal.signal, signal.SIGINT, signal.signal(signal.SIGINT, signal.default_int_handler))
+        self.addCleanup(signal.signal, signal.SIGHUP, signal.signal(signal.SIGHUP, signal.SIG_DFL))
 
     def test_shell_whose_program_goes(self) -> None:
         """Where the program is ended beside the shell, the shell says so and has failed."""
