@@ -68,6 +68,16 @@ class Holds(StockCase):
             found.update(sets_of(super().sets(with_commands(value, own))))
         return found
 
+    def test_rule_of_no_weight(self) -> None:
+        """Groups of a pool for which all that its rule takes gets the weight 0 are told as left, as the program keeps no
+        exception of theirs; the hold is put out all the same."""
+        record = RECORDS["takes", "rulerack"]
+        files = [self.tools.put(key, record[key]) for key in ("osd_dump", "crush_dump")]
+        told = self.json("hold", *files, "--weight", "d0h0=0")
+        found = {own["group"]: own["step"] for own in told["left"] if own["group"].startswith("4.")}
+        self.assertTrue(found)
+        self.assertEqual(set(found.values()), {"an OSD that weighs 0"})
+
     def test_program(self) -> None:
         """Under the exceptions that `hold` tells each group has the set of the monitor from before the change, by the
         program; or it is told as left with the set that it gets, or as getting a place that it lacked."""
