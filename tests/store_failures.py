@@ -2,7 +2,7 @@
 limit on the size of files.
 
 What was answered `ok` is in the store afterwards; from the first change that was not taken on each is answered 35, and
-look-ups go on; and no run ends by a signal.
+look-ups go on; the run tells why in one line, and ends with status 6; and no run ends by a signal.
 """
 
 import contextlib
@@ -31,6 +31,8 @@ WAYS: dict[str, tuple[str, ...]] = {
 }
 REASONS = {"the disk failed", "the disk is full", "the file cannot be opened"}
 NOT_STORED = "err 35 NotStored"
+# How a run ends whose store has failed, and one whose log is not copied into its file at the end.
+FAILED, NOT_COPIED = 6, 5
 LOOKS = ("up 1.0", "count 3", "groups 1", "epoch")
 # So many changes a swept run makes; and so many are made at most until a log is copied into its file.
 CHANGES, MOST = 6, 5000
@@ -203,15 +205,24 @@ class StoreFailures(StoreCase):
     def judge(self, talked: Talked, before: list[str], store: pathlib.Path) -> None:
         """Asks that a run over a store with some changes is as it may be where its disk fails, and that the store then
         has all changes that were answered `ok`, and at most the first that was not taken."""
-        if talked.head is None:
-            self.assertEqual((talked.done.status, talked.done.output), (5, ""), talked.done)
-            self.assertIn(talked.done.error.removeprefix("store: ").removesuffix("\n"), REASONS)
-        else:
-            self.assertEqual(talked.done, Done(0, "", ""))
+        self.judge_end(talked)
+        if talked.head is not None:
             self.judge_answers(talked, before)
         self.judge_store(
             before + talked.made(), talked.not_stored()[:1], store, bool(before) or talked.head is not None
         )
+
+    def judge_end(self, talked: Talked) -> None:
+        """Asks that a run ends as one whose store is not opened, has failed or has not; and that it tells why."""
+        status = FAILED if talked.not_stored() else talked.done.status
+        if talked.head is not None and not talked.not_stored():
+            self.assertIn(status, (0, NOT_COPIED))
+        self.assertEqual((talked.done.status, talked.done.output), (status, ""), talked.done)
+        if talked.done.status or talked.head is None:
+            self.assertNotEqual(status, 0)
+            self.assertIn(talked.done.error.removeprefix("store: ").removesuffix("\n"), REASONS)
+        else:
+            self.assertEqual(talked.done.error, "")
 
     def judge_answers(self, talked: Talked, before: list[str]) -> None:
         """Asks that all but the changes that were not stored is answered as plain `osdmapd` does, and that each change
@@ -318,7 +329,7 @@ class StoreFailures(StoreCase):
         """A disk that is full: what was taken stays, and once there is room all goes on."""
         with self.disk(700 * KIB):
             talked = self.filled(Talk([self.command, "--journal", "65536", "--begin", EXAMPLE, self.store, "-"], {}))
-            self.assertEqual(talked.done, Done(0, "", ""))
+            self.assertEqual(talked.done, Done(FAILED, "", "store: the disk is full\n"))
             self.judge_answers(talked, [])
             made, open_line = talked.made(), talked.not_stored()[:1]
             self.judge_store(made, open_line, copied(self.store, self.folder / "copy"), True)

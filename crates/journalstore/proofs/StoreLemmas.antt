@@ -1,12 +1,12 @@
 -- What an append makes of the texts that a store holds.
-use Rattle.std.proofs.Common.{◌≡◌, Bool, true, false, not, ◌⊎◌, inl, inr, ℕ, pos, List, [], ◌∷◌, map, Ok, Err, IsTrue, refl, sym, ap, subst, ◌∙◌, arith}
+use Rattle.std.proofs.Common.{◌≡◌, true, false, Result, is_ok, IfOk, ◌⊎◌, inl, inr, ℕ, pos, List, [], ◌∷◌, map, Ok, Err, IsTrue, refl, sym, ap, subst, ◌∙◌, arith}
 use Rattle.sqlite.specs.declared.types.Value.TheVariants.{Int, Text}
 use Rattle.sqlite.specs.declared.error.Error.{Error}
 use Rattle.sqlite.specs.Order.{Row}
 use Rattle.sqlite.specs.Tree.{Trees}
 use Rattle.sqlite.specs.Effect.{Database}
 use Rattle.sqlite.specs.State.{State, HasCleanDisk, Survives, Executes, CommitsBy, IsUnchanged}
-use Rattle.journalstore.specs.Tables.{insert_text, store_schema}
+use Rattle.journalstore.specs.Tables.{insert_text}
 use Rattle.journalstore.specs.Texts.{Texts, begun_with, with_change, IsAfter, StandsFor}
 use Rattle.journalstore.specs.declared.reading.StoredText.{StoredText}
 use Rattle.journalstore.specs.declared.reading.StoredTexts.{StoredTexts}
@@ -14,11 +14,6 @@ use Rattle.journalstore.specs.Read.{entry_read, texts_read}
 use Rattle.journalstore.specs.Stores.{IsSettled, Shows, IsRunning, IsOf, LeavesOnly}
 use Rattle.journalstore.proofs.AppendLemmas.{appends, keeps, commits}
 use Rattle.journalstore.proofs.EntryLemmas.{stands_with, one_text}
-
--- a test whose opposite is true is false
-outside_from : (b : Bool) → not b ≡ true → b ≡ false
-outside_from false is = refl
-outside_from true is = absurd cc
 
 -- an open database leaves its last commit and nothing else
 abbrev pub LeavesCommit : State → Type 0
@@ -44,6 +39,32 @@ found_texts old new db t read settled same is stands reads =
     let now : new.now.trees ≡ db = ap (λ (d : Database). d.trees) (same.0.now_is ∙ sym settled.committed) ∙ is in
     one_text db t read stands (subst (λ d. StandsFor d read) now reads)
 
+-- what holds beside a value holds where there is one
+pub beside_ok : {X E : Type 0} (r : Result X E) (A : X → Type 0) (P : Type 0) → is_ok r ≡ true → IfOk r (λ x. A x × P) → P
+beside_ok (Ok x) A P is both = both.1
+beside_ok (Err e) A P is both = absurd (let wrong : false ≡ true = is in cc)
+
+-- where a store kept texts, and a call that changes nothing finds it open, it holds them
+pub running_texts : (old new : State) (t : Texts) → LeavesCommit new → Survives old new (λ _. ⊥) → (HasCleanDisk new → IsUnchanged old new) → IsOf old t
+    → IsRunning new × IsOf new t × LeavesOnly new (λ db. StandsFor db t)
+running_texts old new t law survives same of =
+    let running : IsRunning new = λ clean. (same clean).0.is_open in
+    let holds : IsOf new t = λ clean now.
+    let u = (same clean).0 in
+    let shows = of (omega (arith, survives.clean, clean)) u.was_open in
+    record {
+      settled = record { autocommit = u.mode ∙ shows.settled.autocommit; schema = ap (λ (d : Database). d.schema) u.now_is ∙ shows.settled.schema; committed = u.committed_is ∙ shows.settled.committed ∙ sym u.now_is };
+      stands = subst (λ (d : Database). StandsFor d.trees t) (sym u.now_is) shows.stands;
+    } in
+    (running, holds, leaves_held new t law running holds)
+
+-- a call that commits nothing leaves a crash what it left
+pub leaves_still : (old new : State) (Kind : Trees → Type 0) → Survives old new (λ _. ⊥) → LeavesOnly old Kind → LeavesOnly new Kind
+leaves_still old new Kind survives leaves clean db may = elim (survives.crash clean db may) [
+  | inl earlier ↦ leaves (omega (arith, survives.clean, clean)) db earlier
+  | inr none ↦ absurd none
+]
+
 -- what was read is what a store begins with
 pub begun_read : (t : StoredTexts) (epoch : ℕ) (text : List ℕ) → entry_read t.first ≡ (epoch, text) → t.changes.items ≡ [] → texts_read t ≡ begun_with epoch text
 begun_read t epoch text first none = λ i. record { first = first i; changes = map entry_read (none i) }
@@ -56,13 +77,6 @@ none_read (t ∷ ts) e = absurd cc
 -- what is read as that has this first map, and no change
 pub read_begun : (t : StoredTexts) (epoch : ℕ) (text : List ℕ) → texts_read t ≡ begun_with epoch text → (entry_read t.first ≡ (epoch, text)) × (t.changes.items ≡ [])
 read_begun t epoch text e = (ap (λ (s : Texts). s.first) e, none_read t.changes.items (ap (λ (s : Texts). s.changes) e))
-
--- a connection that has nothing to commit and has the tables of a store is ready
-pub ready_from : (s : State) (auto : Bool) → IsRunning s → auto ≡ true → auto ≡ not s.in_transaction → (IsTrue auto → IsTrue s.is_open → s.now ≡ s.committed) → s.now.schema ≡ store_schema
-    → HasCleanDisk s → IsTrue s.is_open × IsSettled s
-ready_from s auto running is mode settled schema clean =
-    let outside : s.in_transaction ≡ false = outside_from s.in_transaction (sym mode ∙ is) in
-    (running clean, record { autocommit = outside; schema = schema; committed = sym (settled is (running clean)) })
 
 -- the parameters of an append
 abbrev pub params_of : ℕ → List ℕ → Row

@@ -1,6 +1,6 @@
 //! How a change is appended.
 
-ghost use Rattle.std.specs.Prelude.{◌≡◌, ◌⊎◌, ◌<◌, ◌≤◌, ◌^◌, pos, [], ◌∷◌, Err, IfErr, OnOk, OnErr};
+ghost use Rattle.std.specs.Prelude.{◌≡◌, ◌⊎◌, ◌<◌, ◌≤◌, ◌^◌, pos, true, [], ◌∷◌, Err, IfErr, OnOk, OnErr};
 ghost use Rattle.sqlite.specs.declared.types.Value.TheVariants.{Int, Text};
 ghost use Rattle.sqlite.specs.State.{HasCleanDisk, Survives, Executes, CommitsBy};
 ghost use Rattle.sqlite.specs.Held.{state};
@@ -48,4 +48,13 @@ pub(crate) fn append<S: Alter>(
     }
     insert(conn, epoch, change)?;
     Ok(())
+}
+
+/// Whether the database answers a question, as `TextStore::is_running` says.
+pub(crate) fn is_running<S: Alter>(conn: &mut Connection<S>) -> bool
+    ensures holds { result ≡ true → (t : _) → KeepsIn S.Store conn.old t → HoldsIn S.Store conn.new t }
+    ensures crash { (t : _) (more : _) → LeavesIn S.Store conn.old (λ db. StandsFor db t ⊎ StandsFor db more)
+        → LeavesIn S.Store conn.new (λ db. StandsFor db t ⊎ StandsFor db more) }
+{
+    conn.prepare("SELECT epoch, text FROM map").is_ok()
 }

@@ -1,21 +1,21 @@
 //! How a store is made.
 
-ghost use Rattle.std.specs.Prelude.{◌≡◌, ◌<◌, ◌≤◌, ◌^◌, true, [], IsTrue, IfOk, IfErr, IsErrAnd, OnOk};
+ghost use Rattle.std.specs.Prelude.{◌≡◌, ◌≢◌, ◌<◌, ◌≤◌, ◌^◌, IfOk, IfErr, IsErrAnd};
 ghost use Rattle.sqlite.specs.State.{HasCleanDisk};
-ghost use Rattle.sqlite.specs.Held.{state};
-ghost use Rattle.sqlite.specs.Files.{over_files};
+ghost use Rattle.sqlite.specs.Files.{file_state, over_files, HoldsDatabase};
+ghost use Rattle.sqlite.specs.WalFiles.{image_at};
 ghost use Rattle.journalstore.specs.declared.error.StoreError.TheVariants.{EpochTooLarge};
-ghost use Rattle.journalstore.specs.Texts.{begun_with};
+ghost use Rattle.journalstore.specs.Texts.{Texts, StandsFor, begun_with};
+ghost use Rattle.journalstore.specs.Read.{texts_read};
 ghost use Rattle.journalstore.specs.Stores.{Holds};
 
 use crate::append::LAST_EPOCH;
 use crate::begun::is_begun;
 use crate::error::StoreError;
-use crate::exclusive::Exclusive;
-use crate::opening::{FileTexts, connect};
-use crate::reading::read;
+use crate::files::check_free;
+use crate::opening::{FileTexts, connect, open};
+use crate::reading::StoredTexts;
 use crate::shape::{is_blank, is_store};
-use crate::store::TextStore;
 use sqlite::{Alter, Connection, Error, ErrorCode, Start, params};
 
 const JOURNAL: &str =
@@ -26,7 +26,6 @@ const MAP: &str = "CREATE TABLE map (epoch INTEGER PRIMARY KEY, text TEXT NOT NU
 /// Makes the two tables and the row of the first map, in one transaction.
 fn make_tables<S: Alter>(conn: &mut Connection<S>, epoch: u64, text: &str) -> Result<(), Error>
     requires { epoch < 2 ^ 63 }
-    ensures running { HasCleanDisk (state S.Store conn.new) → OnOk result (IsTrue (state S.Store conn.new).is_open) }
 {
     if !conn.is_autocommit() {
         return Err(Error::SqliteFailure(ErrorCode::TransactionState));
@@ -41,27 +40,18 @@ fn make_tables<S: Alter>(conn: &mut Connection<S>, epoch: u64, text: &str) -> Re
     tx.commit()
 }
 
-/// Makes a store with its first map, in one transaction, where there is no file, an empty one, or a database with no
-/// table.
-///
-/// # Errors
-///
-/// `EpochTooLarge` if the epoch is above 2^63 - 1; `Begun` where there is a store and `Foreign` where there is another
-/// database, and then nothing is written; else those of `open` but `Missing`, and `TextTooLong`.
-pub fn begin<W: Start>(
+/// Makes the tables of a store and the row of its first map where there is no table, and copies the log into the file.
+fn make_file<W: Start>(
     rt: &HostRuntime,
     path: &str,
     start: W,
     epoch: u64,
     text: &str,
-) -> Result<FileTexts<W>, StoreError>
-    ensures begun { IfOk result (λ store. Holds over_files store (begun_with epoch text.now)) }
-    ensures only { IfErr result (λ e. e ≡ EpochTooLarge → 2 ^ 63 ≤ epoch) }
-    ensures refused { 2 ^ 63 ≤ epoch → IsErrAnd result (λ e. e ≡ EpochTooLarge) }
+) -> Result<(), StoreError>
+    requires { epoch < 2 ^ 63 }
+    ensures named { IfErr result (λ e. e ≢ EpochTooLarge) }
 {
-    if epoch > LAST_EPOCH {
-        return Err(StoreError::EpochTooLarge);
-    }
+    check_free(rt, path)?;
     let mut conn = connect(rt, path, start)?;
     if is_store(conn.schema()) {
         return Err(StoreError::Begun);
@@ -70,13 +60,41 @@ pub fn begin<W: Start>(
         return Err(StoreError::Foreign);
     }
     make_tables(&mut conn, epoch, text)?;
-    if !conn.is_autocommit() || !is_store(conn.schema()) {
+    conn.close()?;
+    Ok(())
+}
+
+/// Makes a store with its first map, in one transaction, where there is no file, an empty one, or a database with no
+/// table, and opens it as `open` does. Its file is then the store by itself. `starts` stands for what the files held, and
+/// for what they hold as they are opened.
+///
+/// # Errors
+///
+/// `EpochTooLarge` if the epoch is above 2^63 - 1; `Begun` where there is a store, `LogAlone` where there is a log
+/// whose file is missing, and `Foreign` where there is another database, and then nothing is written; else those of
+/// `open` but `Missing`, and `TextTooLong`.
+pub fn begin<V: Start, W: Start>(
+    rt: &HostRuntime,
+    path: &str,
+    starts: (V, W),
+    epoch: u64,
+    text: &str,
+) -> Result<(FileTexts<W>, StoredTexts), StoreError>
+    ensures begun { IfOk result (λ r. Holds over_files r.0 (begun_with epoch text.now)) }
+    ensures read { IfOk result (λ r. texts_read r.1 ≡ begun_with epoch text.now) }
+    ensures found { IfOk result (λ r. (db : _) (t : Texts) → HasCleanDisk (file_state r.0.conn)
+        → HoldsDatabase (image_at W.Start) db → StandsFor db t → texts_read r.1 ≡ t) }
+    ensures only { IfErr result (λ e. e ≡ EpochTooLarge → 2 ^ 63 ≤ epoch) }
+    ensures refused { 2 ^ 63 ≤ epoch → IsErrAnd result (λ e. e ≡ EpochTooLarge) }
+{
+    if epoch > LAST_EPOCH {
+        return Err(StoreError::EpochTooLarge);
+    }
+    let (none, start) = starts;
+    make_file(rt, path, none, epoch, text)?;
+    let (texts, found) = open(rt, path, start)?;
+    if !is_begun(&found, epoch, text) {
         return Err(StoreError::Damaged);
     }
-    let texts = read(rt.alloc(), &mut conn)?;
-    if !is_begun(&texts, epoch, text) {
-        return Err(StoreError::Damaged);
-    }
-    let conn = Exclusive::new(conn);
-    Ok(TextStore { conn })
+    Ok((texts, found))
 }

@@ -4,7 +4,7 @@ ghost use Rattle.journalstore.specs.Faults.{IsOfFile};
 
 use sqlite::{Error, ErrorCode};
 use std::alloc::{AllocError, AllocFailed};
-use std::fmt;
+use std::{fmt, io};
 use thiserror::Error;
 
 /// Why a store does not do what it is asked.
@@ -12,6 +12,12 @@ use thiserror::Error;
 pub enum StoreError {
     /// There is no file, or an empty one.
     Missing,
+    /// There is no file, or an empty one, and beside it a log that is not.
+    LogAlone,
+    /// There is a file already where a copy is to be made.
+    Taken,
+    /// The log was begun anew during each try to copy it.
+    Moving,
     /// The file cannot be opened: its folder is missing, it is no plain file, or the system refuses it.
     Unopened,
     /// Another process or store has the file open.
@@ -47,6 +53,9 @@ impl fmt::Display for StoreError {
     fn fmt<W: fmt::Write>(&self, f: &mut fmt::Formatter<W>) -> fmt::Result {
         f.write_str(match self {
             StoreError::Missing => "there is no store at this path",
+            StoreError::LogAlone => "there is a log at this path, and no store with it",
+            StoreError::Taken => "there is a file at the path of the copy",
+            StoreError::Moving => "the store was written faster than it was copied",
             StoreError::Unopened => "the file cannot be opened",
             StoreError::InUse => "the store is in use",
             StoreError::Foreign => "the file is not a store",
@@ -60,6 +69,17 @@ impl fmt::Display for StoreError {
             StoreError::Memory => "memory is short",
             StoreError::Shut => "an earlier failure of the disk has shut the store",
         })
+    }
+}
+
+/// The name of a failure of the system at a file of a store: out of memory, else as is said.
+pub(crate) fn of_system(error: &io::Error, otherwise: StoreError) -> StoreError
+    ensures { IsOfFile otherwise → IsOfFile result }
+{
+    match error.kind() {
+        io::ErrorKind::OutOfMemory => StoreError::Memory,
+        io::ErrorKind::StorageFull => StoreError::Full,
+        _ => otherwise,
     }
 }
 

@@ -3,6 +3,7 @@
 //! - `opening`, `beginning`, `begun`: how a store is opened, how it is made, and what it then says
 //! - `store`: the store, and its two changes
 //! - `append`, `checkpoint`: how a change is appended, and how a new first map takes the place of the old one
+//! - `files`, `backup`: the files of a store, and a copy of them as one file
 //! - `reading`: how the texts are read
 //! - `shape`: whether a database has the tables of a store
 //! - `exclusive`: a value that only its owner reaches
@@ -11,11 +12,13 @@
 #![tactic(auto)]
 
 mod append;
+mod backup;
 mod beginning;
 mod begun;
 mod checkpoint;
 mod error;
 mod exclusive;
+mod files;
 mod opening;
 mod reading;
 mod shape;
@@ -24,9 +27,10 @@ mod store;
 mod tests;
 
 pub use append::LAST_EPOCH;
+pub use backup::copy_store;
 pub use beginning::begin;
 pub use begun::is_begun;
 pub use error::StoreError;
-pub use opening::{FileTexts, open};
+pub use opening::{FileTexts, fold_log, is_missing, open};
 pub use reading::{StoredText, StoredTexts};
 pub use store::TextStore;

@@ -1,13 +1,13 @@
 //! The store of a journal's texts.
 
-ghost use Rattle.std.specs.Prelude.{◌≡◌, ◌⊎◌, ◌≤◌, ◌^◌, IfErr, OnOk, OnErr, Err};
+ghost use Rattle.std.specs.Prelude.{◌≡◌, ◌⊎◌, ◌≤◌, ◌^◌, true, IfErr, OnOk, OnErr, Err};
 ghost use Rattle.sqlite.specs.State.{HasCleanDisk};
 ghost use Rattle.sqlite.specs.Held.{state};
 ghost use Rattle.journalstore.specs.declared.error.StoreError.TheVariants.{EpochTooLarge};
 ghost use Rattle.journalstore.specs.Texts.{begun_with, with_change, IsAfter, StandsFor};
 ghost use Rattle.journalstore.specs.Stores.{Holds, Leaves, Keeps};
 
-use crate::append::append;
+use crate::append::{append, is_running};
 use crate::checkpoint::checkpoint;
 use crate::error::StoreError;
 use crate::exclusive::Exclusive;
@@ -64,6 +64,17 @@ impl<S: Alter> TextStore<S> {
     {
         let conn = &mut self.conn;
         checkpoint(alloc, &mut conn.value, epoch, text)
+    }
+
+    /// Whether the database answers a question: then no failure has shut it, and it holds what it kept. Where memory is
+    /// short it may not.
+    pub fn is_running(&mut self) -> bool
+        ensures holds { result ≡ true → (t : _) → Keeps S.Store self.old t → Holds S.Store self.new t }
+        ensures crash { (t : _) (more : _) → Leaves S.Store self.old (λ db. StandsFor db t ⊎ StandsFor db more)
+            → Leaves S.Store self.new (λ db. StandsFor db t ⊎ StandsFor db more) }
+    {
+        let conn = &mut self.conn;
+        is_running(&mut conn.value)
     }
 }
 

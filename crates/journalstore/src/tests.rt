@@ -15,7 +15,7 @@ fn sweep(rt: &HostRuntime) {
 
 // Makes a store with a first map, and appends two changes.
 fn make(rt: &HostRuntime) -> Result<(), StoreError> {
-    let mut store = begin(rt, PATH, Unknown, 7, "map 7")?;
+    let (mut store, _) = begin(rt, PATH, (Unknown, Unknown), 7, "map 7")?;
     store.append(8, "to 8")?;
     store.append(9, "to 9")
 }

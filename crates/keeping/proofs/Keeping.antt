@@ -1,5 +1,5 @@
 -- What a store that fails leaves of a journal that is kept.
-use Rattle.std.proofs.Common.{◌≡◌, ◌⊎◌, inl, inr, true, false, Bool, Result, Ok, Err, OnErr, is_err}
+use Rattle.std.proofs.Common.{◌≡◌, ◌⊎◌, inl, inr, true, false, Bool}
 use Rattle.maptypes.specs.Incrementals.{Step}
 use Rattle.keeping.specs.declared.keeper.Keeper.{Keeper}
 use Rattle.keeping.specs.Journals.{Journal, with_step, IsBeforeOrAfter, HasAll}
@@ -9,11 +9,6 @@ use Rattle.keeping.specs.Stores.{IsKeptBy}
 all_is_left : (j : Journal) (step : Step) (left : Journal) → IsBeforeOrAfter j step left → HasAll j left
 all_is_left j step left (inl before) = inl before
 all_is_left j step left (inr with_it) = inr (step, with_it)
-
--- what holds at an error holds where there is one
-pub at_error : {X E P : Type 0} (r : Result X E) → is_err r ≡ true → OnErr r P → P
-at_error (Ok x) is holds = absurd (let wrong : false ≡ true = is in cc)
-at_error (Err e) is holds = holds
 
 -- once an incremental is not taken the journal is kept as before, by a store that counts as failed
 pub kept_failed : {K : Type 0} (holds may_leave : K → Journal → Type 0) (may_fail : Type 0) (old : Keeper K) (store : K) (j : Journal) (step : Step) → old.has_failed ≡ false

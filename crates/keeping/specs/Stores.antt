@@ -1,8 +1,15 @@
 -- What a store is known to hold. `holds` and `may_leave` are a store's own words: that it holds a journal, and that a
 -- crash may leave one.
-use Rattle.std.specs.Prelude.{◌≡◌, Bool, true, false}
+use Rattle.std.specs.Prelude.{◌≡◌, ℕ, List, codes, Bool, true, false}
 use Rattle.keeping.specs.declared.keeper.Keeper.{Keeper}
+use Rattle.keeping.specs.declared.keeps.NotKept.{NotKept}
+use Rattle.keeping.specs.declared.keeps.NotKept.TheVariants.{Memory, Failed}
 use Rattle.keeping.specs.Journals.{Journal, HasAll}
+
+-- what an error says
+abbrev pub said : NotKept → List ℕ
+said Memory = codes "memory is short"
+said Failed = codes "the store has failed"
 
 -- a journal is kept: the store holds it, unless it has failed, as only a store does that may; and whatever a crash
 -- leaves, it is the whole journal, and at most one incremental more

@@ -1,6 +1,6 @@
 //! A store that is asked nothing more once it has failed.
 
-use crate::keeps::Keeps;
+use crate::keeps::{Keeps, NotKept};
 use maptypes::Incremental;
 use refusal::Refusal;
 
@@ -12,8 +12,8 @@ pub struct Keeper<K: Keeps + Drop> {
 }
 
 impl<K: Keeps + Drop> Keeper<K> {
-    ghost use Rattle.std.specs.Prelude.{◌≡◌, true, false, IfErr, OnOk, OnErr};
-    ghost use Rattle.refusal.specs.declared.refused.Refusal.TheVariants.{NotStored};
+    ghost use Rattle.std.specs.Prelude.{◌≡◌, ◌⊎◌, true, false, IfErr, OnOk, OnErr};
+    ghost use Rattle.refusal.specs.declared.refused.Refusal.TheVariants.{Memory, NotStored};
     ghost use Rattle.maptypes.specs.Incrementals.{Step};
     ghost use Rattle.keeping.specs.Journals.{Journal, with_step};
     ghost use Rattle.keeping.specs.Stores.{IsKeptBy};
@@ -41,23 +41,28 @@ impl<K: Keeps + Drop> Keeper<K> {
     ///
     /// # Errors
     ///
-    /// `NotStored` (35) where the store does not take it, or has failed before. A crash may then still leave it.
+    /// `Memory` (30) where memory is short and the store is as it was; else `NotStored` (35) where the store does not take
+    /// it, or has failed before. A crash may then still leave it.
     pub fn keep(&mut self, step: &Incremental) -> Result<(), Refusal>
         ensures kept { OnOk result ((self.old.has_failed ≡ false) × (self.new.has_failed ≡ false)
             × ((j : Journal) → IsKeptBy K.holds K.may_leave K.may_fail self.old j
             → IsKeptBy K.holds K.may_leave K.may_fail self.new (with_step j step.now))) }
-        ensures failed { IfErr result (λ e. (e ≡ NotStored) × (self.new.has_failed ≡ true)
-            × ((j : Journal) → IsKeptBy K.holds K.may_leave K.may_fail self.old j
-            → IsKeptBy K.holds K.may_leave K.may_fail self.new j)) }
+        ensures failed { IfErr result (λ e. ((e ≡ Memory) × (self.old.has_failed ≡ false) × (self.new.has_failed ≡ false))
+            ⊎ ((e ≡ NotStored) × (self.new.has_failed ≡ true))) }
+        ensures same { OnErr result ((j : Journal) → IsKeptBy K.holds K.may_leave K.may_fail self.old j
+            → IsKeptBy K.holds K.may_leave K.may_fail self.new j) }
     {
         if self.has_failed {
             return Err(Refusal::NotStored);
         }
-        if self.store.keep(step).is_err() {
-            self.has_failed = true;
-            return Err(Refusal::NotStored);
+        match self.store.keep(step) {
+            Ok(()) => Ok(()),
+            Err(NotKept::Memory) => Err(Refusal::Memory),
+            Err(NotKept::Failed) => {
+                self.has_failed = true;
+                Err(Refusal::NotStored)
+            }
         }
-        Ok(())
     }
 
     /// Takes note that the last incremental that was kept is not in the journal: a store that holds it counts as

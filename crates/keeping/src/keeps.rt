@@ -1,28 +1,36 @@
 //! What a store owes.
 
-ghost use Rattle.std.specs.Prelude.{Some, codes};
-
 use maptypes::Incremental;
 use std::fmt;
 use thiserror::Error;
 
-/// The store did not take an incremental, as far as it knows.
+/// Why a store did not take an incremental.
 #[derive(Clone, Copy, Debug, PartialEq, Eq, Error)]
-pub struct NotKept;
+pub enum NotKept {
+    /// Memory is short, and the store is as it was: it may be asked again.
+    Memory,
+    /// The store has failed: it did not take the incremental, as far as it knows.
+    Failed,
+}
 
 impl fmt::Display for NotKept {
-    ghost use Rattle.std.specs.Prelude.{Some, codes};
+    ghost use Rattle.std.specs.Prelude.{Some};
+    ghost use Rattle.keeping.specs.Stores.{said};
 
-    ghost output = { λ _. Some (codes "NotKept") };
+    ghost output = { λ e. Some (said e) };
 
     fn fmt<W: fmt::Write>(&self, f: &mut fmt::Formatter<W>) -> fmt::Result {
-        f.write_str("NotKept")
+        f.write_str(match self {
+            NotKept::Memory => "memory is short",
+            NotKept::Failed => "the store has failed",
+        })
     }
 }
 
 /// A store of incrementals, which outlives a crash.
 pub trait Keeps {
-    ghost use Rattle.std.specs.Prelude.{◌≡◌, true, false, OnOk, OnErr};
+    ghost use Rattle.std.specs.Prelude.{◌≡◌, true, false, IfErr, OnOk};
+    ghost use Rattle.keeping.specs.declared.keeps.NotKept.TheVariants.{Memory, Failed};
     ghost use Rattle.keeping.specs.Journals.{Journal, with_step, IsBeforeOrAfter};
 
     /// It holds this journal.
@@ -39,11 +47,16 @@ pub trait Keeps {
 
     /// Keeps an incremental behind those that it holds. A crash at any moment of it leaves the journal from before,
     /// with this incremental or without.
+    ///
+    /// # Errors
+    ///
+    /// `Memory` where memory is short, and then it holds what it did; `Failed`.
     fn keep(&mut self, step: &Incremental) -> Result<(), NotKept>
         ensures kept { OnOk result ((j : Journal) → holds self.old j → holds self.new (with_step j step.now)) }
         ensures crash { (j : Journal) → holds self.old j → (left : Journal) → may_leave self.new left
             → IsBeforeOrAfter j step.now left }
-        ensures fails { OnErr result may_fail };
+        ensures same { IfErr result (λ e. e ≡ Memory → (j : Journal) → holds self.old j → holds self.new j) }
+        ensures fails { IfErr result (λ e. e ≡ Failed → may_fail) };
 
     /// Whether it may be asked on with a journal that lacks what it holds: only one that holds nothing may.
     fn forgets(&self) -> bool

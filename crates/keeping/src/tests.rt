@@ -1,4 +1,4 @@
-//! A store that fails, by an example.
+//! A store that finds no memory and then fails, by an example.
 
 use crate::{Keeper, Keeps, NotKept};
 use keylist::Entries;
@@ -7,7 +7,8 @@ use maptypes::{Change, ChangeParts, Incremental};
 use std::alloc::Global;
 use std::test::Fail;
 
-// Takes one incremental, and counts how often it is asked for that. Nothing is known of what it holds.
+// Takes one incremental, then finds no memory for one, and then fails; it counts how often it is asked. Nothing is known
+// of what it holds.
 #[derive(Drop)]
 struct Narrow {
     asked: u8,
@@ -26,10 +27,10 @@ impl Keeps for Narrow {
 
     fn keep(&mut self, _step: &Incremental) -> Result<(), NotKept> {
         self.asked = self.asked.saturating_add(1);
-        if self.asked == 1 {
-            Ok(())
-        } else {
-            Err(NotKept)
+        match self.asked {
+            1 => Ok(()),
+            2 => Err(NotKept::Memory),
+            _ => Err(NotKept::Failed),
         }
     }
 
@@ -61,7 +62,7 @@ fn incremental(alloc: Global, epoch: u64) -> Option<Incremental> {
 #[test]
 fn a_failed_store_is_asked_nothing_more(rt: HostRuntime) {
     let mut keeper = Keeper::new(Narrow { asked: 0 });
-    let mut answers = [0; 4];
+    let mut answers = [0; 5];
     if let Some(step) = incremental(rt.alloc(), 2) {
         for answer in &mut answers {
             *answer = keeper
@@ -70,6 +71,6 @@ fn a_failed_store_is_asked_nothing_more(rt: HostRuntime) {
                 .map_or(1, |refused| refused.number());
         }
     }
-    assert_eq!(rt; answers, [1, 35, 35, 35]);
-    assert_eq!(rt; keeper.store().asked, 2);
+    assert_eq!(rt; answers, [1, 30, 35, 35, 35]);
+    assert_eq!(rt; keeper.store().asked, 3);
 }

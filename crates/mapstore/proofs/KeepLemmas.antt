@@ -66,3 +66,11 @@ module _ {S : Type 0} (g : Ghosts S) (old : MapStore S) (step : Step) (epoch : �
           texted = texted_with j step holds.texted states;
           last = All-append (λ (s : Step). s.epoch ≤ last) j.steps (step ∷ []) earlier (alone (λ (s : Step). s.epoch ≤ last) step (omega (arith, is)));
         }
+
+-- a store whose texts are held as before holds the journal that it held
+pub holds_still : {S : Type 0} (g : Ghosts S) (old : MapStore S) (new : TextStore S) → ((t : Texts) → Holds g old.texts t → Holds g new t) → (j : Journal) → HoldsJournal g old j → HoldsJournal g (record old { texts = new }) j
+holds_still g old new still j holds = record {
+  texts = still (journal_texts j) holds.texts;
+  texted = holds.texted;
+  last = holds.last;
+}

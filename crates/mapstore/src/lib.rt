@@ -4,7 +4,8 @@
 //! - `store`: the store
 //! - `found`: the map that the texts of a store stand for
 //! - `opening`: how a store is begun and opened
-//! - `error`: why it is not
+//! - `witness`: who is told that a store has failed
+//! - `error`: why a store is not begun or opened
 #![tactic(auto)]
 
 mod error;
@@ -13,7 +14,9 @@ mod found;
 mod opening;
 mod row;
 mod store;
+mod witness;
 
 pub use error::OpenError;
-pub use opening::{FileMaps, adopt, begin, open};
+pub use opening::{FileMaps, adopt, begin, copy_store, open};
 pub use store::MapStore;
+pub use witness::Witness;

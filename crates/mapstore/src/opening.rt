@@ -3,22 +3,23 @@
 ghost use Rattle.std.specs.Prelude.{◌≡◌, ◌<◌, [], IfOk, IfErr, OnOk, IsErrAnd};
 ghost use Rattle.sqlite.specs.State.{HasCleanDisk};
 ghost use Rattle.sqlite.specs.Held.{state};
-ghost use Rattle.sqlite.specs.Files.{file_state, over_files, HoldsDatabase};
+ghost use Rattle.sqlite.specs.Files.{over_files};
 ghost use Rattle.sqlite.specs.WalFiles.{image_at};
 ghost use Rattle.mapparts.specs.Limits.{max_first_epoch};
-ghost use Rattle.journalstore.specs.Texts.{Texts, StandsFor, begun_with};
+ghost use Rattle.journalstore.specs.Texts.{begun_with};
 ghost use Rattle.journalstore.specs.Read.{texts_read};
 ghost use Rattle.journalstore.specs.Stores.{Holds};
 ghost use Rattle.mapstore.specs.declared.error.OpenError.TheVariants.{LateEpoch};
 ghost use Rattle.mapstore.specs.JournalTexts.{IsTextedMap, begun};
 ghost use Rattle.mapstore.specs.Stores.{HoldsJournal};
-ghost use Rattle.mapstore.specs.Openings.{IsMapOf, IsUnopened};
+ghost use Rattle.mapstore.specs.Openings.{IsMapOf, IsFoundIn, IsUnopened};
 ghost use Rattle.mapjson.specs.Written.{written};
 
 use crate::error::OpenError;
 use crate::first::write_first;
 use crate::found::find_map;
 use crate::store::MapStore;
+use crate::witness::Witness;
 use journalstore::{StoreError, StoredTexts, TextStore, is_begun};
 use mapparts::limits::MAX_FIRST_EPOCH;
 use osdmap::OsdMap;
@@ -59,7 +60,12 @@ fn settle<S: Alter>(
 }
 
 /// The store of a map and no change, whose text is the first of these texts.
-fn hold_first<S: Alter>(alloc: Global, texts: TextStore<S>, map: &OsdMap) -> MapStore<S>
+fn hold_first<S: Alter>(
+    alloc: Global,
+    texts: TextStore<S>,
+    map: &OsdMap,
+    witness: Witness,
+) -> MapStore<S>
     requires texted { IsTextedMap map.now.map }
     requires holds { Holds S.Store texts (begun_with map.now.map.epoch (written map.now.map)) }
     ensures holds { HoldsJournal S.Store result (begun map.now.map) }
@@ -69,6 +75,7 @@ fn hold_first<S: Alter>(alloc: Global, texts: TextStore<S>, map: &OsdMap) -> Map
         texts,
         last: map.epoch(),
         alloc,
+        witness,
     }
 }
 
@@ -83,6 +90,7 @@ pub fn adopt<S: Alter + Drop>(
     alloc: Global,
     texts: TextStore<S>,
     found: &StoredTexts,
+    witness: Witness,
 ) -> Result<(MapStore<S>, OsdMap), OpenError>
     requires { Holds S.Store texts (texts_read found.now) }
     ensures holds { IfOk result (λ r. HoldsJournal S.Store r.0 (begun r.1.map)) }
@@ -96,27 +104,32 @@ pub fn adopt<S: Alter + Drop>(
     let text = write_first(alloc, &map)?;
     let mut texts = texts;
     settle(alloc, &mut texts, found, map.epoch(), text.as_str())?;
-    Ok((hold_first(alloc, texts, &map), map))
+    Ok((hold_first(alloc, texts, &map, witness), map))
 }
 
-/// Makes a store with this first map and no change, where there is no file, an empty one, or a database with no table.
+/// Makes a store with this first map and no change, where there is no file, an empty one, or a database with no table,
+/// and opens it: the store, and the map that its text states. Its file is then the store by itself. `starts` stands for
+/// what the files held, and for what they hold as they are opened.
 ///
 /// # Errors
 ///
 /// `LateEpoch` if the map's epoch is above 2,147,483,648, and then nothing is written; `Store` with what
 /// [`journalstore::begin`] refuses, `Begun` where there is a store, or with `Memory`.
-pub fn begin<W: Start>(
+pub fn begin<V: Start, W: Start>(
     rt: &HostRuntime,
     path: &str,
-    start: W,
+    starts: (V, W),
     map: &OsdMap,
-) -> Result<FileMaps<W>, OpenError>
-    ensures holds { IfOk result (λ store. HoldsJournal over_files store (begun map.now.map)) }
+    witness: Witness,
+) -> Result<(FileMaps<W>, OsdMap), OpenError>
+    ensures holds { IfOk result (λ r. HoldsJournal over_files r.0 (begun r.1.map)) }
+    ensures map { IfOk result (λ r. IsMapOf (begun_with map.now.map.epoch (written map.now.map)) r.1.map) }
+    ensures found { IfOk result (λ r. IsFoundIn over_files (image_at W.Start) r.0 r.1.map) }
 {
     check_epoch(map)?;
     let text = write_first(rt.alloc(), map)?;
-    let texts = journalstore::begin(rt, path, start, map.epoch(), text.as_str())?;
-    Ok(hold_first(rt.alloc(), texts, map))
+    let (texts, found) = journalstore::begin(rt, path, starts, map.epoch(), text.as_str())?;
+    adopt(rt.alloc(), texts, &found, witness)
 }
 
 /// Opens a store: the map that its texts stand for, which is then its first map, with no change. So it writes a
@@ -131,11 +144,28 @@ pub fn open<W: Start>(
     rt: &HostRuntime,
     path: &str,
     start: W,
+    witness: Witness,
 ) -> Result<(FileMaps<W>, OsdMap), OpenError>
     ensures holds { IfOk result (λ r. HoldsJournal over_files r.0 (begun r.1.map)) }
-    ensures found { IfOk result (λ r. (db : _) (t : Texts) → HasCleanDisk (file_state r.0.texts.conn)
-        → HoldsDatabase (image_at W.Start) db → StandsFor db t → IsMapOf t r.1.map) }
+    ensures found { IfOk result (λ r. IsFoundIn over_files (image_at W.Start) r.0 r.1.map) }
 {
     let (texts, found) = journalstore::open(rt, path, start)?;
-    adopt(rt.alloc(), texts, &found)
+    adopt(rt.alloc(), texts, &found, witness)
+}
+
+/// Makes one file of the files of a store, which another program may have open, as [`journalstore::copy_store`] says: the
+/// map that its texts stand for.
+///
+/// # Errors
+///
+/// `Store` with what [`journalstore::copy_store`] refuses, and then no file of this name is made; `NoProfile` and
+/// `Journal` as of [`open`], where the file is a copy of a store that stands for no map.
+pub fn copy_store<W: Start>(
+    rt: &HostRuntime,
+    path: &str,
+    to: &str,
+    start: W,
+) -> Result<OsdMap, OpenError> {
+    let found = journalstore::copy_store(rt, path, to, start)?;
+    find_map(rt.alloc(), &found)
 }

@@ -3,7 +3,8 @@
 ghost use Rattle.std.specs.Prelude.{◌≡◌, ◌≤◌, OnOk, OnErr};
 
 use crate::row::write_row;
-use journalstore::TextStore;
+use crate::witness::Witness;
+use journalstore::{StoreError, TextStore};
 use keeping::{Keeps, NotKept};
 use maptypes::Incremental;
 use sqlite::Alter;
@@ -16,6 +17,8 @@ pub struct MapStore<S: Alter> {
     /// No incremental has a later epoch.
     pub(crate) last: u64,
     pub(crate) alloc: Global,
+    /// Who is told why it fails.
+    pub(crate) witness: Witness,
 }
 
 impl<S: Alter> Keeps for MapStore<S> {
@@ -33,16 +36,22 @@ impl<S: Alter> Keeps for MapStore<S> {
 
     fn keep(&mut self, step: &Incremental) -> Result<(), NotKept> {
         if step.epoch() <= self.last {
-            return Err(NotKept);
+            self.witness.tell(StoreError::EpochTaken);
+            return Err(NotKept::Failed);
         }
         let Ok(text) = write_row(self.alloc, step) else {
-            return Err(NotKept);
+            return Err(NotKept::Memory);
         };
-        let Ok(()) = self.texts.append(step.epoch(), text.as_str()) else {
-            return Err(NotKept);
+        let Err(error) = self.texts.append(step.epoch(), text.as_str()) else {
+            self.last = step.epoch();
+            return Ok(());
         };
-        self.last = step.epoch();
-        Ok(())
+        let is_running = self.texts.is_running();
+        if is_running && error == StoreError::Memory {
+            return Err(NotKept::Memory);
+        }
+        self.witness.tell(error);
+        Err(NotKept::Failed)
     }
 
     fn forgets(&self) -> bool {

@@ -14,6 +14,18 @@ use Rattle.osdmapstore.specs.declared.choices.Options.{Options}
 abbrev pub begin_rule : Rule
 begin_rule = record (new_rule (codes "begin")) { long = Some (codes "begin"); action = Some Set; value_names = 1 }
 
+-- `--open-or-begin MAP`
+abbrev pub open_or_begin_rule : Rule
+open_or_begin_rule = record (new_rule (codes "open-or-begin")) {
+  long = Some (codes "open-or-begin");
+  action = Some Set;
+  value_names = 1;
+}
+
+-- `--backup FILE`
+abbrev pub backup_rule : Rule
+backup_rule = record (new_rule (codes "backup")) { long = Some (codes "backup"); action = Some Set; value_names = 1 }
+
 -- STORE, one word that must be there
 abbrev pub store_rule : Rule
 store_rule = record (new_rule (codes "STORE")) { action = Some Set; required = true }
@@ -29,12 +41,17 @@ any_scripts_rule = record (new_rule (codes "SCRIPT")) {
 abbrev pub store_program : App
 store_program = on_top (λ s. record s { has_version = true }) (new_app (codes "osdmapstore"))
 
--- with its options
+-- with the options of sessions
+abbrev pub store_program_of_sessions : App
+store_program_of_sessions = with_rule (with_rule (with_rule store_program journal_rule) stock_rule) to_rule
+
+-- with all its options
 abbrev pub store_program_with_options : App
 store_program_with_options =
-    with_rule (with_rule (with_rule (with_rule store_program journal_rule) stock_rule) to_rule) begin_rule
+    with_rule (with_rule (with_rule store_program_of_sessions begin_rule) open_or_begin_rule) backup_rule
 
--- `osdmapstore [--journal N] [--stock] [--to ANSWERS].. [--begin MAP] STORE [SCRIPT..]`
+-- `osdmapstore [--journal N] [--stock] [--to ANSWERS].. [--begin MAP] [--open-or-begin MAP] [--backup FILE] STORE
+-- [SCRIPT..]`
 abbrev pub store_app : App
 store_app = with_rule (with_rule store_program_with_options store_rule) any_scripts_rule
 
@@ -44,13 +61,23 @@ store_app = with_rule (with_rule store_program_with_options store_rule) any_scri
 abbrev pub begin_path_in : List Row → Option Text
 begin_path_in rows = first_of (codes "begin") rows
 
+-- the same of the map to begin with where there is no store
+abbrev pub open_or_begin_path_in : List Row → Option Text
+open_or_begin_path_in rows = first_of (codes "open-or-begin") rows
+
+-- the path that was found of the copy
+abbrev pub backup_path_in : List Row → Option Text
+backup_path_in rows = first_of (codes "backup") rows
+
 -- the store's path that was found
 abbrev pub store_path_in : List Row → Option Text
 store_path_in rows = first_of (codes "STORE") rows
 
--- the options are what was found for the map to begin with, the store and the sessions
+-- the options are what was found for the maps to begin with, the copy, the store and the sessions
 pub record AreStoreFound (rows : List Row) (o : Options) : Type 0 where
   pub begin_found : begin_path_in rows ≡ option_map string_bytes o.begin
+  pub open_or_begin_found : open_or_begin_path_in rows ≡ option_map string_bytes o.open_or_begin
+  pub backup_found : backup_path_in rows ≡ option_map string_bytes o.backup
   pub store_found : store_path_in rows ≡ Some (string_bytes o.store)
   pub sessions_found : AreFoundSessions rows o.sessions
 

@@ -1,22 +1,30 @@
 -- How a run of the program ends: its status, and what it tells on standard error.
-use Rattle.std.specs.Prelude.{ℕ, List, ◌++◌, codes, Result, Ok, Err}
+use Rattle.std.specs.Prelude.{ℕ, List, [], ◌++◌, codes, Option, Some, None, Result, Ok, Err}
 use Rattle.journalstore.specs.declared.error.StoreError.TheVariants.{Memory as NoMemory}
 use Rattle.mapstore.specs.declared.error.OpenError.{OpenError}
 use Rattle.mapstore.specs.declared.error.OpenError.TheVariants as opening
 use Rattle.mapstore.specs.Words.{open_error_text}
 use Rattle.cli.specs.declared.ending.Ending.TheVariants.{Memory}
+use Rattle.cli.specs.declared.ending.Ending.{Ending as RunEnding}
 use Rattle.cli.specs.Endings as run
 use Rattle.osdmapstore.specs.declared.ending.Ending.{Ending}
-use Rattle.osdmapstore.specs.declared.ending.Ending.TheVariants.{Store, Run}
+use Rattle.osdmapstore.specs.declared.ending.Ending.TheVariants.{Store, Failed, Run}
 
--- the exit status: 5 for the store, and what else ends a run by its own
+-- the exit status: 5 for a store that is not begun or opened, 6 for one that failed, and what else ends a run by its own
 abbrev pub store_status_of : Ending → ℕ
 store_status_of (Store error) = 5
+store_status_of (Failed other) = 6
 store_status_of (Run ending) = run.status_of ending
 
--- what is told
+-- what is told of what else ended a run
+abbrev pub other_text_of : Option RunEnding → List ℕ
+other_text_of (Some ending) = run.text_of ending
+other_text_of None = []
+
+-- what is told; that a store has failed was told when it did
 abbrev pub store_text_of : Ending → List ℕ
 store_text_of (Store error) = codes "store: " ++ open_error_text error ++ codes "\n"
+store_text_of (Failed other) = other_text_of other
 store_text_of (Run ending) = run.text_of ending
 
 -- the exit status of a run: 0 where all is done

@@ -4,8 +4,12 @@ use cli::SessionOptions;
 /// What the command line asks for.
 #[derive(Debug, Drop)]
 pub struct Options {
-    /// The path of the map that a new store begins with; or the store is there.
+    /// The path of the map that a new store begins with, where one is to be made.
     pub begin: Option<String>,
+    /// The path of the map that a new store begins with, where one is to be made if it is missing.
+    pub open_or_begin: Option<String>,
+    /// The path of the copy, where only one is to be made.
+    pub backup: Option<String>,
     /// The path of the store.
     pub store: String,
     /// How its sessions are to be run.

@@ -8,8 +8,10 @@ use thiserror::Error;
 /// Why a run ends before all is done. Its text is what the run tells on standard error.
 #[derive(Debug, Drop, Error)]
 pub enum Ending<'a> {
-    /// The store is not begun or opened.
+    /// The store is not begun or opened, or its log is not copied into its file at the end.
     Store(OpenError),
+    /// The store has failed, which was told then; and what else ended the run.
+    Failed(Option<cli::Ending<'a>>),
     /// Whatever else ends a run of a program.
     Run(cli::Ending<'a>),
 }
@@ -28,12 +30,13 @@ impl<'a> Ending<'a> {
         }
     }
 
-    /// The exit status of the program: 1 to 5.
+    /// The exit status of the program: 1 to 7.
     pub fn status(&self) -> u8
         ensures { result ≡ store_status_of self.now }
     {
         match self {
             Ending::Store(_) => 5,
+            Ending::Failed(_) => 6,
             Ending::Run(ending) => ending.status(),
         }
     }
@@ -59,7 +62,8 @@ impl<'a> fmt::Display for Ending<'a> {
     fn fmt<W: fmt::Write>(&self, f: &mut fmt::Formatter<W>) -> fmt::Result {
         match self {
             Ending::Store(error) => writeln!(f, "store: {error}"),
-            Ending::Run(ending) => write!(f, "{ending}"),
+            Ending::Failed(Some(ending)) | Ending::Run(ending) => write!(f, "{ending}"),
+            Ending::Failed(None) => Ok(()),
         }
     }
 }

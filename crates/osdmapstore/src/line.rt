@@ -3,12 +3,12 @@
 ghost use Rattle.std.specs.Prelude.{◌≡◌, ◌≤◌, IfOk, map, option_map, string_bytes, vec_len};
 ghost use Rattle.clap.specs.Matches.{found_of};
 ghost use Rattle.clap.specs.Simple.{app_of};
-ghost use Rattle.clap.specs.Walk.{rows_of};
+ghost use Rattle.clap.specs.Walk.{first_of, rows_of};
 ghost use Rattle.epochlog.specs.Epochs.{max_capacity};
 ghost use Rattle.serving.specs.Serving.{max_scripts};
 ghost use Rattle.cli.specs.Arguments.{ArePaired, Chooses, IsReadBy};
-ghost use Rattle.osdmapstore.specs.CommandLine.{begin_rule, store_rule, any_scripts_rule, store_program, store_program_with_options, store_app};
-ghost use Rattle.osdmapstore.specs.CommandLine.{begin_path_in, AreStoreFound, ReadsStoreLine};
+ghost use Rattle.osdmapstore.specs.CommandLine.{begin_rule, open_or_begin_rule, backup_rule, store_rule, any_scripts_rule, store_program, store_program_of_sessions, store_program_with_options, store_app};
+ghost use Rattle.osdmapstore.specs.CommandLine.{AreStoreFound, ReadsStoreLine};
 
 use crate::choices::Options;
 use clap::{Arg, ArgAction, ArgMatches, Command};
@@ -24,8 +24,8 @@ const VERSION: &str = "0.1.0";
 const ABOUT: &str =
     "Keeps the OSDMap of a Ceph-like cluster in a file that outlives it: makes or opens the store, tells its epoch, \
 answers the lines of scripts over it, one line each, all scripts at once, and ends. Each change is in the file before \
-it is answered. Statuses: 0 done, 1 command line, 2 map refused, 3 file or output, 4 memory, 5 store. The formats of \
-stores, maps, changes, scripts and answers are in docs/FORMATS.md.";
+it is answered. Statuses: 0 done, 1 command line, 2 map refused, 3 file or output, 4 memory, 5 store, 6 a change was \
+not stored. The formats of stores, maps, changes, scripts and answers are in docs/FORMATS.md.";
 
 /// `--begin MAP`.
 fn begin_option<'a>(alloc: Global) -> Arg<'a>
@@ -35,6 +35,30 @@ fn begin_option<'a>(alloc: Global) -> Arg<'a>
         .long("begin")
         .value_name("MAP")
         .help("Makes the store first, with the map of this file, as JSON")
+        .action(ArgAction::Set)
+}
+
+/// `--open-or-begin MAP`.
+fn open_or_begin_option<'a>(alloc: Global) -> Arg<'a>
+    ensures { IsReadBy open_or_begin_rule result }
+{
+    Arg::new(alloc, "open-or-begin")
+        .long("open-or-begin")
+        .value_name("MAP")
+        .help("Makes the store first, with the map of this file, where there is none yet")
+        .action(ArgAction::Set)
+}
+
+/// `--backup FILE`.
+fn backup_option<'a>(alloc: Global) -> Arg<'a>
+    ensures { IsReadBy backup_rule result }
+{
+    Arg::new(alloc, "backup")
+        .long("backup")
+        .value_name("FILE")
+        .help(
+            "Only makes a copy of the store in this new file, also while a program has it open, and tells its epoch",
+        )
         .action(ArgAction::Set)
 }
 
@@ -70,15 +94,24 @@ fn program<'a>(alloc: Global) -> Command<'a>
         .version(VERSION)
 }
 
-/// The program with its options.
-fn program_with_options<'a>(alloc: Global) -> Result<Command<'a>, AllocError>
-    ensures { IfOk result (λ c. app_of c ≡ store_program_with_options) }
+/// The program with the options of its sessions.
+fn program_of_sessions<'a>(alloc: Global) -> Result<Command<'a>, AllocError>
+    ensures { IfOk result (λ c. app_of c ≡ store_program_of_sessions) }
 {
     program(alloc)
         .arg(journal_option(alloc))?
         .arg(stock_option(alloc))?
-        .arg(to_option(alloc))?
-        .arg(begin_option(alloc))
+        .arg(to_option(alloc))
+}
+
+/// The program with all its options.
+fn program_with_options<'a>(alloc: Global) -> Result<Command<'a>, AllocError>
+    ensures { IfOk result (λ c. app_of c ≡ store_program_with_options) }
+{
+    program_of_sessions(alloc)?
+        .arg(begin_option(alloc))?
+        .arg(open_or_begin_option(alloc))?
+        .arg(backup_option(alloc))
 }
 
 /// The command line that the program takes.
@@ -90,11 +123,15 @@ fn command<'a>(alloc: Global) -> Result<Command<'a>, AllocError>
         .arg(script_words(alloc))
 }
 
-/// A copy of the path of the map to begin with, where there is one.
-fn begin_in(alloc: Global, matches: &ArgMatches<'_>) -> Result<Option<String>, AllocError>
-    ensures { IfOk result (λ path. option_map string_bytes path ≡ begin_path_in (rows_of (found_of matches.now))) }
+/// A copy of the path that was found for an option, where there is one.
+fn copied_path(
+    alloc: Global,
+    matches: &ArgMatches<'_>,
+    id: &str,
+) -> Result<Option<String>, AllocError>
+    ensures { IfOk result (λ path. option_map string_bytes path ≡ first_of id.now (rows_of (found_of matches.now))) }
 {
-    match path_in(matches, "begin") {
+    match path_in(matches, id) {
         Some(path) => Ok(Some(String::from_str(alloc, path)?)),
         None => Ok(None),
     }
@@ -111,18 +148,20 @@ fn options_in(alloc: Global, matches: &ArgMatches<'_>) -> Result<Options, LineEr
     let store = path_in(matches, "STORE").ok_or(LineError::Memory)?;
     let sessions = session_options(alloc, matches)?;
     Ok(Options {
-        begin: begin_in(alloc, matches)?,
+        begin: copied_path(alloc, matches, "begin")?,
+        open_or_begin: copied_path(alloc, matches, "open-or-begin")?,
+        backup: copied_path(alloc, matches, "backup")?,
         store: String::from_str(alloc, store)?,
         sessions,
     })
 }
 
 /// What a command line asks for, the program's name first: `[--journal N] [--stock] [--to ANSWERS].. [--begin MAP]
-/// STORE [SCRIPT..]`, N from 1 to 65,536 and 1,024 where it is not given, at most 64 scripts, and as many files of
-/// answers or none. The options are those that the parser finds in the words, exactly where it has nothing against
-/// them and the numbers are so; `Help` where help was asked for, `Usage` for what else the parser has against the
-/// words, `TooMany` where there are more scripts, `Unpaired` where there are files of answers but another number of
-/// them, else `Memory`.
+/// [--open-or-begin MAP] [--backup FILE] STORE [SCRIPT..]`, N from 1 to 65,536 and 1,024 where it is not given, at
+/// most 64 scripts, and as many files of answers or none. The options are those that the parser finds in the words,
+/// exactly where it has nothing against them and the numbers are so; `Help` where help was asked for, `Usage` for what
+/// else the parser has against the words, `TooMany` where there are more scripts, `Unpaired` where there are files of
+/// answers but another number of them, else `Memory`.
 pub fn options(alloc: Global, words: &[String]) -> Result<Options, LineError>
     ensures least { IfOk result (λ o. 1 ≤ o.sessions.journal) }
     ensures most { IfOk result (λ o. o.sessions.journal ≤ max_capacity) }

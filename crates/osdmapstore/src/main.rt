@@ -1,6 +1,6 @@
 //! Answers scripts of commands over the map of a cluster that a file keeps, so that no change that was answered is lost
-//! in a crash: `osdmapstore [--journal N] [--stock] [--to ANSWERS].. [--begin MAP] STORE [SCRIPT..]`, where `-` for a
-//! script is standard input, and for a file of answers standard output.
+//! in a crash: `osdmapstore [--journal N] [--stock] [--to ANSWERS].. [--begin MAP] [--open-or-begin MAP] [--backup FILE]
+//! STORE [SCRIPT..]`, where `-` for a script is standard input, and for a file of answers standard output.
 //!
 //! - `line`, `choices`: what a command line asks for
 //! - `ending`: how a run ends
@@ -10,8 +10,10 @@ ghost use Rattle.std.specs.Prelude.{◌≡◌, ◌≤◌, [], IfErr, IfOk, lengt
 ghost use Rattle.std.specs.Process.{exit_status};
 ghost use Rattle.epochlog.specs.Epochs.{max_capacity};
 ghost use Rattle.mapstore.specs.JournalTexts.{begun};
+ghost use Rattle.mapstore.specs.Openings.{IsFoundIn};
 ghost use Rattle.mapstore.specs.Stores.{HoldsJournal};
 ghost use Rattle.sqlite.specs.Files.{over_files};
+ghost use Rattle.sqlite.specs.WalFiles.{image_at};
 ghost use Rattle.serving.specs.Serving.{max_scripts};
 ghost use Rattle.cli.specs.Arguments.{ArePaired};
 ghost use Rattle.cli.specs.Endings.{status_of};
@@ -22,15 +24,17 @@ mod ending;
 mod line;
 
 use choices::Options;
-use cli::{check_streams, parts_of, put_out, read, tell_line};
+use cli::{SessionOptions, check_streams, parts_of, put_out, read, tell_line};
 use ending::Ending;
+use journalstore::StoreError;
 use mapjson::read_map;
 use mapparts::Profile;
-use mapstore::{FileMaps, MapStore};
+use mapstore::{FileMaps, MapStore, OpenError, Witness};
 use osdmap::OsdMap;
 use serving::{Fault, First, Part, System, Terms, serve_map};
 use session::Buffer;
-use sqlite::{Alter, Unknown};
+use sqlite::{Alter, Start, Unknown};
+use std::alloc::AllocError;
 use std::process::ExitCode;
 use std::rt::Files;
 use std::sync::Wait;
@@ -64,24 +68,102 @@ fn read_first<'a, R: Files + AllocGlobal>(
     }
 }
 
-/// Makes the store, where the command line names the map that it begins with, else opens it: the store, and its map.
-fn begin_or_open<'a, R: Files + AllocGlobal>(
+/// Makes the store with the map of a file, and opens it: the store, and its map.
+fn begin<'a, R: Files + AllocGlobal, V: Start, W: Start>(
     system: &System<'_, R>,
     options: &'a Options,
-) -> Result<First<FileMaps<Unknown>>, Ending<'a>>
+    path: &'a str,
+    starts: (V, W),
+    witness: Witness,
+) -> Result<First<FileMaps<W>>, Ending<'a>>
     ensures holds { IfOk result (λ first. HoldsJournal over_files first.store (begun first.map.map)) }
+    ensures found { IfOk result (λ first. IsFoundIn over_files (image_at W.Start) first.store first.map.map) }
     ensures status { IfErr result (λ e. 2 ≤ store_status_of e) }
 {
-    let path = options.store.as_str();
-    let Some(begin) = &options.begin else {
-        return match mapstore::open(system.host, path, Unknown) {
-            Ok((store, map)) => Ok(First { map, store }),
-            Err(error) => Err(Ending::of_open(error)),
-        };
-    };
-    let map = read_first(system.rt, begin.as_str(), options.sessions.profile)?;
-    match mapstore::begin(system.host, path, Unknown, &map) {
-        Ok(store) => Ok(First { map, store }),
+    let map = read_first(system.rt, path, options.sessions.profile)?;
+    match mapstore::begin(system.host, options.store.as_str(), starts, &map, witness) {
+        Ok((store, map)) => Ok(First { map, store }),
+        Err(error) => Err(Ending::of_open(error)),
+    }
+}
+
+/// Opens the store: the store, and the map that its texts stand for.
+fn open<'a, R, W: Start>(
+    system: &System<'_, R>,
+    path: &str,
+    start: W,
+    witness: Witness,
+) -> Result<First<FileMaps<W>>, Ending<'a>>
+    ensures holds { IfOk result (λ first. HoldsJournal over_files first.store (begun first.map.map)) }
+    ensures found { IfOk result (λ first. IsFoundIn over_files (image_at W.Start) first.store first.map.map) }
+    ensures status { IfErr result (λ e. 2 ≤ store_status_of e) }
+{
+    match mapstore::open(system.host, path, start, witness) {
+        Ok((store, map)) => Ok(First { map, store }),
+        Err(error) => Err(Ending::of_open(error)),
+    }
+}
+
+/// The map of the file that a store is to begin with, if one is to be made.
+fn map_to_begin<'a>(host: &HostRuntime, options: &'a Options) -> Option<&'a str> {
+    match (&options.begin, &options.open_or_begin) {
+        (Some(path), _) => Some(path.as_str()),
+        (None, Some(path)) if journalstore::is_missing(host, options.store.as_str()) => {
+            Some(path.as_str())
+        }
+        _ => None,
+    }
+}
+
+/// Makes the store, where the command line says so, or opens it: the store, and its map, which is the one that the texts
+/// in its file stand for. `starts` stands for what the files hold before a store is made, and as one is opened.
+fn begin_or_open<'a, R: Files + AllocGlobal, V: Start, W: Start>(
+    system: &System<'_, R>,
+    options: &'a Options,
+    starts: (V, W),
+    witness: Witness,
+) -> Result<First<FileMaps<W>>, Ending<'a>>
+    ensures holds { IfOk result (λ first. HoldsJournal over_files first.store (begun first.map.map)) }
+    ensures found { IfOk result (λ first. IsFoundIn over_files (image_at W.Start) first.store first.map.map) }
+    ensures status { IfErr result (λ e. 2 ≤ store_status_of e) }
+{
+    match map_to_begin(system.host, options) {
+        Some(path) => begin(system, options, path, starts, witness),
+        None => {
+            let (_, start) = starts;
+            open(system, options.store.as_str(), start, witness)
+        }
+    }
+}
+
+/// Copies the log of the store into its file, which is then the store by itself, unless another program has opened it.
+fn end_store<'a, R, W: Start>(
+    system: &System<'_, R>,
+    path: &str,
+    start: W,
+) -> Result<(), Ending<'a>>
+    ensures { IfErr result (λ e. 2 ≤ store_status_of e) }
+{
+    match journalstore::fold_log(system.host, path, start) {
+        Ok(()) | Err(StoreError::InUse) => Ok(()),
+        Err(error) => Err(Ending::Store(OpenError::Store(error))),
+    }
+}
+
+/// Makes a copy of the store, and tells its epoch.
+fn back_up<'a, R: Print, W: Start>(
+    system: &System<'_, R>,
+    path: &str,
+    to: &str,
+    start: W,
+) -> Result<(), Ending<'a>>
+    ensures { IfErr result (λ e. 2 ≤ store_status_of e) }
+{
+    match mapstore::copy_store(system.host, path, to, start) {
+        Ok(map) => {
+            tell_epoch(system.rt, &map)?;
+            Ok(())
+        }
         Err(error) => Err(Ending::of_open(error)),
     }
 }
@@ -119,21 +201,19 @@ fn serve_parts<'a, R: AllocGlobal + Print + Eprint + Threads + Wait + Sync, S: A
     }
 }
 
-/// Reads the scripts, makes or opens the store, tells its epoch, and puts the answers to standard output; where there
-/// are files of answers, the epoch alone, and each session opens its own.
-fn work<'a, R: Files + AllocGlobal + Print + Eprint + Threads + Wait + Sync>(
+/// Serves the sessions of some parts over a store and its map, which it ends, and whose epoch it tells first.
+fn serve_store<'a, R: AllocGlobal + Print + Eprint + Threads + Wait + Sync, S: Alter + Drop + Send>(
     system: &System<'_, R>,
-    options: &'a Options,
-) -> Result<(), Ending<'a>>
-    requires least { 1 ≤ options.now.sessions.journal }
-    requires most { options.now.sessions.journal ≤ max_capacity }
-    requires few { vec_len options.now.sessions.scripts ≤ max_scripts }
-    requires paired { ArePaired (vec_len options.now.sessions.scripts) (vec_len options.now.sessions.answers) }
-    ensures { IfErr result (λ e. 2 ≤ store_status_of e) }
+    sessions: &SessionOptions,
+    first: First<MapStore<S>>,
+    parts: &[Part],
+) -> Result<(), cli::Ending<'a>>
+    requires least { 1 ≤ sessions.now.journal }
+    requires most { sessions.now.journal ≤ max_capacity }
+    requires few { length parts.now ≤ max_scripts }
+    requires holds { HoldsJournal S.Store first.store (begun first.map.map) }
+    ensures { IfErr result (λ e. 2 ≤ status_of e) }
 {
-    let sessions = &options.sessions;
-    let parts = parts_of(system, sessions)?;
-    let first = begin_or_open(system, options)?;
     tell_epoch(system.rt, &first.map)?;
     if parts.is_empty() {
         return Ok(());
@@ -142,8 +222,61 @@ fn work<'a, R: Files + AllocGlobal + Print + Eprint + Threads + Wait + Sync>(
         journal: sessions.journal,
         profile: sessions.profile,
     };
-    serve_parts(system, terms, first, &parts)?;
-    Ok(())
+    serve_parts(system, terms, first, parts)
+}
+
+/// How a run ends whose store may have failed, which its witness has seen.
+fn end_of<'a>(witness: &Witness, done: Result<(), cli::Ending<'a>>) -> Result<(), Ending<'a>>
+    requires { IfErr done (λ e. 2 ≤ status_of e) }
+    ensures { IfErr result (λ e. 2 ≤ store_status_of e) }
+{
+    if witness.has_seen_failure() {
+        return Err(Ending::Failed(done.err()));
+    }
+    match done {
+        Ok(()) => Ok(()),
+        Err(ending) => Err(Ending::Run(ending)),
+    }
+}
+
+/// Two witnesses who note together.
+fn two_witnesses(host: &HostRuntime) -> Result<(Witness, Witness), AllocError> {
+    let witness = Witness::new(host)?;
+    let other = witness.again()?;
+    Ok((witness, other))
+}
+
+/// Reads the scripts, makes or opens the store, tells its epoch, and puts the answers to standard output; where there
+/// are files of answers, the epoch alone, and each session opens its own. At the end the store's file is the store by
+/// itself, if nothing failed. `starts` stands for what the files hold before a store is made, as one is opened, and at
+/// the end.
+fn work<
+    'a,
+    R: Files + AllocGlobal + Print + Eprint + Threads + Wait + Sync,
+    V: Start,
+    W: Start + Send,
+    E: Start,
+>(system: &System<'_, R>, options: &'a Options, starts: (V, W, E)) -> Result<(), Ending<'a>>
+    requires least { 1 ≤ options.now.sessions.journal }
+    requires most { options.now.sessions.journal ≤ max_capacity }
+    requires few { vec_len options.now.sessions.scripts ≤ max_scripts }
+    requires paired { ArePaired (vec_len options.now.sessions.scripts) (vec_len options.now.sessions.answers) }
+    ensures { IfErr result (λ e. 2 ≤ store_status_of e) }
+{
+    let (none, start, left) = starts;
+    let path = options.store.as_str();
+    if let Some(to) = &options.backup {
+        return back_up(system, path, to.as_str(), start);
+    }
+    let sessions = &options.sessions;
+    let parts = parts_of(system, sessions)?;
+    let Ok((witness, other)) = two_witnesses(system.host) else {
+        return Err(Ending::Run(cli::Ending::Memory));
+    };
+    let first = begin_or_open(system, options, (none, start), other)?;
+    let done = serve_store(system, sessions, first, &parts);
+    end_of(&witness, done)?;
+    end_store(system, path, left)
 }
 
 fn main(rt: HostRuntime) -> ExitCode {
@@ -166,7 +299,7 @@ fn main(rt: HostRuntime) -> ExitCode {
     };
     let system = System { rt: &rt, host: &rt };
     match check_streams(&options.sessions) {
-        Ok(()) => end_run(&rt, work(&system, &options)),
+        Ok(()) => end_run(&rt, work(&system, &options, (Unknown, Unknown, Unknown))),
         Err(ending) => end_run(&rt, Err(Ending::Run(ending))),
     }
 }

@@ -1,7 +1,9 @@
 """The file of a store, which `osdmapstore` keeps: the text of a first map, and a row for each change since.
 
 It is a SQLite database, whose newest rows may stand in the log beside it (`-wal`). Both are copied and read there, so
-that nothing is written into them or beside them.
+that nothing is written into them or beside them, and a program may have them open and start meanwhile: a file and a
+later copy of its log have all that was committed, unless the log was begun anew between them, and then its header is
+another.
 """
 
 from __future__ import annotations
@@ -24,6 +26,11 @@ from .maps import Program
 from .monitor import Monitor
 from .page_sums import wrong_page
 
+# The bytes of a log's header, in which each log has salts of its own; and how often files are copied until none was
+# begun anew meanwhile.
+HEADER, TRIES = 32, 100
+# Where a database says that it has a log, and how.
+MODES, LOGGED = slice(18, 20), b"\x02\x02"
 # The bytes of a database that its readers lock together, and whoever has it for himself alone.
 SHARED, SHARED_BYTES = (1 << 30) + 2, 510
 # The first SQLite that reads the tables of a store.
@@ -37,6 +44,7 @@ MISSING = "there is no store at this path"
 FOREIGN = "the file is not a store"
 DAMAGED = "the store is damaged"
 IN_USE = "the store is in use; it is read once the program that has it open has ended"
+MOVING = "the store was written faster than it was copied"
 
 
 @dataclass(frozen=True)
@@ -78,9 +86,46 @@ def share(file: IO[bytes], path: str) -> None:
         raise
 
 
+def header_of(log: str) -> bytes:
+    """The header of a log; nothing where there is none."""
+    try:
+        with open(log, "rb") as file:
+            return file.read(HEADER)
+    except FileNotFoundError:
+        return b""
+
+
+def is_logged(path: str) -> bool:
+    """Whether a database says that it has a log."""
+    with open(path, "rb") as file:
+        return file.read(MODES.stop)[MODES] == LOGGED
+
+
+def copied_once(real: str, place: str) -> bool:
+    """Copies a store's file and then its log: whether the two copies belong together."""
+    log, copy = f"{real}-wal", f"{place}-wal"
+    before = header_of(log)
+    with contextlib.suppress(FileNotFoundError):
+        os.remove(copy)
+    shutil.copyfile(real, place)
+    with contextlib.suppress(FileNotFoundError):
+        shutil.copyfile(log, copy)
+    return header_of(copy) == before == header_of(log)
+
+
 def copy_files(path: str, place: str) -> None:
-    """Copies a store, and what SQLite has beside it, while no program has it open."""
+    """Copies a store, and what SQLite has beside it, also while a program has it open. `Unopened` where it is written
+    too fast for that.
+    """
     real = os.path.realpath(path)
+    if not is_logged(real):
+        copy_unlogged(path, real, place)
+    elif not any(copied_once(real, place) for _ in range(TRIES)):
+        raise Unopened(path, MOVING)
+
+
+def copy_unlogged(path: str, real: str, place: str) -> None:
+    """Copies a database without a log, and what SQLite has beside it, while no program has it open."""
     with open(real, "rb") as file, open(place, "wb") as copy:
         share(file, path)
         # The lock would go if the file were opened and closed once more.
@@ -92,8 +137,8 @@ def copy_files(path: str, place: str) -> None:
 
 @contextlib.contextmanager
 def copied(path: str) -> Iterator[str]:
-    """The path of a copy of a store, in a folder of its own. `Unopened` where there is no store or it is in use, and a
-    fault where it cannot be read.
+    """The path of a copy of a store, in a folder of its own. `Unopened` where there is no store or it cannot be copied
+    now, and a fault where it cannot be read.
     """
     if not os.path.exists(path) or (os.path.isfile(path) and os.path.getsize(path) == 0):
         raise Unopened(path, MISSING)
@@ -151,8 +196,8 @@ def journal_of(database: sqlite3.Connection, path: str) -> StoredJournal:
 
 
 def journal_in(path: str) -> StoredJournal:
-    """What a store holds. `Unopened` where there is no store, it is in use, or its file is another or was changed by
-    another program.
+    """What a store holds. `Unopened` where there is no store, it cannot be copied now, or its file is another or was
+    changed by another program.
     """
     if sqlite3.sqlite_version_info < LEAST:
         raise Fault(f"{path}: the SQLite of this Python is {sqlite3.sqlite_version}, and 3.37 the first that reads it")

@@ -1,0 +1,127 @@
+"""Copies of a store by `--backup`, and a store's file by itself.
+
+Copies are made while a live session changes the store as quickly as it can, over many times that SQLite's log is copied
+into the file. Each is one file, whole by sqlite3, and is opened by the program; it has each change that was told before
+the copy was begun, and none that was not put before it was done, each as a row in order.
+"""
+
+import pathlib
+import signal
+import threading
+
+from tests.cases import EXAMPLE
+from tests.store_failures import Talk, change_at, with_rows
+from tests.stores import Done, StoreCase, held, log_of
+
+# So many copies are made beside one session, which makes at most so many changes.
+COPIES, CHANGES = 60, 60_000
+
+
+class Writing:
+    """A live session that makes one change after the other in a thread, and counts those that were answered."""
+
+    def __init__(self, talk: Talk) -> None:
+        self.talk, self.told, self.put, self.is_over = talk, talk.epoch, talk.epoch, False
+        self.thread = threading.Thread(target=self.work)
+        self.thread.start()
+
+    def work(self) -> None:
+        """Makes changes until it is told to end."""
+        while not self.is_over and self.told < CHANGES:
+            self.put = self.told + 1
+            if not (self.talk.ask(change_at(self.told)) or "").startswith("ok "):
+                return
+            self.told = self.put
+
+    def end(self) -> None:
+        """Ends the session."""
+        self.is_over = True
+        self.thread.join()
+        self.talk.end()
+
+
+class StoreBackups(StoreCase):
+    """Copies of stores, and stores of one file."""
+
+    is_alone = True
+
+    def judge(self, copy: pathlib.Path, done: Done, least: int, most: int) -> None:
+        """Asks that a copy is one whole file with the rows of a store of an epoch between two others."""
+        self.assertEqual((done.status, done.error), (0, ""), done)
+        epoch = int(done.output.removeprefix("epoch "))
+        self.assertTrue(least <= epoch <= most, (least, epoch, most))
+        self.assertEqual(sorted(path.name for path in copy.parent.glob(f"{copy.name}*")), [copy.name])
+        found = held(copy)
+        self.assertEqual([row for row, _ in found.rows], [*range(found.first[0] + 1, epoch + 1)])
+        self.assertEqual(found.last, epoch)
+
+    def test_under_load(self) -> None:
+        """Copies that are made while the store is changed are whole, and are opened with all that was told."""
+        words: list[object] = [self.command, "--journal", "65536", "--begin", EXAMPLE, self.store, "-"]
+        writing = Writing(Talk(words, {}))
+        for number in range(COPIES):
+            copy, least = self.folder / f"copy-{number}", writing.told
+            done = self.ran("--backup", copy, self.store)
+            with self.subTest(copy=number):
+                self.judge(copy, done, least, writing.put)
+                opened = self.ran(copy, "-", text="epoch\n")
+                self.assertEqual(opened, Done(0, f"{done.output}session 1\n{done.output}", ""))
+                copy.unlink()
+        self.assertGreater(writing.told, 1)
+        writing.end()
+
+    def test_at_rest(self) -> None:
+        """A store that no program has open, with its log or without, is copied too, and stays as it is."""
+        with_rows(self, 5)
+        for name in ("with its log", "settled"):
+            with self.subTest(name):
+                copy, before = self.folder / name, self.store.read_bytes()
+                self.judge(copy, self.ran("--backup", copy, self.store), 6, 6)
+                self.assertEqual(self.store.read_bytes(), before)
+                self.ran(self.store)
+
+    def test_refused(self) -> None:
+        """No copy is made over a file or beside a log, of what is no store, or where there is none."""
+        with_rows(self, 2)
+        text = self.file("text", "no database\n" * 100)
+        self.file("beside-wal", bytes(4096))
+        cases: dict[str, tuple[object, object]] = {
+            "there is a file at the path of the copy": (text, self.store),
+            "there is a log at this path, and no store with it": (self.folder / "beside", self.store),
+            "the file is not a store": (self.folder / "one", text),
+            "there is no store at this path": (self.folder / "two", self.folder / "none"),
+        }
+        for reason, (copy, store) in cases.items():
+            with self.subTest(reason):
+                before = sorted(path.name for path in self.folder.iterdir())
+                self.assertEqual(self.ran("--backup", copy, store), Done(5, "", f"store: {reason}\n"))
+                self.assertEqual(sorted(path.name for path in self.folder.iterdir()), before)
+
+    def test_one_file(self) -> None:
+        """After a run that ended, and where a store was just begun, the file alone is the store."""
+        talk = Talk([self.command, "--begin", EXAMPLE, self.store, "-"], {})
+        self.assertEqual(held(self.file_alone("begun")).last, 1)
+        for _ in range(3):
+            talk.turn()
+        self.assertEqual(talk.end().done, Done(0, "", ""))
+        self.assertEqual(held(self.file_alone("ended")).last, 4)
+        self.assertEqual(self.ran(self.file_alone("again")).output, "epoch 4\n")
+
+    def file_alone(self, name: str) -> pathlib.Path:
+        """A copy of the store's file without its log."""
+        return self.file(name, self.store.read_bytes())
+
+    def test_killed(self) -> None:
+        """After a kill or a signal, a start without scripts makes the file the store by itself."""
+        for number in (signal.SIGKILL, signal.SIGTERM):
+            with self.subTest(number.name):
+                for path in self.folder.glob("store*"):
+                    path.unlink()
+                talk = Talk([self.command, "--begin", EXAMPLE, self.store, "-"], {})
+                for _ in range(3):
+                    talk.turn()
+                talk.process.send_signal(number)
+                talk.end()
+                self.assertEqual(self.ran(self.store), Done(0, "epoch 4\n", ""))
+                self.assertEqual(held(self.file_alone("alone")).last, 4)
+                self.assertLess(log_of(self.store).stat().st_size, 56)
