@@ -68,6 +68,16 @@ class Holds(StockCase):
             found.update(sets_of(super().sets(with_commands(value, own))))
         return found
 
+    def test_rule_of_no_weight(self) -> None:
+        """Groups of a pool for which all that its rule takes gets the weight 0 are told as left, as the program keeps no
+        exception of theirs; the hold is put out all the same."""
+        record = RECORDS["takes", "rulerack"]
+        files = [self.tools.put(key, record[key]) for key in ("osd_dump", "crush_dump")]
+        told = self.json("hold", *files, "--weight", "d0h0=0")
+        found = {own["group"]: own["step"] for own in told["left"] if own["group"].startswith("4.")}
+        self.assertTrue(found)
+        self.assertEqual(set(found.values()), {"an OSD that weighs 0"})
+
     def test_program(self) -> None:
         """Under the exceptions that `hold` tells each group has the set of the monitor from before the change, by the
         program; or it is told as left with the set that it gets, or as getting a place that it lacked."""
@@ -398,6 +408,25 @@ class Releases(StockCase):
         was = {group: entry[0] for group, entry in {**self.record["up"], **self.record["new_up"]}.items()}
         self.assertEqual({group: set(places) for group, places in found.items()}, {g: set(was[g]) for g in was})
         self.assertEqual(told["moving"]["groups"], moved_in(self.record))
+
+    def test_stays(self) -> None:
+        """Groups for which the rule finds fewer places, as in the monitor behind the change, stay held, and are told;
+        so they do on the way to a plan."""
+        record = RECORDS["takes", "rulerack"]
+        dump = dict(
+            record["new_osd_dump"],
+            pg_upmap=[{"pgid": group, "osds": osds} for group, osds in record["kept"]["pg_upmap"]],
+            pg_upmap_items=[],
+        )
+        files = self.tools.put("whole", dump), self.tools.put("racks", record["new_crush_dump"])
+        new = record["new_up"]
+        short = [group for group, own in record["up"].items() if group in new and len(new[group][0]) < len(own[0])]
+        self.assertGreater(len(short), 100)
+        for more in ("", "--to-plan"):
+            told = self.json("release", *files, *more.split())
+            self.assertEqual((sorted(told["stay"]), told["parts"]), (sorted(short), []))
+        _, error = self.ran("release", *files)
+        self.assertIn(f"{len(short)} groups stay held, as they would have fewer places without: ", error)
 
     def test_to_plan(self) -> None:
         """Straight to a plan: the end is what `plan` makes of the cluster without the hold, and nothing is left to

@@ -2,7 +2,8 @@
 
 Over the dumps of a cluster with held groups the way leads to what the rules alone give; with --keep OSD_DUMP to the
 exceptions of a dump that was made before the hold, as far as a monitor lets them stay; and with --to-plan on to what
-`plan` makes of that, where each group moves once. Each part tells what it moves, and how full the fullest OSD gets to
+`plan` makes of that, where each group moves once. A group that would get fewer places, as its rule finds no more, stays
+held, and is told. Each part tells what it moves, and how full the fullest OSD gets to
 which places come. With --undo the same words give the way back, whichever part was run. The program judges the
 commands as printed before anything is put out, as it does for `plan`.
 """
@@ -127,6 +128,7 @@ def put_release_json(found: Release) -> None:
         "release",
         found.epoch,
         moving=weights.moving(found.steps),
+        stay=found.stay,
         fullest={"before": found.before, "after": found.after},
         parts=[
             {

@@ -3,7 +3,7 @@
 from __future__ import annotations
 
 from ..plans.release import Release
-from ..words import counted
+from ..words import counted, some
 from .flow_words import move_words
 
 
@@ -23,4 +23,8 @@ def release_lines(found: Release) -> list[str]:
     steps = [step for step in found.steps if step.is_moving()]
     places = sum(len(step.places_come()) for step in steps)
     lines = [f"{move_words(len(steps), places)} in {counted(len(found.parts), 'part')}, each group once"]
-    return lines if found.parts else ["nothing is held"]
+    if found.stay:
+        verb, they = ("stays", "it") if len(found.stay) == 1 else ("stay", "they")
+        words = f"{counted(len(found.stay), 'group')} {verb} held, as {they} would have fewer places without: "
+        lines.append(words + some(found.stay))
+    return lines if found.parts or found.stay else ["nothing is held"]

@@ -9,6 +9,7 @@ held so keeps as many places as Ceph's monitor lets stay.
 
 from __future__ import annotations
 
+import math
 from collections.abc import Mapping, Sequence
 from dataclasses import dataclass
 
@@ -121,6 +122,8 @@ class Holder:
                 return Reason("an OSD that is gone", f"osd.{osd} does not exist")
             if self.present.is_out(osd):
                 return Reason("an OSD that is out", f"osd.{osd} is out")
+            if osd is not None and math.isnan(self.judge.weights(pool["rule"]).get(osd, 0.0)):
+                return Reason("an OSD that weighs 0", f"osd.{osd} weighs 0, and so does all that the rule takes")
         own = ExceptedGroup(explicit, pairs, self.raw[group], self.present)
         found = group_fault(group, self.pools, self.judge.pending)
         found = found or self.judge.fault(pool, own.mapped, self.present) or own.fault(pool["size"])

@@ -6,9 +6,10 @@ The program is asked for the sets before and at the end, and nothing is put out 
 from __future__ import annotations
 
 from collections import Counter
-from collections.abc import Iterable, Mapping
+from collections.abc import Container, Iterable, Mapping
 from contextlib import ExitStack
 from dataclasses import dataclass
+from typing import Literal
 
 from ..cluster.aftermath import cleaned_at, exceptions_in, with_exceptions
 from ..cluster.cluster import Cluster
@@ -21,7 +22,7 @@ from ..cluster.view import ClusterView, view_of_cluster
 from ..faults import Fault
 from ..output.json_forms import PeakParts
 from ..program.answers import Up
-from ..program.maps import Exceptions, Pool, Program, entries_of, group_key
+from ..program.maps import Entry, Exceptions, Pool, Program, entries_of, group_key, with_all_up
 from ..words import counted
 from .bounds import Measure
 from .parts import ALL
@@ -34,14 +35,15 @@ from .steps import PlanStep, by_group
 
 @dataclass(frozen=True)
 class Release:
-    """How held groups are let go: the epoch, the pools, the steps in their parts, how many groups the fullest OSD has
-    before all of them, while each of them moves, and at the end; and by what the commands are judged, in
-    parts of so many.
+    """How held groups are let go: the epoch, the pools, the groups that stay held as they would get fewer places, the
+    steps in their parts, how many groups the fullest OSD has before all of them, while each of them moves, and at the
+    end; and by what the commands are judged, in parts of so many.
     """
 
-    __slots__ = ("epoch", "pools", "parts", "peaks", "before", "after", "printed", "lengths")
+    __slots__ = ("epoch", "pools", "stay", "parts", "peaks", "before", "after", "printed", "lengths")
     epoch: int
     pools: list[Pool]
+    stay: list[str]
     parts: list[list[PlanStep]]
     peaks: list[PeakParts]
     before: int
@@ -120,12 +122,38 @@ def peaks_of(has: Counter[int], parts: list[list[PlanStep]]) -> list[PeakParts]:
     return found
 
 
+def shorter_groups(cluster: Cluster, plain: Cluster, program: Program) -> list[str]:
+    """The groups that have fewer places without their exceptions, whichever OSDs are down: where a rule finds too few,
+    a held set is whole.
+    """
+    was, to = (
+        sets_of_maps([with_all_up(value) for value in view_of_cluster(own).maps], program) for own in (cluster, plain)
+    )
+    counts = {group: len(up.places) - up.places.count(None) for group, up in was.items()}
+    return [group for group, up in to.items() if len(up.places) - up.places.count(None) < counts.get(group, 0)]
+
+
+def with_those_of(then: Exceptions, now: Exceptions, groups: Container[str]) -> Exceptions:
+    """Exceptions, but those of some groups as they are now."""
+
+    def entries(key: Literal["pg_upmap", "pg_upmap_items"]) -> list[Entry]:
+        """The entries of one kind."""
+        own = [entry for entry in then.get(key, []) if entry[0] not in groups]
+        own += [entry for entry in now.get(key, []) if entry[0] in groups]
+        return sorted(own, key=lambda entry: group_key(entry[0]))
+
+    return {"pg_upmap": entries("pg_upmap"), "pg_upmap_items": entries("pg_upmap_items")}
+
+
 def release_of(cluster: Cluster, kept: Exceptions, is_planned: bool, most: int, program: Program) -> Release:
     """How the held groups of a cluster are let go, but for exceptions that are kept: to what these and the rules give,
-    or to the plan for that. A fault where the program says that a group would end elsewhere.
+    or to the plan for that. Groups that would get fewer places stay held. A fault where the program says that a group
+    would end elsewhere.
     """
     now, plain = exceptions_in(cluster.osd_dump), with_exceptions(cluster, kept)
     then = cleaned_at(plain, program)[0].kept
+    stay = shorter_groups(cluster, with_exceptions(cluster, then), program)
+    then = with_those_of(then, now, set(stay)) if stay else then
     plain, wanted = with_exceptions(cluster, then), dict[str, list["int | None"]]()
     if is_planned:
         then, wanted = planned_end(view_of_cluster(plain), then, program)
@@ -151,4 +179,4 @@ def release_of(cluster: Cluster, kept: Exceptions, is_planned: bool, most: int, 
     asked = Asked.NONE if cluster.has_weight_set else Asked.NAMED
     sets, measure = {step.group: step.now for step in steps}, Measure(Spread({}, share), None, dict(after), {})
     peaks, printed = peaks_of(Counter(has), parts), Printed(before.maps, program, sets, measure, down, asked)
-    return Release(cluster.epoch, pools, parts, peaks, most_of(has), most_of(after), printed, lengths)
+    return Release(cluster.epoch, pools, stay, parts, peaks, most_of(has), most_of(after), printed, lengths)
