@@ -69,8 +69,8 @@ class Holds(StockCase):
         return found
 
     def test_rule_of_no_weight(self) -> None:
-        """Groups of a pool for which all that its rule takes gets the weight 0 are told as left, as the program keeps no
-        exception of theirs; the hold is put out all the same."""
+        """Groups of a pool for which all that its rule takes gets the weight 0 are told as left, as the program keeps
+        no exception of theirs; the hold is put out all the same."""
         record = RECORDS["takes", "rulerack"]
         files = [self.tools.put(key, record[key]) for key in ("osd_dump", "crush_dump")]
         told = self.json("hold", *files, "--weight", "d0h0=0")

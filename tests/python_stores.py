@@ -173,8 +173,8 @@ class PythonStores(ToolCase):
             self.assertEqual(monitor.raw(["dump"]), model.answers(example(), [*lines, "dump"])[-1:])
 
     def test_history_of_a_program(self) -> None:
-        """`history` tells what `osdmapstore` has kept, and the map of each epoch, also while the program runs; it leaves
-        the files as they are, and begins anew after the next start."""
+        """`history` tells what `osdmapstore` has kept, and the map of each epoch, also while the program runs; it
+        leaves the files as they are, and begins anew after the next start."""
         maps = []
         folder = self.path("folder")
         folder.mkdir()
