@@ -110,8 +110,8 @@ impl<T: Fact + Drop> Lock<T> {
     }
 
     /// The value and the three words, with which the lock ends at one of its seats. Some list of steps, with the seats
-    /// that were cut off between them, has led to these words. It begins with what the seat has seen, and has of the seat
-    /// the steps that it took and no others.
+    /// that were cut off between them, has led to these words. It begins with what the seat has seen, and has of the
+    /// seat the steps that it took and no others.
     pub fn end_at(self, seat: Seat) -> Ended<T>
         requires own { IsSeatOf self seat }
         ensures value { IfSome result.value (T.fact (first_of self)) }
