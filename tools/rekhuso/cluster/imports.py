@@ -8,13 +8,14 @@ from dataclasses import dataclass
 from ..faults import Fault
 from ..program.map_forms import PLAIN
 from ..program.maps import Map
+from ..values import SLOTS
 from ..words import listed
 from .advice import advised
 from .cluster import Cluster
 from .conversion import map_of
 from .dumps import Misfit, chosen_cluster, first_lines
 from .map_parts import map_clusters
-from .moving_advice import moving_words
+from .moving_advice import import_moves
 from .names import with_pool_names
 from .reasons import reasons
 from .reasons.buckets import root_reasons
@@ -27,13 +28,12 @@ from .sources import DumpFiles
 LONGEST = 200
 
 
-@dataclass(frozen=True)
+@dataclass(frozen=True, **SLOTS)
 class ImportedCluster:
     """A cluster of two dumps, the cluster of each map that it takes, and these maps, which the program has not seen
     yet.
     """
 
-    __slots__ = ("cluster", "parts", "maps")
     cluster: Cluster
     parts: list[Cluster]
     maps: list[Map]
@@ -96,7 +96,7 @@ def free_pools(cluster: Cluster, faults: list[Misfit], is_unmatched: bool) -> st
 def with_advice(cluster: Cluster, faults: list[Misfit], found: list[str], files: DumpFiles) -> list[str]:
     """Each reason with what is done about it, and what that moves."""
     pools = free_pools(cluster, faults, files.is_unmatched) if found else ""
-    told = [moving_words(cluster, line, files.program) for line in found]
+    told = [import_moves(cluster, line, files.program) for line in found]
     return advised(found, pools, told) + plain_reasons(cluster)
 
 
