@@ -194,7 +194,7 @@ class Packaged(Case):
             with zipfile.ZipFile(wheels[0]) as wheel:
                 names, metadata = wheel.namelist(), wheel.read(f"rekhuso-{version}.dist-info/METADATA").decode()
                 licence = wheel.read(f"rekhuso-{version}.dist-info/LICENSE").decode()
-        files = [path for path in (TOOLS / "rekhuso").rglob("*") if path.suffix in (".py", ".typed")]
+        files = [path for path in (TOOLS / "rekhuso").rglob("*") if path.suffix in (".py", ".typed", ".json")]
         modules = {str(path.relative_to(TOOLS)) for path in files}
         self.assertEqual({name for name in names if not name.startswith("rekhuso-")}, modules)
         self.assertIn("rekhuso/py.typed", modules, metadata)

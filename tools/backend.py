@@ -83,7 +83,7 @@ def entry_points() -> str:
 
 def sources() -> dict[str, bytes]:
     """The files of the package by their paths."""
-    paths = [path for path in PACKAGE.rglob("*") if path.suffix in (".py", ".typed") and path.is_file()]
+    paths = [path for path in PACKAGE.rglob("*") if path.suffix in (".py", ".typed", ".json") and path.is_file()]
     return {path.relative_to(TOP).as_posix(): path.read_bytes() for path in paths}
 
 
