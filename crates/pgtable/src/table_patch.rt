@@ -2,7 +2,7 @@
 
 ghost use Rattle.std.specs.Prelude.{◌≡◌, ◌==◌, position};
 
-use crate::patch::{Brought, KeptTable, MadeTable, MadeTables, NewTables};
+use crate::patch::{KeptTable, NewTable, NewTables, PatchedTables, TablePatch};
 use crate::pool_table::PoolTable;
 use crate::table::PgTable;
 use crate::update::Update;
@@ -39,7 +39,7 @@ impl PgTable {
         update: &Update,
         pool: &Pool,
         work: &mut Work,
-    ) -> Result<MadeTable, Memory>
+    ) -> Result<NewTable, Memory>
         requires table { IsTableOf self.now update.now.before.now.map }
         requires there { HasPool update.now pool.now }
         requires untouched { is_touched_by update.now pool.now ≡ false }
@@ -50,7 +50,7 @@ impl PgTable {
         update.holds();
         let at = self.position(pool.id());
         let groups = update.patch_groups(alloc, pool, &self.pools()[at].groups, work)?;
-        Ok(MadeTable {
+        Ok(NewTable {
             table: PoolTable::empty(alloc, *pool),
             kept: Some(KeptTable {
                 at,
@@ -61,13 +61,13 @@ impl PgTable {
     }
 
     /// The table of a pool as a change makes it: anew where it touches the pool as a whole; or `Memory` (30).
-    fn make_table(
+    fn new_table(
         &self,
         alloc: Global,
         update: &Update,
         pool: &Pool,
         work: &mut Work,
-    ) -> Result<MadeTable, Memory>
+    ) -> Result<NewTable, Memory>
         requires table { IsTableOf self.now update.now.before.now.map }
         requires there { HasPool update.now pool.now }
         ensures made { IfOk result (λ r. MakesPool self.now.pools (map_after update.now) pool.now r.table r.kept) }
@@ -75,8 +75,8 @@ impl PgTable {
         ensures runs { OnOk result (RunsMore (pool_evals update.now pool.now) work.old work.new) }
     {
         if update.is_touched(pool) {
-            let table = PoolTable::of(alloc, update.teller, *pool, work)?;
-            return Ok(MadeTable {
+            let table = PoolTable::of(alloc, update.source, *pool, work)?;
+            return Ok(NewTable {
                 table,
                 kept: None,
                 evals: pool.pg_num() as usize,
@@ -86,45 +86,45 @@ impl PgTable {
     }
 
     /// The tables of all pools that take the place of the old ones; or `Memory` (30).
-    fn make_tables(
+    fn replace_tables(
         &self,
         alloc: Global,
         update: &Update,
         work: &mut Work,
-    ) -> Result<MadeTables, Memory>
+    ) -> Result<PatchedTables, Memory>
         requires { IsTableOf self.now update.now.before.now.map }
-        ensures lead { IfOk result (λ r. LeadTables (map_after update.now) self.now r.brought) }
+        ensures lead { IfOk result (λ r. LeadTables (map_after update.now) self.now r.tables) }
         ensures evals { IfOk result (λ r. r.evals ≡ change_evals update.now) }
         ensures runs { OnOk result (RunsMore (change_evals update.now) work.old work.new) }
     {
         update.holds();
         let _ = work.runs();
-        let mut pools = Vec::with_capacity(alloc, update.teller.pools().len())?;
-        let mut kept = Vec::with_capacity(alloc, update.teller.pools().len())?;
+        let mut pools = Vec::with_capacity(alloc, update.source.pools().len())?;
+        let mut kept = Vec::with_capacity(alloc, update.source.pools().len())?;
         let mut evals = 0;
-        for pool in update.teller.pools() {
-            let made = self.make_table(alloc, update, pool, work)?;
+        for pool in update.source.pools() {
+            let made = self.new_table(alloc, update, pool, work)?;
             pools.push(made.table)?;
             kept.push(made.kept)?;
             evals += made.evals;
         }
-        Ok(MadeTables {
-            brought: Brought::Pools(NewTables { pools, kept }),
+        Ok(PatchedTables {
+            tables: TablePatch::Pools(NewTables { pools, kept }),
             evals,
         })
     }
 
     /// Other sets for groups of the pools, which all stay in place; or `Memory` (30).
     #[inline(always)]
-    fn patch_tables(
+    fn patch_in_place(
         &self,
         alloc: Global,
         update: &Update,
         work: &mut Work,
-    ) -> Result<MadeTables, Memory>
+    ) -> Result<PatchedTables, Memory>
         requires table { IsTableOf self.now update.now.before.now.map }
-        requires before { update.now.is_made ≡ false }
-        ensures lead { IfOk result (λ r. LeadTables (map_after update.now) self.now r.brought) }
+        requires before { update.now.is_after ≡ false }
+        ensures lead { IfOk result (λ r. LeadTables (map_after update.now) self.now r.tables) }
         ensures evals { IfOk result (λ r. r.evals ≡ change_evals update.now) }
         ensures runs { OnOk result (RunsMore (change_evals update.now) work.old work.new) }
     {
@@ -137,30 +137,30 @@ impl PgTable {
             patches.push(groups.patch)?;
             evals += groups.evals;
         }
-        Ok(MadeTables {
-            brought: Brought::Groups(patches),
+        Ok(PatchedTables {
+            tables: TablePatch::Groups(patches),
             evals,
         })
     }
 
-    /// What a change makes of the tables of all pools; or `Memory` (30). Where the map before the change tells the sets
-    /// after it, all pools stay in place, and so do their tables.
+    /// What a change makes of the tables of all pools; or `Memory` (30). Where the map before the change is the source
+    /// of the sets after it, all pools stay in place, and so do their tables.
     #[inline(always)]
-    pub(crate) fn bring_tables(
+    pub(crate) fn patch_tables(
         &self,
         alloc: Global,
         update: &Update,
         work: &mut Work,
-    ) -> Result<MadeTables, Memory>
+    ) -> Result<PatchedTables, Memory>
         requires { IsTableOf self.now update.now.before.now.map }
-        ensures lead { IfOk result (λ r. LeadTables (map_after update.now) self.now r.brought) }
+        ensures lead { IfOk result (λ r. LeadTables (map_after update.now) self.now r.tables) }
         ensures evals { IfOk result (λ r. r.evals ≡ change_evals update.now) }
         ensures runs { OnOk result (RunsMore (change_evals update.now) work.old work.new) }
     {
-        if update.is_made {
-            self.make_tables(alloc, update, work)
+        if update.is_after {
+            self.replace_tables(alloc, update, work)
         } else {
-            self.patch_tables(alloc, update, work)
+            self.patch_in_place(alloc, update, work)
         }
     }
 }

@@ -6,14 +6,14 @@ use Rattle.pgtable.specs.After.{map_after}
 use Rattle.pgtable.specs.Patches.{evals_in}
 use Rattle.pgtable.proofs.Found.{found_at}
 use Rattle.pgtable.proofs.Making.{make_more, make_ends, evals_all, evals_whole}
-use Rattle.pgtable.proofs.ToldBefore.{told_pools}
-use Rattle.pgtable.proofs.table.PgTable.make_tables.Goals as goal
+use Rattle.pgtable.proofs.ChangedSets.{source_pools}
+use Rattle.pgtable.proofs.table.PgTable.replace_tables.Goals as goal
 
-pub make_table-requires-clause-there : goal.make_table-requires-clause-there
-make_table-requires-clause-there c =
+pub new_table-requires-clause-there : goal.new_table-requires-clause-there
+new_table-requires-clause-there c =
     let u = c.args.update.now in
     let m = map_after u in
-    let items = c.pools-pool-items.ensures ∙ told_pools u.before.now.map u.teller.now.map u.change.now u.is_made c.holds.ensures.told in
+    let items = c.pools-pool-items.ensures ∙ source_pools u.before.now.map u.source.now.map u.change.now u.is_after c.holds.ensures.is_source in
     let inside = rw items at c.loop-pool-test.true in
     let is = rw items at c.pool-item.is in
     found_at (λ (p : PoolFacts). p.id) m.pools c.loop-pool.pool-index c.pool-item.result c.holds.ensures.leads.holds_after.pools_rise inside is
@@ -22,7 +22,7 @@ pub loop-pool-preserved : goal.loop-pool-preserved
 loop-pool-preserved c =
     let u = c.args.update.now in
     let m = map_after u in
-    let items = c.pools-pool-items.ensures ∙ told_pools u.before.now.map u.teller.now.map u.change.now u.is_made c.holds.ensures.told in
+    let items = c.pools-pool-items.ensures ∙ source_pools u.before.now.map u.source.now.map u.change.now u.is_after c.holds.ensures.is_source in
     let inside : c.loop-pool.pool-index < length m.pools = rw items at c.loop-pool-test.true in
     let is = rw items at c.pool-item.is in
     let there = slice_get_read m.pools _ c.loop-pool.pool-index c.pool-item.result refl inside is in
@@ -39,7 +39,7 @@ pub overflow_add-evals : goal.overflow_add-evals
 overflow_add-evals c =
     let u = c.args.update.now in
     let m = map_after u in
-    let items = c.pools-pool-items.ensures ∙ told_pools u.before.now.map u.teller.now.map u.change.now u.is_made c.holds.ensures.told in
+    let items = c.pools-pool-items.ensures ∙ source_pools u.before.now.map u.source.now.map u.change.now u.is_after c.holds.ensures.is_source in
     let inside : c.loop-pool.pool-index < length m.pools = rw items at c.loop-pool-test.true in
     let is = rw items at c.pool-item.is in
     let last = ap (evals_in m u.change.now) is in
@@ -49,7 +49,7 @@ pub returns-clause-lead : goal.returns-clause-lead
 returns-clause-lead c =
     let u = c.args.update.now in
     let m = map_after u in
-    let items = c.pools-pool-items.ensures ∙ told_pools u.before.now.map u.teller.now.map u.change.now u.is_made c.holds.ensures.told in
+    let items = c.pools-pool-items.ensures ∙ source_pools u.before.now.map u.source.now.map u.change.now u.is_after c.holds.ensures.is_source in
     let past = rw items at c.loop-pool-test.false in
     let end = rw items at c.loop-pool.auto.pool-index-end in
     let e : c.loop-pool.pool-index ≡ length m.pools = omega (arith, past, end) in
@@ -63,7 +63,7 @@ pub returns-clause-evals : goal.returns-clause-evals
 returns-clause-evals c =
     let u = c.args.update.now in
     let m = map_after u in
-    let items = c.pools-pool-items.ensures ∙ told_pools u.before.now.map u.teller.now.map u.change.now u.is_made c.holds.ensures.told in
+    let items = c.pools-pool-items.ensures ∙ source_pools u.before.now.map u.source.now.map u.change.now u.is_after c.holds.ensures.is_source in
     let past = rw items at c.loop-pool-test.false in
     c.loop-pool.invariant.evals ∙ evals_all m u.change.now c.loop-pool.pool-index past
 
@@ -71,6 +71,6 @@ pub returns-clause-runs : goal.returns-clause-runs
 returns-clause-runs c =
     let u = c.args.update.now in
     let m = map_after u in
-    let items = c.pools-pool-items.ensures ∙ told_pools u.before.now.map u.teller.now.map u.change.now u.is_made c.holds.ensures.told in
+    let items = c.pools-pool-items.ensures ∙ source_pools u.before.now.map u.source.now.map u.change.now u.is_after c.holds.ensures.is_source in
     let past = rw items at c.loop-pool-test.false in
     rw (← evals_all m u.change.now c.loop-pool.pool-index past) c.loop-pool.invariant.runs

@@ -4,7 +4,7 @@ use Rattle.pgtable.specs.Tables.{RunsMore}
 use Rattle.pgtable.specs.After.{map_after}
 use Rattle.pgtable.specs.Patches.{evals_in}
 use Rattle.pgtable.proofs.Making.{Makes}
-use Rattle.pgtable.proofs.table.PgTable.make_tables.Given as goal
+use Rattle.pgtable.proofs.table.PgTable.replace_tables.Given as goal
 
 abbrev pub invariant-loop-pool : goal.invariant-loop-pool
 invariant-loop-pool l = record {

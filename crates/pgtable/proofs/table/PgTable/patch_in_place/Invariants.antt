@@ -5,7 +5,7 @@ use Rattle.pgtable.specs.Tables.{RunsMore}
 use Rattle.pgtable.specs.Patches.{evals_in}
 use Rattle.pgtable.specs.After.{map_after}
 use Rattle.pgtable.proofs.PatchedInPlace.{LeadFirst}
-use Rattle.pgtable.proofs.table.PgTable.patch_tables.Given as goal
+use Rattle.pgtable.proofs.table.PgTable.patch_in_place.Given as goal
 
 abbrev pub invariant-loop-table : goal.invariant-loop-table
 invariant-loop-table l = record {

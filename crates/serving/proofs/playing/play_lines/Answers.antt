@@ -2,7 +2,7 @@ use Rattle.std.proofs.Common.{◌≡◌, ◌∙◌, ◌++◌, ap, rules, length}
 use Rattle.session.specs.Sessions.{sight_of, account}
 use Rattle.serving.specs.Serving.{unseen}
 use Rattle.serving.proofs.Played.{told_live}
-use Rattle.serving.proofs.playing.play_live.Goals as goal
+use Rattle.serving.proofs.playing.play_lines.Goals as goal
 
 pub returns-clause-ok : goal.returns-clause-ok
 returns-clause-ok g c =

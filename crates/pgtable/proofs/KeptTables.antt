@@ -55,7 +55,7 @@ same_lists (x ∷ xs) (y ∷ ys) long same =
 -- ---- so far
 
 -- the first tables have what stays, and all others are as they were
-pub record Carries (old0 pools0 : List PoolTable) (kept0 : List (Option KeptTable)) (i : ℕ) (old pools : List PoolTable) (kept : List (Option KeptTable)) : Type 0 where
+pub record Keeps (old0 pools0 : List PoolTable) (kept0 : List (Option KeptTable)) (i : ℕ) (old pools : List PoolTable) (kept : List (Option KeptTable)) : Type 0 where
   pub long : length pools ≡ length pools0
   pub kept_long : length kept ≡ length kept0
   pub old_long : length old ≡ length old0
@@ -77,7 +77,7 @@ fits_now old0 old k long same fits = record {
 }
 
 module _ (old0 pools0 : List PoolTable) (kept0 : List (Option KeptTable)) (fits : FitAll old0 pools0 kept0) where
-  pub carry_begins : Carries old0 pools0 kept0 0 old0 pools0 kept0
+  pub carry_begins : Keeps old0 pools0 kept0 0 old0 pools0 kept0
   carry_begins = record {
     long = refl;
     kept_long = refl;
@@ -88,16 +88,16 @@ module _ (old0 pools0 : List PoolTable) (kept0 : List (Option KeptTable)) (fits 
     olds = λ k b past is. refl;
   }
 
-  module _ (i : ℕ) (old pools : List PoolTable) (kept : List (Option KeptTable)) (sofar : Carries old0 pools0 kept0 i old pools kept) where
+  module _ (i : ℕ) (old pools : List PoolTable) (kept : List (Option KeptTable)) (sofar : Keeps old0 pools0 kept0 i old pools kept) where
     pub carry_fits : (k : KeptTable) → slice_get kept i ≡ Some (Some k) → FitsAt old k
     carry_fits k is =
         let at = sym (sofar.kept_rest i (omega arith)) ∙ is in
         fits_now old0 old k sofar.old_long (sofar.olds i k (omega arith) at) (fits.each i k at)
 
-    pub carry_step : (before after : PoolTable) (one : Option KeptTable) (old' : List PoolTable) → slice_get pools i ≡ Some before → slice_get kept i ≡ Some one → after ≡ with_kept old before one
+    pub keep_step : (before after : PoolTable) (one : Option KeptTable) (old' : List PoolTable) → slice_get pools i ≡ Some before → slice_get kept i ≡ Some one → after ≡ with_kept old before one
         → ((j : ℕ) → ((k : KeptTable) → one ≡ Some k → j ≢ k.at) → slice_get old' j ≡ slice_get old j) → length old' ≡ length old → i < length pools0
-        → Carries old0 pools0 kept0 (i + 1) old' (set pools i after) (set kept i None)
-    carry_step before after one old' here is made others same inside =
+        → Keeps old0 pools0 kept0 (i + 1) old' (set pools i after) (set kept i None)
+    keep_step before after one old' here is made others same inside =
         let at0 = sym (sofar.rest i (omega arith)) ∙ here in
         let is0 = sym (sofar.kept_rest i (omega arith)) ∙ is in
         let made0 = made ∙ same_sets old0 old before one (λ b e. sofar.olds i b (omega arith) (is0 ∙ ap (λ x. Some x) e)) in

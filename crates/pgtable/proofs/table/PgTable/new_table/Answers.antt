@@ -1,14 +1,14 @@
 use Rattle.std.proofs.Common.{sym, ◌∙◌}
 use Rattle.pgtable.specs.After.{map_after}
 use Rattle.pgtable.proofs.Keeping.{evals_touched}
-use Rattle.pgtable.proofs.table.PgTable.make_table.Goals as goal
+use Rattle.pgtable.proofs.table.PgTable.new_table.Goals as goal
 
 pub of-requires : goal.of-requires
-of-requires c = rw (c.is_touched.ensures.made c.if-is_touched.true) c.requires.there
+of-requires c = rw (c.is_touched.ensures.source c.if-is_touched.true) c.requires.there
 
 pub returns-then-is_touched-clause-made : goal.returns-then-is_touched-clause-made
 returns-then-is_touched-clause-made c = record {
-  table = rw (c.is_touched.ensures.made c.if-is_touched.true) at c.in_ok-table.ensures.table;
+  table = rw (c.is_touched.ensures.source c.if-is_touched.true) at c.in_ok-table.ensures.table;
   kept = λ k is. absurd (cc);
 }
 

@@ -5,13 +5,13 @@ use Rattle.pgtable.specs.declared.pool_table.PoolTable.{PoolTable}
 use Rattle.pgtable.specs.Patches.{evals_in}
 use Rattle.pgtable.specs.After.{map_after}
 use Rattle.pgtable.proofs.PatchedInPlace.{table_at, lead_more, lead_in_place, evals_in_place, few_in_place}
-use Rattle.pgtable.proofs.ToldBefore.{leaving, none_touched, pools_stay}
-use Rattle.pgtable.proofs.table.PgTable.patch_tables.Goals as goal
+use Rattle.pgtable.proofs.ChangedSets.{leaving, none_touched, pools_stay}
+use Rattle.pgtable.proofs.table.PgTable.patch_in_place.Goals as goal
 
 pub patch_groups-requires-clause-groups : goal.patch_groups-requires-clause-groups
 patch_groups-requires-clause-groups c =
     let u = c.args.update.now in
-    let s = leaving u.change.now (c.holds.ensures.told.leaves c.requires.before) in
+    let s = leaving u.change.now (c.holds.ensures.is_source.leaves c.requires.before) in
     let inside : c.loop-table.table-index < length c.args.self.now.pools = rw c.pools-table-items.ensures.pools at c.loop-table-test.true in
     let is = rw c.pools-table-items.ensures.pools at c.table-item.is in
     let there = slice_get_read c.args.self.now.pools _ c.loop-table.table-index c.table-item.result refl inside is in
@@ -20,7 +20,7 @@ patch_groups-requires-clause-groups c =
 pub patch_groups-requires-clause-there : goal.patch_groups-requires-clause-there
 patch_groups-requires-clause-there c =
     let u = c.args.update.now in
-    let s = leaving u.change.now (c.holds.ensures.told.leaves c.requires.before) in
+    let s = leaving u.change.now (c.holds.ensures.is_source.leaves c.requires.before) in
     let inside : c.loop-table.table-index < length c.args.self.now.pools = rw c.pools-table-items.ensures.pools at c.loop-table-test.true in
     let is = rw c.pools-table-items.ensures.pools at c.table-item.is in
     let there = slice_get_read c.args.self.now.pools _ c.loop-table.table-index c.table-item.result refl inside is in
@@ -29,13 +29,13 @@ patch_groups-requires-clause-there c =
 pub patch_groups-requires-clause-untouched : goal.patch_groups-requires-clause-untouched
 patch_groups-requires-clause-untouched c =
     let u = c.args.update.now in
-    let s = leaving u.change.now (c.holds.ensures.told.leaves c.requires.before) in
+    let s = leaving u.change.now (c.holds.ensures.is_source.leaves c.requires.before) in
     none_touched (map_after u) u.change.now c.table-item.result.pool s
 
 pub loop-table-preserved : goal.loop-table-preserved
 loop-table-preserved c =
     let u = c.args.update.now in
-    let s = leaving u.change.now (c.holds.ensures.told.leaves c.requires.before) in
+    let s = leaving u.change.now (c.holds.ensures.is_source.leaves c.requires.before) in
     let inside : c.loop-table.table-index < length c.args.self.now.pools = rw c.pools-table-items.ensures.pools at c.loop-table-test.true in
     let is = rw c.pools-table-items.ensures.pools at c.table-item.is in
     let there = slice_get_read c.args.self.now.pools _ c.loop-table.table-index c.table-item.result refl inside is in
@@ -52,7 +52,7 @@ loop-table-preserved c =
 pub overflow_add-evals : goal.overflow_add-evals
 overflow_add-evals c =
     let u = c.args.update.now in
-    let s = leaving u.change.now (c.holds.ensures.told.leaves c.requires.before) in
+    let s = leaving u.change.now (c.holds.ensures.is_source.leaves c.requires.before) in
     let inside : c.loop-table.table-index < length c.args.self.now.pools = rw c.pools-table-items.ensures.pools at c.loop-table-test.true in
     let is = rw c.pools-table-items.ensures.pools at c.table-item.is in
     let evals = λ (q : PoolTable). evals_in (map_after u) u.change.now q.pool in
@@ -63,7 +63,7 @@ overflow_add-evals c =
 pub returns-clause-lead : goal.returns-clause-lead
 returns-clause-lead c =
     let u = c.args.update.now in
-    let s = leaving u.change.now (c.holds.ensures.told.leaves c.requires.before) in
+    let s = leaving u.change.now (c.holds.ensures.is_source.leaves c.requires.before) in
     let past = rw c.pools-table-items.ensures.pools at c.loop-table-test.false in
     let end = rw c.pools-table-items.ensures.pools at c.loop-table.auto.table-index-end in
     let e : c.loop-table.table-index ≡ length c.args.self.now.pools = omega (arith, past, end) in
@@ -73,13 +73,13 @@ returns-clause-lead c =
 pub returns-clause-evals : goal.returns-clause-evals
 returns-clause-evals c =
     let u = c.args.update.now in
-    let s = leaving u.change.now (c.holds.ensures.told.leaves c.requires.before) in
+    let s = leaving u.change.now (c.holds.ensures.is_source.leaves c.requires.before) in
     let past = rw c.pools-table-items.ensures.pools at c.loop-table-test.false in
     c.loop-table.invariant.evals ∙ evals_in_place c.args.self.now u.before.now.map u.change.now c.loop-table.table-index c.requires.table s past
 
 pub returns-clause-runs : goal.returns-clause-runs
 returns-clause-runs c =
     let u = c.args.update.now in
-    let s = leaving u.change.now (c.holds.ensures.told.leaves c.requires.before) in
+    let s = leaving u.change.now (c.holds.ensures.is_source.leaves c.requires.before) in
     let past = rw c.pools-table-items.ensures.pools at c.loop-table-test.false in
     rw (← evals_in_place c.args.self.now u.before.now.map u.change.now c.loop-table.table-index c.requires.table s past) c.loop-table.invariant.runs

@@ -1,6 +1,6 @@
 use Rattle.std.proofs.Common.{◌≡◌, take, length}
 use Rattle.pgtable.specs.Patches.{with_ups}
-use Rattle.pgtable.proofs.prepare.turn.Given as goal
+use Rattle.pgtable.proofs.prepare.set_ups.Given as goal
 
 abbrev pub invariant-loop-osd : goal.invariant-loop-osd
 invariant-loop-osd l = record {

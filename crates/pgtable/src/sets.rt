@@ -1,4 +1,4 @@
-//! The mapped sets of groups after a change, by the map that tells them.
+//! The mapped sets of groups after a change, by their source.
 
 ghost use Rattle.std.specs.Prelude.{◌≡◌, ◌≤◌, length, IfSome};
 ghost use Rattle.std.specs.Option.{option_copied};
@@ -49,21 +49,21 @@ impl Update<'_> {
     ghost use Rattle.pgtable.specs.Tables.{pool_table, RunsMore};
 
     /// The mapped set of a group of a pool by the map after the change; or `Memory` (30).
-    fn set_by_after(&self, pool: &Pool, number: u32, work: &mut Work) -> Result<OsdSet, Memory>
+    fn placed_set(&self, pool: &Pool, number: u32, work: &mut Work) -> Result<OsdSet, Memory>
         requires there { HasPool self.now pool.now }
-        requires made { self.now.is_made ≡ true }
+        requires after { self.now.is_after ≡ true }
         ensures set { IfOk result (λ set. set ≡ mapped_set (map_after self.now) pool.now number) }
         ensures run { RunsOnce work.old work.new result }
     {
         self.holds();
-        let placing = self.teller.placing(pool);
+        let placing = self.source.placing(pool);
         mapped_set(&placing, number, work)
     }
 
-    /// A pool of the map after the change is one of the map before it, where that tells: for proofs alone.
+    /// A pool of the map after the change is one of the map before it, where that is the source: for proofs alone.
     fn had_pool(&self, pool: &Pool)
         requires there { HasPool self.now pool.now }
-        requires before { self.now.is_made ≡ false }
+        requires before { self.now.is_after ≡ false }
         ensures { pool_at self.now.before.now.map.pools pool.now.id ≡ Some pool.now }
     {
         self.holds();
@@ -72,10 +72,10 @@ impl Update<'_> {
 
     /// The mapped set of a group of a pool after the change, by the map before it: its raw set there under what the
     /// change makes of its exceptions; or `Memory` (30).
-    fn set_by_before(&self, pool: &Pool, number: u32, work: &mut Work) -> Result<OsdSet, Memory>
+    fn changed_set(&self, pool: &Pool, number: u32, work: &mut Work) -> Result<OsdSet, Memory>
         requires there { HasPool self.now pool.now }
         requires inside { number < pool.now.pg_num }
-        requires before { self.now.is_made ≡ false }
+        requires before { self.now.is_after ≡ false }
         ensures set { IfOk result (λ set. set ≡ mapped_set (map_after self.now) pool.now number) }
         ensures run { RunsOnce work.old work.new result }
     {
@@ -105,10 +105,10 @@ impl Update<'_> {
         ensures set { IfOk result (λ set. set ≡ mapped_set (map_after self.now) pool.now number) }
         ensures run { RunsOnce work.old work.new result }
     {
-        if self.is_made {
-            self.set_by_after(pool, number, work)
+        if self.is_after {
+            self.placed_set(pool, number, work)
         } else {
-            self.set_by_before(pool, number, work)
+            self.changed_set(pool, number, work)
         }
     }
 
@@ -158,7 +158,7 @@ impl Update<'_> {
                 evals: 0,
             });
         }
-        let numbers = concerned_numbers(alloc, self.teller, self.change, pool, &self.groups)?;
+        let numbers = concerned_numbers(alloc, self.source, self.change, pool, &self.groups)?;
         if numbers.is_empty() {
             let _ = work.runs();
             return Ok(PatchedGroups {

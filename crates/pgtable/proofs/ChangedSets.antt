@@ -1,5 +1,5 @@
 -- Changes that leave all raw sets: only a group whose exceptions they name is placed otherwise, and the map before them
--- tells how.
+-- says how.
 use Rattle.std.proofs.Common.{◌≡◌, ◌∙◌, refl, sym, ap, cond, ℕ, ◌+◌, ◌<◌, Bool, true, false, not, eqb, List, [], ◌∷◌, length, map, Option, Some, None, is_some, arith}
 use mathlib.Core.Bool.{false≢true}
 use Rattle.std.specs.Prelude.{IfSome}
@@ -26,7 +26,7 @@ use Rattle.osdmap.specs.Placement.{group_of, raw_set, mapped_with, mapped_set, I
 use Rattle.osdmap.proofs.PlacementLemmas.{found_passes}
 use Rattle.osdmap.proofs.Kept.{HoldsTogether-after}
 use Rattle.osdmap.proofs.OthersStay.{raw_stays}
-use Rattle.pgtable.specs.Patches.{changed_map, LeadsFrom, IsToldBy, is_empty, leaves_pools, leaves_raw_sets, said_after, concerned_numbers}
+use Rattle.pgtable.specs.Patches.{changed_map, LeadsFrom, IsSource, is_empty, leaves_pools, leaves_raw_sets, said_after, concerned_numbers}
 use Rattle.pgtable.specs.Candidates.{IsCandidates}
 use Rattle.pgtable.proofs.Concerning.{concerned_alike, concerned_found}
 use Rattle.pgtable.proofs.Found.{mapped_small}
@@ -152,7 +152,7 @@ placed_then m c p id n places explicit items s holds there upmap pairs same firs
     ∙ all_same m.weights m.weights explicit (said_after c.old_upmap c.new_upmap (said_of m.explicit (group_of p n)) (group_of p n)) items (said_after c.old_items c.new_items (said_of m.items (group_of p n)) (group_of p n)) (raw_set m p n) (raw_set m p n) refl (rw same at first) (rw same at second) refl
     ∙ mapped_then m c p n s holds there upmap pairs
 
--- ---- the map that tells
+-- ---- the source of the sets
 
 -- a change that nothing refuses leads to the next map
 pub leads_next : (m : ClusterMap) (c : ChangeParts) → change_fault m c ≡ None → IsChange c → HoldsTogether m → LeadsFrom m c (changed_map m c)
@@ -168,15 +168,15 @@ pub small_then : (m : ClusterMap) (c : ChangeParts) (p : PoolFacts) (n : ℕ) (p
     → All (λ place. IfSome place (λ osd. osd < 4096)) places
 small_then m c p n places leads is = mapped_small (changed_map m c) p n places leads.holds_after is
 
--- the map that tells has the pools of the map after the change
-pub told_pools : (m teller : ClusterMap) (c : ChangeParts) (is_made : Bool) → IsToldBy m c teller is_made → teller.pools ≡ (changed_map m c).pools
-told_pools m teller c true told = ap (λ n. n.pools) (told.after refl)
-told_pools m teller c false told = ap (λ n. n.pools) (told.before refl) ∙ sym (pools_stay m c (leaving c (told.leaves refl)))
+-- the source has the pools of the map after the change
+pub source_pools : (m source : ClusterMap) (c : ChangeParts) (is_after : Bool) → IsSource m c source is_after → source.pools ≡ (changed_map m c).pools
+source_pools m source c true is_source = ap (λ n. n.pools) (is_source.after refl)
+source_pools m source c false is_source = ap (λ n. n.pools) (is_source.before refl) ∙ sym (pools_stay m c (leaving c (is_source.leaves refl)))
 
 -- by it the change concerns the groups that it concerns by the map after it
-pub told_concerned : (m teller : ClusterMap) (c : ChangeParts) (p : PoolFacts) (is_made : Bool) → IsToldBy m c teller is_made → concerned_numbers teller c p ≡ concerned_numbers (changed_map m c) c p
-told_concerned m teller c p true told = ap (λ n. concerned_numbers n c p) (told.after refl)
-told_concerned m teller c p false told = concerned_alike teller (changed_map m c) c p (leaving c (told.leaves refl)).weight
+pub source_concerned : (m source : ClusterMap) (c : ChangeParts) (p : PoolFacts) (is_after : Bool) → IsSource m c source is_after → concerned_numbers source c p ≡ concerned_numbers (changed_map m c) c p
+source_concerned m source c p true is_source = ap (λ n. concerned_numbers n c p) (is_source.after refl)
+source_concerned m source c p false is_source = concerned_alike source (changed_map m c) c p (leaving c (is_source.leaves refl)).weight
 
 -- where there is no candidate, the change concerns no group
 pub none_concerned : (m : ClusterMap) (c : ChangeParts) (p : PoolFacts) (groups : List Pg) → IsCandidates m c groups → is_empty groups ≡ true → [] ≡ concerned_numbers m c p
