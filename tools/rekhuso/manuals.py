@@ -7,7 +7,7 @@ from __future__ import annotations
 from . import __version__
 from .commands import EXAMPLES
 from .completions import bash, zsh
-from .uses import Option, Use, groups_of, options_in, top, uses
+from .uses import Option, Use, option_groups, options_in, top, uses
 
 STATUS = """.SH EXIT STATUS
 .TP
@@ -65,7 +65,7 @@ def option_text(option: Option) -> str:
 def options_text(use: Use) -> str:
     """All options of a command, by their groups."""
     return ".SH OPTIONS\n" + "".join(
-        f".SS {roff(title)}\n" + "".join(map(option_text, options)) for title, options in groups_of(use.parser)
+        f".SS {roff(title)}\n" + "".join(map(option_text, options)) for title, options in option_groups(use.parser)
     )
 
 

@@ -50,7 +50,7 @@ def about_of(action: argparse.Action) -> str:
     return " ".join((action.help or "").replace("%%", "%").split())
 
 
-def groups_of(own: argparse.ArgumentParser) -> Iterator[tuple[str, list[Option]]]:
+def option_groups(own: argparse.ArgumentParser) -> Iterator[tuple[str, list[Option]]]:
     """The options of a parser and the words without one, by their groups with the titles of these."""
     for group in own._action_groups:
         found = [
@@ -64,4 +64,4 @@ def groups_of(own: argparse.ArgumentParser) -> Iterator[tuple[str, list[Option]]
 
 def options_in(own: argparse.ArgumentParser) -> list[Option]:
     """The options of a parser."""
-    return [option for _, options in groups_of(own) for option in options if option.words]
+    return [option for _, options in option_groups(own) for option in options if option.words]
