@@ -50,7 +50,7 @@ impl<K: Keeps + Drop> Monitor<K> {
         let state: &mut State<K> = &mut guard.value_mut().state;
         let answer = commit(state, &self.row, &mut member.pass, base, change);
         self.put_back(guard, member);
-        mark_commit(&mut member.own, self.first.epoch(), &answer);
+        mark_commit(&mut member.own, self.first.map().epoch(), &answer);
         answer
     }
 
@@ -85,7 +85,7 @@ impl<K: Keeps + Drop> Monitor<K> {
         let state: &mut State<K> = &mut held.value_mut().state;
         let answer = balance(state, &self.row, &mut member.pass, request);
         self.put_back(held, member);
-        mark_plan(&mut member.own, self.first.epoch(), &answer);
+        mark_plan(&mut member.own, self.first.map().epoch(), &answer);
         answer
     }
 }

@@ -14,6 +14,7 @@ use mapjson::write_map;
 use maptypes::{Incremental, Pg, UpSet};
 use osdmap::OsdMap;
 use refusal::{Memory, Refusal};
+use state::SharedMap;
 use std::alloc::Global;
 use std::marker::Model;
 
@@ -21,7 +22,7 @@ use std::marker::Model;
 /// whose epoch it has applied the incrementals one by one. It may move to another thread, and be dropped.
 #[derive(Drop)]
 pub struct Follower {
-    pub(crate) first: OsdMap,
+    pub(crate) first: SharedMap,
     pub(crate) pass: Pass,
     pub(crate) map: OsdMap,
     pub(crate) work: Work,
@@ -94,8 +95,8 @@ impl Follower {
             Follows monitor.now follower × (follower.history ≡ []) × (follower.map ≡ monitor.now.first)
             × (follower.runs ≡ 0)) }
     {
-        let first = monitor.first.copy(alloc)?;
-        let map = monitor.first.copy(alloc)?;
+        let first = monitor.first.share()?;
+        let map = monitor.first.map().copy(alloc)?;
         let pass = monitor.row.pass(alloc)?;
         let work = Work::new(alloc, map.forest())?;
         Ok(Follower {

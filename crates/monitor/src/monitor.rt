@@ -6,9 +6,8 @@ use crate::locked::Locked;
 use epochlog::{Pass, Row};
 use keeping::{Keeps, Nothing};
 use mapparts::Profile;
-use osdmap::OsdMap;
 use refusal::Memory;
-use state::State;
+use state::{SharedMap, State};
 use std::alloc::Global;
 use std::marker::Model;
 use ticketlock::{Fact, Lock};
@@ -22,7 +21,7 @@ where
 {
     pub(crate) lock: Lock<Locked<K>>,
     pub(crate) row: Row,
-    pub(crate) first: OsdMap,
+    pub(crate) first: SharedMap,
     pub(crate) profile: Profile,
     // Whether it has one member.
     pub(crate) alone: bool,
@@ -47,7 +46,7 @@ impl<K: Keeps + Drop> Monitor<K> {
         ensures map { result ≡ self.now.first.epoch }
         ensures row { result ≡ self.now.row.first }
     {
-        self.first.epoch()
+        self.first.map().epoch()
     }
 
     /// This monitor, but that the texts of its changes are read by this profile.
@@ -78,7 +77,7 @@ impl<K: Keeps + Drop> Monitor<K> {
     pub fn max_osd(&self) -> u32
         ensures { result ≡ length self.now.first.presences }
     {
-        self.first.max_osd()
+        self.first.map().max_osd()
     }
 
     /// A pass that has seen nothing, to join what members have seen.

@@ -121,9 +121,9 @@ impl<K: Keeps + Drop> Monitor<K> {
         ensures { IfOk result (λ r. IsOpeningWith map.map limits r.0 r.1.items) }
     {
         let row = row_after(alloc, map.epoch(), limits.journal)?;
-        let first = map.copy(alloc)?;
         let work = Work::new(alloc, map.forest())?;
         let state = State::new(alloc, map, &row, work, store)?;
+        let first = state.share_first()?;
         let (lock, seats) = lock_state(alloc, state, limits.seats, limits.draws)?;
         let monitor = Monitor {
             lock,

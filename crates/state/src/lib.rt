@@ -4,12 +4,15 @@
 //! - `state`: a state and its commits
 //! - `balancing`: a plan and its commit
 //! - `answers`: what is asked of a state
+//! - `shared_map`: the first map, held once
 #![tactic(auto)]
 
 mod answers;
 mod balancing;
+mod shared_map;
 mod state;
 
 pub use balancing::Balance;
 pub use keeping::{Keeps, Nothing};
+pub use shared_map::SharedMap;
 pub use state::{Commit, State};

@@ -11,6 +11,7 @@ ghost use Rattle.pgtable.specs.Patches.{LeadsTo};
 ghost use Rattle.osdmap.specs.Stored.{HasRoomFor};
 ghost use Rattle.state.specs.States.{IsReady, journal};
 
+use crate::shared_map::SharedMap;
 use crush::Work;
 use epochlog::{NotSealed, Pass, Row};
 use keeping::{Keeper, Keeps, Nothing};
@@ -35,7 +36,7 @@ pub struct Commit {
 #[derive(Drop)]
 pub struct State<K: Keeps + Drop = Nothing> {
     pub(crate) alloc: Global,
-    pub(crate) first: OsdMap,
+    pub(crate) first: SharedMap,
     pub(crate) pass: Pass,
     pub(crate) map: OsdMap,
     pub(crate) table: PgTable,
@@ -86,7 +87,7 @@ fn prepare(
 /// As [`Row::seal`].
 fn seal<K: Keeps + Drop>(
     keeper: &Keeper<K>,
-    first: &OsdMap,
+    first: &SharedMap,
     row: &Row,
     pass: &mut Pass,
     step: Box<Incremental>,
@@ -148,7 +149,7 @@ impl<K: Keeps + Drop> State<K> {
         requires held { K.holds store (journal map.map []) }
         ensures { IfOk result (λ s. s ≡ opened map.map row.now) }
     {
-        let first = map.copy(alloc)?;
+        let first = SharedMap::copy_of(alloc, &map)?;
         let pass = row.pass(alloc)?;
         let mut work = work;
         let table = PgTable::build(alloc, &map, &mut work)?;
@@ -172,6 +173,17 @@ impl<K: Keeps + Drop> State<K> {
         ensures epoch { self.now.map.epoch ≡ epoch_after self.now.first self.now.pass.history }
     {
         &self.map
+    }
+
+    /// The first map, for one more owner.
+    ///
+    /// # Errors
+    ///
+    /// `Memory` (30) where it has as many owners as can be counted.
+    pub fn share_first(&self) -> Result<SharedMap, Memory>
+        ensures { IfOk result (λ map. map.map ≡ self.now.first) }
+    {
+        self.first.share()
     }
 
     /// The table of the present map.
@@ -273,6 +285,6 @@ impl<K: Keeps + Drop> State<K> {
         ensures full { result ≡ not (nat_lt (length self.now.pass.history) (length self.now.pass.row.cells)) }
         ensures early { self.now.map.epoch ≤ max_epoch }
     {
-        self.pass.epoch() - self.first.epoch() >= u64::from(row.capacity())
+        self.pass.epoch() - self.first.map().epoch() >= u64::from(row.capacity())
     }
 }
