@@ -1,9 +1,9 @@
 """`history`: what changed in a store from epoch to epoch, or with --at the map of one of its epochs.
 
 A store is the file in which `osdmapstore` keeps a map and its changes. It tells of what came since the program was last
-started: a start makes the map that it finds the first one, and begins the changes anew. The file is read, and nothing
-is written into it or beside it; while a program has it open it cannot be read. The map of an epoch is made by the
-program, change by change.
+started: a start makes the map that it finds the first one, and begins the changes anew. A copy of the file and of its
+log is read, also while a program has the store open, and nothing is written into them or beside them. The map of an
+epoch is made by the program, change by change.
 """
 
 from __future__ import annotations
@@ -16,19 +16,19 @@ from ..cluster.epochs import epochs_of, first_of
 from ..cluster.names import Names, names_in
 from ..faults import Fault, Misuse
 from ..output.history_words import epoch_line, first_line
-from ..output.json_forms import put_json
+from ..output.json_output import put_json
 from ..program.maps import Program
 from ..program.stores import StoredJournal, journal_in, map_at
+from ..values import SLOTS
 from .arguments import Arguments, Commands, add_json, set_work
 
 
-@dataclass(frozen=True)
+@dataclass(frozen=True, **SLOTS)
 class HistoryOptions:
     """The file of a store, the epoch whose map is asked for, if one is, a file of names, the program, and whether it is
     told as JSON.
     """
 
-    __slots__ = ("store", "at", "names", "program", "is_json")
     store: str
     at: int | None
     names: str | None

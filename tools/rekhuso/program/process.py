@@ -10,6 +10,7 @@ import subprocess
 import threading
 import time
 from collections.abc import Callable
+from dataclasses import dataclass
 from types import FrameType
 
 from ..faults import Fault
@@ -20,7 +21,7 @@ CRATES = pathlib.Path(__file__).resolve().parents[3] / "crates"
 # The variable that names the program where no option does.
 VARIABLE = "REKHUSO_PROGRAM"
 # The programs, the options that name them, and the targets of the repository that prove and build them.
-OPTIONS = {"osdmapd": "--program", "osdmapstore": "--store-program"}
+PROGRAM_OPTIONS = {"osdmapd": "--program", "osdmapstore": "--store-program"}
 TARGETS = {"osdmapd": "make run", "osdmapstore": "make store"}
 
 
@@ -39,7 +40,7 @@ def built(name: str, beside: Program = None) -> pathlib.Path:
         ]
         raise Fault(
             f"no program: {', and '.join(places)}; `{TARGETS[name]}` in its repository proves and builds it, and "
-            f"{OPTIONS[name]} FILE names it"
+            f"{PROGRAM_OPTIONS[name]} FILE names it"
         )
     return pathlib.Path(found)
 
@@ -52,7 +53,7 @@ def chosen(program: Program, name: str) -> pathlib.Path:
     found = pathlib.Path(program or built(name)).resolve()
     if not found.is_file() or not os.access(found, os.X_OK):
         raise Fault(
-            f"{program or found}: no program; `{TARGETS[name]}` proves and builds it, or {OPTIONS[name]} names another"
+            f"{program or found}: no program; `{TARGETS[name]}` proves and builds it, or {PROGRAM_OPTIONS[name]} names another"
         )
     return found
 
@@ -134,3 +135,34 @@ def unblocked(pipe: int) -> int:
     """An open pipe that waits from now on."""
     os.set_blocking(pipe, True)
     return pipe
+
+
+@dataclass(frozen=True)
+class Told:
+    """What a program that was run told, and its status."""
+
+    __slots__ = ("status", "output", "error")
+    status: int
+    output: str
+    error: str
+
+
+def told_by(words: list[str]) -> Told:
+    """What a program tells that is run to its end, over no input. A fault where it does not start. What ends this
+    command ends it too.
+    """
+    with Held() as held:
+        try:
+            process = subprocess.Popen(
+                words, stdin=subprocess.DEVNULL, stdout=subprocess.PIPE, stderr=subprocess.PIPE, text=True
+            )
+        except (OSError, ValueError) as fault:
+            raise Fault(f"{words[0]}: {fault}") from None
+        with process:
+            try:
+                held.let_go()
+                output, error = process.communicate()
+            except BaseException:
+                process.kill()
+                raise
+    return Told(process.returncode, output, error)

@@ -2,7 +2,7 @@ use Rattle.std.proofs.Common.{ℕ, ◌≡◌, ◌∙◌, ◌<◌, ap, sym, cond,
 use Rattle.keylist.specs.Walks.{rest_from, begins_at}
 use Rattle.keylist.proofs.Keeping.{keeping_from, keeping_next, length_kept}
 use Rattle.keylist.proofs.Walking.{all_stay}
-use Rattle.keylist.proofs.in_place.take_away.Goals as goal
+use Rattle.keylist.proofs.in_place.take_many.Goals as goal
 
 -- two lists of one length have one length as vectors
 sized : {a b c d : ℕ} → a ≡ b → b ≡ c → d ≡ c → a ≡ d

@@ -1,7 +1,7 @@
 use Rattle.std.proofs.Common.{◌≡◌, vec_len, vec_capacity}
 use Rattle.keylist.proofs.Walking.{staying}
 use Rattle.keylist.proofs.Keeping.{Keeping}
-use Rattle.keylist.proofs.in_place.take_away.Given as goal
+use Rattle.keylist.proofs.in_place.take_many.Given as goal
 
 -- those that stay stand in front, the rest of the list is as it was
 abbrev pub invariant-loop-at : goal.invariant-loop-at

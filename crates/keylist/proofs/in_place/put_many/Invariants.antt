@@ -2,7 +2,7 @@ use Rattle.std.proofs.Common.{◌≡◌, ◌+◌, length, vec_capacity}
 use Rattle.std.specs.List.{fold}
 use Rattle.keylist.specs.Puts.{put}
 use Rattle.keylist.proofs.Merging.{Merging}
-use Rattle.keylist.proofs.in_place.put_all.Given as goal
+use Rattle.keylist.proofs.in_place.put_many.Given as goal
 
 -- what is in front and what is left to be put make, with what stands behind, all of it
 abbrev pub invariant-loop-olds : goal.invariant-loop-olds

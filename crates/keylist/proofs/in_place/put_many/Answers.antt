@@ -2,7 +2,7 @@ use Rattle.std.proofs.Common.{arith, ℕ, take}
 use Rattle.std.proofs.lemmas.List.{length-take}
 use Rattle.keylist.proofs.KeyedMaps.{length-puts_least, length-puts_most}
 use Rattle.keylist.proofs.Merging.{merging_next}
-use Rattle.keylist.proofs.in_place.put_all.Goals as goal
+use Rattle.keylist.proofs.in_place.put_many.Goals as goal
 
 pub lengthen-requires-clause-longer : goal.lengthen-requires-clause-longer
 lengthen-requires-clause-longer g c =
