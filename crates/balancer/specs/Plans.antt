@@ -64,10 +64,6 @@ change_of items = record {
   new_items = items;
 }
 
--- how many groups a pool has, where it is there
-abbrev pub pool_groups : ClusterMap → ℕ → ℕ
-pool_groups m pool = option_map_or (λ p. p.pg_num) (pool_at m.pools pool) 0
-
 -- the moves of the plan for a pool
 unfoldable pub plan_moves : ClusterMap → ℕ → Aim → ℕ → List Move
 plan_moves m pool aim limit = option_map_or (λ p. greedy m p aim limit) (pool_at m.pools pool) []

@@ -17,7 +17,6 @@ use crate::group::{Group, groups, move_group};
 use crate::moves::Move;
 use crate::shares::{count, places, weight_of};
 use crate::standing::Standing;
-use crush::Work;
 use maptypes::{Exception, Items, Pg, Pool};
 use osdmap::OsdMap;
 use pgtable::PgTable;
@@ -169,22 +168,16 @@ impl<'a> Board<'a> {
     ghost use Rattle.balancer.specs.Plans.{items_at, moved_items};
     ghost use Rattle.balancer.specs.Boards.{AreAfterMove};
     ghost use Rattle.balancer.specs.Reached.{cluster, reached, IsBoardFor, AreOfOnePlan, IsGoodOn};
-    ghost use Rattle.pgtable.specs.Tables.{IsTableOf, RunsMore};
+    ghost use Rattle.pgtable.specs.Tables.{IsTableOf};
 
-    /// The state at the beginning, by a run of the pool's rule for each of its groups; or `Memory` (30).
-    pub fn new(
-        alloc: Global,
-        frame: Frame<'a>,
-        table: &PgTable,
-        work: &mut Work,
-    ) -> Result<Board<'a>, Memory>
+    /// The state at the beginning; or `Memory` (30).
+    pub fn new(alloc: Global, frame: Frame<'a>, table: &PgTable) -> Result<Board<'a>, Memory>
         requires { IsTableOf table.now frame.map.now.map }
         ensures frame { IfOk result (IsBoardFor frame.entry) }
         ensures moves { IfOk result (λ board. board.moves.items ≡ []) }
-        ensures runs { OnOk result (RunsMore frame.entry.pool.pg_num work.old work.new) }
     {
         frame.map.holds_together();
-        let groups = groups(alloc, frame.map, &frame.pool, work)?;
+        let groups = groups(alloc, frame.map, table, &frame.pool)?;
         frame.pool.is_within_limits();
         let standing = Standing::new(alloc, &groups, frame.map.max_osd())?;
         let deviations = deviations(alloc, &frame, table)?;

@@ -8,8 +8,7 @@ ghost use Rattle.osdmap.specs.Placement.{steps_of};
 ghost use Rattle.balancer.specs.Shares.{candidate_osds, total_weight, group_weight, least_gap, aim_of, AreSmall};
 ghost use Rattle.balancer.specs.Moves.{level_chosen, levels_of, last_level, domains_of, are_under_same};
 
-use crate::domains::{are_under_same, count_places, domains_of, stands};
-use crate::group::Group;
+use crate::domains::{are_under_same, domains_of};
 use crate::request::Request;
 use crate::shares::{are_small, candidates, total};
 use crush::Step;
@@ -146,8 +145,6 @@ impl Frame<'_> {
     ghost use Rattle.std.specs.List.{list_all};
     ghost use Rattle.osdmap.specs.Placement.{steps_of};
     ghost use Rattle.balancer.specs.Moves.{are_under_same, are_beside, earlier_levels, last_level, levels_of, is_allowed};
-    ghost use Rattle.balancer.specs.Boards.{may_go};
-    ghost use Rattle.maptypes.specs.Sets.{stands};
     ghost use Rattle.balancer.specs.declared.moves.Move.{Move};
     ghost use Rattle.balancer.specs.Shares.{group_weight, least_gap, aim_of};
 
@@ -194,19 +191,5 @@ impl Frame<'_> {
         ensures { result ≡ last_level (levels_of (steps_of self.now.map.now.map self.now.pool)) }
     {
         last_of(&self.levels)
-    }
-
-    /// Whether a group may go from one OSD to another, where both are candidates and beside one another.
-    #[tactic(auto, unfolding(crate::specs::Boards::may_go))]
-    pub fn may_go(&self, from: u32, to: u32, group: &Group) -> bool
-        ensures value { result ≡ may_go self.now.map.now.map self.now.pool from to group.now }
-        ensures new { result ≡ true → stands to group.now.places ≡ false }
-    {
-        let places = group.places.as_slice();
-        !group.is_fixed
-            && count_places(places, from) == 1
-            && !stands(places, to)
-            && group.pairs.as_slice().len() < usize::from(self.pool.size())
-            && self.has_way(from, to, places)
     }
 }

@@ -1,17 +1,17 @@
 //! Groups as a plan keeps them.
 
-ghost use Rattle.std.specs.Prelude.{◌≡◌, ◌<◌, ◌≤◌, length, position, Some, IfOk, OnOk};
+ghost use Rattle.std.specs.Prelude.{◌≡◌, ◌<◌, ◌≤◌, length, position, Some, IfOk};
 ghost use Rattle.osdmap.specs.Maps.{pool_at};
 ghost use Rattle.maptypes.specs.Sets.{replace, is_of};
-ghost use Rattle.osdmap.specs.Placement.{mapped_set, RunsOnce};
-ghost use Rattle.pgtable.specs.Tables.{RunsMore};
+ghost use Rattle.pgtable.specs.Tables.{pool_table, IsTableOf};
 ghost use Rattle.balancer.specs.Moves.{pairs_in};
 ghost use Rattle.balancer.specs.Boards.{is_fixed, group_at, board_groups, group_after};
 
 use crate::moves::Move;
-use crush::Work;
 use maptypes::{Blank, Pair, Pg, Pool, Short};
-use osdmap::{OsdMap, Placing};
+use osdmap::OsdMap;
+use pgtable::PgTable;
+use pgtable::pool_table::PoolTable;
 use refusal::Memory;
 use std::alloc::Global;
 
@@ -38,28 +38,6 @@ fn short_of<T: Blank>(entries: &[T]) -> Short<T>
     short
 }
 
-/// Some places, an OSD in four bytes.
-fn places_of(places: &[Option<u16>]) -> Short<Option<u32>>
-    requires { length places.now ≤ 20 }
-    ensures { result ≡ places.now }
-{
-    let mut short = Short::new();
-    for place in places {
-        short.push(long_place(*place));
-    }
-    short
-}
-
-/// A place, in four bytes.
-fn long_place(place: Option<u16>) -> Option<u32>
-    ensures { result ≡ place }
-{
-    match place {
-        Some(osd) => Some(u32::from(osd)),
-        None => None,
-    }
-}
-
 /// The pairs of a group.
 fn pairs_in(map: &OsdMap, pg: Pg) -> Short<Pair>
     ensures { result ≡ pairs_in map.now.map pg }
@@ -81,53 +59,44 @@ fn is_fixed(map: &OsdMap, pg: Pg) -> bool
     }
 }
 
-/// The mapped set of a group of a pool, by one run of the pool's rule; or `Memory` (30).
-fn mapped_places(
-    placing: &Placing,
-    number: u32,
-    work: &mut Work,
-) -> Result<Short<Option<u32>>, Memory>
-    ensures set { IfOk result (λ set. set ≡ mapped_set placing.now.map.now.map placing.now.pool number) }
-    ensures run { RunsOnce work.old work.new result }
-{
-    let set = placing.mapped_set(number, work)?;
-    Ok(places_of(set.places()))
-}
-
-/// What is kept of a group of a pool, by one run of the pool's rule; or `Memory` (30).
+/// What is kept of a group of a pool, of whose table its mapped set is read.
 #[tactic(auto, unfolding(crate::specs::Boards::group_at))]
-fn group_at(placing: &Placing, number: u32, work: &mut Work) -> Result<Group, Memory>
-    ensures group { IfOk result (λ group. group ≡ group_at placing.now.map.now.map placing.now.pool number) }
-    ensures run { RunsOnce work.old work.new result }
+fn group_at(map: &OsdMap, table: &PoolTable, pool: &Pool, number: u32) -> Group
+    requires table { table.now ≡ pool_table map.now.map pool.now }
+    requires there { number < pool.now.pg_num }
+    ensures { result ≡ group_at map.now.map pool.now number }
 {
-    let places = mapped_places(placing, number, work)?;
+    let Some(places) = table.mapped(number) else {
+        unreachable!();
+    };
     let pg = Pg {
-        pool: placing.pool.id(),
+        pool: pool.id(),
         number,
     };
-    Ok(Group {
+    Group {
         places,
-        pairs: pairs_in(placing.map, pg),
-        is_fixed: is_fixed(placing.map, pg),
-    })
+        pairs: pairs_in(map, pg),
+        is_fixed: is_fixed(map, pg),
+    }
 }
 
-/// What is kept of the groups of a pool, by number, by a run of the pool's rule for each; or `Memory` (30).
+/// What is kept of the groups of a pool, by number; or `Memory` (30).
 pub(crate) fn groups(
     alloc: Global,
     map: &OsdMap,
+    table: &PgTable,
     pool: &Pool,
-    work: &mut Work,
 ) -> Result<Vec<Group>, Memory>
-    requires { pool_at map.now.map.pools pool.now.id ≡ Some pool.now }
-    ensures groups { IfOk result (λ groups. groups.items ≡ board_groups map.now.map pool.now) }
-    ensures runs { OnOk result (RunsMore pool.now.pg_num work.old work.new) }
+    requires pool { pool_at map.now.map.pools pool.now.id ≡ Some pool.now }
+    requires table { IsTableOf table.now map.now.map }
+    ensures { IfOk result (λ groups. groups.items ≡ board_groups map.now.map pool.now) }
 {
-    let _ = work.runs();
-    let placing = map.placing(pool);
+    let Some(table) = table.sets(pool.id()) else {
+        unreachable!();
+    };
     let mut groups = Vec::with_capacity(alloc, pool.pg_num() as usize)?;
     for number in 0..pool.pg_num() {
-        groups.push(group_at(&placing, number, work)?)?;
+        groups.push(group_at(map, table, pool, number))?;
     }
     Ok(groups)
 }

@@ -7,6 +7,7 @@
 //! - `plans`: plans, and the change that makes one
 //! - `frame`, `board`: what a plan goes by and no move changes, and the state of a plan after the moves so far
 //! - `group`, `domains`: groups as a plan keeps them, and what stands above OSDs
+//! - `ways`: where groups may go
 //! - `shares`, `standing`: who is a candidate and what OSDs weigh, and which groups stand on each OSD
 //! - `ordering`, `compare`, `search`: the candidates in order, which moves are taken rather than others, and the search
 //!   for the best one
@@ -34,6 +35,7 @@ mod running;
 mod search;
 mod shares;
 mod standing;
+mod ways;
 mod widths;
 
 pub use moves::Move;

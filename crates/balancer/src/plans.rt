@@ -1,6 +1,6 @@
 //! Plans.
 
-ghost use Rattle.std.specs.Prelude.{◌≡◌, ◌≤◌, ◌<◌, ◌==◌, [], length, None, Some, IfOk, OnOk};
+ghost use Rattle.std.specs.Prelude.{◌≡◌, ◌≤◌, ◌<◌, ◌==◌, [], length, None, Some, IfOk};
 ghost use Rattle.std.specs.List.{count_by};
 ghost use Rattle.crush.specs.Grammar.{is_emit};
 ghost use Rattle.refusal.specs.Outcomes.{Judges, Gives};
@@ -9,18 +9,18 @@ ghost use Rattle.maptypes.specs.Exceptions.{key_of};
 ghost use Rattle.osdmap.specs.Maps.{pool_at};
 ghost use Rattle.osdmap.specs.Changes.{change_fault};
 ghost use Rattle.osdmap.specs.Placement.{steps_of};
-ghost use Rattle.pgtable.specs.Tables.{IsTableOf, RunsMore};
+ghost use Rattle.pgtable.specs.Tables.{IsTableOf};
 ghost use Rattle.balancer.specs.Shares.{has_one_block, aim_of};
 ghost use Rattle.balancer.specs.Reached.{IsBoardFor};
 ghost use Rattle.balancer.specs.Requests.{asked_aim};
 ghost use Rattle.balancer.specs.Greedy.{good_moves, greedy, after_moves};
-ghost use Rattle.balancer.specs.Plans.{change_of, plan_fault, pool_groups, IsPlan, Evens, LeavesNone};
+ghost use Rattle.balancer.specs.Plans.{change_of, plan_fault, IsPlan, Evens, LeavesNone};
 
 use crate::board::Board;
 use crate::frame::Frame;
 use crate::planned::PlannedChange;
 use crate::request::Request;
-use crush::{Step, Work};
+use crush::Step;
 use keylist::Entries;
 use mapparts::Profile;
 use maptypes::{Change, ChangeParts, Items, Pool};
@@ -91,14 +91,12 @@ fn change_of(alloc: Global, items: Vec<Items>) -> Result<Change, Memory>
     Ok(change)
 }
 
-/// The state of a plan once its moves are made, at most so many, by a run of the pool's rule for each of its groups; or
-/// `Memory` (30).
+/// The state of a plan once its moves are made, at most so many; or `Memory` (30).
 fn make_moves<'a>(
     alloc: Global,
     frame: Frame<'a>,
     table: &PgTable,
     limit: u32,
-    work: &mut Work,
 ) -> Result<Board<'a>, Memory>
     requires { IsTableOf table.now frame.map.now.map }
     ensures frame { IfOk result (IsBoardFor frame.entry) }
@@ -107,15 +105,14 @@ fn make_moves<'a>(
     ensures done { IfOk result (λ board. length board.moves.items < limit →
         good_moves (after_moves frame.entry.map.now.map frame.entry.pool board.moves.items) frame.entry.pool
         (aim_of frame.entry.carried.now frame.entry.apart) ≡ []) }
-    ensures runs { OnOk result (RunsMore frame.entry.pool.pg_num work.old work.new) }
 {
-    let mut board = Board::new(alloc, frame, table, work)?;
+    let mut board = Board::new(alloc, frame, table)?;
     board.run(alloc, limit)?;
     Ok(board)
 }
 
-/// The greedy plan that is asked for, for a map and its table, as a change that nothing refuses at this map. `work`
-/// counts a run of the pool's rule for each of its groups.
+/// The greedy plan that is asked for, for a map and its table, as a change that nothing refuses at this map. The table
+/// has the mapped sets: no rule is run.
 ///
 /// # Errors
 ///
@@ -126,7 +123,6 @@ pub fn plan(
     map: &OsdMap,
     table: &PgTable,
     request: Request<'_>,
-    work: &mut Work,
 ) -> Result<PlannedChange, Refusal>
     requires table { IsTableOf table.now map.now.map }
     ensures plan { Gives result (plan_fault map.now.map request.entry.pool)
@@ -137,12 +133,11 @@ pub fn plan(
         plan.change plan.moves) }
     ensures leaves_none { IfOk result (λ plan. plan.moves < request.entry.limit →
         LeavesNone map.now.map request.entry.pool (asked_aim request.entry) plan.change) }
-    ensures runs { OnOk result (RunsMore (pool_groups map.now.map request.entry.pool) work.old work.new) }
 {
     map.holds_together();
     let pool = find_pool(map, request.pool)?;
     let frame = Frame::new(alloc, map, pool, request)?;
-    let board = make_moves(alloc, frame, table, request.limit, work)?;
+    let board = make_moves(alloc, frame, table, request.limit)?;
     let items = board.items(alloc)?;
     let change = change_of(alloc, items)?;
     Ok(PlannedChange {

@@ -15,7 +15,7 @@ use Rattle.balancer.specs.Shares.{has_one_block, Aim}
 use Rattle.balancer.specs.Plans.{plan_fault, plan_fault_of, plan_change}
 use Rattle.state.specs.declared.balancing.Balance.{Balance}
 use Rattle.state.specs.States.{StateFacts, next_step, commit_fault, fault_in, IsRefusedBy}
-use Rattle.state.specs.Balances.{after_planning, moves_in, IsUnbalanced, Balances as TakesPlan}
+use Rattle.state.specs.Balances.{moves_in, IsUnbalanced, Balances as TakesPlan}
 use Rattle.monitor.specs.Balances.{AnswersBalance, IsEven, IsUnplanned, AddsPlan}
 use Rattle.monitor.proofs.Histories.{IsLed, refused_unspent}
 
@@ -78,7 +78,7 @@ module _ (old : StateFacts) (pool : ℕ) (cs : Aim) (limit : ℕ) (led : IsLed o
       → AnswersBalance old.first (length old.pass.row.cells) old.pass.history new.pass.history pool cs limit r
   balanced_by new (Ok ok) leads done = elim done.0.2 [
     | inl stays ↦
-        let same : after_planning pool old ≡ new = sym stays.2 in (
+        let same : old ≡ new = sym stays.2 in (
           record {
             begins = subst (λ (k : StateFacts). Begins old.pass.history k.pass.history) same (begins_itself old.pass.history);
             lawful = subst (λ (k : StateFacts). IsLawful old.first k.pass.history) same led.lawful;

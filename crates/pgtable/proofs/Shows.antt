@@ -23,7 +23,7 @@ use Rattle.osdmap.specs.Placement.{group_of, up_osd, mapped_set, up_set}
 use Rattle.osdmap.proofs.StandingUp.{up_are_mapped_and_up}
 use Rattle.pgtable.specs.declared.pool_table.PoolTable.{PoolTable}
 use Rattle.pgtable.specs.Index.{up_at, groups_in, stands_in, index_of, count_in}
-use Rattle.pgtable.specs.Tables.{TableFacts, sets_of, pool_table, tables_of, ups_of, IsTableOf, upward_in, shown_set, shown_at, groups_on, shown_groups, shown_in}
+use Rattle.pgtable.specs.Tables.{TableFacts, sets_of, pool_table, tables_of, ups_of, IsTableOf, upward_in, shown_set, shown_at, pool_in, groups_on, shown_groups, shown_in}
 use Rattle.pgtable.proofs.Found.{found_at}
 
 -- ---- lists
@@ -98,6 +98,16 @@ up_shown t m g is = rw (is.pools, find_map (λ (q : PoolTable). eqb q.pool.id g.
     by_pool : (p : Option PoolFacts) → option_and_then (λ q. option_map (shown_set t q) (slice_get q.groups.sets g.number)) (option_map (pool_table m) p) ≡ option_and_then (λ q. if nat_lt g.number q.pg_num then Some (up_set m q g.number) else None) p
     by_pool None = refl
     by_pool (Some p) = of_pool m t.up p g.number is.up
+
+-- ---- mapped sets
+
+-- the table of a pool is what the map says of it
+pub pool_shown : (t : TableFacts) (m : ClusterMap) (id : ℕ) → IsTableOf t m → pool_in t id ≡ option_map (pool_table m) (pool_at m.pools id)
+pool_shown t m id is = rw is.pools (find_map (λ (q : PoolTable). eqb q.pool.id id) (pool_table m) m.pools)
+
+-- the set of a group that is there is its mapped set
+pub mapped_shown : (q : PoolTable) (m : ClusterMap) (p : PoolFacts) (n : ℕ) → q ≡ pool_table m p → n < p.pg_num → slice_get q.groups.sets n ≡ Some (mapped_set m p n)
+mapped_shown q m p n is below = rw (is, slice_get_in (mapped_set m p) p.pg_num n, lt-ltb n p.pg_num below) refl
 
 -- ---- the index
 

@@ -124,7 +124,8 @@ fn count_below(groups: &[Pg], key: u64) -> usize
     requires { IsRising pg_key groups.now }
     ensures within { result ≤ length groups.now }
     ensures below { (k : ℕ) (d : Pg) → k < result → pg_key (slice_index_or groups.now k d) < key }
-    ensures above { (k : ℕ) (d : Pg) → result ≤ k → k < length groups.now → key ≤ pg_key (slice_index_or groups.now k d) }
+    ensures above { (k : ℕ) (d : Pg) → result ≤ k → k < length groups.now
+        → key ≤ pg_key (slice_index_or groups.now k d) }
 {
     groups.partition_point(|group| group.key() < key)
 }

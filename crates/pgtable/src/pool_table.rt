@@ -5,9 +5,10 @@ ghost use Rattle.osdmap.specs.Maps.{pool_at};
 ghost use Rattle.pgtable.specs.Tables.{pool_table, RunsMore};
 
 use crate::mapped::all_mapped_sets;
+use crate::shown::places_in;
 use crush::Work;
 use grouptable::GroupTable;
-use maptypes::{Pg, Pool};
+use maptypes::{Pg, Pool, Short};
 use osdmap::OsdMap;
 use refusal::Memory;
 use std::alloc::Global;
@@ -20,10 +21,12 @@ pub struct PoolTable {
 }
 
 impl PoolTable {
-    ghost use Rattle.std.specs.Prelude.{◌≡◌, ◌++◌, ◌<◌, ◌≤◌, [], length, Some, IfOk, OnOk};
+    ghost use Rattle.std.specs.Prelude.{◌≡◌, ◌++◌, ◌<◌, ◌≤◌, [], length, slice_get, Some, IfOk, OnOk};
     ghost use Rattle.buckets.specs.Limits.{max_devices};
     ghost use Rattle.mapparts.specs.Limits.{max_groups};
-    ghost use Rattle.osdmap.specs.Maps.{pool_at};
+    ghost use Rattle.maptypes.specs.Pools.{PoolFacts};
+    ghost use Rattle.osdmap.specs.Maps.{ClusterMap, pool_at};
+    ghost use Rattle.osdmap.specs.Placement.{mapped_set};
     ghost use Rattle.pgtable.specs.Tables.{pool_table, groups_on, RunsMore};
 
     /// The mapped sets of the groups of a pool of a map, by a run of the pool's rule for each; or `Memory` (30).
@@ -51,6 +54,22 @@ impl PoolTable {
             pool,
             groups: GroupTable::empty(alloc, usize::from(pool.size())),
         }
+    }
+
+    /// The set of a group, if there is one of this number.
+    fn set(&self, number: u32) -> Option<Short<Option<u32>>>
+        ensures { result ≡ slice_get self.now.groups.sets number }
+    {
+        let set = self.groups.set(number)?;
+        Some(places_in(set))
+    }
+
+    /// The mapped set of a group of the pool, if there is one of this number.
+    pub fn mapped(&self, number: u32) -> Option<Short<Option<u32>>>
+        ensures { (m : ClusterMap) (p : PoolFacts) → self.now ≡ pool_table m p → number < p.pg_num
+            → result ≡ Some (mapped_set m p number) }
+    {
+        self.set(number)
     }
 
     /// In how many groups' sets an OSD stands.

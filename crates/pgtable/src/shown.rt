@@ -9,7 +9,7 @@ ghost use Rattle.pgtable.specs.Tables.{upward_in};
 
 use crush::RuleKind;
 use grouptable::osd_in;
-use maptypes::UpSet;
+use maptypes::{Short, UpSet};
 
 /// The OSD of a place, where there is one that is up.
 fn shown_place(place: Option<u16>, up: &[bool]) -> Option<u32>
@@ -35,4 +35,26 @@ pub fn show_set(set: &[u16], kind: RuleKind, up: &[bool]) -> UpSet
         shown.add(kind, shown_place(osd_in(set, place), up));
     }
     shown
+}
+
+/// A place, in four bytes.
+fn long_place(place: Option<u16>) -> Option<u32>
+    ensures { result ≡ place }
+{
+    match place {
+        Some(osd) => Some(u32::from(osd)),
+        None => None,
+    }
+}
+
+/// The stored set, an OSD in four bytes.
+pub fn places_in(set: &[u16]) -> Short<Option<u32>>
+    requires { length set.now ≤ max_size }
+    ensures { result ≡ map place_stored set.now }
+{
+    let mut places = Short::new();
+    for place in 0..set.len() {
+        places.push(long_place(osd_in(set, place)));
+    }
+    places
 }

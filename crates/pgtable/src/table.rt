@@ -57,13 +57,13 @@ pub(crate) fn ups_of(alloc: Global, map: &OsdMap) -> Result<Vec<bool>, Memory>
 impl PgTable {
     ghost use Rattle.std.specs.Prelude.{◌≡◌, ◌≤◌, ◌<◌, true, false, length, Option, slice_index_or, IfOk, OnOk, MatchOption};
     ghost use Rattle.std.specs.List.{find, sum_by};
-    ghost use Rattle.std.specs.Option.{option_copied, option_map_or};
+    ghost use Rattle.std.specs.Option.{option_copied, option_map, option_map_or};
     ghost use Rattle.buckets.specs.Limits.{max_devices};
     ghost use Rattle.mapparts.specs.Limits.{max_pools};
     ghost use Rattle.grouptable.specs.Sets.{groups_of};
-    ghost use Rattle.osdmap.specs.Maps.{ClusterMap};
+    ghost use Rattle.osdmap.specs.Maps.{ClusterMap, pool_at};
     ghost use Rattle.pgtable.specs.Index.{up_at, index_of, count_of, count_in};
-    ghost use Rattle.pgtable.specs.Tables.{IsTableOf, pool_in, tables_of, shown_at, shown_groups, shown_in, RunsMore};
+    ghost use Rattle.pgtable.specs.Tables.{IsTableOf, pool_in, pool_table, tables_of, shown_at, shown_groups, shown_in, RunsMore};
 
     /// The table of a map, by a run of a rule for each of its groups.
     ///
@@ -169,6 +169,14 @@ impl PgTable {
         ensures { (m : ClusterMap) → IsTableOf self.now m → result ≡ up_at m pg }
     {
         self.shown_at(pg)
+    }
+
+    /// The mapped sets of the groups of a pool, where it is there.
+    pub fn sets(&self, pool: u32) -> Option<&PoolTable>
+        ensures { (m : ClusterMap) → IsTableOf self.now m
+            → option_copied result ≡ option_map (pool_table m) (pool_at m.pools pool) }
+    {
+        self.pool(pool)
     }
 
     /// In how many groups' up sets an OSD stands: of a group once, however often it stands there.

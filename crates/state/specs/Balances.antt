@@ -5,7 +5,7 @@ use Rattle.refusal.specs.declared.refused.Refusal.TheVariants.{Memory as OutOfMe
 use Rattle.osdmap.specs.Maps.{ClusterMap}
 use Rattle.osdmap.specs.Evals.{evals_of}
 use Rattle.balancer.specs.Shares.{Aim}
-use Rattle.balancer.specs.Plans.{plan_fault, plan_change, plan_moves, pool_groups}
+use Rattle.balancer.specs.Plans.{plan_fault, plan_change, plan_moves}
 use Rattle.state.specs.declared.balancing.Balance.{Balance}
 use Rattle.state.specs.States.{StateFacts, fault_in, ran, committed, IsUnchangedBy, IsRefusedBy}
 
@@ -13,20 +13,16 @@ use Rattle.state.specs.States.{StateFacts, fault_in, ran, committed, IsUnchanged
 abbrev pub moves_in : ClusterMap → ℕ → Aim → ℕ → ℕ
 moves_in m pool aim limit = length (plan_moves m pool aim limit)
 
--- a state after the runs that a plan of a pool takes, one for each group
-abbrev pub after_planning : ℕ → StateFacts → StateFacts
-after_planning pool k = ran (pool_groups k.map pool) k
-
 -- nothing is moved, as no move is good; or the change of the greedy plan is committed to the present map: the plan
--- takes a run for each group of the pool, and the commit one for each evaluation
+-- takes no run, and the commit one for each evaluation
 abbrev pub IsBalanced : StateFacts → StateFacts → ℕ → Aim → ℕ → ℕ → Type 0
 IsBalanced old new pool aim limit epoch =
-    ((moves_in old.map pool aim limit ≡ 0) × (epoch ≡ old.map.epoch) × (new ≡ after_planning pool old))
+    ((moves_in old.map pool aim limit ≡ 0) × (epoch ≡ old.map.epoch) × (new ≡ old))
     ⊎ ((moves_in old.map pool aim limit ≢ 0)
     × (fault_in old old.map.epoch (plan_change old.map pool aim limit) ≡ None)
     × (old.has_failed ≡ false) × (epoch ≡ old.map.epoch + 1)
     × (new ≡ ran (evals_of new.map (plan_change old.map pool aim limit))
-    (committed (after_planning pool old) (plan_change old.map pool aim limit))))
+    (committed old (plan_change old.map pool aim limit))))
 
 -- why there is no answer: what refuses the plan; else that memory was short, or where a move is good what refuses its
 -- commit

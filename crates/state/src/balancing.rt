@@ -44,13 +44,7 @@ impl<K: Keeps + Drop> State<K> {
         ensures stored { IfErr result (λ e. e ≡ NotStored → K.may_fail) }
         ensures pass { pass.new ≡ self.new.pass }
     {
-        let PlannedChange { change, moves } = plan(
-            self.alloc,
-            &self.map,
-            &self.table,
-            request,
-            &mut self.work,
-        )?;
+        let PlannedChange { change, moves } = plan(self.alloc, &self.map, &self.table, request)?;
         let current = self.map.epoch();
         if moves == 0 {
             return Ok(Balance {

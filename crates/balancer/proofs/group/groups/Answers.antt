@@ -6,4 +6,4 @@ use Rattle.balancer.proofs.group.groups.Goals as goal
 pub loop-number-preserved : goal.loop-number-preserved
 loop-number-preserved c =
     let more = map-range_with_len_more (group_at c.args.map.now.map c.args.pool.now) 0 c.loop-number.number c.loop-number.number (omega arith) in
-    (c.in_ok-push.ensures.items ∙ rw (c.loop-number.invariant.0, c.in_ok-group_at.ensures.group, c.placing-placing.ensures.map, c.placing-placing.ensures.pool) (sym more), omega (arith, c.in_ok-group_at.ensures.run, c.loop-number.invariant.1))
+    c.in_ok-push.ensures.items ∙ rw (c.loop-number.invariant, c.group_at.ensures) (sym more)

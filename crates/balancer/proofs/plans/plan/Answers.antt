@@ -42,6 +42,3 @@ returns-clause-leaves_none c =
     made_none c.args.map.now.map c.in_ok-pool.pool (asked_aim c.args.request) c.args.request.pool c.args.request.limit c.in_ok-pool.ensures.1 c.holds_together.ensures b.frame.map.now.map b.frame.pool (aim_of b.frame.carried.now b.frame.apart) b.moves.items
     (c.in_ok-board.ensures.frame.map ∙ c.in_ok-frame.ensures.map) (c.in_ok-board.ensures.frame.pool ∙ c.in_ok-frame.ensures.pool) (c.in_ok-board.ensures.frame.aim ∙ c.in_ok-frame.ensures.aim) b.reached c.in_ok-items.items.items c.in_ok-items.ensures
     c.in_ok-change.change c.in_ok-change.ensures c.len.result (c.len.ensures ∙ b.moves.ok.0) (rw (c.in_ok-frame.ensures.map, c.in_ok-frame.ensures.pool, c.in_ok-frame.ensures.aim) at c.in_ok-board.ensures.done)
-
-pub returns-clause-runs : goal.returns-clause-runs
-returns-clause-runs c = rw (c.in_ok-pool.ensures.1, ← c.in_ok-frame.ensures.pool) c.in_ok-board.ensures.runs
