@@ -1,8 +1,7 @@
 //! The lines of a text, each with what it asks for.
 ghost use Rattle.std.specs.Prelude.{◌≡◌, ◌<◌, ◌∷◌, ◌++◌, length, position, IfSome, MatchOption};
-ghost use Rattle.std.specs.Option.{option_map};
-ghost use Rattle.session.specs.Readings.{IsPart, IsAsking};
-ghost use Rattle.session.specs.Sessions.{asking_text, text_from};
+ghost use Rattle.std.specs.Option.{option_map, option_map_or};
+ghost use Rattle.session.specs.Readings.{IsPart, IsAsking, whole_text};
 ghost use Rattle.session.specs.Commands.{is_newline, command_of, command_in};
 
 use crate::command::Command;
@@ -20,9 +19,9 @@ pub(crate) struct Line<'t> {
 
 /// The first line that ends in a text, and what stands behind its newline.
 #[derive(Clone, Copy)]
-struct Cut<'t> {
-    line: &'t [u8],
-    rest: &'t [u8],
+pub(crate) struct CutLine<'t> {
+    pub line: &'t [u8],
+    pub rest: &'t [u8],
 }
 
 /// The first line that ends in a text, read, and what stands behind its newline.
@@ -46,7 +45,7 @@ pub(crate) struct Asking<'t> {
 pub(crate) struct Left<'t> {
     pub text: &'t [u8],
     first: Option<FirstLine<'t>>,
-    ghost begins: { IfSome first (λ line. text.now ≡ text_from line) },
+    ghost begins: { option_map_or (λ f. whole_text f.line.text.now f.rest.now) first text.now ≡ text.now },
 }
 
 /// The place of the first newline.
@@ -58,12 +57,12 @@ fn newline(text: &[u8]) -> Option<usize>
 }
 
 /// The first line that ends in a text. `None` where no line ends in it.
-fn cut(text: &[u8]) -> Option<Cut<'_>>
+pub(crate) fn cut(text: &[u8]) -> Option<CutLine<'_>>
     ensures { MatchOption result (IsPart text.now)
         (λ found. IsPart found.line.now × (text.now ≡ found.line.now ++ 10 ∷ found.rest.now)) }
 {
     match newline(text) {
-        Some(end) => Some(Cut {
+        Some(end) => Some(CutLine {
             line: &text[..end],
             rest: &text[end + 1..],
         }),
@@ -83,10 +82,10 @@ pub(crate) fn read_line(text: &[u8]) -> Line<'_>
 
 /// Reads the first line that ends in a text. `None` where no line ends in it.
 pub(crate) fn read_first(text: &[u8]) -> Option<FirstLine<'_>>
-    ensures { MatchOption result (IsPart text.now) (λ first. text.now ≡ text_from first) }
+    ensures { MatchOption result (IsPart text.now) (λ f. text.now ≡ whole_text f.line.text.now f.rest.now) }
 {
     match cut(text) {
-        Some(Cut { line, rest }) => Some(FirstLine {
+        Some(CutLine { line, rest }) => Some(FirstLine {
             line: read_line(line),
             rest,
         }),
@@ -98,7 +97,8 @@ impl<'t> FirstLine<'t> {
     /// The line as one that asks a question. `None` where it asks none.
     pub(crate) fn asking(&self) -> Option<Asking<'t>>
         ensures asks { IfSome result (λ asking. IsAsking asking.line.now asking.question) }
-        ensures text { IfSome result (λ asking. asking_text asking ≡ text_from self.now) }
+        ensures text { IfSome result (λ asking. whole_text asking.line.now asking.rest.now
+            ≡ whole_text self.now.line.text.now self.now.rest.now) }
     {
         match self.line.command {
             Some(Command::Ask(question)) => Some(Asking {
@@ -121,7 +121,7 @@ impl<'t> Left<'t> {
 
     /// A text whose first line was read.
     pub(crate) fn with(text: &'t [u8], first: FirstLine<'t>) -> Left<'t>
-        requires { text.now ≡ text_from first }
+        requires { text.now ≡ whole_text first.line.text.now first.rest.now }
         ensures { result.text.now ≡ text.now }
     {
         Left {
@@ -132,7 +132,8 @@ impl<'t> Left<'t> {
 
     /// The first line that ends in it, read once. `None` where no line ends in it.
     pub(crate) fn first(&self) -> Option<FirstLine<'t>>
-        ensures { MatchOption result (IsPart self.now.text.now) (λ first. self.now.text.now ≡ text_from first) }
+        ensures { MatchOption result (IsPart self.now.text.now)
+            (λ f. self.now.text.now ≡ whole_text f.line.text.now f.rest.now) }
     {
         match self.first {
             Some(first) => Some(first),
