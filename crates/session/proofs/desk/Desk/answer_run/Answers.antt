@@ -53,7 +53,7 @@ returns-in_err-tell_answer-in-Err-clause-answers g c =
     let answered = answers_question basis from.seen now.seen line question answer c.requires.asks.1 asked refl own in
     let (cut, stopped, more) = told_line m from now line answer before after (Err error) (some_line line question c.requires.asks.1)
     (c.requires.shares.0 from.number) answered c.in_err-tell_answer-in-Err.ensures.out in
-    handed_on (AnswersLines m from now (line ++ 10 ∷ others) (λ rest. rest.now) before after) c.from_residual.result error c.from_residual.ensures.1
+    handed_on (AnswersLines m from now (line ++ 10 ∷ others) (λ left. left.text.now) before after) c.from_residual.result error c.from_residual.ensures.1
     (cut, halted_line m error from.number from.seen now.seen line others cut c.requires.asks.0 stopped, more)
 
 pub returns-clause-answers : goal.returns-clause-answers
@@ -84,7 +84,7 @@ returns-clause-answers g c =
           let same = same_sight shared c.give_back.new.member c.share.new.member w.answer_more-done.new.progress.follower w.answer_more-done.new.progress.follower
           c.give_back.ensures.pass c.give_back.ensures.own c.give_back.ensures.draws refl in
           rw (w.done-is, w.progress-is, w.sink-is, same)
-          (lines_more m from between to (line ++ 10 ∷ others) answer others before mid (g.W.Sink.written w.answer_more-done.new.sink) (λ rest. rest.now)
+          (lines_more m from between to (line ++ 10 ∷ others) answer others before mid (g.W.Sink.written w.answer_more-done.new.sink) (λ left. left.text.now)
           w.answer_more-done.result passed w.in-Ok-tell_answer.ensures.out w.answer_more-done.ensures.answers)
       | in-Err-tell_answer w ↦
           let same = same_sight shared c.give_back.new.member c.share.new.member c.args.progress.now.follower c.args.progress.now.follower c.give_back.ensures.pass c.give_back.ensures.own c.give_back.ensures.draws refl in
