@@ -97,8 +97,8 @@ impl<'t> FirstLine<'t> {
     /// The line as one that asks a question. `None` where it asks none.
     pub(crate) fn asking(&self) -> Option<Asking<'t>>
         ensures asks { IfSome result (λ asking. IsAsking asking.line.now asking.question) }
-        ensures text { IfSome result (λ asking. whole_text asking.line.now asking.rest.now
-            ≡ whole_text self.now.line.text.now self.now.rest.now) }
+        ensures line { IfSome result (λ asking. asking.line.now ≡ self.now.line.text.now) }
+        ensures rest { IfSome result (λ asking. asking.rest.now ≡ self.now.rest.now) }
     {
         match self.line.command {
             Some(Command::Ask(question)) => Some(Asking {

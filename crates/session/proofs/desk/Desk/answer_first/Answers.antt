@@ -14,8 +14,9 @@ returns-clause-answers g c =
     let others = c.args.first.rest.now in
     let (answer, taken, out) = c.in_ok-answer.ensures.answers in (
       answer,
-      subst (λ n. Passes m from.number from.seen (line ++ 10 ∷ others) answer (n + 1) now.seen others) (sym c.in_ok-answer.ensures.number)
-          (passes_line m from.number from.seen now.seen line others answer c.args.first.part taken),
+      subst (λ n. Passes m from.number from.seen (line ++ 10 ∷ others) answer (n + 1) now.seen c.of.result.text.now) (sym c.in_ok-answer.ensures.number)
+          (subst (λ r. Passes m from.number from.seen (line ++ 10 ∷ others) answer (from.number + 1) now.seen r) (sym c.of.ensures)
+          (passes_line m from.number from.seen now.seen line others answer c.args.first.part taken)),
       out,
     )
 

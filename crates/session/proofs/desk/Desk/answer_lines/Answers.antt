@@ -9,7 +9,8 @@ use Rattle.session.proofs.desk.Desk.answer_lines.Goals as goal
 
 pub loop-first-init : goal.loop-first-init
 loop-first-init g c =
-    let m = session_of c.args.self.now.monitor.now (g.G.Gate.lets c.args.self.now.gate.now) in (
+    let m = session_of c.args.self.now.monitor.now (g.G.Gate.lets c.args.self.now.gate.now) in
+    rw c.of-left.ensures (
       ([], passes_none m c.args.progress.now.number (sight_by c.args.member.now c.args.progress.now.follower) c.args.text.now, sym (append-nil _)),
       c.requires.session,
       c.requires.few,
@@ -67,7 +68,7 @@ returns-in_err-left-clause-answers g c =
     let (part, halted, on) = c.in_err-left.ensures.answers in
     let here : Halted m error between.number between.seen rest part to.seen =
     subst (λ t. Halted m error between.number between.seen t part to.seen) (sym c.in-Some.ensures) halted in
-    handed_on (AnswersLines m from to text (λ left. left.text.now) before after) c.from_residual-in_err-left.result error c.from_residual-in_err-left.ensures.1 (
+    handed_on (AnswersLines m from to text (λ rest. rest.now) before after) c.from_residual-in_err-left.result error c.from_residual-in_err-left.ensures.1 (
       put ++ part,
       halted_behind m error from.number between.number from.seen between.seen to.seen text put rest part passed here,
       on ∙ ap (λ o. o ++ part) (c.flush_if_full.ensures.same ∙ out) ∙ append_assoc before put part,
@@ -86,6 +87,6 @@ returns-in_err-flush_if_full-clause-answers g c =
     let P = λ (e : SessionError). (x : List ℕ) × Halted m e from.number from.seen text x between.seen × (after ≡ before ++ x) in
     let halted = halted_behind m Write from.number between.number from.seen between.seen between.seen text put rest []
     passed (halted_before m between.number between.seen rest) in
-    handed_on (AnswersLines m from between text (λ left. left.text.now) before after) c.from_residual.result c.in_err-flush_if_full.field-0.0
+    handed_on (AnswersLines m from between text (λ rest. rest.now) before after) c.from_residual.result c.in_err-flush_if_full.field-0.0
     c.from_residual.ensures.1 (subst P (sym c.in_err-flush_if_full.ensures.write)
     (put ++ [], halted, c.flush_if_full.ensures.same ∙ out ∙ ap (λ o. before ++ o) (sym (append-nil put))))

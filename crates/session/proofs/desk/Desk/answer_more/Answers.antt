@@ -36,18 +36,19 @@ loop-room-preserved g c =
     let sight = sight_in c.args.hold.shared.now c.args.hold.member.now c.args.progress.now.follower in
     let next = c.loop-room.progress.number in
     let (put, passed, out) = c.loop-room.invariant.0 in
-    let line = c.in-Some.asking.line.now in
-    let others = c.in-Some.asking.rest.now in
-    let question = c.in-Some.asking.question in
-    let (part, is) = c.asking-in-Some.ensures.asks in
+    let line = c.in-Some-asking.asking.line.now in
+    let others = c.in-Some-asking.asking.rest.now in
+    let question = c.in-Some-asking.asking.question in
+    let (part, is) = c.in-Some-asking.ensures.asks in
+    let whole : c.loop-room.rest.now ≡ line ++ 10 ∷ others = rw (c.in-Some-asking.ensures.line, c.in-Some-asking.ensures.rest) c.in-Some.ensures in
     let answer = line_of (answer_text Monitor) c.answer-found.result in
     let asked = asks_shared basis sight.member question c.answer-found.result c.requires.shared.lawful c.answer-found.ensures.finds c.answer-found.ensures.unspent in
     let own = own_same basis.alone c.args.hold.member.now.pass c.args.hold.member.now.pass answer (λ is. refl) in
     let answered : IsAnswered basis sight line answer sight = answers_question basis sight sight line question answer is asked refl own in
     let taken = takes_question basis (g.G.Gate.lets c.args.self.now.gate.now) next sight sight line question answer c.requires.shares.0 is answered in
     let here : Passes m next sight c.loop-room.rest.now answer (next + 1) sight others =
-    subst (λ t. Passes m next sight t answer (next + 1) sight others) (sym c.in-Some.ensures.text) (passes_line m next sight sight line others answer part taken) in
-    let lens : length c.loop-room.rest.now ≡ length line + suc (length others) = ap length c.in-Some.ensures.text ∙ length-append line (10 ∷ others) in (
+    subst (λ t. Passes m next sight t answer (next + 1) sight others) (sym whole) (passes_line m next sight sight line others answer part taken) in
+    let lens : length c.loop-room.rest.now ≡ length line + suc (length others) = ap length whole ∙ length-append line (10 ∷ others) in (
       (
         put ++ answer,
         passes_more m number next (next + 1) sight sight sight c.args.text.now put c.loop-room.rest.now answer others passed here,
@@ -68,10 +69,11 @@ returns-in_err-tell_answer-clause-answers g c =
     let sight = sight_in c.args.hold.shared.now c.args.hold.member.now c.args.progress.now.follower in
     let next = c.loop-room.progress.number in
     let (put, passed, out) = c.loop-room.invariant.0 in
-    let line = c.in-Some.asking.line.now in
-    let others = c.in-Some.asking.rest.now in
-    let question = c.in-Some.asking.question in
-    let (part, is) = c.asking-in-Some.ensures.asks in
+    let line = c.in-Some-asking.asking.line.now in
+    let others = c.in-Some-asking.asking.rest.now in
+    let question = c.in-Some-asking.asking.question in
+    let (part, is) = c.in-Some-asking.ensures.asks in
+    let whole : c.loop-room.rest.now ≡ line ++ 10 ∷ others = rw (c.in-Some-asking.ensures.line, c.in-Some-asking.ensures.rest) c.in-Some.ensures in
     let answer = line_of (answer_text Monitor) c.answer-found.result in
     let asked = asks_shared basis sight.member question c.answer-found.result c.requires.shared.lawful c.answer-found.ensures.finds c.answer-found.ensures.unspent in
     let own = own_same basis.alone c.args.hold.member.now.pass c.args.hold.member.now.pass answer (λ is. refl) in
@@ -82,7 +84,7 @@ returns-in_err-tell_answer-clause-answers g c =
     let (cut, stopped, more) = told_line m (record { number = next; seen = sight }) (record { number = next; seen = sight }) line answer
     (g.W.Sink.written c.loop-room.sink) after (Err error) (some_line line question is) (c.requires.shares.0 next) answered c.in_err-tell_answer.ensures.out in
     let here : Halted m error next sight c.loop-room.rest.now cut sight =
-    subst (λ t. Halted m error next sight t cut sight) (sym c.in-Some.ensures.text) (halted_line m error next sight sight line others cut part stopped) in
+    subst (λ t. Halted m error next sight t cut sight) (sym whole) (halted_line m error next sight sight line others cut part stopped) in
     rw c.loop-room.invariant.3
     (handed_on (AnswersLines m (stand_in c.args.hold.shared.now c.args.hold.member.now c.args.progress.now) (record { number = next; seen = sight }) c.args.text.now (λ left. left.text.now) before after)
     c.from_residual.result error c.from_residual.ensures.1 (

@@ -1,10 +1,10 @@
-use Rattle.std.proofs.Common.{Bool, List, ◌+◌, ◌++◌, ◌∷◌, Err, refl, ap, arith}
+use Rattle.std.proofs.Common.{Bool, List, ◌+◌, ◌++◌, ◌∷◌, Err, refl, sym, ap, subst, arith}
 use Rattle.std.specs.declared.vec.Vec.{Vec}
 use Rattle.std.specs.declared.alloc.Global.{Global}
 use Rattle.monitor.specs.Members.{draws_made}
 use Rattle.session.specs.declared.reply.Speaker.TheVariants.{Monitor}
 use Rattle.session.specs.Answers.{Sight}
-use Rattle.session.specs.Readings.{AnswersLines, Stand}
+use Rattle.session.specs.Readings.{AnswersLines, Passes, Stand}
 use Rattle.session.specs.Replies.{answer_text}
 use Rattle.session.specs.Sessions.{sight_by, session_of, basis_of, stand, stand_in}
 use Rattle.session.specs.Texts.{line_of, refusal_text}
@@ -32,7 +32,9 @@ returns-in-Err-clause-answers g c =
     c.in-Err.ensures.turn.spent.1 (ap draws_made c.in-Err.ensures.turn.spent.2) (ap own_of c.share.ensures.turn.own) in
     let answered = answers_question basis before now line question answer c.requires.asks.1 asked refl own in
     let taken = takes_question basis (g.G.Gate.lets c.args.self.now.gate.now) number before now line question answer c.requires.shares.0 c.requires.asks.1 answered in
-    (answer, passes_line m number before now line c.args.asking.rest.now answer c.requires.asks.0 taken, c.in_ok-tell_answer-in-Err.ensures.out)
+    let others = c.args.asking.rest.now in
+    let passed = passes_line m number before now line others answer c.requires.asks.0 taken in
+    (answer, subst (λ r. Passes m number before (line ++ 10 ∷ others) answer (number + 1) now r) (sym c.of.ensures) passed, c.in_ok-tell_answer-in-Err.ensures.out)
 
 pub returns-in_err-tell_answer-in-Err-clause-answers : goal.returns-in_err-tell_answer-in-Err-clause-answers
 returns-in_err-tell_answer-in-Err-clause-answers g c =
