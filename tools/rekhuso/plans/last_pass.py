@@ -100,6 +100,14 @@ class LastPass:
             self.kept[key] = own.leaving(osd)
         return self.kept[key]
 
+    def emptier(self, own: PoolPlaces, full: int) -> list[int]:
+        """The OSDs emptier than another in place of which the rule of a pool might have chosen them, failure domains
+        aside.
+        """
+        block, shares = own.block_of(full), self.laid[own.number].shares
+        beside = [osd for osd in self.ranked if osd in shares and block is not None and block.is_beside(full, osd)]
+        return [osd for osd in beside if self.full.ratio(osd) < self.full.ratio(full)]
+
     def near(self, own: PoolPlaces, full: int, few: int) -> list[int]:
         """The emptiest OSDs to which groups of a pool may go from an OSD."""
         block, ratio, shares = own.block_of(full), self.full.ratio(full), self.laid[own.number].shares
