@@ -15,7 +15,8 @@ from tests.packaged import ran
 TOOLS, BENCH = TOP / "tools", TOP / "bench"
 # Without the cache of another run types take long.
 SECONDS = 300
-FILES = [*sorted((TOOLS / "rekhuso").rglob("*.py")), *sorted(HERE.glob("*.py")), *sorted(BENCH.glob("*.py"))]
+OWN = [*sorted(TOOLS.glob("*.py")), *sorted((TOOLS / "rekhuso").rglob("*.py"))]
+FILES = [*OWN, *sorted(HERE.glob("*.py")), *sorted(BENCH.glob("*.py"))]
 
 
 def has_black() -> bool:
@@ -32,7 +33,7 @@ class PythonFiles(Case):
         self.needs("mypy", shutil.which("mypy") is not None)
         with tempfile.TemporaryDirectory() as folder:
             words = ["env", f"MYPYPATH={TOP}:{TOOLS}", "mypy", "--strict", "--cache-dir", folder]
-            for name, files in (("tools", [TOOLS / "rekhuso"]), ("tests", [HERE]), ("bench", BENCH.glob("*.py"))):
+            for name, files in (("tools", OWN), ("tests", [HERE]), ("bench", sorted(BENCH.glob("*.py")))):
                 with self.subTest(name=name):
                     status, told = ran([*words, *files], seconds=SECONDS)
                     self.assertEqual(status, 0, told[-600:])

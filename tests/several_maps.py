@@ -4,6 +4,7 @@ What a command tells of groups is compared with Ceph's up sets.
 """
 
 import json
+import pathlib
 import xml.etree.ElementTree
 
 from tests.clusters import NOBODY, STOCK, ceph_set, commands, copied, with_commands
@@ -60,6 +61,26 @@ class SeveralMaps(StockCase):
                 )
                 lines = self.output("df", *self.dumps(name)).splitlines()
                 self.assertEqual(len(lines), 1 + len(rows) + 1 + len(told["pools"]) + 2, (name, lines))
+
+    def test_many_pools(self) -> None:
+        """Pools beyond those of one map are in a further one, which is that of these pools alone; each is told once."""
+        name, folder = "001-three-hosts", self.tools.folder / "many"
+        own = copied(STOCK[name])
+        pools = own["osd_dump"]["pools"]
+        last = pools[-1]
+        pools += [
+            dict(last, pool=at, pool_name=f"p{at}", pg_num=1, pg_placement_num=1)
+            for at in range(last["pool"] + 1, 256 + len(pools))
+        ]
+        dumps, second = self.dumps("many", own), [pool["pool"] for pool in pools[256:]]
+        paths = self.output("import", *dumps, "--out", folder).splitlines()
+        maps = [json.loads(pathlib.Path(path).read_text()) for path in paths]
+        self.assertEqual([[pool["id"] for pool in own["pools"]] for own in maps][1], second, paths)
+        self.assertEqual(json.loads(self.output("import", *dumps, "--pools", ",".join(map(str, second)))), maps[1])
+        told = self.json("df", *dumps)
+        self.assertEqual([pool["id"] for pool in told["pools"]], [pool["pool"] for pool in pools])
+        more = len(pools) - len(STOCK[name]["osd_dump"]["pools"])
+        self.assertEqual(told["summary"]["pgs"], sum(counts(name).values()) + more * last["size"])
 
     def test_shares_under_a_weight_set(self) -> None:
         """Under a weight set the shares go by the weights themselves, no plan is made, and it is told what to do."""

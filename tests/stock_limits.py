@@ -244,15 +244,19 @@ class StockLimits(DumpCase):
                 self.assertTrue(
                     told or json.loads(self.output("import", *self.dumps("wide", own)))["pools"][1]["pg_num"] == groups
                 )
-        own, many = copied(STOCK["001-three-hosts"]), "no map holds so many; --pools takes some pools at a time"
+        own = copied(STOCK["001-three-hosts"])
         pools = [
             dict(own["osd_dump"]["pools"][1], pool=at, pool_name=f"p{at}", pg_num=65536, pg_placement_num=65536)
             for at in range(2, 18)
         ]
         own["osd_dump"]["pools"][1:] = pools
+        each = " and ".join(f"--pools {pools}" for pools in (",".join(map(str, range(1, 17))), "17"))
         self.assertEqual(
             self.refused(own),
-            [f"pools 1, 2, 3, 4, 5, 6, 7, 8 and 9 more have 1048577 groups together, more than 1048576: {many}"],
+            [
+                "its pools have 1048577 groups together, more than 1048576; it takes 2 maps: --out FOLDER writes all, "
+                f"{each} one each"
+            ],
         )
         self.assertEqual(
             json.loads(self.output("import", *self.dumps("wide", own), "--pools", "2,3,4,5"))["pools"][3]["pg_num"],
@@ -267,7 +271,11 @@ class StockLimits(DumpCase):
                 )
         for count, straw2, told in (
             (256, True, ""),
-            (257, True, f"257 pools, more than 256: {many}"),
+            (
+                257,
+                True,
+                "257 pools, more than 256; it takes 2 maps: --out FOLDER writes all, which have 256 and 1 pools",
+            ),
             (32, False, ""),
             (
                 33,
@@ -308,8 +316,8 @@ class StockLimits(DumpCase):
             ),
             ([{}, *(dict(pool=at) for at in range(5, 36))], ""),
             (
-                [{}, *(dict(pool=at) for at in range(5, 37))],
-                f"33 pools, more than 32: {more} takes some pools at a time",
+                [dict(pg_num=8192, pg_placement_num=8192), *(dict(pool=at) for at in range(5, 37))],
+                f"pool 1 has 8192 groups, more than 4096: {more} 2,3,4,36 takes the pools that come in",
             ),
         ]
         for changes, told in cases:
@@ -323,7 +331,7 @@ class StockLimits(DumpCase):
                 for bucket in own["crush_dump"]["buckets"]:
                     bucket["alg"] = "straw2" if "~" in bucket["name"] else "list"
                 files, end = self.dumps("mixed", own), "the cluster stays out, for 1 reason\n"
-                numbers = ",".join(str(change.get("pool", 1)) for change in changes)
+                numbers = ",".join(str(change.get("pool", 1)) for change in changes[:32])
                 told = told and f"the map of the pools {numbers} has no straw2 bucket: {told}\n"
                 for words, wanted in (
                     (["import", *files, "--check"], told + end if told else ""),
@@ -337,4 +345,4 @@ class StockLimits(DumpCase):
                     self.has_ceph_sets(name, [value], {2, 3, 4})
                     lines = self.refused(own)
                     self.assertIn(told.strip(), lines)
-                    self.assertTrue(any("it takes 2 maps: " in line for line in lines), lines)
+                    self.assertTrue(any(f"it takes {2 + len(changes) // 33} maps: " in line for line in lines), lines)

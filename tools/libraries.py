@@ -7,12 +7,15 @@ A crate uses a library where a path of its `.rt` files begins with its name, or 
 and its name.
 """
 
+from __future__ import annotations
+
+from collections.abc import Iterator
 import pathlib
 import re
 import sys
 
 
-def named(root):
+def named(root: pathlib.Path) -> Iterator[tuple[str, list[str]]]:
     """Each crate with the libraries that crates.txt names for it."""
     for line in (root / "crates.txt").read_text().splitlines():
         head, colon, tail = line.split("#")[0].partition(":")
@@ -20,9 +23,9 @@ def named(root):
             yield head.split()[0], tail.split()
 
 
-def paths_in(crate):
+def paths_in(crate: pathlib.Path) -> set[str]:
     """The first words of all paths in a crate's text."""
-    found = set()
+    found: set[str] = set()
     for file in [*crate.rglob("*.rt"), *crate.rglob("*.antt")]:
         if "out" not in file.relative_to(crate).parts:
             text = file.read_text()
@@ -31,7 +34,7 @@ def paths_in(crate):
     return found
 
 
-def main():
+def main() -> int:
     root = pathlib.Path(sys.argv[1] if len(sys.argv) > 1 else pathlib.Path(__file__).parent.parent)
     vain = [
         (crate, library)

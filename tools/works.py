@@ -10,6 +10,9 @@ elsewhere, and no contract could tell. So each of these is made in the files tha
 in no other.
 """
 
+from __future__ import annotations
+
+from collections.abc import Iterator
 import pathlib
 import re
 import sys
@@ -24,7 +27,7 @@ FOLLOWERS = {
     "library_example/src/main.rt": "a follower as the library has them",
 }
 # What makes something, by its name, and where that may be: another name of a work (`type Room = Work`) nowhere.
-MAKERS = {
+MAKERS: dict[str, tuple[str, dict[str, str]]] = {
     "Work": (r"\bWork>?\s*::\s*new\b|\bWork\s+as\b", WORKS),
     "another name of Work": (r"\btype\s+\w+\s*=[^;]*\bWork\b", {}),
     "State": (r"\bState>?\s*::\s*new\b|\bState\s+as\b|\btype\s+\w+\s*=[^;]*\bState\b", STATES),
@@ -32,13 +35,13 @@ MAKERS = {
 }
 
 
-def code_of(file):
+def code_of(file: pathlib.Path) -> str:
     """The text of a file without comments and without its tests."""
     text = re.sub(r"//.*", "", file.read_text())
     return re.split(r"^\s*#\[cfg\(test\)\]|^\s*#\[test\]", text, maxsplit=1, flags=re.MULTILINE)[0]
 
 
-def makers(root):
+def makers(root: pathlib.Path) -> Iterator[tuple[str, str, bool]]:
     """What is made in each file of a crate above crush, where it may be, and how often."""
     for file in sorted((root / "crates").glob("*/src/**/*.rt")):
         place = file.relative_to(root / "crates").as_posix()
@@ -49,7 +52,7 @@ def makers(root):
                     yield place, what, place in allowed and times == 1
 
 
-def main():
+def main() -> int:
     root = pathlib.Path(sys.argv[1] if len(sys.argv) > 1 else pathlib.Path(__file__).parent.parent)
     found = list(makers(root))
     wrong = [(place, what) for place, what, may_be in found if not may_be]

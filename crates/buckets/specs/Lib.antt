@@ -7,6 +7,7 @@ pub mod Listed
 pub mod Tree
 pub mod Walks
 pub mod Logarithm
+pub mod Shortfalls
 pub mod Straw2
 pub mod Straws
 pub mod Pick

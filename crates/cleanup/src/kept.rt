@@ -162,7 +162,8 @@ impl Judge<'_> {
 
     /// Whether a group's explicit set serves, where it has one.
     fn has_good_set(&self, raw: &UpSet, pg: Pg) -> bool
-        ensures { result ≡ option_map_or (serves self.now.pool raw.now) (said_of self.now.map.now.map.explicit pg) true }
+        ensures { result
+            ≡ option_map_or (serves self.now.pool raw.now) (said_of self.now.map.now.map.explicit pg) true }
     {
         match self.map.explicit(pg) {
             None => true,

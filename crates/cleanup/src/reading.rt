@@ -123,7 +123,8 @@ impl Reading<'_> {
 
     /// Whether one of some places stands below a bucket.
     fn meets(&self, level: u8, own: Option<i32>, others: &[Option<u16>]) -> bool
-        ensures { result ≡ list_any (λ other. is_same own (holder self.now.forest.now self.now.steps.now level other)) others.now }
+        ensures { result
+            ≡ list_any (λ other. is_same own (holder self.now.forest.now self.now.steps.now level other)) others.now }
     {
         others
             .iter()
@@ -200,7 +201,8 @@ impl Reading<'_> {
         steps: &[Step],
     ) -> bool
         requires { room ≤ max_size }
-        ensures { result ≡ reads self.now.forest.now self.now.steps.now self.now.size places.now top room rest.now steps.now }
+        ensures { result
+            ≡ reads self.now.forest.now self.now.steps.now self.now.size places.now top room rest.now steps.now }
     {
         match steps {
             [] => true,

@@ -207,7 +207,8 @@ impl Placement<'_> {
         requires few { size ≤ max_size }
         ensures placed { OnOk result (work.new.result ≡ run_of (world self.now) steps.now size) }
         ensures counted { OnOk result (work.new.runs ≡ min (work.old.runs + 1) (2 ^ 64 - 1)) }
-        ensures chosen { OnOk result (work.new.choose_steps ≡ min (work.old.choose_steps + count_choose steps.now) (2 ^ 64 - 1)) }
+        ensures chosen { OnOk result (work.new.choose_steps
+            ≡ min (work.old.choose_steps + count_choose steps.now) (2 ^ 64 - 1)) }
         ensures uncounted { OnErr result (work.new.runs ≡ work.old.runs) }
     {
         let _count = work.lists.choose_steps;
@@ -239,7 +240,8 @@ impl Rule {
         requires few { size ≤ max_size }
         ensures placed { OnOk result (work.new.result ≡ run_of (world placement.now) self.now.steps size) }
         ensures counted { OnOk result (work.new.runs ≡ min (work.old.runs + 1) (2 ^ 64 - 1)) }
-        ensures chosen { OnOk result (work.new.choose_steps ≡ min (work.old.choose_steps + count_choose self.now.steps) (2 ^ 64 - 1)) }
+        ensures chosen { OnOk result (work.new.choose_steps
+            ≡ min (work.old.choose_steps + count_choose self.now.steps) (2 ^ 64 - 1)) }
         ensures uncounted { OnErr result (work.new.runs ≡ work.old.runs) }
     {
         Ok(placement.steps(self.steps(), size, work)?)

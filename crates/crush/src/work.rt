@@ -31,7 +31,8 @@ pub(crate) struct Lists {
 /// `choose_total_tries`), and one for a leaf (`chooseleaf_descend_once`).
 pub(crate) const FIRST_TRIES: Tries = Tries { total: 51, leaf: 1 };
 
-/// What the last run left, the numbers of runs and of choose steps, and the room that runs work in. It serves any forest.
+/// What the last run left, the numbers of runs and of choose steps, and the room that runs work in. It serves any
+/// forest.
 #[derive(Debug, Drop)]
 pub struct Work {
     pub(crate) lists: Lists,

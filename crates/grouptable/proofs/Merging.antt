@@ -79,5 +79,6 @@ unremoved m r n g at s found f =
 pub with_rises : (g : ℕ) (t u : List ℕ) → AreRisingKeys t → u ≡ with_key g t → AreRisingKeys u
 with_rises g t u s e = subst AreRisingKeys (sym e) (rising_with_key g t s)
 
+-- lists without a key of a rising one rise
 pub without_rises : (g : ℕ) (t u : List ℕ) → AreRisingKeys t → u ≡ without_key g t → AreRisingKeys u
 without_rises g t u s e = subst AreRisingKeys (sym e) (rising_filter _ t s)

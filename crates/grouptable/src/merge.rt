@@ -53,7 +53,7 @@ impl<'a> Merge<'a> {
         alloc: Global,
         index: &'a IndexMap<u32, GroupList>,
         osd: u32,
-        group: u32,
+        group: u16,
     ) -> Result<(), AllocError>
         requires within { osd < max_devices }
         ensures lists { OnOk result (IsRedrawn (λ k groups. cond (osd == k) (with_key group groups) groups)
@@ -74,7 +74,7 @@ impl<'a> Merge<'a> {
         alloc: Global,
         index: &'a IndexMap<u32, GroupList>,
         osd: u32,
-        group: u32,
+        group: u16,
     ) -> Result<(), AllocError>
         requires within { osd < max_devices }
         ensures lists { OnOk result (IsRedrawn (λ k groups. cond (osd == k) (without_key group groups) groups)

@@ -14,7 +14,7 @@ pub struct OpenList<'a> {
     /// The groups up to the last change.
     merged: GroupList,
     /// What the old list has behind them.
-    rest: &'a [u32],
+    rest: &'a [u16],
 }
 
 impl<'a> Model for OpenList<'a> {
@@ -51,7 +51,7 @@ impl<'a> OpenList<'a> {
     }
 
     /// The list with the group in its place.
-    pub fn add(&mut self, group: u32) -> Result<(), AllocError>
+    pub fn add(&mut self, group: u16) -> Result<(), AllocError>
         ensures { OnOk result (self.new ≡ with_key group self.old) }
     {
         if let Err(at) = self.rest.binary_search(&group) {
@@ -63,7 +63,7 @@ impl<'a> OpenList<'a> {
     }
 
     /// The list without the group.
-    pub fn remove(&mut self, group: u32) -> Result<(), AllocError>
+    pub fn remove(&mut self, group: u16) -> Result<(), AllocError>
         ensures { OnOk result (self.new ≡ without_key group self.old) }
     {
         match self.rest.binary_search(&group) {

@@ -41,13 +41,14 @@ impl<K: Keeps + Drop> Keeper<K> {
     ///
     /// # Errors
     ///
-    /// `Memory` (30) where memory is short and the store is as it was; else `NotStored` (35) where the store does not take
-    /// it, or has failed before. A crash may then still leave it.
+    /// `Memory` (30) where memory is short and the store is as it was; else `NotStored` (35) where the store does not
+    /// take it, or has failed before. A crash may then still leave it.
     pub fn keep(&mut self, step: &Incremental) -> Result<(), Refusal>
         ensures kept { OnOk result ((self.old.has_failed ≡ false) × (self.new.has_failed ≡ false)
             × ((j : Journal) → IsKeptBy K.holds K.may_leave K.may_fail self.old j
             → IsKeptBy K.holds K.may_leave K.may_fail self.new (with_step j step.now))) }
-        ensures failed { IfErr result (λ e. ((e ≡ Memory) × (self.old.has_failed ≡ false) × (self.new.has_failed ≡ false))
+        ensures failed { IfErr result (λ e.
+            ((e ≡ Memory) × (self.old.has_failed ≡ false) × (self.new.has_failed ≡ false))
             ⊎ ((e ≡ NotStored) × (self.new.has_failed ≡ true))) }
         ensures same { OnErr result ((j : Journal) → IsKeptBy K.holds K.may_leave K.may_fail self.old j
             → IsKeptBy K.holds K.may_leave K.may_fail self.new j) }

@@ -1,6 +1,6 @@
 //! Lists with keys changed where they stand, in the room that they have.
 
-ghost use Rattle.std.specs.Prelude.{◌≡◌, ◌+◌, ◌≤◌, ◌<◌, [], ℕ, not, cond, take, length, slice_index_or, slice_set, vec_len, vec_capacity, MatchOption};
+ghost use Rattle.std.specs.Prelude.{◌≡◌, ◌+◌, ◌≤◌, ◌<◌, [], ◌∷◌, ℕ, true, false, not, cond, take, length, slice_index_or, slice_set, vec_len, vec_capacity, MatchOption};
 ghost use Rattle.std.specs.List.{fold, filter};
 ghost use Rattle.std.specs.List.Sorted.{IsNonDecreasingBy};
 ghost use Rattle.keylist.specs.Keys.{has_key};
@@ -51,13 +51,38 @@ fn count_below<K: Keyed>(list: &[K], key: u64) -> usize
     requires { IsNonDecreasingBy K.key_of list.now }
     ensures within { result ≤ length list.now }
     ensures below { (k : ℕ) (d : K) → k < result → K.key_of (slice_index_or list.now k d) < key }
+    ensures above { (k : ℕ) (d : K)
+        → result ≤ k → k < length list.now → key ≤ K.key_of (slice_index_or list.now k d) }
 {
     list.partition_point(|entry| entry.key() < key)
 }
 
+/// Whether an entry stands at a place that has a key.
+fn has_at<K: Keyed>(list: &[K], at: usize, key: u64) -> bool
+    ensures inside { result ≡ true → at < length list.now }
+    ensures there { (d : K) → result ≡ true → K.key_of (slice_index_or list.now at d) ≡ key }
+    ensures other { (d : K)
+        → result ≡ false → at < length list.now → K.key_of (slice_index_or list.now at d) ≡ key → ⊥ }
+{
+    at < list.len() && list[at].key() == key
+}
+
+/// Takes away the entry with a key, if there is one: all that stand behind it move at once.
+fn take_one<K: Keyed + Copy>(list: &mut Vec<K>, key: u64)
+    requires { IsRising K.key_of list.old.items }
+    ensures items { list.new.items ≡ filter (λ e. not (has_key (λ k. k) (key ∷ []) (K.key_of e))) list.old.items }
+    ensures fewer { vec_len list.new ≤ vec_len list.old }
+    ensures room { vec_capacity list.new ≡ vec_capacity list.old }
+{
+    let at = count_below(list, key);
+    if has_at(list, at, key) {
+        list.remove(at);
+    }
+}
+
 /// Takes away the entries whose keys others have, these in ascending order; one walk over the two, from the first that
-/// can go on. Where none has such a key nothing is walked over, and it takes no memory.
-pub fn take_away<K: Keyed + Copy, G: Keyed>(list: &mut Vec<K>, gone: &[G])
+/// can go on. Where none has such a key nothing is walked over.
+fn take_many<K: Keyed + Copy, G: Keyed>(list: &mut Vec<K>, gone: &[G])
     requires list { IsRising K.key_of list.old.items }
     requires gone { IsNonDecreasingBy G.key_of gone.now }
     ensures items { list.new.items ≡ filter (λ e. not (has_key G.key_of gone.now (K.key_of e))) list.old.items }
@@ -79,6 +104,20 @@ pub fn take_away<K: Keyed + Copy, G: Keyed>(list: &mut Vec<K>, gone: &[G])
         kept = keep(list, kept, entry, begins_at(rest, entry.key()));
     }
     list.truncate(kept);
+}
+
+/// Takes away the entries whose keys others have, these in ascending order. It takes no memory.
+pub fn take_away<K: Keyed + Copy, G: Keyed>(list: &mut Vec<K>, gone: &[G])
+    requires list { IsRising K.key_of list.old.items }
+    requires gone { IsNonDecreasingBy G.key_of gone.now }
+    ensures items { list.new.items ≡ filter (λ e. not (has_key G.key_of gone.now (K.key_of e))) list.old.items }
+    ensures fewer { vec_len list.new ≤ vec_len list.old }
+    ensures room { vec_capacity list.new ≡ vec_capacity list.old }
+{
+    match gone {
+        [only] => take_one(list, only.key()),
+        _ => take_many(list, gone),
+    }
 }
 
 /// What comes last of two lists with rising keys made one, an entry of `new` in place of one of `old` with its key; how
@@ -112,10 +151,29 @@ fn lengthen<K: Keyed + Copy>(list: &mut Vec<K>, len: usize, entry: K)
     }
 }
 
-/// Puts the entries of a list with rising keys into another, each in place of one with its key. It takes no memory, as
-/// there is room, and moves only what stands behind a key that comes: where no key comes, each entry is put where the
-/// one with its key stands, which is found by halving.
-pub fn put_all<K: Keyed + Copy>(list: &mut Vec<K>, new: &[K])
+/// Puts an entry in place of the one with its key, or, where there is none, before all with greater keys, which move at
+/// once, as there is room.
+fn put_one<K: Keyed + Copy>(list: &mut Vec<K>, entry: K)
+    requires rising { IsRising K.key_of list.old.items }
+    requires room { vec_len list.old < vec_capacity list.old }
+    ensures items { list.new.items ≡ put K.key_of list.old.items entry }
+    ensures room { vec_capacity list.new ≡ vec_capacity list.old }
+{
+    let at = count_below(list, entry.key());
+    if has_at(list, at, entry.key()) {
+        list[at] = entry;
+        return;
+    }
+    match list.insert(at, entry) {
+        Ok(()) => (),
+        Err(_) => unreachable!(),
+    }
+}
+
+/// Puts the entries of a list with rising keys into another, each in place of one with its key. It moves only what
+/// stands behind a key that comes: where no key comes, each entry is put where the one with its key stands, which is
+/// found by halving.
+fn put_many<K: Keyed + Copy>(list: &mut Vec<K>, new: &[K])
     requires old { IsRising K.key_of list.old.items }
     requires new { IsRising K.key_of new.now }
     requires room { vec_len list.old + length new.now ≤ vec_capacity list.old }
@@ -138,4 +196,19 @@ pub fn put_all<K: Keyed + Copy>(list: &mut Vec<K>, new: &[K])
         (olds, news) = (last.1, last.2);
     }
     replace_all(list, olds, news);
+}
+
+/// Puts the entries of a list with rising keys into another, each in place of one with its key. It takes no memory, as
+/// there is room.
+pub fn put_all<K: Keyed + Copy>(list: &mut Vec<K>, new: &[K])
+    requires old { IsRising K.key_of list.old.items }
+    requires new { IsRising K.key_of new.now }
+    requires room { vec_len list.old + length new.now ≤ vec_capacity list.old }
+    ensures items { list.new.items ≡ fold (put K.key_of) list.old.items new.now }
+    ensures room { vec_capacity list.new ≡ vec_capacity list.old }
+{
+    match new {
+        [only] => put_one(list, *only),
+        _ => put_many(list, new),
+    }
 }

@@ -30,7 +30,7 @@ use Rattle.grouptable.specs.Tables.{IsPatchFor}
 use Rattle.pgtable.specs.declared.patch.KeptTable.{KeptTable}
 use Rattle.pgtable.specs.Patches.{LeadsFrom, KeepsPool, LeadGroups, concerned_numbers, changes_of, evals_in}
 use Rattle.pgtable.proofs.Shows.{find_map}
-use Rattle.pgtable.proofs.Carrying.{same_lists}
+use Rattle.pgtable.proofs.KeptTables.{same_lists}
 
 -- ---- places
 

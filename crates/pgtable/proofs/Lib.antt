@@ -1,11 +1,11 @@
 pub mod Found
 pub mod Shows
 pub mod Touched
-pub mod Carrying
+pub mod KeptTables
 pub mod Keeping
 pub mod Making
 pub mod Concerning
 pub mod Slicing
 pub mod States
-pub mod ToldBefore
+pub mod ChangedSets
 pub mod PatchedInPlace

@@ -14,11 +14,11 @@ use Rattle.maptypes.specs.declared.change.ChangeParts.{ChangeParts}
 use Rattle.maptypes.specs.Pools.{PoolFacts}
 use Rattle.osdmap.specs.Maps.{ClusterMap, pool_at, HoldsTogether}
 use Rattle.osdmap.specs.Evals.{evals_of}
-use Rattle.pgtable.proofs.ToldBefore.{LeavesRawSets, pools_stay}
+use Rattle.pgtable.proofs.ChangedSets.{LeavesRawSets, pools_stay}
 use Rattle.pgtable.specs.declared.pool_table.PoolTable.{PoolTable}
 use Rattle.pgtable.specs.Tables.{TableFacts, pool_table, tables_of, IsTableOf}
 use Rattle.pgtable.specs.Patches.{changed_map, LeadGroups, FitGroups, evals_in, with_patch}
-use Rattle.pgtable.proofs.Carrying.{same_lists, get_set_other, get_set_same, long_zip, get_zip}
+use Rattle.pgtable.proofs.KeptTables.{same_lists, get_set_other, get_set_same, long_zip, get_zip}
 use Rattle.pgtable.proofs.Found.{found_at}
 use Rattle.pgtable.proofs.Making.{element, get_before, get_behind, get_past, evals_whole}
 

@@ -13,7 +13,7 @@ use Rattle.osdmap.specs.Maps.{ClusterMap, osd_is_up}
 use Rattle.osdmap.specs.Changes.{apply, with_up}
 use Rattle.pgtable.specs.Tables.{ups_of}
 use Rattle.pgtable.specs.Patches.{changed_map, with_ups, ups_after}
-use Rattle.pgtable.proofs.Carrying.{same_lists}
+use Rattle.pgtable.proofs.KeptTables.{same_lists}
 
 -- who is up, by what is known of each
 ups_are : (m : ClusterMap) → ups_of m ≡ map (λ p. p.up) m.presences

@@ -20,8 +20,8 @@ use Rattle.osdmap.specs.Changes.{change_fault, apply}
 use Rattle.pgtable.specs.declared.pool_table.PoolTable.{PoolTable}
 use Rattle.pgtable.specs.declared.patch.KeptTable.{KeptTable}
 use Rattle.pgtable.specs.declared.patch.NewTables.{NewTables}
-use Rattle.pgtable.specs.declared.patch.Brought.{Brought}
-use Rattle.pgtable.specs.declared.patch.Brought.TheVariants.{Groups, Pools}
+use Rattle.pgtable.specs.declared.patch.TablePatch.{TablePatch}
+use Rattle.pgtable.specs.declared.patch.TablePatch.TheVariants.{Groups, Pools}
 use Rattle.pgtable.specs.declared.patch.Patch.{Patch}
 use Rattle.pgtable.specs.Tables.{TableFacts, pool_table, tables_of, IsTableOf}
 
@@ -50,12 +50,12 @@ leaves_pools c = is_empty c.old_pools && not (is_some c.new_crush) && is_empty c
 unfoldable pub leaves_raw_sets : ChangeParts → Bool
 leaves_raw_sets c = leaves_pools c && is_empty c.weight
 
--- the map that tells the sets after a change: the map after it, or the one before it where the change leaves all raw
+-- the source of the sets after a change: the map after it, or the one before it where the change leaves all raw
 -- sets
-pub record IsToldBy (m : ClusterMap) (c : ChangeParts) (teller : ClusterMap) (is_made : Bool) : Type 0 where
-  pub after : is_made ≡ true → teller ≡ changed_map m c
-  pub before : is_made ≡ false → teller ≡ m
-  pub leaves : is_made ≡ false → leaves_raw_sets c ≡ true
+pub record IsSource (m : ClusterMap) (c : ChangeParts) (source : ClusterMap) (is_after : Bool) : Type 0 where
+  pub after : is_after ≡ true → source ≡ changed_map m c
+  pub before : is_after ≡ false → source ≡ m
+  pub leaves : is_after ≡ false → leaves_raw_sets c ≡ true
 
 -- what a change makes of what is said of a group: what comes in its place, nothing where it goes, else what was said
 abbrev pub said_after : {E : Type 0} → List Pg → List (Exception E) → Option (List E) → Pg → Option (List E)
@@ -144,35 +144,35 @@ pub record MakesAll (old : List PoolTable) (m : ClusterMap) (pools : List PoolTa
   pub fits : FitAll old pools kept
   pub tables : map (λ e. with_kept old e.0 e.1) (zip pools kept) ≡ tables_of m
 
--- the tables that a patch brings fit those of a table
+-- the new tables of a patch fit those of a table
 pub record FitPools (t : TableFacts) (b : NewTables) : Type 0 where
   pub pools : FitAll t.pools b.pools.items b.kept.items
   pub few_pools : length b.pools.items ≤ max_pools
 
--- what a patch brings fits a table
-abbrev pub FitsBrought : TableFacts → Brought → Type 0
-FitsBrought t (Groups patches) = FitGroups t.pools patches.items
-FitsBrought t (Pools b) = FitPools t b
+-- a patch of the tables of pools fits a table
+abbrev pub FitsTables : TableFacts → TablePatch → Type 0
+FitsTables t (Groups patches) = FitGroups t.pools patches.items
+FitsTables t (Pools b) = FitPools t b
 
 -- a patch fits a table
 pub record Fits (t : TableFacts) (p : Patch) : Type 0 where
-  pub pools : FitsBrought t p.brought
+  pub pools : FitsTables t p.tables
   pub few_osds : length p.up.items ≤ max_devices
 
--- the tables of pools after a patch: the old ones with other sets for some groups; or those that it brings, with what
+-- the tables of pools after a patch: the old ones with other sets for some groups; or the new ones, with what
 -- they keep of the old ones
-abbrev pub pools_after_patch : List PoolTable → Brought → List PoolTable
+abbrev pub pools_after_patch : List PoolTable → TablePatch → List PoolTable
 pools_after_patch old (Groups patches) = map (λ e. with_patch e.0 e.1) (zip old patches.items)
 pools_after_patch old (Pools b) = map (λ e. with_kept old e.0 e.1) (zip b.pools.items b.kept.items)
 
--- what a change brings makes of the tables of pools those of a map
-pub record LeadTables (m : ClusterMap) (t : TableFacts) (b : Brought) : Type 0 where
-  pub fits : FitsBrought t b
+-- a patch makes of the tables of pools those of a map
+pub record LeadTables (m : ClusterMap) (t : TableFacts) (b : TablePatch) : Type 0 where
+  pub fits : FitsTables t b
   pub tables : pools_after_patch t.pools b ≡ tables_of m
 
 -- the table after a patch
 abbrev pub after_patch : TableFacts → Patch → TableFacts
-after_patch t p = record { pools = pools_after_patch t.pools p.brought; up = p.up.items }
+after_patch t p = record { pools = pools_after_patch t.pools p.tables; up = p.up.items }
 
 -- a patch makes of a table that of a map
 pub record LeadsTo (m : ClusterMap) (t : TableFacts) (p : Patch) : Type 0 where

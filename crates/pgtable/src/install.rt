@@ -1,4 +1,4 @@
-//! The patches of a table, put in: what stays of the old tables is carried over. It takes no memory.
+//! The patches of a table, put in: what is kept of the old tables is moved. It takes no memory.
 
 ghost use Rattle.std.specs.Prelude.{◌≡◌, ◌≢◌, ℕ, length, map, slice_get, Some, IfSome};
 ghost use Rattle.std.specs.List.{zip};
@@ -6,7 +6,7 @@ ghost use Rattle.pgtable.specs.declared.patch.KeptTable.{KeptTable};
 ghost use Rattle.grouptable.specs.Tables.{IsPatchFor};
 ghost use Rattle.pgtable.specs.Patches.{with_kept, with_patch, FitsAt, FitAll, FitGroups};
 
-use crate::patch::{Brought, KeptTable, NewTables, Patch};
+use crate::patch::{KeptTable, NewTables, Patch, TablePatch};
 use crate::pool_table::PoolTable;
 use crate::table::PgTable;
 use grouptable::GroupPatch;
@@ -23,7 +23,7 @@ fn install_groups(table: &mut PoolTable, patch: Option<GroupPatch>)
 }
 
 /// Takes what stays of a pool's table out of the old ones, and gives some groups other sets.
-fn carry_one(old: &mut [PoolTable], table: &mut PoolTable, kept: KeptTable)
+fn keep_one(old: &mut [PoolTable], table: &mut PoolTable, kept: KeptTable)
     requires { FitsAt old.old kept }
     ensures table { table.new ≡ with_kept old.old table.old (Some kept) }
     ensures others { (j : ℕ) → j ≢ kept.at → slice_get old.new j ≡ slice_get old.old j }
@@ -34,7 +34,7 @@ fn carry_one(old: &mut [PoolTable], table: &mut PoolTable, kept: KeptTable)
 }
 
 /// Takes what stays of a pool's table out of the old ones, where something stays, and gives some groups other sets.
-fn carry(old: &mut [PoolTable], table: &mut PoolTable, kept: Option<KeptTable>)
+fn keep(old: &mut [PoolTable], table: &mut PoolTable, kept: Option<KeptTable>)
     requires { (k : KeptTable) → kept ≡ Some k → FitsAt old.old k }
     ensures table { table.new ≡ with_kept old.old table.old kept }
     ensures others { (j : ℕ) → ((k : KeptTable) → kept ≡ Some k → j ≢ k.at)
@@ -42,19 +42,19 @@ fn carry(old: &mut [PoolTable], table: &mut PoolTable, kept: Option<KeptTable>)
     ensures long { length old.new ≡ length old.old }
 {
     if let Some(kept) = kept {
-        carry_one(old, table, kept);
+        keep_one(old, table, kept);
     }
 }
 
 /// Takes what stays out of the old tables, into the places of the new ones.
-fn carry_all(old: &mut [PoolTable], pools: &mut [PoolTable], mut kept: Vec<Option<KeptTable>>)
+fn keep_all(old: &mut [PoolTable], pools: &mut [PoolTable], mut kept: Vec<Option<KeptTable>>)
     requires { FitAll old.old pools.old kept.items }
     ensures { pools.new ≡ map (λ e. with_kept old.old e.0 e.1) (zip pools.old kept.items) }
 {
     let most = pools.len();
     for at in 0..most {
         let one = kept[at].take();
-        carry(old, &mut pools[at], one);
+        keep(old, &mut pools[at], one);
     }
 }
 
@@ -72,7 +72,7 @@ fn install_all(pools: &mut [PoolTable], mut patches: Vec<Option<GroupPatch>>)
 
 impl PgTable {
     ghost use Rattle.std.specs.Prelude.{◌≡◌};
-    ghost use Rattle.pgtable.specs.Patches.{FitsBrought, Fits, LeadsTo, after_patch, pools_after_patch};
+    ghost use Rattle.pgtable.specs.Patches.{FitsTables, Fits, LeadsTo, after_patch, pools_after_patch};
     ghost use Rattle.osdmap.specs.Maps.{ClusterMap};
     ghost use Rattle.pgtable.specs.Tables.{IsTableOf};
 
@@ -82,20 +82,20 @@ impl PgTable {
         ensures value { self.new ≡ after_patch self.old patch }
         ensures table { (m : ClusterMap) → LeadsTo m self.old patch → IsTableOf self.new m }
     {
-        self.bring(patch.brought);
+        self.install_tables(patch.tables);
         self.up = patch.up;
     }
 
     /// Gives some groups of the pools other sets, or makes other tables those of the pools.
-    fn bring(&mut self, brought: Brought)
-        requires { FitsBrought self.old brought }
-        ensures pools { self.new.pools ≡ pools_after_patch self.old.pools brought }
+    fn install_tables(&mut self, tables: TablePatch)
+        requires { FitsTables self.old tables }
+        ensures pools { self.new.pools ≡ pools_after_patch self.old.pools tables }
         ensures up { self.new.up ≡ self.old.up }
     {
-        match brought {
-            Brought::Groups(patches) => install_all(&mut self.pools, patches),
-            Brought::Pools(NewTables { mut pools, kept }) => {
-                carry_all(&mut self.pools, &mut pools, kept);
+        match tables {
+            TablePatch::Groups(patches) => install_all(&mut self.pools, patches),
+            TablePatch::Pools(NewTables { mut pools, kept }) => {
+                keep_all(&mut self.pools, &mut pools, kept);
                 self.pools = pools;
             }
         }

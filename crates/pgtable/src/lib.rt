@@ -6,21 +6,21 @@
 //! - `mapped`, `shown`: mapped sets as they are stored, and as callers see them
 //! - `patch`, `prepare`, `install`: what a change makes of a table, how it is found, and how it is put in
 //! - `candidates`, `concerned`: the groups whose exceptions a change can concern, and those of a pool that it does
-//! - `update`, `told`: a change and the map that tells the sets after it, and these sets
-//! - `made`: the tables of all pools as a change makes them
+//! - `update`, `sets`: a change with the source of the sets after it, and these sets
+//! - `table_patch`: what a change makes of the tables of all pools
 #![tactic(auto)]
 
 mod candidates;
 mod concerned;
 mod install;
-mod made;
 mod mapped;
 pub mod patch;
 pub mod pool_table;
 mod prepare;
+mod sets;
 mod shown;
 pub mod table;
-mod told;
+mod table_patch;
 mod update;
 
 pub use patch::Patch;

@@ -21,7 +21,7 @@ pub(crate) struct NewTables {
 
 /// What a change makes of the tables of pools.
 #[derive(Drop)]
-pub(crate) enum Brought {
+pub(crate) enum TablePatch {
     /// All stay in place, those that have a patch here with other sets for some groups.
     Groups(Vec<Option<GroupPatch>>),
     /// Others take their place.
@@ -31,7 +31,7 @@ pub(crate) enum Brought {
 /// All that a change makes of a table, and how many groups were evaluated for it.
 #[derive(Drop)]
 pub struct Patch {
-    pub(crate) brought: Brought,
+    pub(crate) tables: TablePatch,
     pub(crate) up: Vec<bool>,
     pub(crate) evals: usize,
 }
@@ -57,7 +57,7 @@ pub(crate) struct PatchedGroups {
 /// The table of a pool as a change makes it: anew, or without groups and with what is kept of an old one; and how many
 /// of its groups were evaluated for it.
 #[derive(Drop)]
-pub(crate) struct MadeTable {
+pub(crate) struct NewTable {
     pub table: PoolTable,
     pub kept: Option<KeptTable>,
     pub evals: usize,
@@ -65,7 +65,7 @@ pub(crate) struct MadeTable {
 
 /// What a change makes of the tables of all pools, and how many groups were evaluated for it.
 #[derive(Drop)]
-pub(crate) struct MadeTables {
-    pub brought: Brought,
+pub(crate) struct PatchedTables {
+    pub tables: TablePatch,
     pub evals: usize,
 }

@@ -70,7 +70,7 @@ impl PoolTable {
         for number in self.groups.groups(osd) {
             groups.push(Pg {
                 pool: self.pool.id(),
-                number: *number,
+                number: u32::from(*number),
             })?;
         }
         Ok(())

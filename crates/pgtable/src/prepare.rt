@@ -41,7 +41,7 @@ pub(crate) fn leaves_raw_sets(change: &Change) -> bool
 }
 
 /// Some OSDs go up or down.
-fn turn(ups: &mut [bool], osds: &[u32], up: bool)
+fn set_ups(ups: &mut [bool], osds: &[u32], up: bool)
     requires { are_below (λ osd. osd) (length ups.old) osds.now ≡ true }
     ensures { ups.new ≡ with_ups up ups.old osds.now }
 {
@@ -66,8 +66,8 @@ impl PgTable {
         ensures { IfOk result (λ up. up.items ≡ ups_after self.now.up change.now) }
     {
         let mut up = Vec::from_slice(alloc, &self.up)?;
-        turn(&mut up, &change.parts().down, false);
-        turn(&mut up, &change.parts().up, true);
+        set_ups(&mut up, &change.parts().down, false);
+        set_ups(&mut up, &change.parts().up, true);
         Ok(up)
     }
 
@@ -78,10 +78,10 @@ impl PgTable {
         ensures { IfOk result (IsPatchBy update.now self.now work.old work.new) }
     {
         update.holds();
-        let tables = self.bring_tables(alloc, update, work)?;
+        let tables = self.patch_tables(alloc, update, work)?;
         let up = self.ups_after(alloc, update.change)?;
         Ok(Patch {
-            brought: tables.brought,
+            tables: tables.tables,
             up,
             evals: tables.evals,
         })

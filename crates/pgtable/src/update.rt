@@ -1,11 +1,11 @@
-//! A change of a map, and which pools it touches as a whole. The map after it tells the sets after it; where it leaves
-//! all raw sets, so does the map before it, and the map after it need not be made.
+//! A change of a map, and which pools it touches as a whole. The source of the sets after it is the map after it; where
+//! it leaves all raw sets, the map before it serves as well, and the map after it need not be made.
 
 ghost use Rattle.std.specs.Prelude.{◌≡◌, Some, None};
 ghost use Rattle.osdmap.specs.Evals.{reaches_reweighted, is_touched};
 ghost use Rattle.osdmap.specs.Changes.{change_fault};
 ghost use Rattle.pgtable.specs.Candidates.{IsCandidates};
-ghost use Rattle.pgtable.specs.Patches.{LeadsFrom, IsToldBy, changed_map};
+ghost use Rattle.pgtable.specs.Patches.{LeadsFrom, IsSource, changed_map};
 
 use crate::candidates::candidates;
 use keylist::has;
@@ -14,19 +14,19 @@ use osdmap::OsdMap;
 use refusal::Memory;
 use std::alloc::Global;
 
-/// A map, a change that it does not refuse, and a map that tells the sets after the change.
+/// A map, a change that it does not refuse, and the source of the sets after the change.
 #[derive(Drop)]
 pub(crate) struct Update<'a> {
     pub before: &'a OsdMap,
     pub change: &'a Change,
-    pub teller: &'a OsdMap,
-    /// Whether the map that tells is the one after the change; else it is the one before it.
-    pub is_made: bool,
+    pub source: &'a OsdMap,
+    /// Whether the source is the map after the change; else it is the one before it.
+    pub is_after: bool,
     /// Among these groups are all whose exceptions the change concerns.
     pub groups: Vec<Pg>,
     ghost leads: { LeadsFrom before.now.map change.now (changed_map before.now.map change.now) },
-    ghost told: { IsToldBy before.now.map change.now teller.now.map is_made },
-    ghost candidates: { IsCandidates teller.now.map change.now groups.items },
+    ghost is_source: { IsSource before.now.map change.now source.now.map is_after },
+    ghost candidates: { IsCandidates source.now.map change.now groups.items },
 }
 
 /// Whether the rule of a pool of a map reaches an OSD that gets another reweight.
@@ -61,30 +61,30 @@ fn touches(after: &OsdMap, change: &Change, pool: &Pool) -> bool
 impl<'a> Update<'a> {
     ghost use Rattle.std.specs.Prelude.{◌≡◌, None, IfOk};
     ghost use Rattle.osdmap.specs.Changes.{change_fault};
-    ghost use Rattle.pgtable.specs.Patches.{IsToldBy};
+    ghost use Rattle.pgtable.specs.Patches.{IsSource};
 
-    /// A change that a map does not refuse, by a map that tells the sets after it; or `Memory` (30).
+    /// A change that a map does not refuse, by a source of the sets after it; or `Memory` (30).
     #[inline(always)]
     pub fn new(
         alloc: Global,
         before: &'a OsdMap,
         change: &'a Change,
-        teller: &'a OsdMap,
-        is_made: bool,
+        source: &'a OsdMap,
+        is_after: bool,
     ) -> Result<Update<'a>, Memory>
         requires lawful { change_fault before.now.map change.now ≡ None }
-        requires told { IsToldBy before.now.map change.now teller.now.map is_made }
+        requires is_source { IsSource before.now.map change.now source.now.map is_after }
         ensures before { IfOk result (λ u. u.before.now.map ≡ before.now.map) }
         ensures change { IfOk result (λ u. u.change.now ≡ change.now) }
     {
         before.holds_together();
         let _ = change.parts();
-        let groups = candidates(alloc, before, change, teller)?;
+        let groups = candidates(alloc, before, change, source)?;
         Ok(Update {
             before,
             change,
-            teller,
-            is_made,
+            source,
+            is_after,
             groups,
         })
     }
@@ -94,13 +94,14 @@ impl Update<'_> {
     ghost use Rattle.std.specs.Prelude.{◌≡◌, true};
     ghost use Rattle.pgtable.specs.After.{map_after, is_touched_by};
     ghost use Rattle.pgtable.specs.Candidates.{IsCandidates};
-    ghost use Rattle.pgtable.specs.Patches.{LeadsFrom, IsToldBy, is_empty};
+    ghost use Rattle.pgtable.specs.Patches.{LeadsFrom, IsSource, is_empty};
 
-    /// What holds of the change and of the map that tells: for proofs alone.
+    /// What holds of the change and of the source: for proofs alone.
     pub fn holds(&self)
         ensures leads { LeadsFrom self.now.before.now.map self.now.change.now (map_after self.now) }
-        ensures told { IsToldBy self.now.before.now.map self.now.change.now self.now.teller.now.map self.now.is_made }
-        ensures candidates { IsCandidates self.now.teller.now.map self.now.change.now self.now.groups.items }
+        ensures is_source { IsSource self.now.before.now.map self.now.change.now self.now.source.now.map
+            self.now.is_after }
+        ensures candidates { IsCandidates self.now.source.now.map self.now.change.now self.now.groups.items }
     {
         let _ = &self.groups;
     }
@@ -112,12 +113,12 @@ impl Update<'_> {
         matches!(self.groups.as_slice(), [])
     }
 
-    /// Whether all groups of a pool of the map after the change may be placed otherwise. Then that map tells.
+    /// Whether all groups of a pool of the map after the change may be placed otherwise. Then that map is the source.
     pub fn is_touched(&self, pool: &Pool) -> bool
         ensures value { result ≡ is_touched_by self.now pool.now }
-        ensures made { result ≡ true → self.now.teller.now.map ≡ map_after self.now }
+        ensures source { result ≡ true → self.now.source.now.map ≡ map_after self.now }
     {
         self.holds();
-        self.is_made && touches(self.teller, self.change, pool)
+        self.is_after && touches(self.source, self.change, pool)
     }
 }

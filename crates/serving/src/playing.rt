@@ -61,7 +61,7 @@ fn play_script<R: Wait, K: Keeps + Drop>(
 
 /// Plays the session of a reader's lines: puts its heading and its answers to a sink, and has all out before each read
 /// and at its end.
-fn play_live<R: Wait, B: Read, W: Sink, K: Keeps + Drop>(
+fn play_lines<R: Wait, B: Read, W: Sink, K: Keeps + Drop>(
     desk: &Desk<'_, R, Open, K>,
     member: &mut Member,
     number: usize,
@@ -87,7 +87,7 @@ fn play_live<R: Wait, B: Read, W: Sink, K: Keeps + Drop>(
 }
 
 /// Plays the session of a reader's lines, its answers to a writer.
-fn play_into<R: Wait, B: Read, W: io::Write + Drop, K: Keeps + Drop>(
+fn play_to_writer<R: Wait, B: Read, W: io::Write + Drop, K: Keeps + Drop>(
     desk: &Desk<'_, R, Open, K>,
     member: &mut Member,
     number: usize,
@@ -99,7 +99,7 @@ fn play_into<R: Wait, B: Read, W: io::Write + Drop, K: Keeps + Drop>(
     ensures held { IfErr result (λ e. e ≢ SessionError.Held) }
 {
     let mut out = Out::new(desk.alloc, to);
-    match play_live(desk, member, number, reader, &mut out) {
+    match play_lines(desk, member, number, reader, &mut out) {
         Err(SessionError::Write) if out.is_short() => Err(SessionError::Memory),
         done => done,
     }
@@ -117,7 +117,7 @@ fn open_failure(error: &io::Error, otherwise: SessionError) -> SessionError
 }
 
 /// Plays the session of a reader's lines; a file for its answers is made, or emptied.
-fn play_to<R: Wait, B: Read, K: Keeps + Drop>(
+fn play_to_target<R: Wait, B: Read, K: Keeps + Drop>(
     stage: &Stage<'_, R, K>,
     member: &mut Member,
     number: usize,
@@ -129,16 +129,16 @@ fn play_to<R: Wait, B: Read, K: Keeps + Drop>(
     ensures held { IfErr result (λ e. e ≢ SessionError.Held) }
 {
     match target {
-        Target::Standard(output) => play_into(&stage.desk, member, number, reader, *output),
+        Target::Standard(output) => play_to_writer(&stage.desk, member, number, reader, *output),
         Target::File(path) => match fs::create(stage.host, path.as_str()) {
-            Ok(file) => play_into(&stage.desk, member, number, reader, file),
+            Ok(file) => play_to_writer(&stage.desk, member, number, reader, file),
             Err(error) => Err(open_failure(&error, SessionError::Write)),
         },
     }
 }
 
 /// Plays a live session: opens the file of its lines first, then that of its answers.
-fn play_between<R: Wait, K: Keeps + Drop>(
+fn play_streams<R: Wait, K: Keeps + Drop>(
     stage: &Stage<'_, R, K>,
     member: &mut Member,
     number: usize,
@@ -151,10 +151,10 @@ fn play_between<R: Wait, K: Keeps + Drop>(
     match &streams.source {
         Source::Standard(input) => {
             let mut reader = *input;
-            play_to(stage, member, number, &mut reader, &streams.target)
+            play_to_target(stage, member, number, &mut reader, &streams.target)
         }
         Source::File(path) => match fs::open(stage.host, path.as_str()) {
-            Ok(mut file) => play_to(stage, member, number, &mut file, &streams.target),
+            Ok(mut file) => play_to_target(stage, member, number, &mut file, &streams.target),
             Err(error) => Err(open_failure(&error, SessionError::Read)),
         },
     }
@@ -166,7 +166,7 @@ fn tell(rt: &impl Eprint, failure: Failure<'_>) {
 }
 
 /// Plays a live session: whether one of its files has failed, which is told. The one error is that memory is short.
-fn play_and_tell<R: Wait + Eprint, K: Keeps + Drop>(
+fn play_live<R: Wait + Eprint, K: Keeps + Drop>(
     stage: &Stage<'_, R, K>,
     member: &mut Member,
     number: usize,
@@ -175,7 +175,7 @@ fn play_and_tell<R: Wait + Eprint, K: Keeps + Drop>(
     requires { IsNewMemberOf stage.now.desk.monitor.now member.old }
     ensures { IsMemberOf stage.now.desk.monitor.now member.new }
 {
-    match play_between(stage, member, number, streams) {
+    match play_streams(stage, member, number, streams) {
         Ok(()) => return Ok(false),
         Err(SessionError::Read) => tell(stage.desk.rt, streams.source.failure()),
         Err(SessionError::Write) => tell(stage.desk.rt, streams.target.failure()),
@@ -206,7 +206,7 @@ pub fn play<R: Wait + Eprint, K: Keeps + Drop>(
             })
         }
         Part::Live(streams) => {
-            let has_told = play_and_tell(stage, &mut member, number, streams)?;
+            let has_told = play_live(stage, &mut member, number, streams)?;
             Ok(Left {
                 text: Buffer::new(stage.desk.alloc),
                 member,

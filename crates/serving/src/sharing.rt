@@ -31,8 +31,8 @@ fn count_answers<R: Wait>(rt: &R, monitor: &Monitor, member: Member) -> u32
     u32::from(up) + u32::from(count) + u32::from(groups) + u32::from(epoch) + u32::from(dump)
 }
 
-/// How many turns one of two threads waits for a sign of the other.
-const MAX_TURNS: u32 = 1_000_000;
+/// How often one of two threads waits for a sign of the other.
+const MAX_WAITS: u32 = 1_000_000;
 
 /// The signs of two threads: that a look is held, and that the questions beside it are answered.
 #[derive(Clone, Copy)]
@@ -41,10 +41,10 @@ struct Signs<'a> {
     done: &'a AtomicU64,
 }
 
-/// Whether a sign is given before so many turns have gone by.
+/// Whether a sign is given before so many waits have gone by.
 fn is_given(sign: &AtomicU64) -> bool {
     let backoff = Backoff::new();
-    for _ in 0..MAX_TURNS {
+    for _ in 0..MAX_WAITS {
         if sign.load(Ordering::SeqCst) > 0 {
             return true;
         }

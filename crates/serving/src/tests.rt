@@ -181,8 +181,8 @@ fn a_third_draw_of_two_is_refused(rt: HostRuntime) -> Result<(), Fail> {
     Ok(())
 }
 
-/// How many turns a gate waits.
-const MAX_TURNS: u32 = 1_000_000;
+/// How often a gate waits.
+const MAX_WAITS: u32 = 1_000_000;
 
 /// The gate of one of two sessions: it holds a line of the first until the second asks for its second line.
 #[derive(Clone, Copy)]
@@ -205,7 +205,7 @@ impl<'a> Gate for Meeting<'a> {
             return true;
         }
         let backoff = Backoff::new();
-        for _ in 0..MAX_TURNS {
+        for _ in 0..MAX_WAITS {
             if self.asked.load(Ordering::SeqCst) >= 2 {
                 return true;
             }

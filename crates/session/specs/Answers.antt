@@ -43,8 +43,8 @@ pub record Basis : Type 0 where
   pub profile : Profile
   pub alone : Bool
 
--- what a session's follower has: its history, what its pass has seen, of which that is a beginning, and how many runs of
--- rules it has taken
+-- what a session's follower has: its history, what its pass has seen, of which that is a beginning, and how many runs
+-- of rules it has taken
 pub record Track : Type 0 where
   pub history : List Step
   pub seen : List Step
@@ -214,7 +214,8 @@ AddsOwn alone before answer now = alone ≡ true → AddsTold before answer now
 -- what a line answers, and what the session has seen then
 abbrev pub IsAnswered : Basis → Sight → List ℕ → List ℕ → Sight → Type 0
 IsAnswered basis before line answer now =
-    Does basis before (command_by basis.profile line) answer now × AddsOwn basis.alone before.member.history answer now.member.history
+    Does basis before (command_by basis.profile line) answer now
+    × AddsOwn basis.alone before.member.history answer now.member.history
 
 -- how a session goes behind a gate
 abbrev pub session_by : Basis → (ℕ → Bool → Type 0) → Manner Sight

@@ -54,7 +54,8 @@ remnant_word Gone = codes "gone"
 -- `fkept EPOCH PG WORD`
 unfoldable pub kept_text : ℕ → Pg → Remnant → List ℕ
 kept_text epoch pg left =
-    codes "fkept" ++ codes " " ++ decimal epoch ++ codes " " ++ group_text pg ++ codes " " ++ remnant_word left ++ newline
+    codes "fkept" ++ codes " " ++ decimal epoch ++ codes " " ++ group_text pg ++ codes " " ++ remnant_word left
+    ++ newline
 
 -- `ok EPOCH evals N`
 unfoldable pub ok_text : ℕ → ℕ → List ℕ

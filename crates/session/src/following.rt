@@ -79,7 +79,7 @@ fn find_text(alloc: Global, follower: &Follower) -> Result<Answer, Refusal>
 }
 
 /// What the follower answers to a task.
-fn tell<K: Keeps + Drop>(
+fn answer_task<K: Keeps + Drop>(
     alloc: Global,
     monitor: &Monitor<K>,
     follower: &mut Follower,
@@ -116,7 +116,7 @@ pub(crate) fn follow<K: Keeps + Drop>(
     need_follower(alloc, monitor, follower)?;
     match follower {
         Some(follower) => {
-            let answer = tell(alloc, monitor, follower, task);
+            let answer = answer_task(alloc, monitor, follower, task);
             follower.meet(member);
             answer
         }

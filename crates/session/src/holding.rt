@@ -7,7 +7,7 @@ use crate::gate::Gate;
 use crate::line::{Asking, first_asking};
 use crate::progress::Progress;
 use crate::sink::Sink;
-use crate::telling::tell_found;
+use crate::telling::tell_answer;
 use keeping::Keeps;
 use monitor::{Member, Shared};
 use std::sync::Wait;
@@ -73,7 +73,7 @@ impl<'a, R: Wait, G: Gate, K: Keeps + Drop> Desk<'a, R, G, K> {
             let found = self
                 .monitor
                 .answer(hold.shared, hold.member, asking.question);
-            tell_found(found, &mut progress.text, sink)?;
+            tell_answer(found, &mut progress.text, sink)?;
             progress.number += 1;
             rest = asking.rest;
             left = left.saturating_sub(lines_of(&progress.text));
@@ -118,13 +118,13 @@ impl<'a, R: Wait, G: Gate, K: Keeps + Drop> Desk<'a, R, G, K> {
         let shared = match self.monitor.share(self.rt, member) {
             Ok(shared) => shared,
             Err(refusal) => {
-                tell_found(Err(refusal), &mut progress.text, sink)?;
+                tell_answer(Err(refusal), &mut progress.text, sink)?;
                 progress.number += 1;
                 return Ok(asking.rest);
             }
         };
         let found = self.monitor.answer(&shared, member, asking.question);
-        let done = match tell_found(found, &mut progress.text, sink) {
+        let done = match tell_answer(found, &mut progress.text, sink) {
             Ok(()) => {
                 progress.number += 1;
                 self.answer_more(

@@ -8,7 +8,7 @@ use crate::line::{Asking, FirstLine, Line, cut, read_line};
 use crate::parse::known_in;
 use crate::progress::Progress;
 use crate::sink::Sink;
-use crate::telling::{flush_if_full, tell};
+use crate::telling::{flush_if_full, tell_reply};
 use keeping::Keeps;
 use monitor::Member;
 use std::sync::Wait;
@@ -41,7 +41,7 @@ impl<'a, R: Wait, G: Gate, K: Keeps + Drop> Desk<'a, R, G, K> {
         }
         let command = known_in(self.monitor.profile(), line.command);
         let reply = self.do_command(member, &mut progress.follower, command);
-        tell(reply, &mut progress.text, sink)
+        tell_reply(reply, &mut progress.text, sink)
     }
 
     /// Answers the first line of a text, and where it is a question such as follow it: what is left of the text.

@@ -204,7 +204,7 @@ fn push_reply(text: &mut String, reply: &Reply) -> Result<(), AllocError>
 }
 
 /// Puts the line of what the monitor finds, or of why it refuses, behind a text. The one error is out of memory.
-pub(crate) fn push_found(
+pub(crate) fn push_answer_line(
     text: &mut String,
     found: &Result<Answer, Refusal>,
 ) -> Result<(), AllocError>
@@ -217,7 +217,10 @@ pub(crate) fn push_found(
 }
 
 /// Puts the line of a reply, or of a refusal, behind a text. The one error is out of memory.
-pub(crate) fn push_line(text: &mut String, reply: &Result<Reply, Refusal>) -> Result<(), AllocError>
+pub(crate) fn push_reply_line(
+    text: &mut String,
+    reply: &Result<Reply, Refusal>,
+) -> Result<(), AllocError>
     ensures { OnOk result (string_bytes text.new ≡ string_bytes text.old ++ line_of reply_text reply.now) }
 {
     match reply {

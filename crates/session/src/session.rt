@@ -1,4 +1,4 @@
-//! A session: each line of a script in turn, and its answer to a sink.
+//! A session: each line of a script, one after the other, and its answer to a sink.
 use crate::desk::Desk;
 use crate::error::SessionError;
 use crate::gate::Gate;

@@ -7,13 +7,13 @@ ghost use Rattle.session.specs.Replies.{answer_text, reply_text};
 ghost use Rattle.session.specs.Ends.{IsOut, has_sink_failed};
 
 use crate::error::SessionError;
-use crate::reply::{Reply, push_found, push_line};
+use crate::reply::{Reply, push_answer_line, push_reply_line};
 use crate::sink::{Sink, write_whole};
 use monitor::Answer;
 use refusal::Refusal;
 
 /// Puts the line of what a question finds at the monitor to a sink, by way of a text.
-pub(crate) fn tell_found<W: Sink>(
+pub(crate) fn tell_answer<W: Sink>(
     found: Result<Answer, Refusal>,
     text: &mut String,
     sink: &mut W,
@@ -24,7 +24,7 @@ pub(crate) fn tell_found<W: Sink>(
     ensures waits { W.waits sink.new ≡ W.waits sink.old }
 {
     text.clear();
-    if push_found(text, &found).is_err() {
+    if push_answer_line(text, &found).is_err() {
         return Err(SessionError::Memory);
     }
     write_whole(sink, text.as_bytes())?;
@@ -32,7 +32,7 @@ pub(crate) fn tell_found<W: Sink>(
 }
 
 /// Puts the line of what a command answers to a sink, by way of a text.
-pub(crate) fn tell<W: Sink>(
+pub(crate) fn tell_reply<W: Sink>(
     reply: Result<Reply, Refusal>,
     text: &mut String,
     sink: &mut W,
@@ -43,7 +43,7 @@ pub(crate) fn tell<W: Sink>(
     ensures waits { W.waits sink.new ≡ W.waits sink.old }
 {
     text.clear();
-    if push_line(text, &reply).is_err() {
+    if push_reply_line(text, &reply).is_err() {
         return Err(SessionError::Memory);
     }
     write_whole(sink, text.as_bytes())?;

@@ -11,6 +11,7 @@ use Rattle.ticketlock.specs.Traces.{world_of, view_in, IsReachedBy, IsTraced}
 use Rattle.ticketlock.proofs.Traced.{reached_cut}
 use Rattle.ticketlock.proofs.KnownRuns.{known_cut, view_at, views_set, views_snoc}
 
+-- a seat with a spare entry may be cut in two
 pub may_cut : (seats id : ℕ) (me : Sight) → 0 < me.view.spare → Splits {S = ℕ} (IsTraced seats) id me (sight_cut me) (unseeing newcomer)
 may_cut seats id me some_spare s line at =
     let events : List Event = line.4 in

@@ -11,6 +11,7 @@ use Rattle.ticketlock.specs.Law.{made_with, with_cut, Leads}
 use Rattle.ticketlock.specs.Traces.{IsReachedBy}
 use Rattle.ticketlock.proofs.Made.{starts_made, lasts_made}
 
+-- where events have led, one more step leads on
 leads_then : (w : LockWorld) (events : List Event) (mid : LockWorld) (s : Step) (seat : ℕ) (v : View) (next : LockWorld) → Leads w events mid → get_elem? mid.views seat ≡ some v → Takes s mid seat v next
     → Leads w (events ++ Took s seat ∷ []) next
 leads_then w [] mid s seat v next run at t =
@@ -18,6 +19,7 @@ leads_then w [] mid s seat v next run at t =
 leads_then w (Took r k ∷ events) mid s seat v next run at t = (run.0, run.1, run.2, run.3, leads_then run.0 events mid s seat v next run.4 at t)
 leads_then w (CutOff k ∷ events) mid s seat v next run at t = (run.0, run.1, run.2, leads_then (with_cut w k run.0) events mid s seat v next run.3 at t)
 
+-- and so does a seat that is cut off
 leads_cut : (w : LockWorld) (events : List Event) (mid : LockWorld) (seat : ℕ) (v : View) → Leads w events mid → get_elem? mid.views seat ≡ some v → 0 < v.spare → Leads w (events ++ CutOff seat ∷ []) (with_cut mid seat v)
 leads_cut w [] mid seat v run at spare = (v, subst (λ (x : LockWorld). get_elem? x.views seat ≡ some v) run at, spare, ap (λ (x : LockWorld). with_cut x seat v) run)
 leads_cut w (Took r k ∷ events) mid seat v run at spare = (run.0, run.1, run.2, run.3, leads_cut run.0 events mid seat v run.4 at spare)
@@ -27,9 +29,11 @@ leads_cut w (CutOff k ∷ events) mid seat v run at spare = (run.0, run.1, run.2
 pub reached_keeps : (seats : ℕ) (events : List Event) (w : LockWorld) → IsReachedBy seats events w → KeepsRule w
 reached_keeps seats events w r = lasts_made (made_with seats) events w (starts_made seats r.0 r.1) r.2
 
+-- what is reached, and a step more, is reached
 pub reached_then : (seats : ℕ) (events : List Event) (w : LockWorld) (s : Step) (seat : ℕ) (v : View) (next : LockWorld) → IsReachedBy seats events w → get_elem? w.views seat ≡ some v → Takes s w seat v next → IsReachedBy seats (events ++ Took s seat ∷ []) next
 reached_then seats events w s seat v next r at t = (r.0, r.1, leads_then (made_with seats) events w s seat v next r.2 at t)
 
+-- what is reached, and a seat cut off, is reached
 pub reached_cut : (seats : ℕ) (events : List Event) (w : LockWorld) (seat : ℕ) (v : View) → IsReachedBy seats events w → get_elem? w.views seat ≡ some v → 0 < v.spare → IsReachedBy seats (events ++ CutOff seat ∷ []) (with_cut w seat v)
 reached_cut seats events w seat v r at spare = (r.0, r.1, leads_cut (made_with seats) events w seat v r.2 at spare)
 

@@ -47,15 +47,15 @@ abbrev pub IsTraced : ℕ → State ℕ Sight → Type 0
 IsTraced seats s = (U : ℕ) × (R : ℕ) × (W : ℕ) × (s.words ≡ U ∷ R ∷ W ∷ []) × (events : List Event)
     × IsReachedBy seats events (world_of U R W (map view_in s.views)) × AreKnown events s.views
 
--- What a seat has seen is a list of events that has led to a world in which it stands as it does. The steps that it took
--- are all that the list has of it. By the law that world keeps the rule, and a writer is alone there.
+-- What a seat has seen is a list of events that has led to a world in which it stands as it does. The steps that it
+-- took are all that the list has of it. By the law that world keeps the rule, and a writer is alone there.
 abbrev pub KnowsRun : Sight → Type 0
 KnowsRun sight = (seats : ℕ) × (seat : ℕ) × (last : LockWorld) × IsReachedBy seats sight.seen last
     × (get_elem? last.views seat ≡ some sight.view) × (steps_by seat sight.seen ≡ sight.mine)
     × KeepsRule last × IsAlone last.views
 
--- A seat has taken these steps: they are that many more of its own, what it has seen begins with what it had seen, and it
--- knows the run.
+-- A seat has taken these steps: they are that many more of its own, what it has seen begins with what it had seen, and
+-- it knows the run.
 abbrev pub Follows : List Step → Sight → Sight → Type 0
 Follows steps before after =
     Begins before.seen after.seen × (after.mine ≡ before.mine ++ steps) × KnowsRun after

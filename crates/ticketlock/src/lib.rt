@@ -40,4 +40,5 @@ pub use lock::{Ended, Lock};
 pub use read_guard::ReadGuard;
 pub use tokens::{QueuedRead, QueuedWrite, Seat, TurnRead, TurnWrite};
 pub use turn::Turn;
+pub use words::LastWords;
 pub use write_guard::WriteGuard;

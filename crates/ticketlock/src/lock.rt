@@ -12,6 +12,7 @@ use crate::limits::{MAX_DRAWS, MAX_SEATS};
 use crate::slots::Slots;
 use crate::table::{Place, Words};
 use crate::tokens::Seat;
+use crate::words::LastWords;
 use std::alloc::{AllocError, Global};
 
 /// What a lock ends with.
@@ -19,12 +20,8 @@ use std::alloc::{AllocError, Global};
 pub struct Ended<T> {
     /// The value, as [`Lock::into_value`] has it.
     pub value: Option<T>,
-    /// The ticket that is the next to be drawn: how many were.
-    pub draw_word: u64,
-    /// The ticket that may enter to read.
-    pub reader_word: u64,
-    /// The ticket that may enter to write.
-    pub writer_word: u64,
+    /// The words.
+    pub words: LastWords,
 }
 
 /// A value behind a line of tickets.
@@ -110,21 +107,18 @@ impl<T: Fact + Drop> Lock<T> {
     }
 
     /// The value and the three words, with which the lock ends at one of its seats. Some list of steps, with the seats
-    /// that were cut off between them, has led to these words. It begins with what the seat has seen, and has of the seat
-    /// the steps that it took and no others.
+    /// that were cut off between them, has led to these words. It begins with what the seat has seen, and has of the
+    /// seat the steps that it took and no others.
     pub fn end_at(self, seat: Seat) -> Ended<T>
         requires own { IsSeatOf self seat }
         ensures value { IfSome result.value (T.fact (first_of self)) }
-        ensures words { EndsIn result.draw_word result.reader_word result.writer_word (sight_of seat.place) }
+        ensures words { EndsIn result.words.draw result.words.reader result.words.writer (sight_of seat.place) }
     {
         let Lock { words, slots } = self;
         let Seat { place } = seat;
-        let (draw_word, reader_word, writer_word) = words.close_at(place);
         Ended {
+            words: words.close_at(place),
             value: slots.into_value(),
-            draw_word,
-            reader_word,
-            writer_word,
         }
     }
 }

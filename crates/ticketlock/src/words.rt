@@ -17,6 +17,17 @@ use crate::table::{
 use atomic_table::Table;
 use std::alloc::{AllocError, Global};
 
+/// The three words with which a lock ends.
+#[derive(Clone, Copy)]
+pub struct LastWords {
+    /// The ticket that is the next to be drawn: how many were.
+    pub draw: u64,
+    /// The ticket that may enter to read.
+    pub reader: u64,
+    /// The ticket that may enter to write.
+    pub writer: u64,
+}
+
 impl Words {
     /// Three words of 0, and the place of the first seat, from which the others are cut off.
     pub fn new(alloc: Global, seats: u32, limit: u64) -> Result<(Words, Place), AllocError>
@@ -40,18 +51,18 @@ impl Words {
     }
 
     /// The three words at the end, to which a list of events has led that the seat knows.
-    pub fn close_at(self, place: Place) -> (u64, u64, u64)
+    pub fn close_at(self, place: Place) -> LastWords
         requires own { IsAt self place }
-        ensures { EndsIn result.0 result.1 result.2 (sight_of place) }
+        ensures { EndsIn result.draw result.reader result.writer (sight_of place) }
     {
         let Words { table, limit: _ } = self;
         let Place { token, draws: _ } = place;
         let closed = table.close_with(token);
-        let found = (
-            closed.word(DRAW_WORD),
-            closed.word(READER_WORD),
-            closed.word(WRITER_WORD),
-        );
+        let found = LastWords {
+            draw: closed.word(DRAW_WORD),
+            reader: closed.word(READER_WORD),
+            writer: closed.word(WRITER_WORD),
+        };
         closed.free();
         found
     }

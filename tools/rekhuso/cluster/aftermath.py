@@ -8,6 +8,7 @@ from typing import Union
 
 from ..faults import Fault
 from ..program.maps import Change, Exceptions, Map, Program, altered, entries_of, with_all_up
+from ..values import SLOTS
 from .cleanup import Cleaned, cleaned, excepted_groups, group_fault
 from .cluster import Cluster
 from .conversion import map_of, monitor_of, pool_of
@@ -21,50 +22,45 @@ from .reasons import reasons
 from .shadows import with_shadows
 
 
-@dataclass(frozen=True)
+@dataclass(frozen=True, **SLOTS)
 class StateChange:
     """A command that changes states, reweights, pools or exceptions, as a change of the program has them."""
 
-    __slots__ = ("change",)
     change: Change
 
 
-@dataclass(frozen=True)
+@dataclass(frozen=True, **SLOTS)
 class CrushWeights:
     """`ceph osd crush reweight`, or of all OSDs below a bucket `reweight-subtree`: weights in units of 1/65,536."""
 
-    __slots__ = ("weights", "is_subtree")
     weights: dict[int, int]
     is_subtree: bool
 
 
-@dataclass(frozen=True)
+@dataclass(frozen=True, **SLOTS)
 class Arrival:
     """A new OSD on a host that comes, with its weight in units of 1/65,536."""
 
-    __slots__ = ("host", "weight")
     host: Host
     weight: int
 
 
-@dataclass(frozen=True)
+@dataclass(frozen=True, **SLOTS)
 class NewMap:
     """A map in place of another, with which nothing else is known of the cluster."""
 
-    __slots__ = ("value",)
     value: Map
 
 
 Command = Union[StateChange, CrushWeights, Arrival, NewMap, NewCrush, PoolChange]
 
 
-@dataclass(frozen=True)
+@dataclass(frozen=True, **SLOTS)
 class Aftermath:
     """A cluster after some commands: it itself, the groups whose exceptions went on the way with the reason of each,
     those of whose pairs some went, and those whose exceptions go at a later map.
     """
 
-    __slots__ = ("cluster", "gone", "fewer", "later")
     cluster: Cluster
     gone: dict[str, Reason]
     fewer: list[str]

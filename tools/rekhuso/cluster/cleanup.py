@@ -14,19 +14,19 @@ from dataclasses import dataclass
 from ..program.answers import Up
 from ..program.maps import Entry, Exceptions, Map, Pool, entries_of, group_key
 from ..program.session import Session
+from ..values import SLOTS
 from .judge import Judge, Places, Present, Reason, present_of
 
 # How Ceph writes a place of a set that is empty.
 NONE = 2147483647
 
 
-@dataclass(frozen=True)
+@dataclass(frozen=True, **SLOTS)
 class Cleaned:
     """What a monitor leaves: the exceptions that stay, the groups whose exceptions all go with the reason, and the
     groups of whose pairs some go.
     """
 
-    __slots__ = ("kept", "gone", "fewer")
     kept: Exceptions
     gone: dict[str, Reason]
     fewer: list[str]

@@ -6,16 +6,15 @@ from collections.abc import Iterable, Mapping
 from dataclasses import dataclass, replace
 
 from ..program.maps import Pool
+from ..values import SLOTS
 from .disks import Disks, disks_in
 from .group_sizes import GroupSizes, group_sizes_in
 from .pool_data import Data, data_in
 
 
-@dataclass(frozen=True)
+@dataclass(frozen=True, **SLOTS)
 class DataFiles:
     """The files, None for each that is not given."""
-
-    __slots__ = ("df", "pgs", "osds")
 
     df: str | None
     pgs: str | None
@@ -27,11 +26,9 @@ class DataFiles:
         return self.df is not None or self.pgs is not None
 
 
-@dataclass(frozen=True)
+@dataclass(frozen=True, **SLOTS)
 class KnownData:
     """What the files tell, not yet held against a cluster."""
-
-    __slots__ = ("pools", "groups", "disks")
 
     pools: Data | None
     groups: GroupSizes | None

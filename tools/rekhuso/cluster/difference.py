@@ -5,9 +5,9 @@ from __future__ import annotations
 from collections.abc import Mapping
 from typing import Any
 
-from ..output.json_forms import MovedParts
 from ..program.answers import Up
 from ..program.maps import Change, Entry, Exceptions, Map, altered, entries_of, group_key
+from .json_forms import MovedParts
 from .moving import coming, has_moved, leaving
 
 # The exceptions of a map, and the word that Ceph's commands have for each.

@@ -7,6 +7,7 @@ from dataclasses import dataclass
 
 from ..faults import Fault
 from ..files import json_of
+from ..values import SLOTS
 from .dump_forms import OSD_DF, misfits
 from .shares import Shares
 
@@ -15,22 +16,18 @@ KIB = 1024
 NEARFULL = 0.85
 
 
-@dataclass(frozen=True)
+@dataclass(frozen=True, **SLOTS)
 class Disk:
     """How many bytes an OSD has, and how many of them are in use and free."""
-
-    __slots__ = ("size", "used", "free")
 
     size: int
     used: int
     free: int
 
 
-@dataclass(frozen=True)
+@dataclass(frozen=True, **SLOTS)
 class Disks:
     """Where they were read, and the disk of each OSD."""
-
-    __slots__ = ("path", "of_osd")
 
     path: str
     of_osd: dict[int, Disk]

@@ -10,6 +10,7 @@ from ..faults import Fault
 from ..files import JsonObject, json_of
 from ..progress import doing
 from ..terminal import in_one_line
+from ..values import SLOTS
 from .cluster import Cluster
 from .dump_forms import (
     CRUSH_DUMP,
@@ -36,11 +37,10 @@ NAMES = (("pools", "pool_name"), ("buckets", "name"), ("devices", "name"), ("rul
 MOST_MISFITS = 20
 
 
-@dataclass(frozen=True)
+@dataclass(frozen=True, **SLOTS)
 class Misfit:
     """A place of a dump that is not of its form, in a line; and which pool or rule it is in, where that is known."""
 
-    __slots__ = ("line", "pool", "rule")
     line: str
     pool: int | None
     rule: int | None

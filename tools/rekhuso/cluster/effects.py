@@ -6,6 +6,7 @@ import struct
 from dataclasses import dataclass
 
 from ..program.maps import Change, altered, entries_of
+from ..values import SLOTS
 from .cluster import Cluster
 from .dump_types import CrushDump, DumpBucket, DumpOsd, DumpPool, OsdDump
 from .map_dumps import dump_pool
@@ -42,13 +43,12 @@ def with_weights(crush: CrushDump, weights: dict[int, int]) -> CrushDump:
 # A host that comes
 
 
-@dataclass(frozen=True)
+@dataclass(frozen=True, **SLOTS)
 class Host:
     """A host that comes: its name, the bucket below which it comes, the type and the kind of its bucket, and the
     class of its OSDs, None where the cluster has no classes.
     """
 
-    __slots__ = ("name", "under", "kind", "alg", "device_class")
     name: str
     under: int
     kind: int

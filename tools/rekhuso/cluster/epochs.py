@@ -11,11 +11,11 @@ from collections.abc import Iterator
 from typing import Any
 
 from ..faults import Unopened
-from ..output.json_forms import CrushParts, EpochParts, ExceptionChangeParts, GrowthParts
 from ..program.defects import map_defects
 from ..program.map_forms import change_form
 from ..program.maps import Change, Map, Pool, altered, entries_of, group_key
 from ..program.stores import StoredChange, StoredJournal
+from .json_forms import CrushParts, EpochParts, ExceptionChangeParts, GrowthParts
 
 # The exceptions of a map, and the word that the parts of a change have for each.
 EXCEPTIONS = {"pg_upmap": "upmap", "pg_upmap_items": "items"}
@@ -43,7 +43,7 @@ def first_of(journal: StoredJournal) -> Map:
     return found
 
 
-def change_of(journal: StoredJournal, row: StoredChange) -> Change:
+def stored_change(journal: StoredJournal, row: StoredChange) -> Change:
     """The change of a row. `Unopened` where it has not the form of one to the map before."""
     found: Change = json_in(journal, f"row {row.epoch}", row.text)
     defect = next(FORM(found, ""), None)
@@ -160,7 +160,7 @@ def epochs_of(first: Map, journal: StoredJournal) -> Iterator[EpochParts]:
     """
     before = Before(first)
     for row in journal.changes:
-        change = change_of(journal, row)
+        change = stored_change(journal, row)
         unknown = before.unknown(change)
         if unknown:
             raise Unopened(journal.path, f"row {row.epoch}: {', '.join(unknown)}")

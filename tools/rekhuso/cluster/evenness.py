@@ -7,17 +7,16 @@ from collections import defaultdict
 from collections.abc import Mapping
 from dataclasses import dataclass
 
-from ..output.json_forms import FillParts, OsdFillParts, UseParts
+from ..values import SLOTS
+from .json_forms import FillParts, OsdFillParts, UseParts
 
 # The share of an OSD that may be in use before Ceph takes no more (full_ratio, as it is where nobody sets it).
 FULL = 0.95
 
 
-@dataclass(frozen=True)
+@dataclass(frozen=True, **SLOTS)
 class Spread:
     """What each OSD has, and its share of it."""
-
-    __slots__ = ("has", "share")
 
     has: Mapping[int, float]
     share: Mapping[int, float]

@@ -4,9 +4,9 @@ from __future__ import annotations
 
 from collections.abc import Mapping
 
-from ..output.json_forms import FullestParts
 from ..program.answers import Up
 from ..program.maps import group_key
+from .json_forms import FullestParts
 from .moving import passed_on
 from .outage import filled
 from .shares import Shares

@@ -8,6 +8,7 @@ from dataclasses import dataclass
 from ..faults import Fault
 from ..files import JsonObject, json_of
 from ..program.maps import group_key
+from ..values import SLOTS
 from ..words import some
 from .cleanup import NONE
 from .cluster import Cluster
@@ -19,13 +20,12 @@ GROUPS = {"pg_stats": [{"pgid": str, "acting": [int], "?state": str}]}
 NOT_WHOLE = ("degraded", "undersized", "recover", "peering", "incomplete", "stale", "unknown", "down", "creating")
 
 
-@dataclass(frozen=True)
+@dataclass(frozen=True, **SLOTS)
 class GroupData:
     """The set that acts for each group, from which its data has not moved yet; how many groups each pool has there;
     and the groups that are not whole.
     """
 
-    __slots__ = ("sets", "counts", "torn")
     sets: dict[str, list[int | None]]
     counts: dict[int, int]
     torn: list[str]
@@ -47,7 +47,7 @@ def stats_in(path: str) -> list[JsonObject]:
     return found
 
 
-def data_in(path: str, cluster: Cluster, is_whole: bool) -> GroupData:
+def group_data_in(path: str, cluster: Cluster, is_whole: bool) -> GroupData:
     """Where the data of a cluster's groups is by a file. A fault where it lacks groups of a pool, has more of one, or,
     where all pools of the cluster are taken, has others.
     """

@@ -7,16 +7,15 @@ from dataclasses import dataclass
 
 from ..faults import Fault
 from ..files import json_of
-from ..program.maps import Pool, group_key, groups_in
 from ..program.map_forms import GROUP_PATTERN
+from ..program.maps import Pool, group_key, groups_in
+from ..values import SLOTS
 from .dump_forms import PG_STATS, misfits
 
 
-@dataclass(frozen=True)
+@dataclass(frozen=True, **SLOTS)
 class GroupSizes:
     """Where they were read, and the bytes that are stored in each group."""
-
-    __slots__ = ("path", "of_group")
 
     path: str
     of_group: dict[str, int]

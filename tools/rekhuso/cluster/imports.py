@@ -3,37 +3,38 @@
 from __future__ import annotations
 
 import sys
+from collections.abc import Iterable
 from dataclasses import dataclass
 
 from ..faults import Fault
 from ..program.map_forms import PLAIN
 from ..program.maps import Map
+from ..values import SLOTS
 from ..words import listed
 from .advice import advised
 from .cluster import Cluster
 from .conversion import map_of
 from .dumps import Misfit, chosen_cluster, first_lines
 from .map_parts import map_clusters
-from .moving_advice import moving_words
+from .moving_advice import import_moves
 from .names import with_pool_names
 from .reasons import reasons
 from .reasons.buckets import root_reasons
-from .reasons.counts import count_reasons
+from .reasons.counts import count_reasons, pools_reason, total_reason
 from .reasons.matches import unmatched
 from .reasons.rules import size_reasons
 from .sources import DumpFiles
 
-# The longest list of pools in the name of a file.
+# The longest list of pools in the name of a file, and on the way to a map.
 LONGEST = 200
 
 
-@dataclass(frozen=True)
+@dataclass(frozen=True, **SLOTS)
 class ImportedCluster:
     """A cluster of two dumps, the cluster of each map that it takes, and these maps, which the program has not seen
     yet.
     """
 
-    __slots__ = ("cluster", "parts", "maps")
     cluster: Cluster
     parts: list[Cluster]
     maps: list[Map]
@@ -56,11 +57,10 @@ def map_file(part: Cluster) -> str:
 
 def several_words(parts: list[Cluster]) -> str:
     """How a cluster comes in that takes several maps."""
-    return (
-        f"it takes {len(parts)} maps: --out FOLDER writes all, "
-        + listed([f"--pools {pool_ids(part)}" for part in parts])
-        + " one each"
-    )
+    pools, all_words = list(map(pool_ids, parts)), f"it takes {len(parts)} maps: --out FOLDER writes all"
+    if max(map(len, pools)) > LONGEST:
+        return f"{all_words}, which have {listed([str(len(part.pools)) for part in parts])} pools"
+    return f"{all_words}, {listed([f'--pools {own}' for own in pools])} one each"
 
 
 def plain_reasons(cluster: Cluster) -> list[str]:
@@ -83,29 +83,42 @@ def free_pools(cluster: Cluster, faults: list[Misfit], is_unmatched: bool) -> st
     that it has, or too many for one another.
     """
 
-    def is_free(pools: set[int]) -> bool:
-        """Whether some pools come in without the others."""
-        part = cluster.of_pools(pools)
-        return not any(fault.concerns(part, True) for fault in faults) and not reasons(part, is_unmatched, False)
+    def against_these(pools: Iterable[int]) -> set[str]:
+        """What keeps some pools out without the others."""
+        part = cluster.of_pools(set(pools))
+        return {fault.line for fault in faults if fault.concerns(part, True)} | set(reasons(part, is_unmatched, False))
 
-    found = {pool["pool"] for pool in cluster.pools if is_free({pool["pool"]})}
+    def free_among(pools: list[int]) -> list[int]:
+        """Those of some pools that come in, by halves of them."""
+        if not against_these(pools):
+            return pools
+        half = len(pools) // 2
+        return free_among(pools[:half]) + free_among(pools[half:]) if half else []
+
+    of_rule: dict[int, list[int]] = {}
+    for pool in cluster.pools:
+        of_rule.setdefault(pool["crush_rule"], []).append(pool["pool"])
+    found: list[int] = []
+    for first, *more in of_rule.values():
+        # What keeps out the one and the other is of their rule, and so of all of its pools.
+        is_barred = more and against_these([first]) & against_these(more[:1])
+        found += [] if is_barred else free_among([first, *more])
     is_part = 0 < len(found) < len(cluster.pools)
-    return ",".join(map(str, sorted(found))) if is_part and is_free(found) else ""
+    return ",".join(map(str, sorted(found))) if is_part and not against_these(found) else ""
 
 
 def with_advice(cluster: Cluster, faults: list[Misfit], found: list[str], files: DumpFiles) -> list[str]:
     """Each reason with what is done about it, and what that moves."""
     pools = free_pools(cluster, faults, files.is_unmatched) if found else ""
-    told = [moving_words(cluster, line, files.program) for line in found]
+    told = [import_moves(cluster, line, files.program) for line in found]
     return advised(found, pools, told) + plain_reasons(cluster)
 
 
 def against(cluster: Cluster, faults: list[Misfit], files: DumpFiles, is_one: bool) -> list[str]:
     """All that is told against a cluster; where one map is asked for, what it takes several for too."""
     found = first_lines(faults) + reasons(cluster, files.is_unmatched, False)
-    apart = (
-        [line for line in root_reasons(cluster, True) + size_reasons(cluster) if line not in found] if is_one else []
-    )
+    several = root_reasons(cluster, True) + size_reasons(cluster) + pools_reason(cluster) + total_reason(cluster)
+    apart = [line for line in several if line not in found] if is_one else []
     if cluster.is_stock:
         found = with_advice(cluster, faults, found, files)
     if apart:

@@ -12,6 +12,7 @@ from collections.abc import Mapping, Sequence
 from dataclasses import dataclass
 
 from ..program.maps import Map, Pool, RuleStep
+from ..values import SLOTS
 from .cluster import Cluster
 from .names import Names, named, step_words
 
@@ -19,11 +20,10 @@ from .names import Names, named, step_words
 Places = Sequence["int | None"]
 
 
-@dataclass(frozen=True)
+@dataclass(frozen=True, **SLOTS)
 class Reason:
     """Why exceptions of a group go: by which step of the rule or which other part of the check, and what is wrong."""
 
-    __slots__ = ("step", "why")
     step: str
     why: str
 
@@ -32,26 +32,24 @@ class Reason:
         return f"{self.step}: {self.why}"
 
 
-@dataclass(frozen=True)
+@dataclass(frozen=True, **SLOTS)
 class CrushTree:
     """A CRUSH map as a monitor reads it: the items of each bucket with the weights that the bucket gives them, the
     type of each bucket, the steps of each rule, and names.
     """
 
-    __slots__ = ("items", "types", "rules", "names")
     items: dict[int, list[tuple[int, int]]]
     types: dict[int, int]
     rules: dict[int, list[RuleStep]]
     names: Names
 
 
-@dataclass(frozen=True)
+@dataclass(frozen=True, **SLOTS)
 class Present:
     """What a monitor looks at beside the CRUSH map: the pools, the reweight of each OSD in units of 1/65,536, also of
     OSDs that do not exist any more, and max_osd.
     """
 
-    __slots__ = ("pools", "reweights", "max_osd")
     pools: dict[int, Pool]
     reweights: dict[int, int]
     max_osd: int

@@ -1,7 +1,8 @@
 """Which pools of a cluster one map holds, where the cluster takes several maps.
 
 A map holds an item once and a rule for one size. So pools whose rules reach an item in different buckets are in two
-maps, and so are pools of two sizes whose rule has a negative count.
+maps, and so are pools of two sizes whose rule has a negative count. Pools beyond those that a map holds, and beyond
+those whose groups it holds together, are in further maps.
 """
 
 from __future__ import annotations
@@ -76,6 +77,22 @@ def numbered(apart: Mapping[Demand, set[Demand]]) -> dict[Demand, int]:
     return found
 
 
+def within_limits(cluster: Cluster, pools: set[int]) -> list[set[int]]:
+    """Pools that do not clash, by the maps that they take: as many in each as it holds, and as it holds groups of
+    them, by their ids. Without straw2 buckets a cluster takes one map.
+    """
+    if not cluster.is_stock:
+        return [pools]
+    most, found, total = cluster.of_pools(pools).limits, [set[int]()], 0
+    for pool in sorted(pools):
+        total += cluster.sizes[pool]
+        if len(found[-1]) == most.pools or (found[-1] and total > most.total):
+            found.append(set())
+            total = cluster.sizes[pool]
+        found[-1].add(pool)
+    return found
+
+
 def pools_by_map(cluster: Cluster) -> list[set[int]]:
     """The pools of each map that a cluster takes, those of the lowest pool first; one without pools where there is
     none.
@@ -85,7 +102,7 @@ def pools_by_map(cluster: Cluster) -> list[set[int]]:
     found: dict[int, set[int]] = {}
     for pool, demand in demands.items():
         found.setdefault(maps[demand], set()).add(pool)
-    return sorted(found.values(), key=min) or [set()]
+    return sorted((part for own in found.values() for part in within_limits(cluster, own)), key=min) or [set()]
 
 
 def map_clusters(cluster: Cluster) -> list[Cluster]:

@@ -9,10 +9,11 @@ from collections.abc import Mapping
 from dataclasses import dataclass
 
 from ..faults import Fault
-from ..output.json_forms import MisplacedParts
 from ..program.answers import Up
 from ..program.maps import entries_of
+from ..values import SLOTS
 from ..words import counted, share_words
+from .json_forms import MisplacedParts
 from .moving import coming
 from .outage import filled
 
@@ -22,11 +23,10 @@ ERASURE = 3
 MOST = 0.05
 
 
-@dataclass(frozen=True)
+@dataclass(frozen=True, **SLOTS)
 class Misplaced:
     """How many groups have a temporary set, and how many places of theirs are still to move, of all places."""
 
-    __slots__ = ("groups", "places", "of")
     groups: int
     places: int
     of: int

@@ -95,7 +95,7 @@ def tunable_words(cluster: Cluster) -> str:
     return f": some half of the places of {whose} {listed(pools)}, by chooseleaf firstn"
 
 
-def moving_words(cluster: Cluster, reason: str, program: Program) -> str:
+def import_moves(cluster: Cluster, reason: str, program: Program) -> str:
     """What the advice about a reason moves, behind it; nothing where it is not known, or moves nothing."""
     if re.search(r"^choose_args.*: of pools", reason):
         return pool_sets_words(cluster, program)

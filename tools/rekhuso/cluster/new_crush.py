@@ -7,27 +7,26 @@ from dataclasses import dataclass
 from ..faults import Fault
 from ..files import json_of
 from ..program.maps import altered
+from ..values import SLOTS
 from .cluster import Cluster
 from .dump_forms import CRUSH_DUMP, is_crush_dump
 from .dump_types import CrushDump, DumpPool
 from .dumps import first_lines, read_dump
 
 
-@dataclass(frozen=True)
+@dataclass(frozen=True, **SLOTS)
 class NewCrush:
     """`ceph osd setcrushmap`: the CRUSH map that is then in force."""
 
-    __slots__ = ("crush",)
     crush: CrushDump
 
 
-@dataclass(frozen=True)
+@dataclass(frozen=True, **SLOTS)
 class PoolChange:
     """`ceph osd pool set` of a pool, by its id: its rule by name or number, its size, its numbers of groups; None where
     it keeps what it has.
     """
 
-    __slots__ = ("pool", "rule", "size", "pg_num", "pgp_num")
     pool: int
     rule: str | None
     size: int | None

@@ -9,13 +9,13 @@ from dataclasses import dataclass
 from ..faults import Fault
 from ..program.answers import Up
 from ..program.maps import Osd, Pool, group_key
+from ..values import SLOTS
 
 
-@dataclass(frozen=True)
+@dataclass(frozen=True, **SLOTS)
 class Outage:
     """The OSDs that are down, and the groups with fewer places than their pool's size."""
 
-    __slots__ = ("down", "short")
     down: list[int]
     short: list[str]
 

@@ -9,6 +9,7 @@ from ..faults import Fault
 from ..files import json_of
 from ..program.maps import Pool, groups_in
 from ..terminal import in_one_line
+from ..values import SLOTS
 from .disks import Disk
 from .dump_forms import DF, misfits
 
@@ -26,15 +27,13 @@ def hash_parts(groups: int) -> list[int]:
     return [2 if groups - half <= group < half else 1 for group in range(groups)] if groups > 1 else [1]
 
 
-@dataclass(frozen=True)
+@dataclass(frozen=True, **SLOTS)
 class Data:
     """Where it was read; the bytes that each pool takes on all OSDs, the name of each, how many bytes are taken for one
     that is stored, where that is told, and the bytes of all OSDs, 0 where these are not told. Beside it what all OSDs
     weigh in the CRUSH map, 0 where that is not known; of pools whose groups are known what these hold, one beside the
     other; and the disks of the OSDs, where they are known.
     """
-
-    __slots__ = ("path", "of_pool", "names", "rates", "size", "weight", "parts", "disks")
 
     path: str
     of_pool: dict[int, int]

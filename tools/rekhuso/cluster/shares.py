@@ -5,9 +5,9 @@ from __future__ import annotations
 from collections import Counter
 from itertools import chain
 
-from ..output.json_forms import PoolRowParts, RowParts, SpreadParts, TotalParts
 from ..program.answers import Up
 from ..program.maps import Map, Pool, groups_in
+from .json_forms import PoolRowParts, RowParts, SpreadParts, TotalParts
 
 
 class Shares:

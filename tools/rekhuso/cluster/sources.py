@@ -6,16 +6,16 @@ from dataclasses import dataclass
 
 from ..faults import Misuse
 from ..program.maps import Program
+from ..values import SLOTS
 
 
-@dataclass(frozen=True)
+@dataclass(frozen=True, **SLOTS)
 class DumpFiles:
     """The files of a cluster's dumps, and how they are taken: the OSD dump, the CRUSH dump, the tree if there is one,
     the pools that are chosen by their ids or names (None for all), and whether OSDs that only one dump has are taken as
     out; and the program, which tells what advice moves.
     """
 
-    __slots__ = ("osd_dump", "crush_dump", "tree", "pools", "is_unmatched", "program")
     osd_dump: str
     crush_dump: str
     tree: str | None
@@ -24,13 +24,12 @@ class DumpFiles:
     program: Program
 
 
-@dataclass(frozen=True)
+@dataclass(frozen=True, **SLOTS)
 class Source:
     """What a command works on: the file of a map, or the two of dumps; a file of names, if there is one; the program;
     and how dumps are taken.
     """
 
-    __slots__ = ("paths", "names", "program", "tree", "pools", "is_unmatched")
     paths: tuple[str, ...]
     names: str | None
     program: Program

@@ -12,11 +12,12 @@ from ..faults import Fault, Misuse
 from ..files import text_of
 from ..plans.question import accepted
 from ..program.maps import Change, Program
+from ..values import SLOTS
 from .arguments import Arguments, Parser
 from .whatif_words import TOGETHER, Word, WordAction, WordReader, change_in, change_value, is_change_text
 
 # The options that stand for commands.
-OPTIONS = {
+CHANGE_OPTIONS = {
     "out": "--out",
     "in": "--in",
     "down": "--down",
@@ -44,13 +45,12 @@ USE = [
 ]
 
 
-@dataclass(frozen=True)
+@dataclass(frozen=True, **SLOTS)
 class ChangeWords:
     """A change: its JSON, if it is given so; the words that stand for commands; the bucket and the class of a host that
     comes.
     """
 
-    __slots__ = ("change", "words", "under", "device_class")
     change: Change | None
     words: tuple[Word, ...]
     under: str | None
@@ -58,7 +58,7 @@ class ChangeWords:
 
     def given(self) -> list[str]:
         """What is given, by its options."""
-        return (["CHANGE"] if self.change is not None else []) + [OPTIONS[word.kind] for word in self.words]
+        return (["CHANGE"] if self.change is not None else []) + [CHANGE_OPTIONS[word.kind] for word in self.words]
 
     def check(self) -> None:
         """An error of use where options stand together of which one would be passed over."""
@@ -107,7 +107,7 @@ def has_change(path: str) -> bool:
 def add_change_words(own: argparse.ArgumentParser) -> None:
     """The options that stand for commands."""
     if isinstance(own, Parser):
-        own.repeated = frozenset(OPTIONS[word] for word in TOGETHER)
+        own.repeated = frozenset(CHANGE_OPTIONS[word] for word in TOGETHER)
     for word, about in (
         ("out", "takes no groups"),
         ("in", "takes its share again, as before it went out"),

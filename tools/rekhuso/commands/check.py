@@ -16,11 +16,12 @@ from ..cluster.dump_forms import dump_name
 from ..cluster.names import Names, names_in, with_names
 from ..faults import Fault, Refused
 from ..files import text_of
-from ..output.json_forms import put_json
+from ..output.json_output import put_json
 from ..program.defects import change_defects, map_defects
 from ..program.map_forms import Defect, REFUSALS
 from ..program.maps import Program, has_straw2
 from ..program.questions import answers_of, raw_answers
+from ..values import SLOTS
 from .arguments import Arguments, Commands, add_json, set_work
 from .whatif_words import is_change_text
 
@@ -89,13 +90,12 @@ def check_map(path: str, program: Program, names: Names) -> str:
     return text
 
 
-@dataclass(frozen=True)
+@dataclass(frozen=True, **SLOTS)
 class CheckOptions:
     """The files of a map and of names, and a change or its file, where there are these; the program; and whether it is
     told as JSON.
     """
 
-    __slots__ = ("path", "change", "names", "program", "is_json")
     path: str
     change: str | None
     names: str | None

@@ -13,6 +13,7 @@ from dataclasses import dataclass
 
 from ..cluster.affinity import told_affinities
 from ..cluster.disks import Disk, disks_of
+from ..cluster.json_forms import PoolRowParts
 from ..cluster.names import Names, named
 from ..cluster.shares import Shares
 from ..cluster.sources import Source
@@ -20,8 +21,9 @@ from ..cluster.view import ClusterView, view_with_sets
 from ..files import JsonObject
 from ..output.df_table import node, nodes, summary, tree_lines
 from ..output.fill_words import osd_words
-from ..output.json_forms import PoolRowParts, put_json
+from ..output.json_output import put_json
 from ..program.answers import Up
+from ..values import SLOTS
 from ..words import counted
 from .arguments import Arguments, Commands, add_files, add_json, add_osds, set_work, source_of
 
@@ -61,11 +63,10 @@ def put_df_json(view: ClusterView, sets: dict[str, Up], shares: Shares, disks: M
     )
 
 
-@dataclass(frozen=True)
+@dataclass(frozen=True, **SLOTS)
 class DfOptions:
     """What `df` works on, the file of disks if there is one, and whether it is told as JSON."""
 
-    __slots__ = ("source", "osds", "is_json")
     source: Source
     osds: str | None
     is_json: bool

@@ -18,31 +18,30 @@ from ..cluster.primaries import named_primaries, other_primaries
 from ..cluster.sources import Source
 from ..faults import Refused
 from ..output.flow_words import pair_lines
-from ..output.json_forms import put_json
+from ..output.json_output import put_json
 from ..program.answers import Up
 from ..program.maps import Change, Map, groups_of, has_straw2, written
 from ..program.questions import raw_answers
+from ..values import SLOTS
 from ..words import counted
 from .arguments import Arguments, Commands, Files, add_json, add_names, set_work, source_of
 
 DIFF_FILES = "OLD_MAP NEW_MAP | OLD_OSD_DUMP OLD_CRUSH_DUMP NEW_OSD_DUMP NEW_CRUSH_DUMP"
 
 
-@dataclass(frozen=True)
+@dataclass(frozen=True, **SLOTS)
 class DiffOptions:
     """What is before and after, and whether it is told as JSON."""
 
-    __slots__ = ("old", "new", "is_json")
     old: Source
     new: Source
     is_json: bool
 
 
-@dataclass(frozen=True)
+@dataclass(frozen=True, **SLOTS)
 class Side:
     """A map with the up set of each of its groups, its names, and the primaries that dumps name for groups."""
 
-    __slots__ = ("value", "sets", "names", "primaries")
     value: Map
     sets: dict[str, Up]
     names: Names

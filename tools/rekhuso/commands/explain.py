@@ -7,15 +7,17 @@ from collections.abc import Iterable
 from dataclasses import dataclass
 
 from ..cluster.affinity import applied_words, told_affinities, with_affinity
+from ..cluster.json_forms import NamedParts, PairParts
 from ..cluster.names import Names, named, set_words, step_words
 from ..cluster.primaries import with_first
 from ..cluster.sources import Source
 from ..cluster.view import ClusterView, view_of
 from ..files import JsonObject
-from ..output.json_forms import NamedParts, PairParts, put_json
+from ..output.json_output import put_json
 from ..program.map_forms import GROUP_PATTERN
 from ..program.maps import Program, altered, entries_of, with_all_up
 from ..program.questions import up_sets
+from ..values import SLOTS
 from ..words import counted
 from .arguments import Arguments, Commands, add_json, add_map_files, add_names, set_work, source_of, usage
 
@@ -205,11 +207,10 @@ class GroupStory:
         }
 
 
-@dataclass(frozen=True)
+@dataclass(frozen=True, **SLOTS)
 class ExplainOptions:
     """What `explain` works on, the group, and whether it is told as JSON."""
 
-    __slots__ = ("source", "group", "is_json")
     source: Source
     group: str
     is_json: bool

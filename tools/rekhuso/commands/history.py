@@ -16,19 +16,19 @@ from ..cluster.epochs import epochs_of, first_of
 from ..cluster.names import Names, names_in
 from ..faults import Fault, Misuse
 from ..output.history_words import epoch_line, first_line
-from ..output.json_forms import put_json
+from ..output.json_output import put_json
 from ..program.maps import Program
 from ..program.stores import StoredJournal, journal_in, map_at
+from ..values import SLOTS
 from .arguments import Arguments, Commands, add_json, set_work
 
 
-@dataclass(frozen=True)
+@dataclass(frozen=True, **SLOTS)
 class HistoryOptions:
     """The file of a store, the epoch whose map is asked for, if one is, a file of names, the program, and whether it is
     told as JSON.
     """
 
-    __slots__ = ("store", "at", "names", "program", "is_json")
     store: str
     at: int | None
     names: str | None

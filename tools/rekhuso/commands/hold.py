@@ -17,16 +17,17 @@ import sys
 from dataclasses import dataclass
 
 from ..cluster.cluster import Cluster
-from ..cluster.group_dumps import data_in
+from ..cluster.group_dumps import group_data_in
 from ..cluster.imports import ImportedCluster, imported
 from ..cluster.sources import Source
 from ..cluster.view import ClusterView
 from ..faults import Misuse
 from ..output.hold_words import ROUND, hold_lines, hold_script
-from ..output.json_forms import put_json
+from ..output.json_output import put_json
 from ..output.plan_scripts import put_batches
 from ..plans.hold import Hold, Sides, counts_in, hold_of, mapped_sets, sides_of_change
 from ..plans.hold_checks import check_sides, check_still, moving_words, torn_words
+from ..values import SLOTS
 from .arguments import Arguments, Commands, add_dump_options, add_json, set_work, source_of
 from .change_words import USE, ChangeWords, add_change_words, change_words, files_and_change
 from .plan import commands_a_file
@@ -34,14 +35,13 @@ from .plan import commands_a_file
 FORMS = "OSD_DUMP CRUSH_DUMP [CHANGE] | OLD_OSD_DUMP OLD_CRUSH_DUMP NEW_OSD_DUMP NEW_CRUSH_DUMP"
 
 
-@dataclass(frozen=True)
+@dataclass(frozen=True, **SLOTS)
 class HoldOptions:
     """The dumps before the change, and those behind it where they are given; the words of the change; the file that
     tells where the data is, if there is one; whether a cluster that moves is held too; and how it is put out: as the
     way back, in files of so many commands in a folder, or as JSON.
     """
 
-    __slots__ = ("old", "new", "asked", "at", "is_anyway", "is_undo", "batch", "to", "is_json")
     old: Source
     new: Source | None
     asked: ChangeWords
@@ -95,7 +95,7 @@ def sides_by_words(options: HoldOptions) -> Sides:
 def sides_at(options: HoldOptions, path: str) -> Sides:
     """Both sides of a change by where the data is behind it."""
     new: Cluster = cluster_in(options.old).cluster
-    data = data_in(path, new, options.old.pools is None)
+    data = group_data_in(path, new, options.old.pools is None)
     check_still(torn_words(data.torn, path), options.is_anyway, "held")
     return Sides(data.sets, data.counts, new, frozenset())
 

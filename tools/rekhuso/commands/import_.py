@@ -23,19 +23,19 @@ from ..cluster.reasons import reasons
 from ..cluster.sources import DumpFiles
 from ..faults import Fault, Misuse
 from ..files import JsonObject, put
-from ..output.json_forms import put_json
+from ..output.json_output import put_json
 from ..program.maps import Program, written
+from ..values import SLOTS
 from ..words import counted
 from .arguments import Arguments, Commands, add_dump_options, add_json, set_work
 
 
-@dataclass(frozen=True)
+@dataclass(frozen=True, **SLOTS)
 class ImportOptions:
     """The dumps; the program; the folder for maps and the file for names, where there are these; whether it is only
     told if the cluster comes in; and whether all is told as JSON.
     """
 
-    __slots__ = ("dumps", "program", "out", "names", "is_check", "is_json")
     dumps: DumpFiles
     program: Program
     out: str | None

@@ -16,17 +16,17 @@ from dataclasses import dataclass
 
 from ..cluster.difference import change_of, exception_commands
 from ..cluster.map_files import map_monitor
-from ..output.json_forms import put_json
+from ..output.json_output import put_json
 from ..plans.pairs import settled
 from ..program.maps import Map, Program, written
+from ..values import SLOTS
 from .arguments import Arguments, Commands, add_json, set_work
 
 
-@dataclass(frozen=True)
+@dataclass(frozen=True, **SLOTS)
 class NetOptions:
     """The file of a map, the program, and whether the pairs are told as JSON, or as Ceph's commands."""
 
-    __slots__ = ("path", "program", "is_json", "is_ceph")
     path: str
     program: Program
     is_json: bool

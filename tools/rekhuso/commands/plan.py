@@ -29,21 +29,21 @@ from dataclasses import dataclass, replace
 from fractions import Fraction
 
 from ..cluster.conversion import monitor_of
+from ..cluster.data_files import DataFiles, KnownData, known_data
+from ..cluster.disks import NEARFULL
 from ..cluster.imports import imported
 from ..cluster.judge import judge_of_cluster, judge_of_map
 from ..cluster.map_files import map_monitor
 from ..cluster.misplaced import Misplaced, check_misplaced
 from ..cluster.names import Names, names_in, pools_named
 from ..cluster.outage import check_outage
+from ..cluster.pool_data import Data
 from ..cluster.primaries import rested_words
 from ..cluster.releases import least_client
-from ..cluster.data_files import DataFiles, KnownData, known_data
-from ..cluster.disks import NEARFULL
-from ..cluster.pool_data import Data
 from ..cluster.sources import Source
 from ..cluster.view import ClusterView, has_other_weights, no_plan_words, tree_in
 from ..faults import Fault, Misuse
-from ..output.json_forms import put_json
+from ..output.json_output import put_json
 from ..output.plan_scripts import Script, WATCH, balancer_words, client_words, part_file, put_batches
 from ..output.plan_words import plan_lines, quiet_words, refusal_words
 from ..plans.after_plan import quiet_deviation, rested_after
@@ -55,6 +55,7 @@ from ..plans.rounds import Live, MOST_MOVES
 from ..plans.steps import steps_by_pool
 from ..program.maps import Map, Pool, Program, altered
 from ..progress import doing
+from ..values import SLOTS
 from .arguments import Arguments, Commands, add_files, add_json, set_work, source_of
 
 # What is told above a plan of its other forms.
@@ -64,15 +65,13 @@ UNDO = "undo:   the same words with --undo, over the same files, which are to be
 LEAST, FARTHEST = Fraction(1, 2), 65536
 
 
-@dataclass(frozen=True)
+@dataclass(frozen=True, **SLOTS)
 class ToldPlan:
     """What is told of plans: the epoch of the map, what the plans are, what the groups weigh, names, from which number
     on Ceph's own balancer leaves the plan alone, if that is known; and of dumps the groups whose named primary does
     nothing any more afterwards, the release that clients must have at least, and what is still to come from before; and
     by what the commands are judged before they are put out.
     """
-
-    __slots__ = ("epoch", "outcome", "weights", "names", "quiet", "rested", "client", "misplaced", "printed")
 
     epoch: int
     outcome: Outcome
@@ -90,13 +89,11 @@ class ToldPlan:
         return found + ([rested_words(self.rested)] if self.rested else [])
 
 
-@dataclass(frozen=True)
+@dataclass(frozen=True, **SLOTS)
 class Held:
     """What a cluster holds: what files tell, and of it the data of its pools; the weights of all its OSDs; which OSDs
     it has, None where not all are known; and how full one may get.
     """
-
-    __slots__ = ("known", "data", "weights", "osds", "nearfull")
 
     known: KnownData
     data: Data | None
@@ -105,17 +102,13 @@ class Held:
     nearfull: float
 
 
-@dataclass(frozen=True)
+@dataclass(frozen=True, **SLOTS)
 class PlanOptions:
     """What is planned over, and how: which pools, at most how many commands, how near to the shares, whether each pool
     by itself, whether for room alone, whether amid an outage too, and by which file of data; and how it is put out: as
     the way back, in files of so many commands in a folder, or as JSON.
     """
 
-    __slots__ = (
-        *("source", "pools", "most", "deviation", "is_alone", "is_room", "is_anyway", "data"),
-        *("is_undo", "batch", "to", "is_json"),
-    )
     source: Source
     pools: tuple[str, ...]
     most: int | None

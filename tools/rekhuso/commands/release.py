@@ -23,7 +23,7 @@ from ..cluster.releases import least_client
 from ..cluster.sources import Source
 from ..faults import Fault, Misuse
 from ..files import json_of
-from ..output.json_forms import put_json
+from ..output.json_output import put_json
 from ..output.plan_scripts import Script, WATCH, balancer_words, client_words, part_file, put_batches
 from ..output.release_words import peak_words, release_lines
 from ..plans.hold_checks import check_still, moving_words
@@ -31,20 +31,20 @@ from ..plans.movement import place_bytes
 from ..plans.parts import ALL
 from ..plans.release import Release, release_of
 from ..program.maps import Exceptions, altered
+from ..values import SLOTS
 from .arguments import Arguments, Commands, Files, add_dump_options, add_json, set_work, source_of
 from .plan import commands_a_file
 
 UNDO = "undo:   the same words with --undo, over the same files, which are to be kept"
 
 
-@dataclass(frozen=True)
+@dataclass(frozen=True, **SLOTS)
 class ReleaseOptions:
     """The dumps of the cluster as it is held; the OSD dump whose exceptions are kept, if there is one; whether the way
     leads to a plan; whether a cluster that moves is released too; and how it is put out: as the way back, in files of
     so many commands in a folder, or as JSON.
     """
 
-    __slots__ = ("source", "keep", "is_planned", "is_anyway", "is_undo", "batch", "to", "is_json")
     source: Source
     keep: str | None
     is_planned: bool

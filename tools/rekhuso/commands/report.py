@@ -9,6 +9,7 @@ from ..cluster.sources import Source
 from ..cluster.view import view_with_sets
 from ..files import json_of
 from ..output.page import page
+from ..values import SLOTS
 from .arguments import Arguments, Commands, add_files, add_osds, set_work, source_of
 
 
@@ -18,11 +19,10 @@ def title_of(source: Source) -> str:
     return f"Cluster {cluster}" if isinstance(cluster, str) else source.paths[0]
 
 
-@dataclass(frozen=True)
+@dataclass(frozen=True, **SLOTS)
 class ReportOptions:
     """What the page is of, and the file of disks if there is one."""
 
-    __slots__ = ("source", "osds")
     source: Source
     osds: str | None
 

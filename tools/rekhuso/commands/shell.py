@@ -29,6 +29,7 @@ from ..program.answers import up_of
 from ..program.maps import Program
 from ..program.monitor import Monitor
 from ..program.process import built
+from ..values import SLOTS
 from .arguments import ABOUT_FILES, FILES, Arguments, Commands, Files, add_names, set_work, source_of, usage
 
 HELP = {
@@ -95,11 +96,10 @@ def saved(monitor: Monitor, path: str) -> str:
     return f"saved {path}"
 
 
-@dataclass(frozen=True)
+@dataclass(frozen=True, **SLOTS)
 class LiveMap:
     """A live session, and the names of what its map has by number."""
 
-    __slots__ = ("monitor", "names")
     monitor: Monitor
     names: Names
 
@@ -238,13 +238,12 @@ def piped(live: LiveMap) -> None:
             return
 
 
-@dataclass(frozen=True)
+@dataclass(frozen=True, **SLOTS)
 class ShellOptions:
     """What the shell is over: a map, or the dumps of a cluster that one map holds; or a store, if one is given, which
     these begin. The program of a store, if one is named.
     """
 
-    __slots__ = ("source", "store", "store_program")
     source: Source
     store: str | None
     store_program: Program

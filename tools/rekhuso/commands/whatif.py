@@ -20,10 +20,11 @@ from ..files import put
 from ..output.flow_picture import flow_picture
 from ..output.flow_words import flow_lines, fullest_words, move_words, unbalanced_words
 from ..output.hold_words import hold_lines
-from ..output.json_forms import put_json
+from ..output.json_output import put_json
 from ..plans.hold import hold_of_change
 from ..plans.question import Balance, Question
 from ..program.maps import Map, altered
+from ..values import SLOTS
 from ..words import counted
 from .arguments import ABOUT_FILES, Arguments, Commands, FILES, add_names, set_work, source_of, usage
 from .change_words import USE, ChangeWords, add_change_words, change_words, files_and_change
@@ -71,14 +72,13 @@ def drill(question: Question, word: str, is_json: bool) -> None:
         put_json("whatif", value["epoch"], buckets=rows)
 
 
-@dataclass(frozen=True)
+@dataclass(frozen=True, **SLOTS)
 class WhatifOptions:
     """What a change is made to, and the change; the type of buckets that go out in turn, if they do; how the cluster is
     balanced afterwards, if it is; whether it is told what a hold of the change would leave; the file for a picture, if
     there is one; and whether all is told as JSON.
     """
 
-    __slots__ = ("source", "asked", "each", "balance", "is_held", "picture", "is_json")
     source: Source
     asked: ChangeWords
     each: str | None

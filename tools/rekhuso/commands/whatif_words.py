@@ -21,6 +21,7 @@ from ..cluster.shadows import SIGN
 from ..faults import Fault, Misuse
 from ..files import text_of
 from ..program.maps import Change, Map, entries_of
+from ..values import SLOTS
 
 # The words that each make one command of all that they name, with the reweight that they give.
 FULL_WEIGHT = 65536
@@ -34,11 +35,10 @@ OF_POOLS = ("rule", "size", "pg_num", "pgp_num")
 HOST = "host"
 
 
-@dataclass(frozen=True)
+@dataclass(frozen=True, **SLOTS)
 class Word:
     """A word of the command line that stands for a command: which, and what stands behind it."""
 
-    __slots__ = ("kind", "values")
     kind: str
     values: tuple[str, ...]
 

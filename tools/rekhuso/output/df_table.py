@@ -6,11 +6,11 @@ from collections.abc import Iterable, Mapping
 
 from ..cluster.disks import Disk, KIB
 from ..cluster.evenness import Spread
+from ..cluster.json_forms import RowParts
 from ..cluster.names import Names, named
 from ..cluster.shares import Shares, spread_parts
 from ..files import JsonObject
 from ..words import size_words
-from .json_forms import RowParts
 from .tables import aligned
 
 COLUMNS = ["ID", "CLASS", "WEIGHT", "REWEIGHT", "SHARE", "DEVIATION", "RATIO", "PGS", "STATUS", "TYPE NAME"]

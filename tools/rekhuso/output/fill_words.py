@@ -2,9 +2,10 @@
 
 from __future__ import annotations
 
+from ..cluster.json_forms import FillParts, OsdFillParts, UseParts
 from ..cluster.names import Names, named
+from ..plans.json_forms import PoolSpreadParts
 from ..words import counted, size_words
-from .json_forms import FillParts, OsdFillParts, PoolSpreadParts, UseParts
 
 
 def osd_words(fill: OsdFillParts, names: Names, is_bytes: bool = False) -> str:

@@ -5,9 +5,9 @@ from __future__ import annotations
 import html
 
 from ..cluster.names import Names, named
+from ..plans.json_forms import FlowParts
 from ..program.maps import Map
 from .flow_words import move_words
-from .json_forms import FlowParts
 
 WIDTH, TALL, TOP, SIDE, BAR, SPACE, LEAST = 760, 520, 34, 170, 14, 4, 9
 

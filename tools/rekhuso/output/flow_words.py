@@ -3,8 +3,8 @@
 from __future__ import annotations
 
 from ..cluster.names import Names, named, pool_words
+from ..plans.json_forms import FlowParts
 from ..words import counted, some
-from .json_forms import FlowParts
 from .plan_words import why_words
 
 

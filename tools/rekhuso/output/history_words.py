@@ -4,10 +4,10 @@ from __future__ import annotations
 
 from collections.abc import Iterable
 
+from ..cluster.json_forms import EpochParts, ExceptionChangeParts, GrowthParts
 from ..cluster.names import Names, named, pool_words, set_words
 from ..program.maps import Entry, Map, Pool, entries_of
 from ..words import counted, listed, some
-from .json_forms import EpochParts, ExceptionChangeParts, GrowthParts
 
 # How many reweights or exceptions of a kind are told one by one.
 MOST = 4

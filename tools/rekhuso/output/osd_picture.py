@@ -9,7 +9,7 @@ from ..cluster.shares import Shares
 from ..words import counted
 
 # Squares keep their colours in the dark, and so what stands in them.
-STYLE = (
+PICTURE_STYLE = (
     "text{font:11px sans-serif;fill:#333}.r{font-weight:bold}.n{font-size:8px;text-anchor:middle;fill:#222}"
     ".g{fill:#fff}.c{stroke:#999;stroke-width:.5}"
     ".m{stroke:#111;stroke-width:1.5;fill:none}@media (prefers-color-scheme:dark){text{fill:#ddd}.n{fill:#222}"
@@ -109,7 +109,7 @@ def osd_picture(maps: list[Shares], names: Names, titles: list[str]) -> str:
     return (
         f'<svg xmlns="http://www.w3.org/2000/svg" width="{width}" height="{height + 46}" viewBox="0 0 {width} '
         f'{height + 46}">'
-        f'<style>{STYLE}</style><rect width="100%" height="100%" class="g"/>{"".join(parts)}{legend}'
+        f'<style>{PICTURE_STYLE}</style><rect width="100%" height="100%" class="g"/>{"".join(parts)}{legend}'
         f'<text x="136" y="{height + 17}">no groups .. the share .. twice as many</text>'
         f'<text x="8" y="{height + 34}">in a square its groups; cross: out; bar: down</text></svg>\n'
     )

@@ -22,7 +22,7 @@ from .plan_words import page_words
 
 # The columns of `df`, those first that a narrow screen shows.
 PAGE_COLUMNS = ["PGS", "SHARE", "DEVIATION", "RATIO", "STATUS", "WEIGHT", "REWEIGHT", "CLASS"]
-STYLE = """:root{color-scheme:light dark}body{font:15px/1.45 system-ui,sans-serif;margin:1rem auto;max-width:86rem;
+PAGE_STYLE = """:root{color-scheme:light dark}body{font:15px/1.45 system-ui,sans-serif;margin:1rem auto;max-width:86rem;
 padding:0 1rem}
 table{border-collapse:collapse;width:100%;display:block;overflow-x:auto}
 td,th{padding:.2rem .6rem;text-align:right;border-bottom:1px solid #8884}
@@ -154,5 +154,5 @@ def page(whole: ClusterView, sets: dict[str, Up], program: Program, title: str, 
     return (
         '<!doctype html><html lang="en"><meta charset="utf-8"><meta name="viewport" '
         'content="width=device-width,initial-scale=1">'
-        f"<title>{html.escape(title)}</title><style>{STYLE}</style>{''.join(parts)}<script>{SCRIPT}</script></html>\n"
+        f"<title>{html.escape(title)}</title><style>{PAGE_STYLE}</style>{''.join(parts)}<script>{SCRIPT}</script></html>\n"
     )

@@ -11,10 +11,11 @@ from ..cluster.names import Names, named
 from ..cluster.releases import knows_upmap
 from ..faults import Fault
 from ..files import put
+from ..plans.json_forms import MovingParts
 from ..plans.movement import PlaceBytes
 from ..plans.steps import PlanStep
+from ..values import SLOTS
 from ..words import counted, share_words, size_words
-from .json_forms import MovingParts
 from .tables import aligned
 
 # What is told above the commands of a plan.
@@ -89,11 +90,10 @@ def movement_tables(weights: PlaceBytes, steps: list[PlanStep], names: Names) ->
     ]
 
 
-@dataclass(frozen=True)
+@dataclass(frozen=True, **SLOTS)
 class Script:
     """A script: its first line, what is told above its commands, what its steps weigh, and names."""
 
-    __slots__ = ("title", "notes", "weights", "names")
     title: str
     notes: list[str]
     weights: PlaceBytes

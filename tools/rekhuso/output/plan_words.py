@@ -5,11 +5,11 @@ from __future__ import annotations
 from fractions import Fraction
 
 from ..cluster.names import Names, named
+from ..plans.json_forms import PlanParts, StayParts
 from ..plans.plan import Outcome
 from ..plans.rounds import MOST_MOVES
 from ..words import counted, size_words, some
 from .fill_words import fill_words, osd_words, room_words, spread_words, use_words
-from .json_forms import PlanParts, StayParts
 
 # The number of the refusal of a pool whose rule has several blocks, and what is said of it.
 BLOCKS = "29 "
@@ -56,7 +56,7 @@ def length_words(parts: PlanParts, deviation: Fraction | None) -> str:
     return f"; {counted(wanted, 'move')} {'comes' if wanted == 1 else 'come'} within {most} of each share, {whole}"
 
 
-def pool_words(parts: PlanParts, deviation: Fraction | None) -> str:
+def pool_plan_words(parts: PlanParts, deviation: Fraction | None) -> str:
     """What a pool's plan is."""
     if parts["refused"]:
         return f"{refusal_words(parts['refused'])}; it has {spread_words(parts['before'])}"
@@ -132,5 +132,5 @@ def page_words(outcome: Outcome, names: Names) -> list[str]:
 
 def plan_lines(outcome: Outcome, names: Names, deviation: Fraction | None) -> list[str]:
     """All that is told of plans: first of the cluster, then of each pool."""
-    pools = [f"{parts['name']}: {pool_words(parts, deviation)}" for parts in outcome.pools]
+    pools = [f"{parts['name']}: {pool_plan_words(parts, deviation)}" for parts in outcome.pools]
     return cluster_words(outcome, names) + pools

@@ -9,18 +9,17 @@ from dataclasses import dataclass
 from typing import Optional
 
 from ..program.maps import Map, Pool, RuleStep
+from ..values import SLOTS
 
 # The places of a group; None where one is empty.
 Places = Sequence[Optional[int]]
 
 
-@dataclass(frozen=True)
+@dataclass(frozen=True, **SLOTS)
 class Block:
     """A block of a rule: the OSDs below what it takes; the failure domain of each that has one, by the last type that
     the block chooses; and the buckets of the types before it, which a group does not leave.
     """
-
-    __slots__ = ("osds", "domains", "beside")
 
     osds: frozenset[int]
     domains: Mapping[int, int]

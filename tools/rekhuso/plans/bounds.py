@@ -6,20 +6,20 @@ from collections.abc import Mapping, Sequence
 from dataclasses import dataclass
 
 from ..cluster.evenness import Spread
+from ..values import SLOTS
 from .step_order import EVEN
 
 # What is no more than rounding, as a part of a number.
 ROUNDING = 1e-9
 
 
-@dataclass(frozen=True)
+@dataclass(frozen=True, **SLOTS)
 class Measure:
     """By what OSDs are full: what they have and their shares, in bytes or else in groups; what a place of each group
     counts (else 1); what they have once all of a plan is done, of which the commands may be the first alone; and up to
     where OSDs may be filled, if that is known.
     """
 
-    __slots__ = ("spread", "sizes", "end", "limits")
     spread: Spread
     sizes: Mapping[str, float] | None
     end: Mapping[int, float]
@@ -30,13 +30,12 @@ class Measure:
         return 1.0 if self.sizes is None else self.sizes[group]
 
 
-@dataclass(frozen=True)
+@dataclass(frozen=True, **SLOTS)
 class Step:
     """What the commands of a group do: its last command, the OSDs to which places come and from which they go, and what
     each place counts.
     """
 
-    __slots__ = ("line", "come", "go", "size")
     line: str
     come: Sequence[int]
     go: Sequence[int]

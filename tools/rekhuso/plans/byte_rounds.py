@@ -6,14 +6,15 @@ from collections.abc import Callable
 from contextlib import ExitStack
 from dataclasses import dataclass
 
-from ..output.json_forms import HindranceParts
+from ..values import SLOTS
 from .byte_aims import ByteAims
 from .hindrances import hindrances
+from .json_forms import HindranceParts
 from .last_pass import LastPass
 from .rounds import Planner
 
 
-@dataclass
+@dataclass(**SLOTS)
 class Passed:
     """The groups that the first pass has moved, where it came before the scheme; those of all passes; and what keeps
     OSDs far above what they are to have.

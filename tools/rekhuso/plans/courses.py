@@ -13,6 +13,7 @@ from ..cluster.names import set_words
 from ..program.answers import ups_of
 from ..program.maps import Map, Program, entries_of, group_key, groups_of, with_all_up, written
 from ..program.session import Session
+from ..values import SLOTS
 from .bounds import Fullness, Measure, Step
 from .printed_commands import PrintedCommand, defect
 
@@ -23,11 +24,10 @@ Sets = dict[str, Places]
 MOST_CHANGES = 65_000
 
 
-@dataclass(frozen=True)
+@dataclass(frozen=True, **SLOTS)
 class Given:
     """A command that the program has accepted: the set of its group then, and the counts of the OSDs that it names."""
 
-    __slots__ = ("places", "counts")
     places: Places
     counts: dict[int, int]
 

@@ -3,7 +3,7 @@
 from __future__ import annotations
 
 from ..cluster.pool_data import BYTE_PARTS
-from ..output.json_forms import HindranceParts
+from .json_forms import HindranceParts
 from .last_pass import LastPass
 from .pool_places import PoolPlaces
 

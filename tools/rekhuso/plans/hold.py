@@ -20,35 +20,34 @@ from ..cluster.names import set_words
 from ..cluster.reasons import reasons
 from ..cluster.releases import least_client
 from ..faults import Fault
-from ..output.json_forms import HoldParts
 from ..program.maps import Exceptions, Map, Program, entries_of, group_key, groups_in, groups_of, with_all_up
+from ..values import SLOTS
 from ..words import counted
 from .holding import Held, Holder, exceptions_of
+from .json_forms import HoldParts
 from .printed import Asked, Printed
 
 
-@dataclass(frozen=True)
+@dataclass(frozen=True, **SLOTS)
 class Sides:
     """What stands on both sides of a change: the set that each group had; how many groups each pool had; the cluster
     behind the change, with the exceptions that it has before anything is held; and the groups whose exceptions the
     monitor takes away on the way.
     """
 
-    __slots__ = ("has", "counts", "new", "lost")
     has: Mapping[str, list[int | None]]
     counts: Mapping[int, int]
     new: Cluster
     lost: frozenset[str]
 
 
-@dataclass(frozen=True)
+@dataclass(frozen=True, **SLOTS)
 class Hold:
     """What holds groups: the maps behind the change, and of which groups exceptions are to stay there; the release that
     clients must have, if the dump tells it; each group that was there, the set that it would have by the change alone,
     the commands, and those that take them back.
     """
 
-    __slots__ = ("epoch", "maps", "asked", "client", "groups", "would", "commands", "undo")
     epoch: int
     maps: list[Map]
     asked: Asked

@@ -20,17 +20,17 @@ from ..cluster.conversion import pool_of
 from ..cluster.judge import Places, Reason, judge_of_cluster
 from ..cluster.moving import coming, has_moved
 from ..program.maps import Exceptions, Pool, entries_of, group_key
+from ..values import SLOTS
 from .pairs import ordered_pairs
 
 Pairs = list[list[int]]
 EMPTY = Reason("an empty place", "no exception leaves a place empty, or fills one")
 
 
-@dataclass(frozen=True)
+@dataclass(frozen=True, **SLOTS)
 class Way:
     """Exceptions of a group: pairs, or an explicit set, or neither."""
 
-    __slots__ = ("pairs", "explicit")
     pairs: Pairs
     explicit: list[int] | None
 
@@ -38,13 +38,12 @@ class Way:
 NO_WAY = Way([], None)
 
 
-@dataclass(frozen=True)
+@dataclass(frozen=True, **SLOTS)
 class Held:
     """A group behind a change: what it had, what it is to have where that is possible, the exceptions that it is
     given, the set that these lead to, and why it does not have all that it had, if it does not.
     """
 
-    __slots__ = ("group", "was", "wanted", "way", "now", "why", "is_erasure")
     group: str
     was: list[int | None]
     wanted: list[int | None]

@@ -16,6 +16,8 @@ from collections.abc import Iterable, Mapping
 from dataclasses import dataclass
 from fractions import Fraction
 
+from ..values import SLOTS
+
 # The parts of a group, and of what a place holds in the mean.
 GROUP_PARTS, MEAN_PARTS = 1 << 64, 1 << 32
 # The program is told 256ths of a group.
@@ -24,13 +26,11 @@ STEP_PARTS = GROUP_PARTS >> 8
 WEIGHT = 10
 
 
-@dataclass(frozen=True)
+@dataclass(frozen=True, **SLOTS)
 class Laid:
     """A pool as it lies on OSDs: what a place of it holds (0 where nobody tells), the shares of the OSDs that may have
     its groups, and how many groups each has.
     """
-
-    __slots__ = ("place", "shares", "counts")
 
     place: int
     shares: dict[int, int]

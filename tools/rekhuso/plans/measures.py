@@ -10,10 +10,10 @@ from typing import cast
 
 from ..cluster.evenness import Spread, room, sums_by_osd
 from ..cluster.pool_data import Data
-from ..output.json_forms import ClusterParts, DataParts, HindranceParts, PoolSpreadParts, StayParts
 from ..program.maps import Pool, group_key
 from .byte_aims import ByteAims
 from .hindrances import TOLD
+from .json_forms import ClusterParts, DataParts, HindranceParts, PoolSpreadParts, StayParts
 from .mend import Gauge
 from .rounds import Live
 from .step_order import has_after

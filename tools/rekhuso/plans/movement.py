@@ -8,18 +8,18 @@ from dataclasses import dataclass
 from typing import cast
 
 from ..cluster.pool_data import Data
-from ..output.json_forms import MovingParts, OsdMovingParts, PoolMovingParts
 from ..program.maps import Pool, altered
+from ..values import SLOTS
+from .json_forms import MovingParts, OsdMovingParts, PoolMovingParts
 from .steps import PlanStep, steps_by_pool
 
 
-@dataclass(frozen=True)
+@dataclass(frozen=True, **SLOTS)
 class PlaceBytes:
     """The pools of a plan, the bytes of a place of each of their groups, and the bytes of all pools of the cluster,
     where they are known, else None.
     """
 
-    __slots__ = ("pools", "sizes", "total")
     pools: list[Pool]
     sizes: dict[str, float]
     total: int | None

@@ -17,12 +17,13 @@ from ..cluster.outage import Outage, outage_of
 from ..cluster.pool_data import Data
 from ..cluster.view import ClusterView
 from ..faults import Fault
-from ..output.json_forms import ClusterParts, DataParts, HindranceParts, PlanParts
 from ..program.maps import Program, group_key
+from ..values import SLOTS
 from .bounds import Measure
-from .measures import Measures, counts_after, pool_spread
 from .byte_aims import ByteAims
 from .byte_rounds import Passed, planned_by_data
+from .json_forms import ClusterParts, DataParts, HindranceParts, PlanParts
+from .measures import Measures, counts_after, pool_spread
 from .mend import mended
 from .pairs import settled
 from .parts import ALL, measure_of_steps, order_of_steps, ordered_parts
@@ -35,14 +36,12 @@ from .steps import PlanStep, appended_pairs, batches, in_old_order, steps_by_poo
 DEVIATION = Fraction(1)
 
 
-@dataclass(frozen=True)
+@dataclass(frozen=True, **SLOTS)
 class Wish:
     """What plans are asked for: the pools that are named (all of several groups where none is), how near its shares a
     plan brings OSDs, how many commands or moves there are at most, how many commands stand in a part, whether each pool
     is planned by itself, whether the plan is for room alone, what the pools hold, and how full a disk may get.
     """
-
-    __slots__ = ("named", "deviation", "most", "batch", "is_alone", "is_room", "data", "nearfull")
 
     named: frozenset[int]
     deviation: Fraction | None
@@ -62,15 +61,13 @@ class Wish:
 DEFAULT_WISH = Wish(frozenset(), None, ALL, ALL, False, False, None, NEARFULL)
 
 
-@dataclass(frozen=True)
+@dataclass(frozen=True, **SLOTS)
 class Outcome:
     """What plans are: the steps in the parts in which they are taken, the groups whose steps were taken out for the
     sake of the cluster, what is told of each pool and of the cluster before and after, the pool with most data, if it
     is known, the OSDs that would get nearfull by steps that are left for their sake, each with how many, what is told
     of the data, and by what OSDs are full on the way, where the steps stand in an order.
     """
-
-    __slots__ = ("parts", "taken_out", "pools", "before", "after", "largest", "stopped", "data", "measure")
 
     parts: list[list[PlanStep]]
     taken_out: list[str]
@@ -88,14 +85,12 @@ class Outcome:
         return [step for part in self.parts for step in part]
 
 
-@dataclass(frozen=True)
+@dataclass(frozen=True, **SLOTS)
 class PlannedSteps:
     """What has been planned: why a pool has no plan, the groups that are left out, each with the reason, the plans of
     pools by themselves, the steps, the groups whose steps come first, and what keeps OSDs far above what they are to
     have.
     """
-
-    __slots__ = ("refusals", "left", "plans", "steps", "first", "stays")
 
     refusals: dict[int, str]
     left: dict[str, Reason]

@@ -9,18 +9,17 @@ from fractions import Fraction
 
 from ..faults import Fault
 from ..program.maps import Pool
+from ..values import SLOTS
 from .move_order import Deviations, moves_within
 from .rounds import Live, MOST_MOVES
 from .steps import appended_pairs
 
 
-@dataclass(frozen=True)
+@dataclass(frozen=True, **SLOTS)
 class PoolPlan:
     """What a pool's plan is: its moves or why there are none, those that a deviation asks for (None where no number of
     them suffices), and those of the whole plan (None where no deviation is asked for).
     """
-
-    __slots__ = ("moves", "refusal", "wanted", "whole")
 
     moves: int
     refusal: str

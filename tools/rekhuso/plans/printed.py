@@ -18,6 +18,7 @@ from ..cluster.names import set_words
 from ..faults import Fault
 from ..program.maps import Map, Program, group_key
 from ..progress import doing
+from ..values import SLOTS
 from .bounds import Measure
 from .courses import Course, Places, Play, excepted_in
 from .printed_commands import DEFECT, PrintedCommand, commands_in, defect
@@ -42,14 +43,13 @@ def cut_into(commands: list[PrintedCommand], lengths: Sequence[int]) -> list[lis
     return [*found, commands[at:]]
 
 
-@dataclass(frozen=True)
+@dataclass(frozen=True, **SLOTS)
 class Printed:
     """What printed commands are judged by: the maps for which they were made, the program, where some groups are to be
     in the end (all others where they were), by what OSDs are full, without which no OSD has a bound, the OSDs that are
     down, which stand in no set that is wanted; and of which groups the exceptions are to stay.
     """
 
-    __slots__ = ("maps", "program", "wanted", "measure", "down", "asked")
     maps: Sequence[Map]
     program: Program
     wanted: Mapping[str, Sequence[int | None]]

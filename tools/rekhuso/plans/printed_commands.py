@@ -8,6 +8,7 @@ from dataclasses import dataclass
 
 from ..faults import Fault
 from ..program.maps import Change, Entry
+from ..values import SLOTS
 
 FORM = re.compile(r"ceph osd (rm-)?(pg-upmap|pg-upmap-items) ([0-9]+\.[0-9a-f]+)((?: [0-9]+)*)")
 # The key of a change for each word.
@@ -21,11 +22,10 @@ def defect(line: str, why: str) -> Fault:
     return Fault(f"{line}: {why}: {DEFECT}")
 
 
-@dataclass(frozen=True)
+@dataclass(frozen=True, **SLOTS)
 class PrintedCommand:
     """A command: its line, its group, the OSDs that it names, and the change that it stands for."""
 
-    __slots__ = ("line", "group", "osds", "change")
     line: str
     group: str
     osds: list[int]

@@ -19,22 +19,22 @@ from ..cluster.outage import check_outage, outage_of
 from ..cluster.primaries import NamedPrimaries, rested_words
 from ..cluster.view import ClusterView, view_of_cluster
 from ..faults import Fault
-from ..output.json_forms import FlowParts
 from ..program.answers import Up
 from ..program.map_forms import change_form
 from ..program.maps import Change, Entry, Map, Program, group_key, groups_of, written
+from ..values import SLOTS
 from ..words import some
 from .after_plan import after_steps
+from .json_forms import FlowParts
 from .plan import DEFAULT_WISH, misplaced_in, opened, outage_in, planned
 
 
-@dataclass(frozen=True)
+@dataclass(frozen=True, **SLOTS)
 class ClusterSets:
     """The sets of a cluster's groups by its maps, the primaries that are named for them, and the pools that could not
     be balanced, each with why.
     """
 
-    __slots__ = ("ups", "primaries", "refused")
     ups: dict[str, Up]
     primaries: NamedPrimaries
     refused: list[Entry]
@@ -54,11 +54,10 @@ def sets_of(whole: ClusterView, program: Program) -> ClusterSets:
     return ClusterSets(sets_of_maps(whole.maps, program), whole.primaries(program), [])
 
 
-@dataclass(frozen=True)
+@dataclass(frozen=True, **SLOTS)
 class Balance:
     """That a cluster is balanced after a change: also amid an outage, or not then."""
 
-    __slots__ = ("is_anyway",)
     is_anyway: bool
 
 

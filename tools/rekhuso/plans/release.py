@@ -20,11 +20,12 @@ from ..cluster.moving import erasure_pools
 from ..cluster.names import set_words
 from ..cluster.view import ClusterView, view_of_cluster
 from ..faults import Fault
-from ..output.json_forms import PeakParts
 from ..program.answers import Up
 from ..program.maps import Entry, Exceptions, Pool, Program, entries_of, group_key, with_all_up
+from ..values import SLOTS
 from ..words import counted
 from .bounds import Measure
+from .json_forms import PeakParts
 from .parts import ALL
 from .plan import DEFAULT_WISH, opened, planned
 from .printed import Asked, Printed
@@ -33,14 +34,13 @@ from .step_order import StepOrder, parts_in_order
 from .steps import PlanStep, by_group
 
 
-@dataclass(frozen=True)
+@dataclass(frozen=True, **SLOTS)
 class Release:
     """How held groups are let go: the epoch, the pools, the groups that stay held as they would get fewer places, the
     steps in their parts, how many groups the fullest OSD has before all of them, while each of them moves, and at the
     end; and by what the commands are judged, in parts of so many.
     """
 
-    __slots__ = ("epoch", "pools", "stay", "parts", "peaks", "before", "after", "printed", "lengths")
     epoch: int
     pools: list[Pool]
     stay: list[str]

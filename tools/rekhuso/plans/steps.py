@@ -8,17 +8,17 @@ from ..cluster.difference import exception_commands
 from ..cluster.moving import coming, erasure_pools, has_moved, leaving
 from ..program.answers import Up
 from ..program.maps import Exceptions, Map, altered, entries_of, group_key
+from ..values import SLOTS
 from .move_order import PairsByGroup
 from .pairs import is_same
 
 
-@dataclass(frozen=True)
+@dataclass(frozen=True, **SLOTS)
 class PlanStep:
     """What is done to a group: the commands, those that take it back to the exceptions of the dump, the group's sets
     before and after, and whether its places each hold a part of their own.
     """
 
-    __slots__ = ("group", "commands", "undo", "was", "now", "is_erasure")
     group: str
     commands: list[str]
     undo: list[str]

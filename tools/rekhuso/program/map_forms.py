@@ -10,6 +10,8 @@ import re
 from dataclasses import dataclass
 from typing import Callable, Iterator
 
+from ..values import SLOTS
+
 REFUSALS = {
     10: "BadJson",
     11: "BadField",
@@ -45,13 +47,12 @@ LONG_PATTERN = re.compile(r"[1-9][0-9]{20,}\.(0|[1-9a-f][0-9a-f]*)")
 POOL_KINDS = ("replicated", "erasure")
 
 
-@dataclass(frozen=True)
+@dataclass(frozen=True, **SLOTS)
 class Limits:
     """What a map may have at most that has other limits under `--stock`: groups of a pool and of all pools, entries of
     a list, items of a straw2 bucket, buckets, pools, rules, OSDs, and places of a pool.
     """
 
-    __slots__ = ("groups", "total", "entries", "items", "buckets", "pools", "rules", "osds", "size")
     groups: int
     total: int
     entries: int
@@ -74,11 +75,10 @@ STOCK = Limits(
 ITEMS = 64
 
 
-@dataclass(frozen=True)
+@dataclass(frozen=True, **SLOTS)
 class Defect:
     """A place that is at fault: the number of the refusal, the path to the place, and why."""
 
-    __slots__ = ("number", "path", "why")
     number: int
     path: str
     why: str

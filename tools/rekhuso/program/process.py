@@ -20,7 +20,7 @@ CRATES = pathlib.Path(__file__).resolve().parents[3] / "crates"
 # The variable that names the program where no option does.
 VARIABLE = "REKHUSO_PROGRAM"
 # The programs, the options that name them, and the targets of the repository that prove and build them.
-OPTIONS = {"osdmapd": "--program", "osdmapstore": "--store-program"}
+PROGRAM_OPTIONS = {"osdmapd": "--program", "osdmapstore": "--store-program"}
 TARGETS = {"osdmapd": "make run", "osdmapstore": "make store"}
 
 
@@ -39,7 +39,7 @@ def built(name: str, beside: Program = None) -> pathlib.Path:
         ]
         raise Fault(
             f"no program: {', and '.join(places)}; `{TARGETS[name]}` in its repository proves and builds it, and "
-            f"{OPTIONS[name]} FILE names it"
+            f"{PROGRAM_OPTIONS[name]} FILE names it"
         )
     return pathlib.Path(found)
 
@@ -52,7 +52,7 @@ def chosen(program: Program, name: str) -> pathlib.Path:
     found = pathlib.Path(program or built(name)).resolve()
     if not found.is_file() or not os.access(found, os.X_OK):
         raise Fault(
-            f"{program or found}: no program; `{TARGETS[name]}` proves and builds it, or {OPTIONS[name]} names another"
+            f"{program or found}: no program; `{TARGETS[name]}` proves and builds it, or {PROGRAM_OPTIONS[name]} names another"
         )
     return found
 

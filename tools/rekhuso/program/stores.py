@@ -21,6 +21,7 @@ from typing import IO
 
 from ..faults import Fault, Refused, Unopened
 from ..progress import doing
+from ..values import SLOTS
 from ..words import counted
 from .maps import Program
 from .monitor import Monitor
@@ -47,21 +48,19 @@ IN_USE = "the store is in use; it is read once the program that has it open has 
 MOVING = "the store was written faster than it was copied"
 
 
-@dataclass(frozen=True)
+@dataclass(frozen=True, **SLOTS)
 class StoredChange:
     """A row of the journal: the epoch of the map after it, the profile of the change, and the change as JSON."""
 
-    __slots__ = ("epoch", "profile", "text")
     epoch: int
     profile: str
     text: str
 
 
-@dataclass(frozen=True)
+@dataclass(frozen=True, **SLOTS)
 class StoredJournal:
     """What a store holds: the epoch and the text of its first map, and the changes since, each of the next epoch."""
 
-    __slots__ = ("path", "epoch", "text", "changes")
     path: str
     epoch: int
     text: str

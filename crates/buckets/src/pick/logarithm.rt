@@ -1,7 +1,8 @@
 //! Ceph's fixed-point logarithm (Ceph, mapper.c, `crush_ln`).
 
-ghost use Rattle.std.specs.Prelude.{◌≡◌, ◌*◌, ◌^◌, ◌<◌, ◌≤◌, slice_index};
+ghost use Rattle.std.specs.Prelude.{◌≡◌, ◌-◌, ◌*◌, ◌^◌, ◌<◌, ◌≤◌, slice_index};
 ghost use Rattle.buckets.specs.Logarithm.{rh_lh, ll, shift_of, crush_ln};
+ghost use Rattle.buckets.specs.Shortfalls.{least_shortfalls};
 
 /// For each k from 0 to 128: 2^48 / (1 + k / 128), rounded up, and 2^48 * log2 (1 + k / 128) (`__RH_LH_tbl`).
 #[rattlefmt::skip]
@@ -117,6 +118,48 @@ const LL: [u64; 256] = [
     3_147_894_683_668,
 ];
 
+/// What the logarithm of a number below 2^15 falls short of 2^48 at least.
+const HALF: u64 = 1 << 44;
+
+/// By the high byte of a number below 2^16: how far its logarithm falls short of 2^48 at least.
+#[rattlefmt::skip]
+const LEAST_SHORTFALLS: [u64; 256] = [
+    HALF, HALF, HALF, HALF, HALF, HALF, HALF, HALF, HALF, HALF, HALF, HALF, HALF, HALF, HALF, HALF, HALF,
+    HALF, HALF, HALF, HALF, HALF, HALF, HALF, HALF, HALF, HALF, HALF, HALF, HALF, HALF, HALF, HALF, HALF,
+    HALF, HALF, HALF, HALF, HALF, HALF, HALF, HALF, HALF, HALF, HALF, HALF, HALF, HALF, HALF, HALF, HALF,
+    HALF, HALF, HALF, HALF, HALF, HALF, HALF, HALF, HALF, HALF, HALF, HALF, HALF, HALF, HALF, HALF, HALF,
+    HALF, HALF, HALF, HALF, HALF, HALF, HALF, HALF, HALF, HALF, HALF, HALF, HALF, HALF, HALF, HALF, HALF,
+    HALF, HALF, HALF, HALF, HALF, HALF, HALF, HALF, HALF, HALF, HALF, HALF, HALF, HALF, HALF, HALF, HALF,
+    HALF, HALF, HALF, HALF, HALF, HALF, HALF, HALF, HALF, HALF, HALF, HALF, HALF, HALF, HALF, HALF, HALF,
+    HALF, HALF, HALF, HALF, HALF, HALF, HALF, HALF,
+    17_395_442_626_687, 17_199_467_827_225, 17_005_018_325_012, 16_812_070_744_939, 16_620_579_613_332,
+    16_430_590_501_084, 16_242_013_689_701, 16_054_587_752_448, 15_868_145_434_599, 15_683_912_870_478,
+    15_500_536_971_264, 15_318_810_699_595, 15_137_985_696_681, 14_958_660_345_264, 14_781_018_758_499,
+    14_603_549_556_064, 14_428_045_079_201, 14_253_315_157_243, 14_080_276_174_293, 13_908_144_751_942,
+    13_737_270_575_741, 13_567_129_151_644, 13_398_900_409_383, 13_231_373_655_209, 13_065_042_882_452,
+    12_899_384_537_407, 12_735_580_017_868, 12_572_129_784_703, 12_409_628_761_840, 12_249_021_982_660,
+    12_088_619_256_403, 11_929_261_249_406, 11_770_907_207_904, 11_614_314_405_480, 11_457_931_019_801,
+    11_302_620_124_160, 11_148_230_242_488, 10_995_306_414_971, 10_842_721_433_935, 10_691_057_532_290,
+    10_540_303_712_256, 10_390_553_181_891, 10_241_483_300_317, 10_094_165_737_702, 9_946_946_137_329,
+    9_800_790_199_204, 9_655_070_865_240, 9_510_395_584_341, 9_366_549_080_248, 9_223_526_349_869,
+    9_081_304_997_012, 8_939_889_108_385, 8_799_358_215_966, 8_659_425_006_512, 8_520_359_384_139,
+    8_382_060_013_340, 8_244_518_542_793, 8_107_726_756_973, 7_971_676_573_219, 7_836_360_038_888,
+    7_701_769_328_583, 7_567_896_741_446, 7_434_734_698_538, 7_302_275_740_271, 7_169_741_968_792,
+    7_038_667_242_671, 6_908_273_913_948, 6_778_554_976_163, 6_649_503_530_370, 6_521_112_782_953,
+    6_393_376_043_491, 6_265_516_027_157, 6_139_067_611_372, 6_013_253_730_911, 5_888_068_087_853,
+    5_763_504_477_576, 5_638_785_997_787, 5_515_448_179_897, 5_392_714_322_632, 5_270_578_576_690,
+    5_149_035_177_335, 5_027_307_559_988, 4_906_931_866_390, 4_787_131_716_554, 4_667_901_668_179,
+    4_548_465_402_756, 4_430_359_512_870, 4_312_807_852_811, 4_195_034_279_227, 4_078_575_696_254,
+    3_962_656_125_194, 3_846_499_585_764, 3_731_643_281_863, 3_617_311_390_266, 3_502_728_082_485,
+    3_389_430_851_177, 3_276_644_017_823, 3_163_591_895_199, 3_051_812_254_446, 2_940_529_551_684,
+    2_828_968_231_114, 2_718_666_332_754, 2_608_848_437_949, 2_498_739_113_121, 2_389_876_658_174,
+    2_280_714_513_267, 2_172_791_131_227, 2_065_331_290_620, 1_957_559_750_491, 1_851_015_209_818,
+    1_744_151_222_194, 1_638_506_630_840, 1_532_535_038_200, 1_427_775_428_518, 1_323_571_868_486,
+    1_218_911_268_360, 1_115_332_841_606, 1_011_528_363_305, 908_918_136_706, 805_955_887_729,
+    704_181_094_119, 602_047_517_399, 501_094_763_386, 399_776_626_580, 299_632_838_297, 199_117_223_492,
+    99_769_636_517, 43_930_352, 43_930_352,
+];
+
 /// An entry of the first table.
 #[tactic(auto, unfolding(crate::specs::Logarithm::rh_lh))]
 fn rh_lh(at: usize) -> u64
@@ -160,4 +203,22 @@ pub(super) fn crush_ln(u: u32) -> u64
     let at = 2 * (x / 256 - 128) as usize;
     let near = (x * rh_lh(at) / (1 << 48) % 256) as usize;
     u64::from(15 - shift) * (1 << 44) + (rh_lh(at + 1) + ll(near)) / 16
+}
+
+/// An entry of what is least.
+#[tactic(auto, unfolding(crate::specs::Shortfalls::least_shortfalls))]
+fn least_at(at: usize) -> u64
+    requires { at < 256 }
+    ensures { result ≡ slice_index least_shortfalls at }
+{
+    LEAST_SHORTFALLS[at]
+}
+
+/// What 2^48 less the logarithm comes to at least, by the high byte of a number alone.
+#[tactic(auto, using(crate::proofs::Logarithms::crush_ln_short))]
+pub(super) fn least_shortfall(u: u32) -> u64
+    requires { u < 2 ^ 16 }
+    ensures { result ≤ 2 ^ 48 - crush_ln u }
+{
+    least_at((u / 256) as usize)
 }

@@ -7,7 +7,7 @@ ghost use Rattle.buckets.specs.Limits.{max_straws};
 ghost use Rattle.buckets.specs.Straw2.{straw2_place};
 
 use crate::bucket::Item;
-use crate::pick::logarithm::crush_ln;
+use crate::pick::logarithm::{crush_ln, least_shortfall};
 use rjenkins::hash3_each;
 
 /// How many draws there are: those of the low 16 bits of a hash.
@@ -28,14 +28,19 @@ impl Longest {
     ghost use Rattle.buckets.specs.Straw2.{shortfall};
     ghost use Rattle.buckets.specs.Straws.{longer_straw};
 
-    /// The longest one with the straw of an item more. It divides only where that straw is longer.
+    /// The longest one with the straw of an item more. It takes the logarithm only where that straw may be longer, and
+    /// divides only where it is.
     #[tactic(auto, using(crate::proofs::Logarithms::crush_ln_small), unfolding(crate::specs::Straw2::shortfall))]
     fn with(self, place: usize, weight: u32, hash: u32) -> Longest
         requires { self.short ≤ 2 ^ 63 }
         ensures { result ≡ longer_straw self place (shortfall weight hash) }
     {
+        let longer_below = u128::from(self.short) * u128::from(weight);
+        if u128::from(least_shortfall(hash % DRAWS)) >= longer_below {
+            return self;
+        }
         let short = (1 << 48) - crush_ln(hash % DRAWS);
-        if u128::from(short) < u128::from(self.short) * u128::from(weight) {
+        if u128::from(short) < longer_below {
             Longest {
                 place,
                 short: short / u64::from(weight),

@@ -4,7 +4,6 @@ from __future__ import annotations
 
 from ..cluster import Cluster
 from .buckets import bucket_reasons, root_reasons, twice_reasons
-from .counts import total_reasons
 from .exceptions import absent_reasons, exception_reasons, kept_reasons
 from .matches import unmatched
 from .pools import osd_reasons, pool_reasons
@@ -21,7 +20,6 @@ def reasons(cluster: Cluster, is_unmatched: bool, is_one: bool = True) -> list[s
         tunable_reasons,
         rule_reasons,
         pool_reasons,
-        total_reasons,
         osd_reasons,
         exception_reasons,
         kept_reasons,

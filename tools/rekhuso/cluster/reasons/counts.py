@@ -5,10 +5,8 @@ from __future__ import annotations
 from collections import Counter
 from typing import Iterable
 
-from ...words import some
 from ..cluster import Cluster
 from ..dump_types import DumpPool
-from ..map_parts import pools_by_map
 
 # How many things of one kind are told one by one; of more, their number.
 FEW = 3
@@ -44,6 +42,12 @@ def pools_reason(cluster: Cluster) -> list[str]:
     return range_reason(f"{len(cluster.pools)} pools", len(cluster.pools), 0, cluster.limits.pools)
 
 
+def total_reason(cluster: Cluster) -> list[str]:
+    """More groups of all pools than a map has."""
+    total = sum(cluster.sizes.values())
+    return range_reason(f"its pools have {total} groups together", total, 0, cluster.limits.total)
+
+
 def groups_reason(cluster: Cluster, pool: DumpPool) -> list[str]:
     """More groups than a pool has in a map, or none."""
     return range_reason(f"pool {pool['pool']} has {pool['pg_num']} groups", pool["pg_num"], 1, cluster.limits.groups)
@@ -52,17 +56,4 @@ def groups_reason(cluster: Cluster, pool: DumpPool) -> list[str]:
 def count_reasons(cluster: Cluster) -> list[str]:
     """More of anything than a map has whose limits depend on its buckets."""
     groups = [line for pool in cluster.pools if pool["pg_num"] > 0 for line in groups_reason(cluster, pool)]
-    return buckets_reason(cluster) + rules_reason(cluster) + groups + pools_reason(cluster)
-
-
-def total_reasons(cluster: Cluster) -> list[str]:
-    """The maps of a cluster whose pools have too many groups together, those aside that have too many alone."""
-    most = cluster.limits
-    sizes = {pool: groups for pool, groups in cluster.sizes.items() if groups <= most.groups}
-    if sum(sizes.values()) <= most.total:
-        return []
-    found = []
-    for pools in pools_by_map(cluster):
-        names, total = sorted(pools & sizes.keys()), sum(sizes.get(pool, 0) for pool in pools)
-        found += range_reason(f"pools {some(list(map(str, names)))} have {total} groups together", total, 0, most.total)
-    return found
+    return buckets_reason(cluster) + rules_reason(cluster) + groups

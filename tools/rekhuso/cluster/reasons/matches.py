@@ -4,6 +4,7 @@ from __future__ import annotations
 
 from dataclasses import dataclass
 
+from ...values import SLOTS
 from ...words import listed, some
 from ..cluster import Cluster
 from .counts import FEW
@@ -17,13 +18,12 @@ OUT, FAR = "taken as out", "taken as out of reach"
 # Whether both dumps are of one cluster
 
 
-@dataclass(frozen=True)
+@dataclass(frozen=True, **SLOTS)
 class Unmatched:
     """What one dump has and the other has not, in one line; how it is taken where the caller wants it so; what is
     asked where it is a reason against the cluster; and which OSDs it is, where the line tells their number alone.
     """
 
-    __slots__ = ("line", "taken", "question", "osds")
     line: str
     taken: str
     question: str

@@ -44,7 +44,7 @@ def pool_reasons(cluster: Cluster) -> list[str]:
             found.append(f"{name} places {placed} groups, more than it has, {groups}")
         found += range_reason(f"{name} places {placed} groups", placed, 1, max(placed, 1))
     found += [f"pool {number} is listed twice" for number in doubles(pool["pool"] for pool in cluster.pools)]
-    return found + pools_reason(cluster)
+    return found if cluster.is_stock else found + pools_reason(cluster)
 
 
 def osd_reasons(cluster: Cluster) -> list[str]:

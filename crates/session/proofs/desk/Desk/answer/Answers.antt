@@ -28,4 +28,4 @@ returns-clause-answers g c =
     ∙ ap (known_in c.args.self.now.monitor.now.profile) c.args.line.read) in
     let does = subst (λ k. Does (basis_of c.args.self.now.monitor.now) before k answer now) known done.does in
     told_line m (record { number = c.args.progress.now.number; seen = before }) (record { number = c.args.progress.now.number; seen = now })
-    c.args.line.text.now answer _ _ c.tell.result (some_text _ _ c.is_empty.ensures c.if-is_empty.false) passed (does, done.own) c.tell.ensures.out
+    c.args.line.text.now answer _ _ c.tell_reply.result (some_text _ _ c.is_empty.ensures c.if-is_empty.false) passed (does, done.own) c.tell_reply.ensures.out

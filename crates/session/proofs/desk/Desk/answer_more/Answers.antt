@@ -51,17 +51,17 @@ loop-left-preserved g c =
       (
         put ++ answer,
         passes_more m number next (next + 1) sight sight sight c.args.text.now put c.loop-left.rest.now answer others passed here,
-        rw (c.in_ok-tell_found.ensures.out, out, append_assoc (g.W.Sink.written c.args.sink.now) put answer) refl,
+        rw (c.in_ok-tell_answer.ensures.out, out, append_assoc (g.W.Sink.written c.args.sink.now) put answer) refl,
       ),
-      c.in_ok-tell_found.ensures.failed,
-      c.tell_found.ensures.waits ∙ c.loop-left.invariant.2,
+      c.in_ok-tell_answer.ensures.failed,
+      c.tell_answer.ensures.waits ∙ c.loop-left.invariant.2,
       c.loop-left.invariant.3,
       omega (arith, lens),
       omega (arith, lens),
     )
 
-pub returns-in_err-tell_found-clause-answers : goal.returns-in_err-tell_found-clause-answers
-returns-in_err-tell_found-clause-answers g c =
+pub returns-in_err-tell_answer-clause-answers : goal.returns-in_err-tell_answer-clause-answers
+returns-in_err-tell_answer-clause-answers g c =
     let m = session_of c.args.self.now.monitor.now (g.G.Gate.lets c.args.self.now.gate.now) in
     let basis = basis_of c.args.self.now.monitor.now in
     let number = c.args.progress.now.number in
@@ -76,11 +76,11 @@ returns-in_err-tell_found-clause-answers g c =
     let asked = asks_shared basis sight.member question c.answer-found.result c.requires.shared.lawful c.answer-found.ensures.finds c.answer-found.ensures.unspent in
     let own = own_same basis.alone c.args.hold.member.now.pass c.args.hold.member.now.pass answer (λ is. refl) in
     let answered : IsAnswered basis sight line answer sight = answers_question basis sight sight line question answer is asked refl own in
-    let error = c.in_err-tell_found.field-0.0 in
+    let error = c.in_err-tell_answer.field-0.0 in
     let before = g.W.Sink.written c.args.sink.now in
-    let after = g.W.Sink.written c.tell_found.new.sink in
+    let after = g.W.Sink.written c.tell_answer.new.sink in
     let (cut, stopped, more) = told_line m (record { number = next; seen = sight }) (record { number = next; seen = sight }) line answer
-    (g.W.Sink.written c.loop-left.sink) after (Err error) (some_line line question is) (c.requires.shares.0 next) answered c.in_err-tell_found.ensures.out in
+    (g.W.Sink.written c.loop-left.sink) after (Err error) (some_line line question is) (c.requires.shares.0 next) answered c.in_err-tell_answer.ensures.out in
     let here : Halted m error next sight c.loop-left.rest.now cut sight =
     subst (λ t. Halted m error next sight t cut sight) (sym c.in-Some.ensures.text) (halted_line m error next sight sight line others cut part stopped) in
     rw c.loop-left.invariant.3

@@ -1,0 +1,177 @@
+//! The mapped sets of groups after a change, by their source.
+
+ghost use Rattle.std.specs.Prelude.{◌≡◌, ◌≤◌, length, IfSome};
+ghost use Rattle.std.specs.Option.{option_copied};
+ghost use Rattle.std.specs.List.Sorted.{IsNonDecreasingBy};
+ghost use Rattle.keylist.specs.Order.{IsRising};
+ghost use Rattle.crush.specs.Limits.{max_size};
+ghost use Rattle.maptypes.specs.Exceptions.{pg_key, key_of};
+ghost use Rattle.pgtable.specs.Patches.{said_after};
+
+use crate::candidates::names_rise;
+use crate::concerned::concerned_numbers;
+use crate::mapped::{mapped_set, store_set};
+use crate::patch::PatchedGroups;
+use crate::update::Update;
+use crush::Work;
+use grouptable::{GroupTable, OsdSet};
+use keylist::{Keyed, entry_of, has};
+use maptypes::{Blank, Exception, Pg, Pool};
+use refusal::{Memory, Refusal};
+use std::alloc::Global;
+
+/// What a change makes of what is said of a group: what comes in its place, nothing where it goes, else what was said.
+fn said_after<'a, E: Blank>(
+    gone: &[Pg],
+    new: &'a [Exception<E>],
+    said: Option<&'a [E]>,
+    pg: Pg,
+) -> Option<&'a [E]>
+    requires gone { IsNonDecreasingBy pg_key gone.now }
+    requires new { IsRising key_of new.now }
+    requires few { IfSome said (λ entries. length entries.now ≤ max_size) }
+    ensures value { option_copied result ≡ said_after gone.now new.now (option_copied said.entry) pg }
+    ensures few { IfSome result (λ entries. length entries.now ≤ max_size) }
+{
+    match entry_of(new, pg.key()) {
+        Some(exception) => Some(exception.entries.as_slice()),
+        None if has(gone, pg.key()) => None,
+        None => said,
+    }
+}
+
+impl Update<'_> {
+    ghost use Rattle.std.specs.Prelude.{◌≡◌, ◌<◌, true, false, length, Some, IfOk, OnOk, All};
+    ghost use Rattle.osdmap.specs.Maps.{pool_at};
+    ghost use Rattle.osdmap.specs.Placement.{mapped_set, RunsOnce};
+    ghost use Rattle.pgtable.specs.After.{map_after, HasPool, is_touched_by, pool_evals};
+    ghost use Rattle.pgtable.specs.Patches.{with_sets, LeadGroups};
+    ghost use Rattle.pgtable.specs.Tables.{pool_table, RunsMore};
+
+    /// The mapped set of a group of a pool by the map after the change; or `Memory` (30).
+    fn placed_set(&self, pool: &Pool, number: u32, work: &mut Work) -> Result<OsdSet, Memory>
+        requires there { HasPool self.now pool.now }
+        requires after { self.now.is_after ≡ true }
+        ensures set { IfOk result (λ set. set ≡ mapped_set (map_after self.now) pool.now number) }
+        ensures run { RunsOnce work.old work.new result }
+    {
+        self.holds();
+        let placing = self.source.placing(pool);
+        mapped_set(&placing, number, work)
+    }
+
+    /// A pool of the map after the change is one of the map before it, where that is the source: for proofs alone.
+    fn had_pool(&self, pool: &Pool)
+        requires there { HasPool self.now pool.now }
+        requires before { self.now.is_after ≡ false }
+        ensures { pool_at self.now.before.now.map.pools pool.now.id ≡ Some pool.now }
+    {
+        self.holds();
+        let _ = pool;
+    }
+
+    /// The mapped set of a group of a pool after the change, by the map before it: its raw set there under what the
+    /// change makes of its exceptions; or `Memory` (30).
+    fn changed_set(&self, pool: &Pool, number: u32, work: &mut Work) -> Result<OsdSet, Memory>
+        requires there { HasPool self.now pool.now }
+        requires inside { number < pool.now.pg_num }
+        requires before { self.now.is_after ≡ false }
+        ensures set { IfOk result (λ set. set ≡ mapped_set (map_after self.now) pool.now number) }
+        ensures run { RunsOnce work.old work.new result }
+    {
+        let pg = Pg {
+            pool: pool.id(),
+            number,
+        };
+        self.holds();
+        self.had_pool(pool);
+        let map = self.before;
+        let change = self.change;
+        names_rise(map, change);
+        let parts = change.parts();
+        let explicit = said_after(&parts.old_upmap, &parts.new_upmap, map.explicit(pg), pg);
+        let items = said_after(&parts.old_items, &parts.new_items, map.items(pg), pg);
+        match map.mapped_with(pg, explicit, items, work) {
+            Ok(set) => Ok(store_set(&set)),
+            Err(Refusal::Memory) => Err(Memory),
+            Err(_) => unreachable!(),
+        }
+    }
+
+    /// The mapped set of a group of a pool after the change, by one run of the pool's rule; or `Memory` (30).
+    fn set(&self, pool: &Pool, number: u32, work: &mut Work) -> Result<OsdSet, Memory>
+        requires there { HasPool self.now pool.now }
+        requires inside { number < pool.now.pg_num }
+        ensures set { IfOk result (λ set. set ≡ mapped_set (map_after self.now) pool.now number) }
+        ensures run { RunsOnce work.old work.new result }
+    {
+        if self.is_after {
+            self.placed_set(pool, number, work)
+        } else {
+            self.changed_set(pool, number, work)
+        }
+    }
+
+    /// Some groups of a pool with their mapped sets after the change, by one run of the pool's rule for each; or
+    /// `Memory` (30).
+    fn with_sets(
+        &self,
+        alloc: Global,
+        pool: &Pool,
+        numbers: &[u32],
+        work: &mut Work,
+    ) -> Result<Vec<(u32, OsdSet)>, Memory>
+        requires there { HasPool self.now pool.now }
+        requires inside { All (λ number. number < pool.now.pg_num) numbers.now }
+        ensures changes { IfOk result (λ changes. changes.items ≡ with_sets (map_after self.now) pool.now numbers.now) }
+        ensures runs { OnOk result (RunsMore (length numbers.now) work.old work.new) }
+    {
+        let _ = work.runs();
+        let mut changes = Vec::with_capacity(alloc, numbers.len())?;
+        for number in numbers {
+            changes.push((*number, self.set(pool, *number, work)?))?;
+        }
+        Ok(changes)
+    }
+
+    /// Other sets for the groups of a pool whose exceptions the change concerns, where it does not touch the pool as a
+    /// whole, by a run of the pool's rule for each of them; or `Memory` (30).
+    pub fn patch_groups(
+        &self,
+        alloc: Global,
+        pool: &Pool,
+        groups: &GroupTable,
+        work: &mut Work,
+    ) -> Result<PatchedGroups, Memory>
+        requires groups { groups.now ≡ (pool_table self.now.before.now.map pool.now).groups }
+        requires there { HasPool self.now pool.now }
+        requires untouched { is_touched_by self.now pool.now ≡ false }
+        ensures lead { IfOk result (λ r. LeadGroups (map_after self.now) pool.now groups.now r.patch) }
+        ensures evals { IfOk result (λ r. r.evals ≡ pool_evals self.now pool.now) }
+        ensures runs { OnOk result (RunsMore (pool_evals self.now pool.now) work.old work.new) }
+    {
+        self.holds();
+        if self.is_idle() {
+            let _ = work.runs();
+            return Ok(PatchedGroups {
+                patch: None,
+                evals: 0,
+            });
+        }
+        let numbers = concerned_numbers(alloc, self.source, self.change, pool, &self.groups)?;
+        if numbers.is_empty() {
+            let _ = work.runs();
+            return Ok(PatchedGroups {
+                patch: None,
+                evals: 0,
+            });
+        }
+        let changes = self.with_sets(alloc, pool, &numbers, work)?;
+        let evals = changes.len();
+        let patch = groups.prepare(alloc, changes)?;
+        Ok(PatchedGroups {
+            patch: Some(patch),
+            evals,
+        })
+    }
+}

@@ -1,0 +1,96 @@
+"""How the modules of tools/rekhuso stand on one another, and what their names and values are."""
+
+import ast
+import copy
+import dataclasses
+import graphlib
+import importlib
+import inspect
+import pathlib
+import pickle
+import sys
+import unittest
+from collections import defaultdict
+from collections.abc import Iterator
+
+from tests.cases import TOP
+
+TOOLS = TOP / "tools"
+PACKAGE = TOOLS / "rekhuso"
+# Each sub-package stands on those before it, and all of them on the modules beside them.
+LAYERS = ("program", "cluster", "plans", "output", "commands")
+ABOVE = {"__init__": 1, "command_line": len(LAYERS) + 1, "__main__": len(LAYERS) + 2}
+# Words that mean two things in the plans: of a pool's moves and of a map.
+TWICE = {"Places", "Fullness", "Held"}
+
+Import = tuple[pathlib.Path, pathlib.Path, str]
+
+
+def imports() -> Iterator[Import]:
+    """Each name that a module takes from another of the package: the one that takes it, the other, and the name."""
+    for file in sorted(PACKAGE.rglob("*.py")):
+        for node in ast.walk(ast.parse(file.read_text())):
+            if isinstance(node, ast.ImportFrom) and node.level:
+                place = file.parents[node.level - 1].joinpath(*(node.module or "").split("."))
+                for name in (one.name for one in node.names):
+                    ways = (place.with_suffix(".py"), place / f"{name}.py", place / "__init__.py")
+                    yield file, next(way for way in ways if way.is_file()), name
+
+
+def layer_of(file: pathlib.Path) -> int:
+    """The layer of a module: 0 for those that stand beside the sub-packages."""
+    first, *more = file.relative_to(PACKAGE).parts
+    return LAYERS.index(first) + 1 if more else ABOVE.get(file.stem, 0)
+
+
+def value_classes() -> list[type]:
+    """All classes of values, with their fields."""
+    found = []
+    for file in sorted(PACKAGE.rglob("*.py")):
+        parts = file.relative_to(TOOLS).with_suffix("").parts
+        if parts[-1] != "__main__":
+            module = importlib.import_module(".".join(parts).removesuffix(".__init__"))
+            found += [own for own in vars(module).values() if getattr(own, "__module__", "") == module.__name__]
+    return [own for own in found if inspect.isclass(own) and dataclasses.is_dataclass(own)]
+
+
+class Layers(unittest.TestCase):
+    """Modules, their names and their values."""
+
+    def test_layers(self) -> None:
+        """No module takes a name from a layer above its own."""
+        upward = [(str(file), name) for file, other, name in imports() if layer_of(other) > layer_of(file)]
+        self.assertEqual(upward, [])
+
+    def test_circles(self) -> None:
+        """No modules take names from one another in a circle, also not where a function brings them in."""
+        below: dict[pathlib.Path, set[pathlib.Path]] = defaultdict(set)
+        for file, other, _ in imports():
+            below[file].add(other)
+        self.assertGreater(len(list(graphlib.TopologicalSorter(below).static_order())), 100)
+
+    def test_names(self) -> None:
+        """A name that a module takes from another is of one module, so it means one thing."""
+        homes: dict[str, set[pathlib.Path]] = defaultdict(set)
+        for _, other, name in imports():
+            homes[name].add(other)
+        self.assertEqual({name for name, places in homes.items() if len(places) > 1} - TWICE, set())
+
+    def test_values(self) -> None:
+        """Values that stay as they are have slots, where Python makes them; they can be copied and kept."""
+        classes = value_classes()
+        self.assertGreater(len(classes), 40)
+        for own in classes:
+            with self.subTest(own=own.__name__):
+                value: object = object.__new__(own)
+                names = [field.name for field in dataclasses.fields(own)]
+                for at, name in enumerate(names):
+                    object.__setattr__(value, name, at)
+                if sys.version_info >= (3, 10):
+                    self.assertFalse(hasattr(value, "__dict__"), own)
+                for other in (copy.copy(value), copy.deepcopy(value), pickle.loads(pickle.dumps(value))):
+                    self.assertEqual([getattr(other, name) for name in names], list(range(len(names))))
+
+
+if __name__ == "__main__":
+    unittest.main()

@@ -1,0 +1,177 @@
+"""The forms of what is told of a cluster as JSON: its OSDs, what moves between two maps, and what changes from epoch
+to epoch.
+"""
+
+from __future__ import annotations
+
+from typing import TypedDict
+
+from ..program.maps import Entry, Pool
+
+
+class ItemParts(TypedDict):
+    """What is told of a bucket or an OSD."""
+
+    id: int
+    weight: float
+    groups: int
+    share: float
+
+
+class RowParts(ItemParts, total=False):
+    """The same with the type of a bucket, and what an OSD alone has."""
+
+    type: int
+    reweight: float
+    state: str
+    deviation: float
+
+
+class TotalParts(TypedDict):
+    """What a tree comes to."""
+
+    weight: float
+    groups: int
+    share: float
+
+
+class PoolRowParts(TypedDict):
+    """What is told of a pool."""
+
+    id: int
+    size: int
+    groups: int
+    rule: int
+    places: int
+    short: int
+
+
+class SpreadParts(TypedDict):
+    """How even OSDs are: the least and the greatest number of groups, and the standard deviation from the shares."""
+
+    least: int
+    greatest: int
+    deviation: float
+
+
+class OsdFillParts(TypedDict):
+    """What an OSD has, groups or bytes, its share, and the ratio of the two."""
+
+    id: int
+    has: float
+    share: float
+    ratio: float
+
+
+class FillParts(TypedDict):
+    """How even a cluster is: its fullest OSD and its emptiest, to their shares, None where no OSD has a share, and the
+    standard deviation: of groups in groups, of bytes as a part of the share.
+    """
+
+    fullest: OsdFillParts | None
+    emptiest: OsdFillParts | None
+    deviation: float
+
+
+class UseParts(TypedDict):
+    """The fullest OSD and the emptiest by what of their disks is in use: there a share is a disk."""
+
+    fullest: OsdFillParts
+    emptiest: OsdFillParts
+
+
+class MovedParts(TypedDict):
+    """How many groups and places differ, and which OSDs take part."""
+
+    groups: int
+    places: int
+    osds: list[int]
+
+
+class FullestParts(TypedDict):
+    """The fullest OSD, None where no OSD has a group; its groups; and its share of them where it is the fullest by
+    share.
+    """
+
+    osd: int | None
+    groups: int
+    share: float | None
+
+
+class OutageParts(TypedDict):
+    """An outage: the OSDs that are down, and how many groups are short."""
+
+    down: list[int]
+    short: int
+
+
+class MisplacedParts(TypedDict):
+    """How many groups have a temporary set, how many places are still to come, and their share of all."""
+
+    groups: int
+    places: int
+    share: float
+
+
+class GrowthParts(TypedDict):
+    """The numbers of groups of a pool that grows, and those that it had."""
+
+    id: int
+    pg_num: int
+    pgp_num: int
+    pg_num_before: int
+    pgp_num_before: int
+
+
+class CrushParts(TypedDict):
+    """How many buckets and rules a CRUSH map has."""
+
+    buckets: int
+    rules: int
+
+
+class ExceptionChangeParts(TypedDict):
+    """The exceptions of one kind that come, each with its group; those that become others; and the groups whose
+    exceptions go, also with their pools.
+    """
+
+    added: list[Entry]
+    changed: list[Entry]
+    removed: list[str]
+
+
+class EpochParts(TypedDict):
+    """What is other in the map of an epoch than in the one before. Reweights are from 0 to 1: those with which OSDs
+    came in, and of OSDs that are in before and after, the two.
+    """
+
+    epoch: int
+    profile: str
+    went_down: list[int]
+    came_up: list[int]
+    went_out: list[int]
+    came_in: list[Entry]
+    reweighted: list[Entry]
+    pools_removed: list[int]
+    pools_created: list[Pool]
+    pools_grown: list[GrowthParts]
+    new_crush: CrushParts | None
+    pg_upmap: ExceptionChangeParts
+    pg_upmap_items: ExceptionChangeParts
+
+
+class PairParts(TypedDict):
+    """What is told of a pair: where it leads, why it does nothing, and the set behind it."""
+
+    was: int
+    now: int
+    idle: str | None
+    places: list[int | None]
+
+
+class NamedParts(TypedDict):
+    """What is told of the primary that is named for a group: which OSD, why it does nothing, and the set behind it."""
+
+    osd: int
+    idle: str | None
+    set: list[int | None]

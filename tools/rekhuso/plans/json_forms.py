@@ -1,0 +1,178 @@
+"""The forms of what is told of plans, what-ifs and what is held as JSON."""
+
+from __future__ import annotations
+
+from typing import TypedDict
+
+from ..cluster.json_forms import (
+    FillParts,
+    FullestParts,
+    MisplacedParts,
+    OsdFillParts,
+    OutageParts,
+    SpreadParts,
+    UseParts,
+)
+from ..program.maps import Entry
+
+
+class PoolSpreadParts(SpreadParts):
+    """The same for one pool, with the greatest distance from a share."""
+
+    farthest: float
+
+
+class KnownParts(TypedDict, total=False):
+    """What is told of a cluster whose disks are known."""
+
+    use: UseParts
+
+
+class ClusterParts(KnownParts):
+    """What is told of a cluster over all pools: by groups and, where it is known what the pools hold, by bytes, and
+    the bytes that the pool with most data may still take.
+    """
+
+    groups: FillParts
+    bytes: FillParts | None
+    room: int | None
+
+
+class HindranceParts(TypedDict):
+    """A pool of which an OSD has many bytes in so many groups, and what keeps them there."""
+
+    id: int
+    groups: int
+    bytes: int
+    by: str
+
+
+class StayParts(OsdFillParts):
+    """An OSD that stays far above what it is to have, with the pools of which it has most."""
+
+    pools: list[HindranceParts]
+
+
+class DataParts(TypedDict):
+    """What is known of data: by means of pools or by groups, whether the disks are known, the pools that hold data and
+    are in no map of those that are planned, and the OSDs that stay far above what they are to have.
+    """
+
+    by: str
+    has_disks: bool
+    pools_beside: list[int]
+    stays: list[StayParts]
+
+
+class MovingParts(TypedDict):
+    """What a plan, or a part of it, moves; bytes and their share of the data of all pools are None where nobody tells
+    how much the pools hold.
+    """
+
+    groups: int
+    places: int
+    bytes: int | None
+    share: float | None
+
+
+class PoolMovingParts(MovingParts):
+    """The same of one pool, which has so many groups."""
+
+    id: int
+    of: int
+
+
+class OsdMovingParts(TypedDict):
+    """How many places come to an OSD and go from it, and where it is known their bytes."""
+
+    id: int
+    come: int
+    go: int
+    bytes_come: int | None
+    bytes_go: int | None
+
+
+class PlanParts(TypedDict):
+    """What is told of a pool's plan."""
+
+    id: int
+    name: str
+    moves: int
+    groups: int
+    refused: str | None
+    moves_within: int | None
+    moves_whole: int | None
+    left_out: list[str]
+    left_out_by: str
+    before: PoolSpreadParts
+    after: PoolSpreadParts
+
+
+class ExceptionParts(TypedDict):
+    """How many groups have exceptions before a change, which then have none, and of which some pairs go."""
+
+    before: int
+    gone: list[str]
+    fewer: list[str]
+
+
+class FlowParts(TypedDict):
+    """What moves, from where to where; what is left short, and what anew; the fullest OSDs; what exceptions go, and
+    the groups whose named primary does nothing any more.
+    """
+
+    groups: int
+    places: int
+    short: list[str]
+    short_anew: list[str]
+    below_min_size: list[str]
+    fullest_by_count: FullestParts
+    fullest_by_share: FullestParts
+    exceptions: ExceptionParts
+    outage: OutageParts | None
+    misplaced: MisplacedParts | None
+    notes: list[str]
+    idle_primaries: list[str]
+    unbalanced: list[Entry]
+    flows: list[list[int]]
+
+
+class LeftParts(TypedDict):
+    """A group that is not held: the set that it had and the one that it gets, how many places move, and why: by which
+    step or part of the check.
+    """
+
+    group: str
+    was: list[int | None]
+    now: list[int | None]
+    places: int
+    step: str
+    why: str
+
+
+class CountParts(TypedDict):
+    """Groups, and places of theirs."""
+
+    groups: int
+    places: int
+
+
+class HoldParts(CountParts):
+    """The groups that a change would move, and their places; how many of them are held; the groups that are not; how
+    many get places that they lacked; those that have another primary; and those that have explicit sets.
+    """
+
+    held: int
+    left: list[LeftParts]
+    filled: CountParts
+    other_primary: list[str]
+    explicit: list[str]
+
+
+class PeakParts(TypedDict):
+    """The OSD that has most groups while a part moves, of those to which places come (None where none does), and how
+    many it has, where nothing has gone yet.
+    """
+
+    osd: int | None
+    groups: int
