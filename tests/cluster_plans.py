@@ -9,6 +9,7 @@ import collections
 import json
 import math
 import pathlib
+import re
 import random
 from collections.abc import Iterable, Mapping
 from fractions import Fraction
@@ -450,7 +451,14 @@ class ClusterPlans(StockCase):
         name = "025-many-pools"
         files = self.dumps(name)
         value = json.loads(self.output("import", *files))
-        whole = commands(self.output("plan", *files))
+        output, error = self.ran("plan", *files)
+        whole, pools = commands(output), [line for line in error.splitlines() if not line.startswith("cluster ")]
+        self.assertEqual(len(pools), 11, error)
+        self.assertTrue(
+            re.fullmatch("pools: 26 more, at most [0-9.]+ from a share; --json tells each", pools[-1]), pools
+        )
+        away = [float(line.rpartition(" from a share")[0].rpartition(" ")[2]) for line in pools]
+        self.assertEqual(away, sorted(away, reverse=True))
         for most in (1, 20, 10_000):
             with self.subTest(most=most):
                 self.assertEqual(commands(self.output("plan", *files, "--max", most)), whole[:most])

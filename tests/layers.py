@@ -19,7 +19,8 @@ TOOLS = TOP / "tools"
 PACKAGE = TOOLS / "rekhuso"
 # Each sub-package stands on those before it, and all of them on the modules beside them.
 LAYERS = ("program", "cluster", "plans", "output", "commands")
-ABOVE = {"__init__": 1, "command_line": len(LAYERS) + 1, "__main__": len(LAYERS) + 2}
+ABOVE = {"__init__": 1, **dict.fromkeys(("command_line", "uses", "completions", "manuals"), len(LAYERS) + 1)}
+ABOVE["__main__"] = len(LAYERS) + 2
 # Words that mean two things in the plans: of a pool's moves and of a map.
 TWICE = {"Places", "Fullness", "Held"}
 

@@ -8,6 +8,7 @@ import functools
 import json
 import os
 import pathlib
+import re
 import shutil
 import subprocess
 import sys
@@ -30,6 +31,18 @@ NAMES = """
 from rekhuso.command_line import parser
 print(*parser()._subparsers._group_actions[0].choices)
 """
+# What bash answers to words, the last of which is not typed to its end.
+COMPLETES = """
+COMP_WORDS=("$@") COMP_CWORD=$(($# - 1))
+_rekhuso
+echo "${COMPREPLY[*]}"
+"""
+COMMANDS = (
+    *("import", "check", "plan", "net", "df", "diff", "whatif", "hold", "release", "explain", "picture", "report"),
+    *("shell", "history"),
+)
+NAMED = ["bash-completion/completions/rekhuso", "zsh/site-functions/_rekhuso", "man/man1/rekhuso.1"]
+NAMED += [f"man/man1/rekhuso-{command}.1" for command in COMMANDS]
 # What is brought in must change neither the path of modules nor what the plain names of modules mean.
 BROUGHT = """
 import importlib, pathlib, sys
@@ -40,6 +53,15 @@ for file in files:
     importlib.import_module(".".join(("rekhuso", *file.parts)))
 print(len(files) > 10, sys.path == path, sorted({file.stem for file in files} & set(sys.modules)))
 """
+
+
+def shared(tools: pathlib.Path) -> dict[str, str]:
+    """What a system keeps beside the command, by its path."""
+    script = "import json; from rekhuso.manuals import shared; print(json.dumps(shared()))"
+    status, told = ran([sys.executable, "-c", script], tools)
+    assert status == 0, told
+    found: dict[str, str] = json.loads(told)
+    return found
 
 
 def ran(words: Iterable[object], path: object = "", seconds: int = SECONDS) -> tuple[int, str]:
@@ -99,7 +121,10 @@ def commands_over(place: pathlib.Path) -> list[list[object]]:
         ("other", dict(value, osds=[dict(osd, up=osd["id"] != 2) for osd in value["osds"]])),
     ):
         (place / name).write_text(json.dumps(what))
-    dumps, other = [place / "osd", place / "crush"], place / "other"
+    dumps, other, keeper = [place / "osd", place / "crush"], place / "other", place / "keeper"
+    # In place of the program of a store, which would make the copy once.
+    keeper.write_text("#!/bin/sh\necho epoch 1\n")
+    keeper.chmod(0o755)
     return [
         ["--version"],
         ["import", *dumps],
@@ -118,6 +143,7 @@ def commands_over(place: pathlib.Path) -> list[list[object]]:
         ["report", EXAMPLE],
         ["shell", EXAMPLE],
         ["history", place / "store"],
+        ["backup", place / "store", place / "copy", "--store-program", keeper],
     ]
 
 
@@ -188,13 +214,15 @@ class Packaged(Case):
             self.assertEqual({name for name in files_in(archives[0]) if "stale" in name or "egg-info" in name}, set())
             self.assertEqual(len({wheel.read_bytes() for wheel in wheels}), 1)
             version = ran([self.program, "--version"])[1].split(" ")[1].strip()
+            beside = f"rekhuso-{version}.data/data/share/{{}}"
             self.assertEqual(
                 (wheels[0].name, archives[0].name), (f"rekhuso-{version}-py3-none-any.whl", f"rekhuso-{version}.tar.gz")
             )
             with zipfile.ZipFile(wheels[0]) as wheel:
                 names, metadata = wheel.namelist(), wheel.read(f"rekhuso-{version}.dist-info/METADATA").decode()
                 licence = wheel.read(f"rekhuso-{version}.dist-info/LICENSE").decode()
-        files = [path for path in (TOOLS / "rekhuso").rglob("*") if path.suffix in (".py", ".typed")]
+        self.assertEqual({name for name in names if ".data/data/share/" in name}, set(map(beside.format, NAMED)))
+        files = [path for path in (TOOLS / "rekhuso").rglob("*") if path.suffix in (".py", ".typed", ".json")]
         modules = {str(path.relative_to(TOOLS)) for path in files}
         self.assertEqual({name for name in names if not name.startswith("rekhuso-")}, modules)
         self.assertIn("rekhuso/py.typed", modules, metadata)
@@ -258,6 +286,48 @@ class Packaged(Case):
                 ran([place / "fresh" / "bin" / "rekhuso", "--program", self.program, "check", EXAMPLE]),
                 (0, f"{EXAMPLE}: lawful\n"),
             )
+
+    def test_completions(self) -> None:
+        """bash completes commands, their own options, files and folders; zsh reads what is made for it."""
+        told = shared(TOOLS)
+        script = told["share/bash-completion/completions/rekhuso"] + COMPLETES
+        for words, wanted in (
+            (["pl"], "plan"),
+            (["h"], "hold history"),
+            (["--program", "x", "plan", "--de"], "--deviation"),
+            (["df", "--de"], ""),
+            (["whatif", "--each", ""], ""),
+            (["plan", "--to", str(TOP / "exampl")], str(TOP / "examples")),
+            (["df", str(TOP / "LICEN")], str(TOP / "LICENSE")),
+            (["nothing", "--"], ""),
+        ):
+            with self.subTest(words=words):
+                self.assertEqual(ran(["bash", "-c", script, "bash", "rekhuso", *words]), (0, f"{wanted}\n"))
+        self.needs("zsh", shutil.which("zsh") is not None)
+        with tempfile.TemporaryDirectory() as folder:
+            path = pathlib.Path(folder, "_rekhuso")
+            path.write_text(told["share/zsh/site-functions/_rekhuso"])
+            self.assertEqual(ran(["zsh", "-n", path]), (0, ""))
+
+    def test_manuals(self) -> None:
+        """The page of each command tells each of its options, and what reads manual pages finds no fault."""
+        pages = {path: text for path, text in shared(TOOLS).items() if "/man1/" in path}
+        self.assertEqual({f"share/{name}" for name in NAMED if "/man1/" in name}, set(pages))
+        for name in list(pages)[1:]:
+            with self.subTest(name=name):
+                command = name.partition("rekhuso-")[2].partition(".")[0]
+                _, told = ran([sys.executable, TOOLS / "rekhuso", command, "--help"])
+                wanted = set(re.findall(r"(?m)^  (?:-h, )?(--[a-z-]+)", told))
+                found = set(re.findall(r"(?m)^\.TP\n(?:\\fB\\-h\\fR, )?\\fB(\S+)\\fR", pages[name]))
+                self.assertEqual({option.replace("\\-", "-") for option in found}, wanted)
+        self.needs("man", shutil.which("man") is not None)
+        for name, text in pages.items():
+            with self.subTest(name=name), tempfile.TemporaryDirectory() as folder:
+                path = pathlib.Path(folder, "page.1")
+                path.write_text(text)
+                words = ["env", "MANROFFSEQ=", "man", "--warnings=w", "-E", "UTF-8", "-l", "-Tutf8", "-Z", path]
+                status, said = ran(words)
+                self.assertEqual((status, "warning" in said), (0, False), said[-300:])
 
     def test_docstrings(self) -> None:
         """Every module, class and function of the tools has its docstring."""

@@ -13,6 +13,7 @@ from typing import Any
 
 from tests.cases import TOP, Case
 from tests.clusters import CLUSTERS, STOCK, Json, ceph_set, groups_of
+from tests.schemas import faults_of
 
 TOOLS = TOP / "tools" / "rekhuso"
 SECONDS = 120
@@ -116,8 +117,10 @@ class ToolCase(Case):
         return path, names, json.loads(path.read_text()), json.loads(names.read_text())
 
     def json(self, *words: object) -> Any:
-        """What a command that has done its work tells as JSON."""
-        return json.loads(self.output(*words, "--json"))
+        """What a command that has done its work tells as JSON, as the schema of the command says."""
+        told = json.loads(self.output(*words, "--json"))
+        self.assertEqual(faults_of(told), [], words)
+        return told
 
 
 class StockCase(ToolCase):

@@ -223,7 +223,7 @@ class ToolOutput(ToolCase):
             listed = [
                 line
                 for part in parts
-                if part.split("\n")[0] in ("positional arguments:", "options:")
+                if part.split("\n")[0].startswith(("positional arguments:", "options"))
                 for line in part.split("\n")[1:]
                 if line
             ]

@@ -15,6 +15,7 @@ import io
 import os
 import pathlib
 import re
+import sys
 import tarfile
 import time
 import zipfile
@@ -83,7 +84,7 @@ def entry_points() -> str:
 
 def sources() -> dict[str, bytes]:
     """The files of the package by their paths."""
-    paths = [path for path in PACKAGE.rglob("*") if path.suffix in (".py", ".typed") and path.is_file()]
+    paths = [path for path in PACKAGE.rglob("*") if path.suffix in (".py", ".typed", ".json") and path.is_file()]
     return {path.relative_to(TOP).as_posix(): path.read_bytes() for path in paths}
 
 
@@ -98,6 +99,16 @@ def record_line(path: str, content: bytes) -> str:
     return f"{path},sha256={digest},{len(content)}\n"
 
 
+def shared() -> dict[str, str]:
+    """What a system keeps beside the command, by the paths below its prefix: completions and manual pages."""
+    sys.path.insert(0, str(TOP))
+    try:
+        from rekhuso import manuals
+    finally:
+        sys.path.remove(str(TOP))
+    return manuals.shared()
+
+
 def information() -> dict[str, bytes]:
     """The files of a wheel beside the package's own, but for its record."""
     texts = {
@@ -106,7 +117,9 @@ def information() -> dict[str, bytes]:
         "LICENSE": (TOP / "LICENSE").read_text(encoding="utf-8"),
         "entry_points.txt": entry_points(),
     }
-    return {f"{base()}.dist-info/{name}": text.encode() for name, text in texts.items()}
+    texts = {f"{base()}.dist-info/{name}": text for name, text in texts.items()}
+    texts.update({f"{base()}.data/data/{path}": text for path, text in shared().items()})
+    return {path: text.encode() for path, text in texts.items()}
 
 
 def put_wheel(folder: str, files: dict[str, bytes]) -> str:

@@ -1,6 +1,6 @@
 #!/usr/bin/env python3
-"""Makes one archive of a release: the programs, the tools as files and as a wheel, the pages and the examples, the log
-of the gate that the programs have passed, and the checksums of all.
+"""Makes one archive of a release: the programs, the tools as files and as a wheel, their manual pages and completions,
+the pages and the examples, the log of the gate that the programs have passed, and the checksums of all.
 
     dist.py LOG FOLDER PROGRAM..
 
@@ -68,6 +68,7 @@ def files_of(log: pathlib.Path, programs: list[pathlib.Path]) -> dict[str, bytes
     with tempfile.TemporaryDirectory() as folder:
         name = backend.build_wheel(folder)
         found[name] = pathlib.Path(folder, name).read_bytes()
+    found.update({path: text.encode() for path, text in backend.shared().items()})
     found["gate.log"] = log.read_bytes()
     found["COMMIT"] = git("rev-parse", "HEAD").encode()
     return found

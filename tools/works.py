@@ -26,30 +26,43 @@ FOLLOWERS = {
     "session/src/following.rt": "the follower of a session",
     "library_example/src/main.rt": "a follower as the library has them",
 }
-# What makes something, by its name, and where that may be: another name of a work (`type Room = Work`) nowhere.
+# What makes something, by its name: the crate that declares it, and where it may be made elsewhere.
 MAKERS: dict[str, tuple[str, dict[str, str]]] = {
-    "Work": (r"\bWork>?\s*::\s*new\b|\bWork\s+as\b", WORKS),
-    "another name of Work": (r"\btype\s+\w+\s*=[^;]*\bWork\b", {}),
-    "State": (r"\bState>?\s*::\s*new\b|\bState\s+as\b|\btype\s+\w+\s*=[^;]*\bState\b", STATES),
-    "Follower": (r"\bFollower>?\s*::\s*new\b|\bFollower\s+as\b|\btype\s+\w+\s*=[^;]*\bFollower\b", FOLLOWERS),
+    "Work": ("crush", WORKS),
+    "State": ("state", STATES),
+    "Follower": ("monitor", FOLLOWERS),
 }
+CALL = r"\b{0}>?\s*::\s*new\b"
+# Another name, which stands nowhere outside the crate: of a `use` or a `type`, and the `Self` of an `impl` for it.
+OTHER_NAME = r"\b{0}\s+as\b|\btype\s+\w+\s*=[^;]*\b{0}\b|\bimpl\b[^{{}};]*\bfor\b[^{{}};]*\b{0}\b"
+# A macro that makes whatever it is given.
+ANY_NAME = r"\$\w+\s*>?\s*::\s*new\b"
 
 
-def code_of(file: pathlib.Path) -> str:
-    """The text of a file without comments and without its tests."""
-    text = re.sub(r"//.*", "", file.read_text())
-    return re.split(r"^\s*#\[cfg\(test\)\]|^\s*#\[test\]", text, maxsplit=1, flags=re.MULTILINE)[0]
+def texts_of(file: pathlib.Path) -> tuple[str, str]:
+    """The text of a file, its tests too: as it is, and with no comments, which may part the words of a call. What seems
+    to be a comment may be part of a string, so each of the two counts."""
+    text = file.read_text()
+    return text, re.sub(r"/\*.*?\*/", " ", re.sub(r"//.*", "", text), flags=re.DOTALL)
+
+
+def times_in(file: pathlib.Path, pattern: str) -> int:
+    """How often a pattern stands in the text of a file."""
+    return max(len(re.findall(pattern, text)) for text in texts_of(file))
 
 
 def makers(root: pathlib.Path) -> Iterator[tuple[str, str, bool]]:
-    """What is made in each file of a crate above crush, where it may be, and how often."""
+    """What is made in each file outside the crate that declares it, where it may be, and how often."""
     for file in sorted((root / "crates").glob("*/src/**/*.rt")):
         place = file.relative_to(root / "crates").as_posix()
-        if not place.startswith("crush/"):
-            for what, (pattern, allowed) in MAKERS.items():
-                times = len(re.findall(pattern, code_of(file)))
-                if times:
-                    yield place, what, place in allowed and times == 1
+        for what, (home, allowed) in MAKERS.items():
+            called = times_in(file, CALL.format(what))
+            if called and not place.startswith("crush/"):
+                yield place, what, place in allowed and called == 1
+            if times_in(file, OTHER_NAME.format(what)) and not place.startswith(f"{home}/"):
+                yield place, f"name of its own for {what}", False
+        if times_in(file, ANY_NAME):
+            yield place, "macro that makes what it is given", False
 
 
 def main() -> int:
@@ -57,10 +70,7 @@ def main() -> int:
     found = list(makers(root))
     wrong = [(place, what) for place, what, may_be in found if not may_be]
     for place, what in wrong:
-        print(
-            f"crates/{place} makes a {what}, or a second one, which tools/works.py does not allow there",
-            file=sys.stderr,
-        )
+        print(f"crates/{place}: a {what} that tools/works.py does not allow there, or a second one", file=sys.stderr)
     told = f"{len(wrong)} of them where none may be, or one too many"
     print(f"works: {len(found)} places that make one or bring one, {told}")
     return 1 if wrong else 0

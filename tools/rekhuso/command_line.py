@@ -20,7 +20,7 @@ from typing import NoReturn
 
 from . import __version__
 from .commands import COMMANDS, EXAMPLES, module_of
-from .commands.arguments import Parser
+from .commands.arguments import Parser, group_options
 from .faults import Fault, Misuse
 from .progress import PROGRESS
 from .terminal import shown
@@ -58,6 +58,7 @@ def parser(asked: tuple[str, ...] = COMMANDS) -> argparse.ArgumentParser:
     for command, own in commands.choices.items():
         own.epilog = f"for example:\n\n    rekhuso {EXAMPLES[command]}"
         own.add_argument("--program", type=pathlib.Path, default=argparse.SUPPRESS, help=about)
+        group_options(own)
     return top
 
 

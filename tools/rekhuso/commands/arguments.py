@@ -74,6 +74,34 @@ def repeated_words(words: list[str], options: frozenset[str]) -> list[str]:
     return found
 
 
+# The groups of options in a help: their titles, and the options of each; all others are of the command itself.
+GROUPS = {
+    "of what is read": (
+        "--names",
+        "--tree",
+        "--pools",
+        "--unmatched",
+        "--df",
+        "--pgs",
+        "--osds",
+        "--keep",
+        "--program",
+    ),
+    "of what is put out": ("--json", "--ceph", "--picture", "--out", "--undo", "--batch", "--to"),
+}
+
+
+def group_options(own: argparse.ArgumentParser) -> None:
+    """Has the help of a command tell its options by groups."""
+    for title, names in GROUPS.items():
+        actions = [action for action in own._actions if action.option_strings and action.option_strings[0] in names]
+        if actions:
+            group = own.add_argument_group(f"options {title}")
+            for action in actions:
+                own._optionals._group_actions.remove(action)
+                group._group_actions.append(action)
+
+
 FILES = "MAP | OSD_DUMP CRUSH_DUMP"
 ABOUT_FILES = (
     "a map, as `import` writes it (- is standard input); or the two dumps of a cluster, what `ceph osd dump -f json` "

@@ -17,6 +17,8 @@ OF_BLOCKS = "its rule takes OSDs in several steps, of which the balancer plans n
 
 # Of how many OSDs that stay too full it is told why, and the words for what keeps a pool's groups there.
 MOST_STAYS = 5
+# Of more pools than these, so many are told of, the least even ones.
+MANY_POOLS, TOLD_POOLS = 20, 10
 KEPT_BY = {
     "not planned": "none of its groups is moved",
     "failure domains": "all emptier OSDs stand in failure domains that have copies already",
@@ -131,6 +133,14 @@ def page_words(outcome: Outcome, names: Names) -> list[str]:
 
 
 def plan_lines(outcome: Outcome, names: Names, deviation: Fraction | None) -> list[str]:
-    """All that is told of plans: first of the cluster, then of each pool."""
-    pools = [f"{parts['name']}: {pool_plan_words(parts, deviation)}" for parts in outcome.pools]
-    return cluster_words(outcome, names) + pools
+    """All that is told of plans: first of the cluster, then of each pool; of many pools, of those that stay farthest
+    from their shares, and of some that get no plan.
+    """
+    told, rest = outcome.pools, list[str]()
+    if len(told) > MANY_POOLS:
+        worst = sorted(told, key=lambda parts: (-parts["after"]["farthest"], parts["id"]))
+        told = [own for is_refused in (False, True) for own in worst if bool(own["refused"]) is is_refused][:TOLD_POOLS]
+        told += [parts for parts in worst if parts["refused"] and parts not in told][:TOLD_POOLS]
+        left = [parts["after"]["farthest"] for parts in worst if parts not in told]
+        rest = [f"pools: {len(left)} more, at most {max(left):.2f} from a share; --json tells each"] if left else []
+    return cluster_words(outcome, names) + [f"{own['name']}: {pool_plan_words(own, deviation)}" for own in told] + rest
