@@ -7,6 +7,7 @@ ghost use Rattle.epochlog.specs.Epochs.{epoch_of, is_within_limits, IsRowSize};
 
 use crate::error::NotSealed;
 use crate::pass::Pass;
+use keeping::Kept;
 use mapparts::limits;
 use maptypes::Incremental;
 use refusal::{Memory, Refusal};
@@ -78,25 +79,23 @@ impl Row {
         })
     }
 
-    /// Seals the epoch after those that the pass has seen, which is that of the incremental, and answers it.
+    /// Seals the epoch after those that the pass has seen, which is that of the incremental, and answers it. What is
+    /// sealed a keeper has kept before.
     ///
     /// # Errors
     ///
     /// `NotSealed` (32) with the very box where another sealed the epoch first: the pass is as it was.
-    pub fn seal(
-        &self,
-        pass: &mut Pass,
-        incremental: Box<Incremental>,
-    ) -> Result<u64, (Box<Incremental>, NotSealed)>
+    pub fn seal(&self, pass: &mut Pass, kept: Kept) -> Result<u64, (Box<Incremental>, NotSealed)>
         requires row { pass.old.row ≡ self.now }
         requires room { length pass.old.history < length self.now.cells }
-        requires next { incremental.value.epoch ≡ epoch_of pass.old + 1 }
+        requires next { kept.epoch ≡ epoch_of pass.old + 1 }
         ensures row { pass.new.row ≡ pass.old.row }
-        ensures epoch { IfOk result (λ epoch. epoch ≡ incremental.value.epoch) }
-        ensures sealed { IfOk result (λ _. pass.new.history ≡ pass.old.history ++ incremental.value ∷ []) }
-        ensures back { IfErr result (λ back. back.0.value ≡ incremental.value) }
+        ensures epoch { IfOk result (λ epoch. epoch ≡ kept.epoch) }
+        ensures sealed { IfOk result (λ _. pass.new.history ≡ pass.old.history ++ kept ∷ []) }
+        ensures back { IfErr result (λ back. back.0.value ≡ kept) }
         ensures unchanged { OnErr result (pass.new ≡ pass.old) }
     {
+        let incremental = kept.into_step();
         let epoch = incremental.epoch();
         match self.cells.seal(&mut pass.seen, incremental) {
             Ok(()) => Ok(epoch),

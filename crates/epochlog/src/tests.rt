@@ -2,6 +2,7 @@
 ghost use Rattle.std.specs.Prelude.{◌≡◌, IfSome};
 
 use crate::{Pass, Row};
+use keeping::{Keeper, Kept, Nothing};
 use keylist::Entries;
 use mapparts::Profile;
 use maptypes::{Change, ChangeParts, Incremental};
@@ -9,9 +10,9 @@ use refusal::Refusal;
 use std::alloc::Global;
 use std::test::Fail;
 
-// The incremental of an epoch, whose change is empty.
-fn incremental(alloc: Global, epoch: u64) -> Option<Box<Incremental>>
-    ensures { IfSome result (λ made. made.value.epoch ≡ epoch) }
+// The incremental of an epoch, whose change is empty, kept in memory alone.
+fn incremental(alloc: Global, epoch: u64) -> Option<Kept>
+    ensures { IfSome result (λ made. made.epoch ≡ epoch) }
 {
     let change = Change::new(ChangeParts {
         profile: Profile::Plain,
@@ -28,7 +29,8 @@ fn incremental(alloc: Global, epoch: u64) -> Option<Box<Incremental>>
         new_items: Entries::new(Vec::new(alloc)),
     })
     .ok()?;
-    Box::new(alloc, Incremental::new(epoch, change)).ok()
+    let step = Box::new(alloc, Incremental::new(epoch, change)).ok()?;
+    Keeper::new(Nothing).keep(step).ok()
 }
 
 // What may be shown to many threads.

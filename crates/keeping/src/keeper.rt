@@ -1,6 +1,7 @@
 //! A store that is asked nothing more once it has failed.
 
 use crate::keeps::{Keeps, NotKept};
+use crate::kept::Kept;
 use maptypes::Incremental;
 use refusal::Refusal;
 
@@ -12,10 +13,10 @@ pub struct Keeper<K: Keeps + Drop> {
 }
 
 impl<K: Keeps + Drop> Keeper<K> {
-    ghost use Rattle.std.specs.Prelude.{◌≡◌, ◌⊎◌, true, false, IfErr, OnOk, OnErr};
+    ghost use Rattle.std.specs.Prelude.{◌≡◌, ◌⊎◌, true, false, IfOk, IfErr, OnErr};
     ghost use Rattle.refusal.specs.declared.refused.Refusal.TheVariants.{Memory, NotStored};
     ghost use Rattle.maptypes.specs.Incrementals.{Step};
-    ghost use Rattle.keeping.specs.Journals.{Journal, with_step};
+    ghost use Rattle.keeping.specs.Journals.{Journal, with_step, Follows, IsIncremental};
     ghost use Rattle.keeping.specs.Stores.{IsKeptBy};
 
     /// The keeper of a store that has not failed.
@@ -37,27 +38,39 @@ impl<K: Keeps + Drop> Keeper<K> {
         &self.store
     }
 
-    /// Keeps an incremental behind those that are kept.
+    /// The store, which nobody asks any more.
+    pub fn into_store(self) -> K
+        ensures { result ≡ self.store }
+    {
+        self.store
+    }
+
+    /// Keeps an incremental behind those that are kept, and gives it back as one that is. The journal is kept where it
+    /// is the next.
     ///
     /// # Errors
     ///
     /// `Memory` (30) where memory is short and the store is as it was; else `NotStored` (35) where the store does not
     /// take it, or has failed before. A crash may then still leave it.
-    pub fn keep(&mut self, step: &Incremental) -> Result<(), Refusal>
-        ensures kept { OnOk result ((self.old.has_failed ≡ false) × (self.new.has_failed ≡ false)
+    pub fn keep(&mut self, step: Box<Incremental>) -> Result<Kept, Refusal>
+        ensures same_step { IfOk result (λ kept. (kept ≡ step.value) × IsIncremental step.value) }
+        ensures kept { IfOk result (λ _. (self.old.has_failed ≡ false) × (self.new.has_failed ≡ false)
             × ((j : Journal) → IsKeptBy K.holds K.may_leave K.may_fail self.old j
-            → IsKeptBy K.holds K.may_leave K.may_fail self.new (with_step j step.now))) }
+            → IsKeptBy K.holds K.may_leave K.may_fail self.new (with_step j step.value))) }
         ensures failed { IfErr result (λ e.
             ((e ≡ Memory) × (self.old.has_failed ≡ false) × (self.new.has_failed ≡ false))
             ⊎ ((e ≡ NotStored) × (self.new.has_failed ≡ true))) }
-        ensures same { OnErr result ((j : Journal) → IsKeptBy K.holds K.may_leave K.may_fail self.old j
+        ensures same { OnErr result ((j : Journal) → Follows j step.value
+            → IsKeptBy K.holds K.may_leave K.may_fail self.old j
             → IsKeptBy K.holds K.may_leave K.may_fail self.new j) }
     {
+        let _epoch = step.epoch();
+        let _parts = step.change().parts();
         if self.has_failed {
             return Err(Refusal::NotStored);
         }
-        match self.store.keep(step) {
-            Ok(()) => Ok(()),
+        match self.store.keep(&step) {
+            Ok(()) => Ok(Kept { step }),
             Err(NotKept::Memory) => Err(Refusal::Memory),
             Err(NotKept::Failed) => {
                 self.has_failed = true;
@@ -69,7 +82,8 @@ impl<K: Keeps + Drop> Keeper<K> {
     /// Takes note that the last incremental that was kept is not in the journal: a store that holds it counts as
     /// failed.
     pub fn forget(&mut self)
-        ensures { (j : Journal) (step : Step) → IsKeptBy K.holds K.may_leave K.may_fail self.old (with_step j step)
+        ensures { (j : Journal) (step : Step) → Follows j step → IsIncremental step
+            → IsKeptBy K.holds K.may_leave K.may_fail self.old (with_step j step)
             → (self.old.has_failed ≡ false) → IsKeptBy K.holds K.may_leave K.may_fail self.new j }
     {
         if !self.store.forgets() {

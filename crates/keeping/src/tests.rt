@@ -40,7 +40,7 @@ impl Keeps for Narrow {
 }
 
 // The incremental of an epoch, whose change is empty.
-fn incremental(alloc: Global, epoch: u64) -> Option<Incremental> {
+fn incremental(alloc: Global, epoch: u64) -> Option<Box<Incremental>> {
     let change = Change::new(ChangeParts {
         profile: Profile::Plain,
         old_pools: Entries::new(Vec::new(alloc)),
@@ -56,17 +56,17 @@ fn incremental(alloc: Global, epoch: u64) -> Option<Incremental> {
         new_items: Entries::new(Vec::new(alloc)),
     })
     .ok()?;
-    Some(Incremental::new(epoch, change))
+    Box::new(alloc, Incremental::new(epoch, change)).ok()
 }
 
 #[test]
 fn a_failed_store_is_asked_nothing_more(rt: HostRuntime) {
     let mut keeper = Keeper::new(Narrow { asked: 0 });
     let mut answers = [0; 5];
-    if let Some(step) = incremental(rt.alloc(), 2) {
-        for answer in &mut answers {
+    for answer in &mut answers {
+        if let Some(step) = incremental(rt.alloc(), 2) {
             *answer = keeper
-                .keep(&step)
+                .keep(step)
                 .err()
                 .map_or(1, |refused| refused.number());
         }

@@ -1,17 +1,26 @@
 -- A commit that nothing refuses, from the seal on.
-use Rattle.std.proofs.Common.{◌≡◌, ◌∙◌, ap, sym, ℕ, ◌+◌, ◌-◌, ◌^◌, ◌<◌, ◌≤◌, [], ◌∷◌, ◌++◌, length, arith, Some, slice_get}
+use Rattle.std.proofs.Common.{◌≡◌, ◌∙◌, ap, sym, subst, ℕ, ◌+◌, ◌-◌, ◌^◌, ◌<◌, ◌≤◌, [], ◌∷◌, ◌++◌, length, arith, None, Some, slice_get}
 use Rattle.maptypes.specs.declared.change.ChangeParts.{ChangeParts}
 use Rattle.maptypes.specs.Incrementals.{Step}
 use Rattle.osdmap.specs.Maps.{ClusterMap}
+use Rattle.osdmap.specs.Changes.{change_fault}
 use Rattle.epochlog.specs.Epochs.{Seen, longer, epoch_of}
 use Rattle.pgtable.specs.Tables.{TableFacts}
-use Rattle.keeping.specs.Journals.{with_step}
+use Rattle.keeping.specs.Journals.{with_step, Follows}
 use Rattle.state.specs.States.{StateFacts, journal, IsKept, max_epoch, next_step, longer_by}
 use Rattle.state.proofs.Journals.{IsAccepted, step_is, joined_is, shown_is, last_epoch-snoc, epoch-kept}
 
 -- an epoch that a journal has room after is far from the end of 64 bits
 pub early_fits : (epoch : ℕ) → epoch ≤ max_epoch → epoch + 1 < 2 ^ 64
 early_fits epoch early = omega arith
+
+-- the incremental of an accepted change is the next of the journal
+pub follows : (k : StateFacts) (t : TableFacts) (base : ℕ) (change : ChangeParts) (step : Step) → IsKept k t → IsAccepted k base change → step ≡ next_step k.map change
+    → Follows (journal k.first k.pass.history) step
+follows k t base change step kept ok is = subst (Follows (journal k.first k.pass.history)) (sym is) (record {
+  epoch = ap (λ (m : ClusterMap). m.epoch + 1) kept.map;
+  lawful = subst (λ (m : ClusterMap). change_fault m change ≡ None) kept.map ok.fine;
+})
 
 -- what holds once the epoch is sealed and the state's pass has joined the one that sealed it
 pub record IsSealed (k : StateFacts) (base : ℕ) (change : ChangeParts) (after : Seen) : Type 0 where

@@ -13,7 +13,7 @@ ghost use Rattle.state.specs.States.{IsReady, journal};
 
 use crush::Work;
 use epochlog::{NotSealed, Pass, Row};
-use keeping::{Keeper, Keeps, Nothing};
+use keeping::{Keeper, Keeps, Kept, Nothing};
 use maptypes::{Change, Incremental};
 use osdmap::OsdMap;
 use pgtable::{Patch, PgTable};
@@ -89,22 +89,22 @@ fn seal<K: Keeps + Drop>(
     first: &OsdMap,
     row: &Row,
     pass: &mut Pass,
-    step: Box<Incremental>,
+    kept: Kept,
 ) -> Result<u64, (Box<Incremental>, NotSealed)>
     requires kept { IsKeptBy K.holds K.may_leave K.may_fail keeper.now
-        (with_step (journal first.now.map pass.old.history) step.value) }
+        (with_step (journal first.now.map pass.old.history) kept) }
     requires sound { keeper.now.has_failed ≡ false }
     requires row { pass.old.row ≡ row.now }
     requires room { length pass.old.history < length row.now.cells }
-    requires next { step.value.epoch ≡ epoch_of pass.old + 1 }
+    requires next { kept.epoch ≡ epoch_of pass.old + 1 }
     ensures row { pass.new.row ≡ pass.old.row }
-    ensures epoch { IfOk result (λ epoch. epoch ≡ step.value.epoch) }
-    ensures sealed { IfOk result (λ _. pass.new.history ≡ pass.old.history ++ step.value ∷ []) }
+    ensures epoch { IfOk result (λ epoch. epoch ≡ kept.epoch) }
+    ensures sealed { IfOk result (λ _. pass.new.history ≡ pass.old.history ++ kept ∷ []) }
     ensures unchanged { OnErr result (pass.new ≡ pass.old) }
 {
     let _ = keeper;
     let _ = first;
-    row.seal(pass, step)
+    row.seal(pass, kept)
 }
 
 /// Makes the map and its table those after an incremental, for which all is ready. It takes no memory and cannot fail.
@@ -189,14 +189,22 @@ impl<K: Keeps + Drop> State<K> {
         &self.pass
     }
 
-    /// What keeps the journal. After a crash all accepted changes are left, and at most one more; and exactly these,
-    /// unless the store has failed.
+    /// What keeps the journal. After a crash all accepted changes are left, and at most one more, which the map does
+    /// not refuse; and exactly these, unless the store has failed.
     pub fn store(&self) -> &K
         ensures held { self.now.has_failed ≡ false → K.holds result.now (journal self.now.first self.now.pass.history) }
         ensures left { (left : Journal) → K.may_leave result.now left
             → HasAll (journal self.now.first self.now.pass.history) left }
     {
         self.keeper.store()
+    }
+
+    /// What has kept the journal, of which the same holds.
+    pub fn into_store(self) -> K
+        ensures held { self.has_failed ≡ false → K.holds result (journal self.first self.pass.history) }
+        ensures left { (left : Journal) → K.may_leave result left → HasAll (journal self.first self.pass.history) left }
+    {
+        self.keeper.into_store()
     }
 
     /// Applies a change to the present map, whose epoch `base` must be, keeps it in the store and seals it in the row:
@@ -232,8 +240,8 @@ impl<K: Keeps + Drop> State<K> {
             &mut self.work,
             change,
         )?;
-        self.keeper.keep(&step)?;
-        let Ok(epoch) = seal(&self.keeper, &self.first, row, pass, step) else {
+        let kept = self.keeper.keep(step)?;
+        let Ok(epoch) = seal(&self.keeper, &self.first, row, pass, kept) else {
             self.keeper.forget();
             return Err(Refusal::NotSealed);
         };

@@ -8,7 +8,7 @@ use Rattle.keeping.specs.Journals.{Journal, with_step}
 use Rattle.keeping.specs.Stores.{IsKeptBy}
 use Rattle.state.specs.States.{StateFacts, facts, journal, fault_in, counted, ran, committed, next_step, longer_by}
 use Rattle.state.proofs.Journals.{IsAccepted, accepted, IsKept-committed, IsKept-ran, pass-epoch, with_parts}
-use Rattle.state.proofs.Committing.{early_fits, sealed, journal_kept}
+use Rattle.state.proofs.Committing.{early_fits, follows, sealed, journal_kept}
 use Rattle.state.proofs.state.State.commit.Goals as goal
 
 pub prepare-requires-clause-lawful : goal.prepare-requires-clause-lawful
@@ -24,9 +24,9 @@ seal-requires-clause-kept g c =
     let mine : c.args.pass.now.history ≡ c.self.inside.pass.history =
     ap (λ (s : Seen). s.history) c.requires.pass ∙ ap (λ (s : StateFacts). s.pass.history) (sym c.self.view_is) in
     let kept = subst (λ (step : Step). IsKeptBy g.K.Keeps.holds g.K.Keeps.may_leave g.K.Keeps.may_fail c.keep.new.self (with_step (journal c.self.inside.first.map c.self.inside.pass.history) step))
-    c.deref.ensures
-    (c.in_ok-keep.ensures.kept.2 (journal c.self.inside.first.map c.self.inside.pass.history) c.self.invariant.1) in
-    subst (λ (h : List Step). IsKeptBy g.K.Keeps.holds g.K.Keeps.may_leave g.K.Keeps.may_fail c.keep.new.self (with_step (journal c.self.inside.first.map h) c.in_ok-patch.step.value))
+    (sym c.in_ok-kept.ensures.same_step.0)
+    (c.in_ok-kept.ensures.kept.2 (journal c.self.inside.first.map c.self.inside.pass.history) c.self.invariant.1) in
+    subst (λ (h : List Step). IsKeptBy g.K.Keeps.holds g.K.Keeps.may_leave g.K.Keeps.may_fail c.keep.new.self (with_step (journal c.self.inside.first.map h) c.in_ok-kept.kept))
     (sym mine) kept
 
 pub seal-requires-clause-room : goal.seal-requires-clause-room
@@ -39,7 +39,7 @@ seal-requires-clause-next g c =
     let k : StateFacts = facts c.self.inside.first.map c.self.inside.pass c.self.inside.map.map c.self.inside.work.runs c.self.inside.keeper.has_failed in
     let mine : c.args.pass.now ≡ k.pass = c.requires.pass ∙ ap (λ (s : StateFacts). s.pass) (sym c.self.view_is) in
     let step : c.in_ok-patch.step.value ≡ next_step k.map c.args.change = rw c.prepare.ensures.same at c.in_ok-patch.ensures.ready.step in
-    ap (λ (s : Step). s.epoch) step ∙ ap (λ n. n + 1) (sym (pass-epoch k c.self.inside.table c.self.invariant.0) ∙ ap (λ (s : Seen). epoch_of s) (sym mine))
+    ap (λ (s : Step). s.epoch) (c.in_ok-kept.ensures.same_step.0 ∙ step) ∙ ap (λ n. n + 1) (sym (pass-epoch k c.self.inside.table c.self.invariant.0) ∙ ap (λ (s : Seen). epoch_of s) (sym mine))
 
 pub at-requires-clause-after : goal.at-requires-clause-after
 at-requires-clause-after g c =
@@ -47,10 +47,10 @@ at-requires-clause-after g c =
     let fine : fault_in c.args.self.now c.args.base c.args.change ≡ None = search rules in
     let ok : IsAccepted k c.args.base c.args.change = rw (← c.self.view_is) at (accepted c.args.self.now c.args.base c.args.change fine) in
     let mine : c.args.pass.now ≡ k.pass = c.requires.pass ∙ ap (λ (s : StateFacts). s.pass) (sym c.self.view_is) in
-    let step : c.in_ok-patch.step.value ≡ record { epoch = c.args.base + 1; change = c.args.change } =
-    (rw c.prepare.ensures.same at c.in_ok-patch.ensures.ready.step) ∙ ap (λ n. record { epoch = n + 1; change = c.args.change }) (sym ok.current) in
-    let done = sealed k c.self.inside.table c.args.base c.args.change c.in_ok-patch.step.value c.seal.new.pass c.join.new.self c.self.invariant.0 ok step
-    (c.in-Ok.ensures.sealed ∙ ap (λ (s : Seen). s.history ++ c.in_ok-patch.step.value ∷ []) mine) c.join.ensures.row c.join.ensures.history in
+    let step : c.in_ok-kept.kept ≡ record { epoch = c.args.base + 1; change = c.args.change } =
+    c.in_ok-kept.ensures.same_step.0 ∙ (rw c.prepare.ensures.same at c.in_ok-patch.ensures.ready.step) ∙ ap (λ n. record { epoch = n + 1; change = c.args.change }) (sym ok.current) in
+    let done = sealed k c.self.inside.table c.args.base c.args.change c.in_ok-kept.kept c.seal.new.pass c.join.new.self c.self.invariant.0 ok step
+    (c.in-Ok.ensures.sealed ∙ ap (λ (s : Seen). s.history ++ c.in_ok-kept.kept ∷ []) mine) c.join.ensures.row c.join.ensures.history in
     let number : c.in-Ok.epoch ≡ c.args.base + 1 = c.in-Ok.ensures.epoch ∙ ap (λ (s : Step). s.epoch) step in
     let row : k.pass.row ≡ c.args.row.now = ap (λ (s : StateFacts). s.pass.row) c.self.view_is ∙ c.requires.row in
     rw (number, ← row) done.later
@@ -61,10 +61,10 @@ at-requires-clause-seen g c =
     let fine : fault_in c.args.self.now c.args.base c.args.change ≡ None = search rules in
     let ok : IsAccepted k c.args.base c.args.change = rw (← c.self.view_is) at (accepted c.args.self.now c.args.base c.args.change fine) in
     let mine : c.args.pass.now ≡ k.pass = c.requires.pass ∙ ap (λ (s : StateFacts). s.pass) (sym c.self.view_is) in
-    let step : c.in_ok-patch.step.value ≡ record { epoch = c.args.base + 1; change = c.args.change } =
-    (rw c.prepare.ensures.same at c.in_ok-patch.ensures.ready.step) ∙ ap (λ n. record { epoch = n + 1; change = c.args.change }) (sym ok.current) in
-    let done = sealed k c.self.inside.table c.args.base c.args.change c.in_ok-patch.step.value c.seal.new.pass c.join.new.self c.self.invariant.0 ok step
-    (c.in-Ok.ensures.sealed ∙ ap (λ (s : Seen). s.history ++ c.in_ok-patch.step.value ∷ []) mine) c.join.ensures.row c.join.ensures.history in
+    let step : c.in_ok-kept.kept ≡ record { epoch = c.args.base + 1; change = c.args.change } =
+    c.in_ok-kept.ensures.same_step.0 ∙ (rw c.prepare.ensures.same at c.in_ok-patch.ensures.ready.step) ∙ ap (λ n. record { epoch = n + 1; change = c.args.change }) (sym ok.current) in
+    let done = sealed k c.self.inside.table c.args.base c.args.change c.in_ok-kept.kept c.seal.new.pass c.join.new.self c.self.invariant.0 ok step
+    (c.in-Ok.ensures.sealed ∙ ap (λ (s : Seen). s.history ++ c.in_ok-kept.kept ∷ []) mine) c.join.ensures.row c.join.ensures.history in
     let number : c.in-Ok.epoch ≡ c.args.base + 1 = c.in-Ok.ensures.epoch ∙ ap (λ (s : Step). s.epoch) step in
     let row : k.pass.row ≡ c.args.row.now = ap (λ (s : StateFacts). s.pass.row) c.self.view_is ∙ c.requires.row in
     omega (arith, number, done.seen)
@@ -75,10 +75,10 @@ apply_step-requires-clause-next g c =
     let fine : fault_in c.args.self.now c.args.base c.args.change ≡ None = search rules in
     let ok : IsAccepted k c.args.base c.args.change = rw (← c.self.view_is) at (accepted c.args.self.now c.args.base c.args.change fine) in
     let mine : c.args.pass.now ≡ k.pass = c.requires.pass ∙ ap (λ (s : StateFacts). s.pass) (sym c.self.view_is) in
-    let step : c.in_ok-patch.step.value ≡ record { epoch = c.args.base + 1; change = c.args.change } =
-    (rw c.prepare.ensures.same at c.in_ok-patch.ensures.ready.step) ∙ ap (λ n. record { epoch = n + 1; change = c.args.change }) (sym ok.current) in
-    let done = sealed k c.self.inside.table c.args.base c.args.change c.in_ok-patch.step.value c.seal.new.pass c.join.new.self c.self.invariant.0 ok step
-    (c.in-Ok.ensures.sealed ∙ ap (λ (s : Seen). s.history ++ c.in_ok-patch.step.value ∷ []) mine) c.join.ensures.row c.join.ensures.history in
+    let step : c.in_ok-kept.kept ≡ record { epoch = c.args.base + 1; change = c.args.change } =
+    c.in_ok-kept.ensures.same_step.0 ∙ (rw c.prepare.ensures.same at c.in_ok-patch.ensures.ready.step) ∙ ap (λ n. record { epoch = n + 1; change = c.args.change }) (sym ok.current) in
+    let done = sealed k c.self.inside.table c.args.base c.args.change c.in_ok-kept.kept c.seal.new.pass c.join.new.self c.self.invariant.0 ok step
+    (c.in-Ok.ensures.sealed ∙ ap (λ (s : Seen). s.history ++ c.in_ok-kept.kept ∷ []) mine) c.join.ensures.row c.join.ensures.history in
     let number : c.in-Ok.epoch ≡ c.args.base + 1 = c.in-Ok.ensures.epoch ∙ ap (λ (s : Step). s.epoch) step in
     let row : k.pass.row ≡ c.args.row.now = ap (λ (s : StateFacts). s.pass.row) c.self.view_is ∙ c.requires.row in
     let shown : c.at.result.now ≡ next_step k.map c.args.change = done.shown _ (rw (number, ← row) at c.at.ensures.place) in
@@ -90,10 +90,10 @@ apply_step-requires-clause-lawful g c =
     let fine : fault_in c.args.self.now c.args.base c.args.change ≡ None = search rules in
     let ok : IsAccepted k c.args.base c.args.change = rw (← c.self.view_is) at (accepted c.args.self.now c.args.base c.args.change fine) in
     let mine : c.args.pass.now ≡ k.pass = c.requires.pass ∙ ap (λ (s : StateFacts). s.pass) (sym c.self.view_is) in
-    let step : c.in_ok-patch.step.value ≡ record { epoch = c.args.base + 1; change = c.args.change } =
-    (rw c.prepare.ensures.same at c.in_ok-patch.ensures.ready.step) ∙ ap (λ n. record { epoch = n + 1; change = c.args.change }) (sym ok.current) in
-    let done = sealed k c.self.inside.table c.args.base c.args.change c.in_ok-patch.step.value c.seal.new.pass c.join.new.self c.self.invariant.0 ok step
-    (c.in-Ok.ensures.sealed ∙ ap (λ (s : Seen). s.history ++ c.in_ok-patch.step.value ∷ []) mine) c.join.ensures.row c.join.ensures.history in
+    let step : c.in_ok-kept.kept ≡ record { epoch = c.args.base + 1; change = c.args.change } =
+    c.in_ok-kept.ensures.same_step.0 ∙ (rw c.prepare.ensures.same at c.in_ok-patch.ensures.ready.step) ∙ ap (λ n. record { epoch = n + 1; change = c.args.change }) (sym ok.current) in
+    let done = sealed k c.self.inside.table c.args.base c.args.change c.in_ok-kept.kept c.seal.new.pass c.join.new.self c.self.invariant.0 ok step
+    (c.in-Ok.ensures.sealed ∙ ap (λ (s : Seen). s.history ++ c.in_ok-kept.kept ∷ []) mine) c.join.ensures.row c.join.ensures.history in
     let number : c.in-Ok.epoch ≡ c.args.base + 1 = c.in-Ok.ensures.epoch ∙ ap (λ (s : Step). s.epoch) step in
     let row : k.pass.row ≡ c.args.row.now = ap (λ (s : StateFacts). s.pass.row) c.self.view_is ∙ c.requires.row in
     let shown : c.at.result.now ≡ next_step k.map c.args.change = done.shown _ (rw (number, ← row) at c.at.ensures.place) in
@@ -105,10 +105,10 @@ apply_step-requires-clause-room g c =
     let fine : fault_in c.args.self.now c.args.base c.args.change ≡ None = search rules in
     let ok : IsAccepted k c.args.base c.args.change = rw (← c.self.view_is) at (accepted c.args.self.now c.args.base c.args.change fine) in
     let mine : c.args.pass.now ≡ k.pass = c.requires.pass ∙ ap (λ (s : StateFacts). s.pass) (sym c.self.view_is) in
-    let step : c.in_ok-patch.step.value ≡ record { epoch = c.args.base + 1; change = c.args.change } =
-    (rw c.prepare.ensures.same at c.in_ok-patch.ensures.ready.step) ∙ ap (λ n. record { epoch = n + 1; change = c.args.change }) (sym ok.current) in
-    let done = sealed k c.self.inside.table c.args.base c.args.change c.in_ok-patch.step.value c.seal.new.pass c.join.new.self c.self.invariant.0 ok step
-    (c.in-Ok.ensures.sealed ∙ ap (λ (s : Seen). s.history ++ c.in_ok-patch.step.value ∷ []) mine) c.join.ensures.row c.join.ensures.history in
+    let step : c.in_ok-kept.kept ≡ record { epoch = c.args.base + 1; change = c.args.change } =
+    c.in_ok-kept.ensures.same_step.0 ∙ (rw c.prepare.ensures.same at c.in_ok-patch.ensures.ready.step) ∙ ap (λ n. record { epoch = n + 1; change = c.args.change }) (sym ok.current) in
+    let done = sealed k c.self.inside.table c.args.base c.args.change c.in_ok-kept.kept c.seal.new.pass c.join.new.self c.self.invariant.0 ok step
+    (c.in-Ok.ensures.sealed ∙ ap (λ (s : Seen). s.history ++ c.in_ok-kept.kept ∷ []) mine) c.join.ensures.row c.join.ensures.history in
     let number : c.in-Ok.epoch ≡ c.args.base + 1 = c.in-Ok.ensures.epoch ∙ ap (λ (s : Step). s.epoch) step in
     let row : k.pass.row ≡ c.args.row.now = ap (λ (s : StateFacts). s.pass.row) c.self.view_is ∙ c.requires.row in
     let shown : c.at.result.now ≡ next_step k.map c.args.change = done.shown _ (rw (number, ← row) at c.at.ensures.place) in
@@ -120,10 +120,10 @@ apply_step-requires-clause-leads g c =
     let fine : fault_in c.args.self.now c.args.base c.args.change ≡ None = search rules in
     let ok : IsAccepted k c.args.base c.args.change = rw (← c.self.view_is) at (accepted c.args.self.now c.args.base c.args.change fine) in
     let mine : c.args.pass.now ≡ k.pass = c.requires.pass ∙ ap (λ (s : StateFacts). s.pass) (sym c.self.view_is) in
-    let step : c.in_ok-patch.step.value ≡ record { epoch = c.args.base + 1; change = c.args.change } =
-    (rw c.prepare.ensures.same at c.in_ok-patch.ensures.ready.step) ∙ ap (λ n. record { epoch = n + 1; change = c.args.change }) (sym ok.current) in
-    let done = sealed k c.self.inside.table c.args.base c.args.change c.in_ok-patch.step.value c.seal.new.pass c.join.new.self c.self.invariant.0 ok step
-    (c.in-Ok.ensures.sealed ∙ ap (λ (s : Seen). s.history ++ c.in_ok-patch.step.value ∷ []) mine) c.join.ensures.row c.join.ensures.history in
+    let step : c.in_ok-kept.kept ≡ record { epoch = c.args.base + 1; change = c.args.change } =
+    c.in_ok-kept.ensures.same_step.0 ∙ (rw c.prepare.ensures.same at c.in_ok-patch.ensures.ready.step) ∙ ap (λ n. record { epoch = n + 1; change = c.args.change }) (sym ok.current) in
+    let done = sealed k c.self.inside.table c.args.base c.args.change c.in_ok-kept.kept c.seal.new.pass c.join.new.self c.self.invariant.0 ok step
+    (c.in-Ok.ensures.sealed ∙ ap (λ (s : Seen). s.history ++ c.in_ok-kept.kept ∷ []) mine) c.join.ensures.row c.join.ensures.history in
     let number : c.in-Ok.epoch ≡ c.args.base + 1 = c.in-Ok.ensures.epoch ∙ ap (λ (s : Step). s.epoch) step in
     let row : k.pass.row ≡ c.args.row.now = ap (λ (s : StateFacts). s.pass.row) c.self.view_is ∙ c.requires.row in
     let shown : c.at.result.now ≡ next_step k.map c.args.change = done.shown _ (rw (number, ← row) at c.at.ensures.place) in
@@ -135,18 +135,18 @@ invariant_of-self-2 g c =
     let fine : fault_in c.args.self.now c.args.base c.args.change ≡ None = search rules in
     let ok : IsAccepted k c.args.base c.args.change = rw (← c.self.view_is) at (accepted c.args.self.now c.args.base c.args.change fine) in
     let mine : c.args.pass.now ≡ k.pass = c.requires.pass ∙ ap (λ (s : StateFacts). s.pass) (sym c.self.view_is) in
-    let step : c.in_ok-patch.step.value ≡ record { epoch = c.args.base + 1; change = c.args.change } =
-    (rw c.prepare.ensures.same at c.in_ok-patch.ensures.ready.step) ∙ ap (λ n. record { epoch = n + 1; change = c.args.change }) (sym ok.current) in
-    let done = sealed k c.self.inside.table c.args.base c.args.change c.in_ok-patch.step.value c.seal.new.pass c.join.new.self c.self.invariant.0 ok step
-    (c.in-Ok.ensures.sealed ∙ ap (λ (s : Seen). s.history ++ c.in_ok-patch.step.value ∷ []) mine) c.join.ensures.row c.join.ensures.history in
+    let step : c.in_ok-kept.kept ≡ record { epoch = c.args.base + 1; change = c.args.change } =
+    c.in_ok-kept.ensures.same_step.0 ∙ (rw c.prepare.ensures.same at c.in_ok-patch.ensures.ready.step) ∙ ap (λ n. record { epoch = n + 1; change = c.args.change }) (sym ok.current) in
+    let done = sealed k c.self.inside.table c.args.base c.args.change c.in_ok-kept.kept c.seal.new.pass c.join.new.self c.self.invariant.0 ok step
+    (c.in-Ok.ensures.sealed ∙ ap (λ (s : Seen). s.history ++ c.in_ok-kept.kept ∷ []) mine) c.join.ensures.row c.join.ensures.history in
     let number : c.in-Ok.epoch ≡ c.args.base + 1 = c.in-Ok.ensures.epoch ∙ ap (λ (s : Step). s.epoch) step in
     let row : k.pass.row ≡ c.args.row.now = ap (λ (s : StateFacts). s.pass.row) c.self.view_is ∙ c.requires.row in
     let shown : c.at.result.now ≡ next_step k.map c.args.change = done.shown _ (rw (number, ← row) at c.at.ensures.place) in
     let made : c.apply_step.new.map.map ≡ apply k.map (next_step k.map c.args.change) = rw (shown, c.prepare.ensures.same) at c.apply_step.ensures.map in (
       rw (done.joined, made) (IsKept-committed k c.self.inside.table c.apply_step.new.table c.args.change _ _ c.self.invariant.0 ok.fine (rw (shown, c.prepare.ensures.same) at c.apply_step.ensures.table)),
       subst (λ (j : Journal). IsKeptBy g.K.Keeps.holds g.K.Keeps.may_leave g.K.Keeps.may_fail c.keep.new.self j)
-          (journal_kept c.self.inside.first.map c.self.inside.pass c.join.new.self c.deref.result.now (next_step k.map c.args.change) (c.deref.ensures ∙ rw c.prepare.ensures.same at c.in_ok-patch.ensures.ready.step) done.joined)
-          (c.in_ok-keep.ensures.kept.2 (journal c.self.inside.first.map c.self.inside.pass.history) c.self.invariant.1),
+          (journal_kept c.self.inside.first.map c.self.inside.pass c.join.new.self c.in_ok-patch.step.value (next_step k.map c.args.change) (rw c.prepare.ensures.same at c.in_ok-patch.ensures.ready.step) done.joined)
+          (c.in_ok-kept.ensures.kept.2 (journal c.self.inside.first.map c.self.inside.pass.history) c.self.invariant.1),
     )
 
 pub returns-clause-commits : goal.returns-clause-commits
@@ -155,10 +155,10 @@ returns-clause-commits g c =
     let fine : fault_in c.args.self.now c.args.base c.args.change ≡ None = search rules in
     let ok : IsAccepted k c.args.base c.args.change = rw (← c.self.view_is) at (accepted c.args.self.now c.args.base c.args.change fine) in
     let mine : c.args.pass.now ≡ k.pass = c.requires.pass ∙ ap (λ (s : StateFacts). s.pass) (sym c.self.view_is) in
-    let step : c.in_ok-patch.step.value ≡ record { epoch = c.args.base + 1; change = c.args.change } =
-    (rw c.prepare.ensures.same at c.in_ok-patch.ensures.ready.step) ∙ ap (λ n. record { epoch = n + 1; change = c.args.change }) (sym ok.current) in
-    let done = sealed k c.self.inside.table c.args.base c.args.change c.in_ok-patch.step.value c.seal.new.pass c.join.new.self c.self.invariant.0 ok step
-    (c.in-Ok.ensures.sealed ∙ ap (λ (s : Seen). s.history ++ c.in_ok-patch.step.value ∷ []) mine) c.join.ensures.row c.join.ensures.history in
+    let step : c.in_ok-kept.kept ≡ record { epoch = c.args.base + 1; change = c.args.change } =
+    c.in_ok-kept.ensures.same_step.0 ∙ (rw c.prepare.ensures.same at c.in_ok-patch.ensures.ready.step) ∙ ap (λ n. record { epoch = n + 1; change = c.args.change }) (sym ok.current) in
+    let done = sealed k c.self.inside.table c.args.base c.args.change c.in_ok-kept.kept c.seal.new.pass c.join.new.self c.self.invariant.0 ok step
+    (c.in-Ok.ensures.sealed ∙ ap (λ (s : Seen). s.history ++ c.in_ok-kept.kept ∷ []) mine) c.join.ensures.row c.join.ensures.history in
     let number : c.in-Ok.epoch ≡ c.args.base + 1 = c.in-Ok.ensures.epoch ∙ ap (λ (s : Step). s.epoch) step in
     let row : k.pass.row ≡ c.args.row.now = ap (λ (s : StateFacts). s.pass.row) c.self.view_is ∙ c.requires.row in
     let shown : c.at.result.now ≡ next_step k.map c.args.change = done.shown _ (rw (number, ← row) at c.at.ensures.place) in
@@ -167,8 +167,8 @@ returns-clause-commits g c =
     let runs : c.prepare.new.work.runs ≡ counted (k.runs + c.evals-evals.result) = c.in_ok-patch.ensures.runs ∙ ap (λ n. counted (k.runs + n)) (sym c.evals-evals.ensures) in
     let map_then = apply k.map (next_step k.map c.args.change) in
     let pass_then = longer_by k.pass (next_step k.map c.args.change) in
-    let same : c.keep.new.self.has_failed ≡ k.has_failed = c.in_ok-keep.ensures.kept.1 ∙ sym c.in_ok-keep.ensures.kept.0 in
-    let before : c.args.self.now.has_failed ≡ false = sym (ap (λ (s : StateFacts). s.has_failed) c.self.view_is) ∙ c.in_ok-keep.ensures.kept.0 in
+    let same : c.keep.new.self.has_failed ≡ k.has_failed = c.in_ok-kept.ensures.kept.1 ∙ sym c.in_ok-kept.ensures.kept.0 in
+    let before : c.args.self.now.has_failed ≡ false = sym (ap (λ (s : StateFacts). s.has_failed) c.self.view_is) ∙ c.in_ok-kept.ensures.kept.0 in
     let left = ap (λ (b : Bool). with_parts k c.join.new.self c.apply_step.new.map.map c.prepare.new.work.runs b) same
     ∙ ap (λ (p : Seen). with_parts k p c.apply_step.new.map.map c.prepare.new.work.runs k.has_failed) done.joined
     ∙ ap (λ (m : ClusterMap). with_parts k pass_then m c.prepare.new.work.runs k.has_failed) made
@@ -178,8 +178,30 @@ returns-clause-commits g c =
 
 pub invariant_of-self-in_default : goal.invariant_of-self-in_default
 invariant_of-self-in_default g c =
-    let k : StateFacts = facts c.self.inside.first.map c.self.inside.pass c.self.inside.map.map c.self.inside.work.runs c.self.inside.keeper.has_failed in (
+    let k : StateFacts = facts c.self.inside.first.map c.self.inside.pass c.self.inside.map.map c.self.inside.work.runs c.self.inside.keeper.has_failed in
+    let fine : fault_in c.args.self.now c.args.base c.args.change ≡ None = search rules in
+    let ok : IsAccepted k c.args.base c.args.change = rw (← c.self.view_is) at (accepted c.args.self.now c.args.base c.args.change fine) in
+    let next = follows k c.self.inside.table c.args.base c.args.change c.in_ok-patch.step.value c.self.invariant.0 ok (rw c.prepare.ensures.same at c.in_ok-patch.ensures.ready.step) in (
       rw c.prepare.ensures.same (IsKept-ran k c.self.inside.table _ _ c.self.invariant.0),
-      c.forget.ensures (journal c.self.inside.first.map c.self.inside.pass.history) c.deref.result.now
-          (c.in_ok-keep.ensures.kept.2 (journal c.self.inside.first.map c.self.inside.pass.history) c.self.invariant.1) c.in_ok-keep.ensures.kept.1,
+      c.forget.ensures (journal c.self.inside.first.map c.self.inside.pass.history) c.in_ok-patch.step.value next c.in_ok-kept.ensures.same_step.1
+          (c.in_ok-kept.ensures.kept.2 (journal c.self.inside.first.map c.self.inside.pass.history) c.self.invariant.1) c.in_ok-kept.ensures.kept.1,
     )
+
+pub invariant_of-self-in_err-kept : goal.invariant_of-self-in_err-kept
+invariant_of-self-in_err-kept g c =
+    let k : StateFacts = facts c.self.inside.first.map c.self.inside.pass c.self.inside.map.map c.self.inside.work.runs c.self.inside.keeper.has_failed in
+    let fine : fault_in c.args.self.now c.args.base c.args.change ≡ None = search rules in
+    let ok : IsAccepted k c.args.base c.args.change = rw (← c.self.view_is) at (accepted c.args.self.now c.args.base c.args.change fine) in
+    let next = follows k c.self.inside.table c.args.base c.args.change c.in_ok-patch.step.value c.self.invariant.0 ok (rw c.prepare.ensures.same at c.in_ok-patch.ensures.ready.step) in (
+      rw c.prepare.ensures.same (IsKept-ran k c.self.inside.table _ _ c.self.invariant.0),
+      c.in_err-kept.ensures.same (journal c.self.inside.first.map c.self.inside.pass.history) next c.self.invariant.1,
+    )
+
+pub returns-in_err-kept-clause-stored : goal.returns-in_err-kept-clause-stored
+returns-in_err-kept-clause-stored g c =
+    let k : StateFacts = facts c.self.inside.first.map c.self.inside.pass c.self.inside.map.map c.self.inside.work.runs c.self.inside.keeper.has_failed in
+    let fine : fault_in c.args.self.now c.args.base c.args.change ≡ None = search rules in
+    let ok : IsAccepted k c.args.base c.args.change = rw (← c.self.view_is) at (accepted c.args.self.now c.args.base c.args.change fine) in
+    let next = follows k c.self.inside.table c.args.base c.args.change c.in_ok-patch.step.value c.self.invariant.0 ok (rw c.prepare.ensures.same at c.in_ok-patch.ensures.ready.step) in
+    let kept = c.in_err-kept.ensures.same (journal c.self.inside.first.map c.self.inside.pass.history) next c.self.invariant.1 in
+    search (rules, kept.fails)
