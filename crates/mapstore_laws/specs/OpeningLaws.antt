@@ -9,7 +9,7 @@ use Rattle.osdmap.specs.Changes.{after, IsLawful}
 use Rattle.replay.specs.declared.fault.Fault.{Fault}
 use Rattle.replay.specs.declared.fault.Fault.TheVariants.{First, Row}
 use Rattle.map_laws.specs.Laws.{IsTextEpoch, AreChanges}
-use Rattle.keeping.specs.Journals.{Journal, HasAll}
+use Rattle.keeping.specs.Journals.{Journal}
 use Rattle.mapstore.specs.declared.error.OpenError.{OpenError}
 use Rattle.mapstore.specs.declared.error.OpenError.TheVariants.{Store, Journal as NoJournal, NoProfile, LateEpoch}
 use Rattle.mapstore.specs.JournalTexts.{journal_texts}
@@ -40,7 +40,6 @@ pub record IsOpenedBack (j : Journal) : Type 0 where
   pub map : (m : ClusterMap) → IsMapOf (journal_texts j) m → m ≡ after j.first j.steps
   pub refused : (e : OpenError) → IsUnopened (journal_texts j) e → MayRefuse j e
 
--- so are those of each journal from this map on, and of whatever a crash leaves of it
+-- so are those of each journal from this map on
 abbrev pub AreOpened : ClusterMap → Type 0
-AreOpened first =
-    (j : Journal) → j.first ≡ first → IsOfMonitor j → (left : Journal) → HasAll j left → IsOpenedBack left
+AreOpened first = (j : Journal) → j.first ≡ first → IsOfMonitor j → IsOpenedBack j
