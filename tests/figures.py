@@ -44,6 +44,11 @@ def only(values: list[float]) -> float:
     return values[0]
 
 
+def last(values: list[float]) -> float:
+    """The last value of cells."""
+    return values[-1]
+
+
 def one(page: str, row: str, column: str) -> tuple[Cells, ...]:
     """One figure, of one cell."""
     return (Cells(page, row, column, only),)
@@ -54,6 +59,16 @@ def span(page: str, row: str, column: str, divisor: float = 1) -> tuple[Cells, .
     return Cells(page, row, column, min, divisor), Cells(page, row, column, max, divisor)
 
 
+def by_data(name: str, *plans: tuple[str, tuple[str, ...]]) -> Tie:
+    """A row of what plans did to a cluster: its fullest OSD before, and some columns of each plan."""
+    cells = [Cells("whole_cluster", f"{name}, {plans[0][0]}", "fullest before", last)]
+    cells += [Cells("whole_cluster", f"{name}, {plan}", column, last) for plan, columns in plans for column in columns]
+    told = [", ".join("{}" for _ in columns[:-1]) + ": {}" for _, columns in plans]
+    return Tie("docs/CEPH.md", f"| `{name}`, {{}} | " + " | ".join(told) + " |", tuple(cells))
+
+
+ALL_OF_PLAN, NOT_MOVED = ("commands", "data moved, TiB", "after"), ("commands", "after")
+BY_DATA = [("plan --df", ALL_OF_PLAN), ("plan --df --room", ALL_OF_PLAN)]
 ALL = ".*"
 BUCKETS = "uniform buckets|list buckets|tree buckets"
 MADE_UP = "(many_small|het_many|classes_many|tuned), "
@@ -224,6 +239,9 @@ TIES = [
         ),
     ),
     Tie("docs/CEPH.md", "(G + 10 s B)"),
+    by_data("lab", ("plan", ALL_OF_PLAN), *BY_DATA, ("plan --df --pgs --osds", ALL_OF_PLAN)),
+    by_data("fiverack", ("plan", ALL_OF_PLAN), *BY_DATA),
+    *(by_data(name, ("plan", NOT_MOVED), *BY_DATA) for name in ("classes_many", "het_many", "tuned")),
 ]
 
 

@@ -117,7 +117,8 @@ def with_advice(cluster: Cluster, faults: list[Misfit], found: list[str], files:
 def against(cluster: Cluster, faults: list[Misfit], files: DumpFiles, is_one: bool) -> list[str]:
     """All that is told against a cluster; where one map is asked for, what it takes several for too."""
     found = first_lines(faults) + reasons(cluster, files.is_unmatched, False)
-    several = root_reasons(cluster, True) + size_reasons(cluster) + pools_reason(cluster) + total_reason(cluster)
+    several = root_reasons(cluster, True) + size_reasons(cluster)
+    several += [] if found else pools_reason(cluster) + total_reason(cluster)
     apart = [line for line in several if line not in found] if is_one else []
     if cluster.is_stock:
         found = with_advice(cluster, faults, found, files)

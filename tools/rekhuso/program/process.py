@@ -14,6 +14,7 @@ from dataclasses import dataclass
 from types import FrameType
 
 from ..faults import Fault
+from ..values import SLOTS
 from .maps import Program
 
 # The crates, where the tools stand in their repository. A program is built in its crate, below `out`.
@@ -53,7 +54,8 @@ def chosen(program: Program, name: str) -> pathlib.Path:
     found = pathlib.Path(program or built(name)).resolve()
     if not found.is_file() or not os.access(found, os.X_OK):
         raise Fault(
-            f"{program or found}: no program; `{TARGETS[name]}` proves and builds it, or {PROGRAM_OPTIONS[name]} names another"
+            f"{program or found}: no program; `{TARGETS[name]}` proves and builds it, "
+            f"or {PROGRAM_OPTIONS[name]} names another"
         )
     return found
 
@@ -137,11 +139,10 @@ def unblocked(pipe: int) -> int:
     return pipe
 
 
-@dataclass(frozen=True)
+@dataclass(frozen=True, **SLOTS)
 class Told:
     """What a program that was run told, and its status."""
 
-    __slots__ = ("status", "output", "error")
     status: int
     output: str
     error: str
