@@ -151,7 +151,8 @@ impl<'a> Merge<'a> {
 
     /// The fresh lists.
     pub fn into_lists(self, alloc: Global) -> Result<IndexMap<u32, GroupList>, AllocError>
-        ensures lists { IfOk result (λ lists. (osd : ℕ) → lookup (nat_eq osd) lists.entries ≡ lookup (nat_eq osd) self.entry) }
+        ensures lists { IfOk result (λ lists. (osd : ℕ) →
+            lookup (nat_eq osd) lists.entries ≡ lookup (nat_eq osd) self.entry) }
         ensures within { KeysBelow max_devices self.entry }
     {
         let mut fresh = self.fresh;
