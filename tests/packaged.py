@@ -99,7 +99,10 @@ def commands_over(place: pathlib.Path) -> list[list[object]]:
         ("other", dict(value, osds=[dict(osd, up=osd["id"] != 2) for osd in value["osds"]])),
     ):
         (place / name).write_text(json.dumps(what))
-    dumps, other = [place / "osd", place / "crush"], place / "other"
+    dumps, other, keeper = [place / "osd", place / "crush"], place / "other", place / "keeper"
+    # In place of the program of a store, which would make the copy once.
+    keeper.write_text("#!/bin/sh\necho epoch 1\n")
+    keeper.chmod(0o755)
     return [
         ["--version"],
         ["import", *dumps],
@@ -118,6 +121,7 @@ def commands_over(place: pathlib.Path) -> list[list[object]]:
         ["report", EXAMPLE],
         ["shell", EXAMPLE],
         ["history", place / "store"],
+        ["backup", place / "store", place / "copy", "--store-program", keeper],
     ]
 
 

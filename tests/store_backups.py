@@ -6,8 +6,11 @@ the copy was begun, and none that was not put before it was done, each as a row 
 """
 
 import pathlib
+import random
 import signal
+import subprocess
 import threading
+import time
 
 from tests.cases import EXAMPLE
 from tests.store_failures import Talk, change_at, with_rows
@@ -15,6 +18,8 @@ from tests.stores import Done, StoreCase, held, log_of
 
 # So many copies are made beside one session, which makes at most so many changes.
 COPIES, CHANGES = 60, 60_000
+# So many copies of a store with so many rows are killed.
+KILLS, ROWS = 20, 60
 
 
 class Writing:
@@ -79,6 +84,28 @@ class StoreBackups(StoreCase):
                 self.judge(copy, self.ran("--backup", copy, self.store), 6, 6)
                 self.assertEqual(self.store.read_bytes(), before)
                 self.ran(self.store)
+
+    def test_killed_copies(self) -> None:
+        """A copy whose making is killed is whole or not there, and the store stays as it is; what is left of it keeps
+        no other from being made in its place."""
+        with_rows(self, ROWS)
+        rng, begin, before = random.Random(4), time.monotonic(), self.store.read_bytes()
+        self.judge(self.folder / "one", self.ran("--backup", self.folder / "one", self.store), ROWS + 1, ROWS + 1)
+        taken, made = time.monotonic() - begin, 0
+        for number in range(KILLS):
+            copy = self.folder / f"killed-{number}"
+            with self.subTest(copy=number):
+                words = [str(self.command), f"--backup={copy}", str(self.store)]
+                with subprocess.Popen(words, stdout=subprocess.DEVNULL) as process:
+                    time.sleep(rng.uniform(0, taken))
+                    process.kill()
+                self.assertEqual(self.store.read_bytes(), before)
+                if copy.exists():
+                    made += 1
+                    self.assertEqual(held(copy).last, ROWS + 1)
+                    continue
+                self.judge(copy, self.ran("--backup", copy, self.store), ROWS + 1, ROWS + 1)
+        self.assertLess(made, KILLS)
 
     def test_refused(self) -> None:
         """No copy is made over a file or beside a log, of what is no store, or where there is none."""

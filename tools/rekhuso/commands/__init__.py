@@ -16,6 +16,7 @@
 | `report`  | `report.py`  | one HTML page of a map                    |
 | `shell`   | `shell.py`   | a prompt over a live session              |
 | `history` | `history.py` | what changed in a store, epoch by epoch   |
+| `backup`  | `backup.py`  | a copy of a store in one file             |
 
 `arguments.py` has what several of them take, and `whatif_words.py` the words of `whatif`.
 """
@@ -27,7 +28,7 @@ from types import ModuleType
 
 COMMANDS = (
     *("import", "check", "plan", "net", "df", "diff", "whatif", "hold", "release", "explain", "picture", "report"),
-    *("shell", "history"),
+    *("shell", "history", "backup"),
 )
 # What each is typed as.
 EXAMPLES = {
@@ -45,6 +46,7 @@ EXAMPLES = {
     "report": "report osd.json crush.json > report.html",
     "shell": "shell osd.json crush.json",
     "history": "history cluster.store --json",
+    "backup": "backup cluster.store copy.store",
 }
 
 

@@ -10,6 +10,7 @@ import subprocess
 import threading
 import time
 from collections.abc import Callable
+from dataclasses import dataclass
 from types import FrameType
 
 from ..faults import Fault
@@ -134,3 +135,34 @@ def unblocked(pipe: int) -> int:
     """An open pipe that waits from now on."""
     os.set_blocking(pipe, True)
     return pipe
+
+
+@dataclass(frozen=True)
+class Told:
+    """What a program that was run told, and its status."""
+
+    __slots__ = ("status", "output", "error")
+    status: int
+    output: str
+    error: str
+
+
+def told_by(words: list[str]) -> Told:
+    """What a program tells that is run to its end, over no input. A fault where it does not start. What ends this
+    command ends it too.
+    """
+    with Held() as held:
+        try:
+            process = subprocess.Popen(
+                words, stdin=subprocess.DEVNULL, stdout=subprocess.PIPE, stderr=subprocess.PIPE, text=True
+            )
+        except (OSError, ValueError) as fault:
+            raise Fault(f"{words[0]}: {fault}") from None
+        with process:
+            try:
+                held.let_go()
+                output, error = process.communicate()
+            except BaseException:
+                process.kill()
+                raise
+    return Told(process.returncode, output, error)

@@ -1,0 +1,60 @@
+"""`backup`: a copy of a store in one file, also while a program has the store open.
+
+The copy, which must not exist yet, is a store by itself, with each change that was answered before. The program
+`osdmapstore` makes it, reads it, and tells its epoch.
+"""
+
+from __future__ import annotations
+
+from dataclasses import dataclass
+
+from ..faults import Fault, Unopened
+from ..program.maps import Program
+from ..program.process import built, chosen, told_by
+from ..progress import doing
+from .arguments import Arguments, Commands, set_work
+
+# What stands before the reason of a store that is not copied.
+REASON = "store: "
+
+
+@dataclass(frozen=True)
+class BackupOptions:
+    """The file of a store, that of the copy, and the program of a store, if one is named."""
+
+    __slots__ = ("store", "to", "store_program", "program")
+    store: str
+    to: str
+    store_program: Program
+    program: Program
+
+
+def options_of(arguments: Arguments) -> BackupOptions:
+    """The options of the command line."""
+    return BackupOptions(arguments.store, arguments.to, arguments.store_program, arguments.program)
+
+
+def work(options: BackupOptions) -> None:
+    """Makes the copy, and tells its epoch."""
+    program = chosen(options.store_program or built("osdmapstore", options.program), "osdmapstore")
+    doing("copying the store")
+    done = told_by([str(program), f"--backup={options.to}", "--", options.store])
+    if done.error.startswith(REASON):
+        raise Unopened(options.store, done.error.strip().removeprefix(REASON))
+    if done.status:
+        reason = next(iter(done.error.splitlines()), f"the program ended with status {done.status}")
+        raise Fault(f"{program}: {reason}")
+    print(done.output, end="")
+
+
+def add_to(commands: Commands) -> None:
+    """The subcommand."""
+    own = commands.add_parser("backup", help="a copy of a store in one file", description=__doc__)
+    own.add_argument("store", metavar="STORE", help="the file in which osdmapstore keeps a map and its changes")
+    own.add_argument("to", metavar="FILE", help="the file of the copy, which must not exist")
+    own.add_argument(
+        "--store-program",
+        metavar="FILE",
+        help="the built osdmapstore (else that beside --program, that of this repository, or of PATH)",
+    )
+    set_work(own, options_of, work)
