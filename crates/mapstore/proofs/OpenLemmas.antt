@@ -16,7 +16,9 @@ use Rattle.sqlite.specs.Store.{Ghosts}
 use Rattle.journalstore.specs.Read.{texts_read}
 use Rattle.journalstore.specs.Stores.{Holds}
 use Rattle.journalstore.specs.Texts.{Entry, Texts}
-use Rattle.mapstore.specs.JournalTexts.{behind, begun, IsTextedStep}
+use Rattle.mapjson.specs.Written.{written}
+use Rattle.mapjson.proofs.OneText.{one_map}
+use Rattle.mapstore.specs.JournalTexts.{behind, begun, IsTextedMap, IsTextedStep}
 use Rattle.mapstore.specs.Openings.{IsRow, IsMapOf}
 use Rattle.mapstore.specs.Stores.{HoldsJournal, IsBehind, past_of, texts_of}
 use Rattle.mapstore.specs.declared.store.MapStore.{MapStore}
@@ -96,3 +98,7 @@ held_first g store t m past found stands holds last =
       begins = record { first = sym found; stands = subst (λ (x : Texts). IsMapOf x m) (sym past) stands; steps = All-nil IsTextedStep };
       last = subst (λ (x : Texts). All (λ (e : Entry). e.0 ≤ store.last) x.changes) (sym none) within;
     }
+
+-- maps with one text are one, where their texts state them
+pub same_maps : (m n : ClusterMap) → IsTextedMap m → IsTextedMap n → written m ≡ written n → m ≡ n
+same_maps m n first second same = one_map m n first.holds second.holds first.states second.states same
