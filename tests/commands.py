@@ -5,6 +5,7 @@ What keeps a cluster out of the maps is written beside it by hand.
 
 import itertools
 import json
+import re
 import xml.etree.ElementTree
 
 from rekhuso import Monitor
@@ -304,7 +305,8 @@ class Commands(ToolCase):
         xml.etree.ElementTree.fromstring(output)
         status, output, error = self.tools.run("report", self.tools.put("m", value))
         self.assertEqual(status, 0, error)
-        self.assertEqual(output.count('class="c"'), 48, error)
+        first, *plan = re.findall("<figure>.*?</figure>", output, re.DOTALL)
+        self.assertEqual([own.count('class="c"') for own in (first, *plan)], [48, 96, 0], error)
         self.assertNotIn("http://", output.replace("http://www.w3.org/2000/svg", ""), error)
         self.assertNotIn("src=", output, error)
 

@@ -6,6 +6,7 @@ A cluster of twelve OSDs in four hosts, with two pools of 96 and of 64 groups; w
 import json
 import pathlib
 import random
+import re
 from collections.abc import Mapping
 
 from tests.clusters import Json, commands, named_pools, places, with_commands
@@ -210,3 +211,6 @@ class DataFiles(ToolCase):
         self.assertEqual(line.split()[3:7], ["1.0", "TiB", f"{used[0] / GIB:.1f}", "GiB"])
         page = self.output("report", *words[1:])
         self.assertIn("<th>RAW USE</th>", page)
+        self.assertTrue(
+            re.search(r"<title>osd[.]0: [0-9]+ groups, share [0-9.]+, [0-9.]+ GiB of 1[.]0 TiB in use", page)
+        )

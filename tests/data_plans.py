@@ -26,6 +26,11 @@ def made_up(name: str, seed: int) -> dict[int, int]:
     }
 
 
+def places_of(maps: list[Json], of_place: Mapping[int, float]) -> list[tuple[float, int]]:
+    """What a place of each pool of some maps holds, and how many there are."""
+    return [(of_place[pool["id"]], pool["pg_num"] * pool["size"]) for value in maps for pool in value["pools"]]
+
+
 class DataPlans(StockCase):
     """What `plan --df` does by the data of the pools."""
 
@@ -42,6 +47,36 @@ class DataPlans(StockCase):
         """The greatest ratio of bytes to its share that an OSD has once commands are given."""
         after = [with_commands(value, [line for line in lines if is_of(line, value)]) for value in maps]
         return max(Measured(after, self.sets(*after), of_place).ratios(1))
+
+    def test_spare(self) -> None:
+        """None of the last commands of a plan by data, which are worth least, could be left out by which the sum that
+        it lowers would rise no more than by a least move, unless an OSD would get fuller than the fullest is, or than
+        the last pass leaves one."""
+        files, maps, of_place = self.with_data(MANY, made_up(MANY, 3))
+        lines = commands(self.output("plan", *files))
+        mean = sum(size * count for size, count in places_of(maps, of_place)) / sum(
+            count for _, count in places_of(maps, of_place)
+        )
+
+        def measured(kept: list[str]) -> tuple[float, list[float]]:
+            sets = self.sets(*(with_commands(value, [line for line in kept if is_of(line, value)]) for value in maps))
+            whole = Measured(maps, sets, of_place)
+            found = [(at, whole.has[at], whole.share[at]) for at in (0, 1)]
+            pools = [Measured([dict(value, pools=[pool])], sets, of_place) for value in maps for pool in value["pools"]]
+            found += [(0, own.has[0], own.share[0]) for own in pools]
+            sums = [
+                sum((has.get(osd, 0) - share) ** 2 for osd, share in shares.items()) * (10 / mean**2 if at else 1)
+                for at, has, shares in found
+            ]
+            return sum(sums), [max(whole.ratios(at)) for at in (0, 1)]
+
+        least, fullest = measured(lines)
+        could_go = []
+        for line in lines[-12:]:
+            more, worst = measured([own for own in lines if own != line])
+            if more - least <= 2 and worst[0] <= fullest[0] and worst[1] <= max(fullest[1], 1.05):
+                could_go.append(line)
+        self.assertEqual(could_go, [])
 
     def test_room(self) -> None:
         """A plan for room has far fewer commands than the plan by data and brings the fullest OSD to its share; after

@@ -37,10 +37,9 @@ COMP_WORDS=("$@") COMP_CWORD=$(($# - 1))
 _rekhuso
 echo "${COMPREPLY[*]}"
 """
-COMMANDS = (
-    *("import", "check", "plan", "net", "df", "diff", "whatif", "hold", "release", "explain", "picture", "report"),
-    *("shell", "history"),
-)
+COMMANDS = [
+    path.stem.rstrip("_") for path in (TOOLS / "rekhuso" / "commands").glob("*.py") if "def add_to(" in path.read_text()
+]
 NAMED = ["bash-completion/completions/rekhuso", "zsh/site-functions/_rekhuso", "man/man1/rekhuso.1"]
 NAMED += [f"man/man1/rekhuso-{command}.1" for command in COMMANDS]
 # What is brought in must change neither the path of modules nor what the plain names of modules mean.

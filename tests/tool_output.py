@@ -13,7 +13,7 @@ from rekhuso.words import counted, share_words
 
 from tests import model
 from tests.cases import EXAMPLE, example
-from tests.clusters import CLUSTERS, Json, below, copied
+from tests.clusters import CLUSTERS, Json, below, commands, copied, places, with_commands
 from tests.tool_cases import ToolCase
 
 
@@ -182,6 +182,8 @@ class ToolOutput(ToolCase):
         wanted = [known["buckets" if row["id"] < 0 else "osds"][str(row["id"])] for row in told["nodes"]]
         self.assertEqual([row[0] for row in rows], [*wanted, "TOTAL"])
         self.assertEqual([int(row[1]) for row in rows], [row["pgs"] for row in [*told["nodes"], told["summary"]]])
+        squares = re.findall("<title>(osd[.][0-9]+): ", page.partition("</figure>")[0])
+        self.assertEqual(squares, [row["name"] for row in told["nodes"] if row["id"] >= 0])
         roots = [row["share"] for row in told["nodes"] if row["depth"] == 0]
         self.assertLessEqual(abs(sum(roots) - told["summary"]["share"]), 0.005 * (len(roots) + 1))
         self.assertLess(page.index("<svg"), page.index('<table class="sums">'))
@@ -190,6 +192,19 @@ class ToolOutput(ToolCase):
         self.assertIn("".join(f"<th>{name}</th>" for name in columns), sums)
         self.assertIn("prefers-color-scheme:dark", page)
         self.assertFalse(re.search('<rect[^>]*width="100%"[^>]*fill=', page))
+
+    def test_plan_of_the_page(self) -> None:
+        """The page has the groups of each OSD before the plan and after its commands, and what goes from host to host."""
+        path, _, value, _ = self.with_names("002-built")
+        _, sides, between = re.findall("<figure>.*?</figure>", self.output("report", path), re.DOTALL)
+        squares = [tuple(map(int, own)) for own in re.findall("<title>osd[.]([0-9]+): ([0-9]+) group", sides)]
+        after, half = with_commands(value, commands(self.output("plan", path))), len(squares) // 2
+        for own, found in ((value, squares[:half]), (after, squares[half:])):
+            held = [osd for answer in self.tools.sets(own).values() for osd in places(answer)]
+            self.assertEqual(found, sorted((osd["id"], held.count(osd["id"])) for osd in value["osds"]))
+        moved = sum(map(int, re.findall("<title>([0-9]+) from ", between)))
+        self.assertGreater(moved, 0)
+        self.assertIn(f" and {moved} places move; ", between)
 
     def test_plans_that_are_refused(self) -> None:
         """A pool that the balancer refuses is told where plans are asked for, and is not passed over in silence."""

@@ -12,17 +12,17 @@ from ..faults import Fault, Unopened
 from ..program.maps import Program
 from ..program.process import built, chosen, told_by
 from ..progress import doing
+from ..values import SLOTS
 from .arguments import Arguments, Commands, set_work
 
 # What stands before the reason of a store that is not copied.
 REASON = "store: "
 
 
-@dataclass(frozen=True)
+@dataclass(frozen=True, **SLOTS)
 class BackupOptions:
     """The file of a store, that of the copy, and the program of a store, if one is named."""
 
-    __slots__ = ("store", "to", "store_program", "program")
     store: str
     to: str
     store_program: Program

@@ -147,7 +147,8 @@ def work(options: WhatifOptions) -> None:
     found, now = question.result(steps)
     hold = hold_of_change(question.cluster, steps, options.source.program) if options.is_held else None
     if options.picture is not None:
-        put(options.picture, flow_picture(pictured(view, now), found, {**now.names, **view.names}))
+        both = {**now.names, **view.names}
+        put(options.picture, flow_picture(pictured(view, now), found["flows"], found["groups"], both))
     if options.is_json:
         put_json("whatif", view.tree["epoch"], **found, **({} if hold is None else {"hold": hold.told()}))
     else:

@@ -5,10 +5,13 @@ from __future__ import annotations
 import html
 
 from ..cluster.names import Names, named
-from ..plans.json_forms import FlowParts
 from ..program.maps import Map
 from .flow_words import move_words
 
+FLOW_STYLE = (
+    "text{font:11px sans-serif;fill:#333}.t{font-weight:bold}.b{fill:#555}.f{fill:none;stroke-opacity:.45}"
+    ".g{fill:#fff}@media (prefers-color-scheme:dark){text{fill:#ddd}.b{fill:#aaa}.g{fill:#181818}}"
+)
 WIDTH, TALL, TOP, SIDE, BAR, SPACE, LEAST = 760, 520, 34, 170, 14, 4, 9
 
 
@@ -86,9 +89,9 @@ def bands(
     return parts
 
 
-def flow_picture(value: Map, found: FlowParts, names: Names) -> str:
-    """The SVG of what moves."""
-    pairs = between(found["flows"], holder_by_osd(value))
+def flow_picture(value: Map, moved: list[list[int]], groups: int, names: Names) -> str:
+    """The SVG of what moves: from which OSD to which, how many places, and groups of all."""
+    pairs = between(moved, holder_by_osd(value))
     given, taken = totals(pairs, 0), totals(pairs, 1)
     most, whole = max(len(given), len(taken), 1), sum(pairs.values())
     tall = max(TALL, most * (SPACE + 2))
@@ -99,11 +102,10 @@ def flow_picture(value: Map, found: FlowParts, names: Names) -> str:
         + bars(given, givers, scale, names, True)
         + bars(taken, takers, scale, names, False)
     )
-    height, told = (TOP + tall + 16, f"{move_words(found['groups'], whole)}; left: who gives, right: who gets")
-    style = "text{font:11px sans-serif;fill:#333}.t{font-weight:bold}.b{fill:#555}.f{fill:none;stroke-opacity:.45}"
+    height, told = (TOP + tall + 16, f"{move_words(groups, whole)}; left: who gives, right: who gets")
     return (
         f'<svg xmlns="http://www.w3.org/2000/svg" width="{WIDTH}" height="{height}" viewBox="0 0 {WIDTH} {height}">'
-        f"<style>{style}</style>"
-        f'<rect width="100%" height="100%" fill="#fff"/><text x="{WIDTH // 2}" y="18" text-anchor="middle" class="t">'
+        f"<style>{FLOW_STYLE}</style>"
+        f'<rect width="100%" height="100%" class="g"/><text x="{WIDTH // 2}" y="18" text-anchor="middle" class="t">'
         f'{told}</text>{"".join(parts)}</svg>\n'
     )

@@ -3,10 +3,12 @@
 from __future__ import annotations
 
 import html
+from collections.abc import Mapping
 
+from ..cluster.disks import Disk
 from ..cluster.names import Names, named
 from ..cluster.shares import Shares
-from ..words import counted
+from ..words import counted, size_words
 
 # Squares keep their colours in the dark, and so what stands in them.
 PICTURE_STYLE = (
@@ -16,6 +18,8 @@ PICTURE_STYLE = (
     ".g{fill:#181818}}"
 )
 CELL, GAP, ROW, LABEL, ACROSS, TALL = 18, 2, 22, 90, 32, 640
+# Where the first row begins, below a title and without one.
+TITLED, BARE = 24, 4
 # What the legend takes from left to right.
 LEGEND = 370
 
@@ -29,11 +33,22 @@ def colour(groups: int, wanted: float) -> str:
     return "#" + "".join(f"{round(208 + (end - 208) * abs(away)):02x}" for end in ends)
 
 
-def cell(shares: Shares, osd: int, left: int, top: int) -> str:
-    """The square of an OSD."""
-    row = shares.osd_row(osd)
-    told = f"osd.{osd}: {counted(row['groups'], 'group')}, share {row['share']}, {row['state']}"
-    marks = ""
+def osd_told(shares: Shares, osd: int, names: Names, disks: Mapping[int, Disk]) -> str:
+    """What a square says of its OSD: the groups beside the share, what is in use of its disk where that is known, and
+    its state.
+    """
+    row, parts = shares.osd_row(osd), list[str]()
+    if osd in disks and disks[osd].size:
+        own = disks[osd]
+        used = f"{size_words(own.used)} of {size_words(own.size)} in use ({100 * own.used / own.size:.1f} %)"
+        parts.append(used)
+    told = [counted(row["groups"], "group"), f"share {row['share']}", *parts, row["state"]]
+    return f"{named(names, 'osds', osd)}: {', '.join(told)}"
+
+
+def cell(shares: Shares, osd: int, left: int, top: int, told: str) -> str:
+    """The square of an OSD, with what it says."""
+    row, marks = shares.osd_row(osd), ""
     if "out" in row["state"] or row["state"] == "absent":
         marks += f'<path d="M{left} {top}l{CELL} {CELL}M{left + CELL} {top}l-{CELL} {CELL}" class="m"/>'
     if "down" in row["state"]:
@@ -64,7 +79,7 @@ def hosts_of(shares: Shares) -> list[tuple[str | int, int]]:
     return found
 
 
-def drawn(shares: Shares, names: Names, left: int) -> tuple[list[str], int, int]:
+def drawn(shares: Shares, names: Names, left: int, begin: int, disks: Mapping[int, Disk]) -> tuple[list[str], int, int]:
     """The parts of one map's picture, where it ends on the right, and its height. A rack that would begin far down
     begins a column.
     """
@@ -73,11 +88,11 @@ def drawn(shares: Shares, names: Names, left: int) -> tuple[list[str], int, int]
         (len([item for item, _ in shares.buckets[host]["items"] if item >= 0]) for _, host in hosts), default=1
     )
     column = LABEL + min(widest, ACROSS) * (CELL + GAP) + 24
-    parts, top, height, last = [], 24, 24, None
+    parts, top, height, last = [], begin, begin, None
     for above, host in hosts:
         if above != last and above != "":
             if top > TALL:
-                left, top = left + column, 24
+                left, top = left + column, begin
             parts.append(
                 f'<text x="{left}" y="{top + 12}" class="r">{html.escape(named(names, "buckets", int(above)))}</text>'
             )
@@ -86,20 +101,20 @@ def drawn(shares: Shares, names: Names, left: int) -> tuple[list[str], int, int]
         parts.append(f'<text x="{left}" y="{top + 13}">{html.escape(named(names, "buckets", host))}</text>')
         devices = [item for item, _ in shares.buckets[host]["items"] if item >= 0]
         for at, osd in enumerate(devices):
-            parts.append(
-                cell(shares, osd, left + LABEL + at % ACROSS * (CELL + GAP), top + at // ACROSS * (CELL + GAP))
-            )
+            place = left + LABEL + at % ACROSS * (CELL + GAP), top + at // ACROSS * (CELL + GAP)
+            parts.append(cell(shares, osd, *place, osd_told(shares, osd, names, disks)))
         top += max(ROW, ((len(devices) + ACROSS - 1) // ACROSS) * (CELL + GAP) + GAP)
         height = max(height, top)
     return parts, left + column, height
 
 
-def osd_picture(maps: list[Shares], names: Names, titles: list[str]) -> str:
-    """The SVG of one map or two."""
+def osd_picture(maps: list[Shares], names: Names, titles: list[str], disks: Mapping[int, Disk] | None = None) -> str:
+    """The SVG of one map or two, each below its title if it has one, with the disks that are known."""
     parts, left, height = [], 8, 0
     for shares, title in zip(maps, titles):
-        own, right, tall = drawn(shares, names, left)
-        parts += [f'<text x="{left}" y="16" class="r">{html.escape(title)}</text>'] + own
+        own, right, tall = drawn(shares, names, left, TITLED if title else BARE, disks or {})
+        parts += [f'<text x="{left}" y="16" class="r">{html.escape(title)}</text>'] if title else []
+        parts += own
         left, height = right, max(height, tall)
     width = max(left, LEGEND)
     legend = "".join(

@@ -8,15 +8,19 @@ from collections.abc import Mapping, Sequence
 from contextlib import ExitStack
 
 from ..cluster.disks import Disk
+from ..cluster.flows import flows
+from ..cluster.moving import erasure_pools
 from ..cluster.names import Names, named
 from ..cluster.shares import Shares, spread_parts
 from ..cluster.view import ClusterView
 from ..plans.plan import DEFAULT_WISH, misplaced_in, opened, outage_in, planned
+from ..plans.steps import PlanStep
 from ..program.answers import Up
 from ..program.maps import Map, Program, altered, entries_of, group_key, with_all_up
 from ..program.questions import up_sets
 from ..words import counted
 from .df_table import DISK_COLUMNS, cells, node, nodes, summary, total_row
+from .flow_picture import flow_picture
 from .osd_picture import osd_picture
 from .plan_words import page_words
 
@@ -25,14 +29,18 @@ PAGE_COLUMNS = ["PGS", "SHARE", "DEVIATION", "RATIO", "STATUS", "WEIGHT", "REWEI
 PAGE_STYLE = """:root{color-scheme:light dark}body{font:15px/1.45 system-ui,sans-serif;margin:1rem auto;max-width:86rem;
 padding:0 1rem}
 table{border-collapse:collapse;width:100%;display:block;overflow-x:auto}
-td,th{padding:.2rem .6rem;text-align:right;border-bottom:1px solid #8884}
-th{text-align:right;white-space:nowrap}.sorts th{cursor:pointer}
+td,th{padding:.2rem .6rem;text-align:right;border-bottom:1px solid #8884;white-space:nowrap}
+.sorts th{cursor:pointer}
 td:first-child,th:first-child{text-align:left;white-space:pre;position:sticky;left:0;background:Canvas}
-pre,figure{overflow-x:auto;margin:0}h2{margin-top:2rem}.pair{display:grid;grid-template-columns:minmax(0,1fr);gap:1rem}
+pre,figure{overflow-x:auto;margin:0}h2{margin-top:2rem}figure svg{width:100%;height:auto;display:block}
+.pair,.sides{display:grid;grid-template-columns:minmax(0,1fr);gap:1rem;align-items:start}
 .tree{max-height:48rem;overflow-y:auto}
 @media (max-width:40rem){body{padding:0 .4rem;font-size:12px}h1{font-size:1.5em}td,th{padding:.2rem}
 th{font-size:10px}}
-@media (min-width:75rem){.pair{grid-template-columns:minmax(0,1fr) auto}}"""
+@media (min-width:75rem){.pair{grid-template-columns:minmax(24rem,1fr) fit-content(62%)}
+.sides{grid-template-columns:minmax(0,1fr) minmax(0,1fr)}}"""
+# How many times as wide as it is drawn a picture gets at most; at least, one of two maps and one of bands.
+WIDER, BESIDE, OF_BANDS = 2.2, 0.8, 0.6
 SCRIPT = """document.querySelectorAll('.sorts th').forEach(h=>h.addEventListener('click',()=>{
 const t=h.closest('table'),b=t.tBodies[0],
 k=[...h.parentNode.children].indexOf(h),d=h.dataset.d=h.dataset.d==='1'?'-1':'1',
@@ -107,8 +115,29 @@ def exception_rows(value: Map, program: Program) -> list[list[str]]:
     ]
 
 
-def plan_part(whole: ClusterView, program: Program) -> str:
-    """The plan of the cluster as the page has it: what is said of it, as `plan` says it, and its commands."""
+def figure(picture: str, least: float = 1) -> str:
+    """A picture that fills its column, at least so many times as wide as it is drawn: of one that is wider than the
+    column, this shows a part at a time.
+    """
+    wide = int(picture.partition('width="')[2].partition('"')[0])
+    style = f'style="min-width:{round(wide * least)}px;max-width:{round(wide * WIDER)}px"'
+    return f"<figure>{picture.replace('<svg ', f'<svg {style} ', 1)}</figure>"
+
+
+def plan_pictures(whole: ClusterView, sets: dict[str, Up], steps: list[PlanStep]) -> str:
+    """The OSDs before a plan and after it, and what moves from which host to which."""
+    after = {**sets, **{step.group: sets[step.group]._replace(places=step.now) for step in steps}}
+    moved = flows(sets, after, erasure_pools(whole.pools))
+    pairs = [[*pair, count] for pair, count in sorted(moved.items())]
+    sides = osd_picture([whole.shares(sets), whole.shares(after)], whole.names, ["before", "after"])
+    between = flow_picture(whole.tree, pairs, sum(map(PlanStep.is_moving, steps)), whole.names)
+    return f'<div class="sides">{figure(sides, BESIDE)}{figure(between, OF_BANDS)}</div>'
+
+
+def plan_part(whole: ClusterView, sets: dict[str, Up], program: Program) -> str:
+    """The plan of the cluster as the page has it: what is said of it, as `plan` says it, what it moves, and its
+    commands.
+    """
     if whole.has_weight_set:
         return f"<p>{html.escape(whole.no_plan(program))}</p>"
     with ExitStack() as stack:
@@ -117,7 +146,9 @@ def plan_part(whole: ClusterView, program: Program) -> str:
     plan = [line for step in outcome.steps for line in step.commands]
     said = [str(own) for own in found if own is not None] + page_words(outcome, whole.names)
     told = "".join(f"<p>{html.escape(line)}</p>" for line in said)
-    return told + (f"<pre>{html.escape(chr(10).join(plan))}</pre>" if plan else "<p>Nothing is left to move.</p>")
+    if not plan:
+        return f"{told}<p>Nothing is left to move.</p>"
+    return f"{told}{plan_pictures(whole, sets, outcome.steps)}<pre>{html.escape(chr(10).join(plan))}</pre>"
 
 
 def heading(value: Map, shares: Shares, title: str) -> str:
@@ -138,9 +169,9 @@ def page(whole: ClusterView, sets: dict[str, Up], program: Program, title: str, 
     excepted = [row for own in whole.maps for row in exception_rows(own, program)]
     parts = [
         heading(value, shares, title),
-        '<h2>Where the groups are</h2><div class="pair"><figure>',
-        osd_picture([shares], names, [title]),
-        '</figure><div class="tree">',
+        '<h2>Where the groups are</h2><div class="pair">',
+        figure(osd_picture([shares], names, [""], disks)),
+        '<div class="tree">',
         table(["NAME", *columns], tree_rows(shares, names, disks), "sums"),
         "</div></div><h2>OSDs</h2>",
         table(["OSD", *columns], osd_rows(shares, names, disks)),
@@ -149,7 +180,7 @@ def page(whole: ClusterView, sets: dict[str, Up], program: Program, title: str, 
         "<h2>Exceptions</h2>",
         table(["GROUP", "WITHOUT", "WITH", ""], excepted) if excepted else "<p>None.</p>",
         "<h2>The plan</h2>",
-        plan_part(whole, program),
+        plan_part(whole, sets, program),
     ]
     return (
         '<!doctype html><html lang="en"><meta charset="utf-8"><meta name="viewport" '

@@ -14,6 +14,7 @@ class Fullness:
         """Of OSDs that have nothing yet, and are to have so many bytes."""
         self.want = {osd: own * BYTE_PARTS for osd, own in want.items()}
         self.load = dict.fromkeys(want, 0)
+        self.wanting = [osd for osd, own in self.want.items() if own > 0]
 
     def add(self, load: Mapping[int, int]) -> None:
         """OSDs have so much more; those alone count that are to have something."""
@@ -27,7 +28,7 @@ class Fullness:
 
     def osds(self) -> list[int]:
         """The OSDs that are to have something."""
-        return [osd for osd, want in self.want.items() if want > 0]
+        return self.wanting
 
     def move(self, leaves: int, comes: int, size: int) -> None:
         """So much goes from an OSD to another."""

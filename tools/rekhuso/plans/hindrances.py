@@ -13,14 +13,15 @@ TOLD, POOLS = 1.1, 3
 
 def hindrance(found: LastPass, own: PoolPlaces, full: int) -> str:
     """Why no group of a pool goes from an OSD."""
-    if own not in found.movable:
+    if own.is_barred():
+        return "monitor"
+    if own not in found.movable or not found.leaving(own, full):
         return "not planned"
-    number, near = own.number, found.near(own, full, len(found.ranked))
-    if not near:
-        return "failure domains" if found.leaving(own, full) else "not planned"
-    kept = [osd for osd in near if found.keeps(number, full, osd) and found.keeps_all(full, osd)]
+    number, near = own.number, set(found.near(own, full, len(found.ranked)))
+    emptier = [osd for osd in found.emptier(own, full) if found.keeps(number, full, osd) and found.keeps_all(full, osd)]
+    kept = [osd for osd in emptier if osd in near]
     if not kept:
-        return "shares"
+        return "failure domains" if emptier or not near else "shares"
     sizes = {own.sizes[group] for group in found.leaving(own, full)}
     return "monitor" if any(found.full.gain(full, osd, size) > 0 for osd in kept for size in sizes) else "sizes"
 

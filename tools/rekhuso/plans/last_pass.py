@@ -33,6 +33,8 @@ FEW, GROUPS, TRIED, NEAREST = 32, 3, 64, 2
 # exchange also the pool of which something comes back, and how much.
 Way = tuple[float, int, int, int]
 Exchange = tuple[float, int, int, int, int, int]
+# A pool of which something may come back, what its places hold, and whether it stays near its shares by that.
+Back = tuple[int, list[int], bool]
 
 
 def pools_in(live: Live, fixed: Iterable[str]) -> Iterator[PoolPlaces]:
@@ -100,6 +102,14 @@ class LastPass:
             self.kept[key] = own.leaving(osd)
         return self.kept[key]
 
+    def emptier(self, own: PoolPlaces, full: int) -> list[int]:
+        """The OSDs emptier than another in place of which the rule of a pool might have chosen them, failure domains
+        aside.
+        """
+        block, shares = own.block_of(full), self.laid[own.number].shares
+        beside = [osd for osd in self.ranked if osd in shares and block is not None and block.is_beside(full, osd)]
+        return [osd for osd in beside if self.full.ratio(osd) < self.full.ratio(full)]
+
     def near(self, own: PoolPlaces, full: int, few: int) -> list[int]:
         """The emptiest OSDs to which groups of a pool may go from an OSD."""
         block, ratio, shares = own.block_of(full), self.full.ratio(full), self.laid[own.number].shares
@@ -130,28 +140,42 @@ class LastPass:
     def exchanges(self, full: int) -> list[Exchange]:
         """The exchanges between an OSD and others by which something is gained, the best first."""
         found: list[Exchange] = []
+        backs: dict[int, list[Back]] = {}
         for own in self.movable:
             sizes = [size for size, _ in own.by_size(full)] if own.on.get(full) else []
             for osd in self.near(own, full, FEW) if sizes else []:
-                best = self.full.best_size(full, osd)
-                for other, back in self.back_to(own, full, osd):
-                    for size in sizes:
-                        at = bisect_left(back, size - best)
-                        for less in back[max(at - NEAREST, 0) : at + NEAREST]:
-                            gain = self.full.gain(full, osd, size - less)
-                            found.append((-gain, own.number, osd, size, other, less))
-        return sorted(way for way in found if way[0] < 0)
+                if osd not in backs:
+                    backs[osd] = list(self.back_to(full, osd))
+                is_near = self.keeps(own.number, full, osd)
+                back = [entry[:2] for entry in backs[osd] if entry[0] == own.number or (is_near and entry[2])]
+                found += self.exchanged(own.number, full, osd, sizes, back)
+        return sorted(found)
 
-    def back_to(self, own: PoolPlaces, full: int, osd: int) -> Iterator[tuple[int, list[int]]]:
-        """The pools of which groups may come back from an OSD where one of a pool goes to it, with what these hold."""
-        for other in self.movable:
-            block, number = other.block_of(osd), other.number
-            if not other.on.get(osd) or block is None or full not in self.laid[number].shares:
-                continue
-            is_same = other is own
-            if osd in self.laid[number].shares and block.is_beside(osd, full):
-                if is_same or (self.keeps(own.number, full, osd) and self.keeps(number, osd, full)):
-                    yield number, sorted(size for size, _ in other.by_size(osd))
+    def exchanged(
+        self, number: int, full: int, osd: int, sizes: list[int], back: list[tuple[int, list[int]]]
+    ) -> Iterator[Exchange]:
+        """The exchanges between two OSDs by which something is gained, where something of these sizes goes of a pool,
+        and of some pools something may come back.
+        """
+        best = self.full.best_size(full, osd)
+        for other, less in back:
+            for size in sizes:
+                at = bisect_left(less, size - best)
+                for own in less[max(at - NEAREST, 0) : at + NEAREST]:
+                    gain = self.full.gain(full, osd, size - own)
+                    if gain > 0:
+                        yield -gain, number, osd, size, other, own
+
+    def back_to(self, full: int, osd: int) -> Iterator[Back]:
+        """The pools of which groups may come from an OSD to a fuller one, with what these hold, and whether such a pool
+        stays near its shares by that.
+        """
+        for own in self.movable:
+            block, shares = own.block_of(osd), self.laid[own.number].shares
+            if own.on.get(osd) and block is not None and full in shares and osd in shares:
+                if block.is_beside(osd, full):
+                    sizes = sorted(size for size, _ in own.by_size(osd))
+                    yield own.number, sizes, self.keeps(own.number, osd, full)
 
     # What goes
 

@@ -10,7 +10,7 @@ from typing import cast
 
 from ..cluster.evenness import Spread, room, sums_by_osd
 from ..cluster.pool_data import Data
-from ..program.maps import Pool
+from ..program.maps import Pool, group_key
 from .byte_aims import ByteAims
 from .hindrances import TOLD
 from .json_forms import ClusterParts, DataParts, HindranceParts, PoolSpreadParts, StayParts
@@ -63,6 +63,20 @@ class Measures:
     def groups(self, counts: Mapping[int, Mapping[int, int]]) -> Spread:
         """What OSDs have in groups, by the counts of each pool."""
         return Spread(sums_by_osd(counts), self.wanted)
+
+    def groups_in(self, number: int) -> Spread:
+        """The same of one pool."""
+        return Spread(self.counts[number], self.shares[number])
+
+    def mean_place(self) -> float:
+        """What a place of all pools holds in the mean, in bytes; 0 where nobody tells."""
+        places = sum(pool["pg_num"] * pool["size"] for pool in self.pools.values())
+        sizes = (
+            ()
+            if self.sizes is None
+            else (size * self.pools[group_key(group)[0]]["size"] for group, size in self.sizes.items())
+        )
+        return sum(sizes) / places if places else 0.0
 
     def bytes(self, steps: Sequence[PlanStep] = ()) -> Spread | None:
         """The same in bytes once steps are taken, where it is known what the pools hold."""

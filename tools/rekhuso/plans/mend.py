@@ -58,6 +58,14 @@ class Gauge:
         """The OSDs that are fuller than the fullest was."""
         return {osd for osd in self.scale if self.has.get(osd, 0) > self.fullest * self.share[osd]}
 
+    def worst_of(self, osds: Iterable[int], more: float) -> float:
+        """The greatest ratio to its share that one of some OSDs would have with so much more; 0 where none has one."""
+        return max(((self.has.get(osd, 0) + more) / self.share[osd] for osd in osds if osd in self.scale), default=0.0)
+
+    def worst(self) -> float:
+        """The greatest ratio of what an OSD has to its share."""
+        return self.worst_of(self.scale, 0.0)
+
     def is_less_even(self) -> bool:
         """Whether the sum of squares is greater than before."""
         return self.squares > self.before * (1 + ROUNDING) + ROUNDING

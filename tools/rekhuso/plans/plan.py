@@ -29,6 +29,7 @@ from .pairs import settled
 from .parts import ALL, measure_of_steps, order_of_steps, ordered_parts
 from .pool_plans import PoolPlan, pool_plans
 from .rounds import Live, Planner, barred_words, left_out
+from .spare import spared
 from .steps import PlanStep, appended_pairs, batches, in_old_order, steps_by_pool, steps_of
 
 # How many groups an OSD may be from its share after a plan, where nothing else is asked for.
@@ -235,9 +236,12 @@ def planned(lives: list[Live], wish: Wish, tell: Callable[[str], None] = silent)
     kept = kept_steps(measures, made, wish)
     if wish.is_alone:
         return outcome_of(measures, wanted, made, batches(kept, wish.batch), without(made.steps, kept), {})
+    taken_out = without(made.steps, kept)
+    if aims is not None and aims.is_whole and not wish.is_room:
+        kept = spared(measures, kept, made.first, wish.half() / 256)
     order = order_of_steps(measures, kept, made.first, wish.nearfull)
     parts = ordered_parts(order, wish.most, wish.batch)
-    found = outcome_of(measures, wanted, made, parts, without(made.steps, kept), order.stopped())
+    found = outcome_of(measures, wanted, made, parts, taken_out, order.stopped())
     return replace(found, measure=measure_of_steps(measures, kept, wish.nearfull))
 
 

@@ -2,7 +2,8 @@
 
 Where one OSD counts as having far more of a pool and another as having far less, and two OSDs must differ by more than
 either alone, the plan of one move is that of the lowest group that may go from the one to the other, or none. A move of
-another group, and of a pool whose rule has several blocks, is a change of its pairs, whose set the program tells.
+another group, of a pool whose rule has several blocks, and of one of many groups over many OSDs, whose plan takes long,
+is a change of its pairs, whose set the program tells.
 """
 
 from __future__ import annotations
@@ -12,6 +13,8 @@ from .pool_places import PoolPlaces
 
 # What the two OSDs count as having, and by how much two must differ, in 256ths of a group.
 FAR, APART = 1 << 28, 3 << 27
+# Up to how many groups, times the OSDs that may have them, a single move is a plan.
+SMALL = 1 << 16
 
 
 def put_pairs(own: PoolPlaces, group: int) -> None:
@@ -58,7 +61,8 @@ def moved(own: PoolPlaces, group: int, leaves: int, comes: int) -> int | None:
     holds as much; None where there is none.
     """
     lower = (other for other in sorted(own.on[leaves]) if other < group)
-    by_plan = len(own.blocks) == 1 and not any(own.may_go(other, leaves, comes) for other in lower)
+    is_small = len(own.blocks) == 1 and len(own.sets) * len(own.blocks[0].osds) <= SMALL
+    by_plan = is_small and not any(own.may_go(other, leaves, comes) for other in lower)
     found = (moved_by_plan if by_plan else moved_by_pair)(own, group, leaves, comes)
     if found is not None:
         own.put(found, leaves, comes)

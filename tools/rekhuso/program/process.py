@@ -14,6 +14,7 @@ from dataclasses import dataclass
 from types import FrameType
 
 from ..faults import Fault
+from ..values import SLOTS
 from .maps import Program
 
 # The crates, where the tools stand in their repository. A program is built in its crate, below `out`.
@@ -137,11 +138,10 @@ def unblocked(pipe: int) -> int:
     return pipe
 
 
-@dataclass(frozen=True)
+@dataclass(frozen=True, **SLOTS)
 class Told:
     """What a program that was run told, and its status."""
 
-    __slots__ = ("status", "output", "error")
     status: int
     output: str
     error: str
