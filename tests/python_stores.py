@@ -244,28 +244,6 @@ class PythonStores(ToolCase):
         self.is_told(other, 1, f"{self.tools.program}: ", "another program")
         self.assertFalse(self.path("other").exists())
 
-    def test_backup(self) -> None:
-        """`backup` makes a store of one file, also while a program has the store open, and tells its epoch; what keeps
-        it from that is told in a line."""
-        words = ["--store-program", store_program()]
-        with self.monitor(example()) as monitor:
-            monitor.change(down=[2])
-            told = self.tools.run("backup", self.path(), self.path("copy"), *words)
-            self.assertEqual(told, (0, "epoch 2\n", ""))
-        self.assertEqual(len(self.output("history", self.path("copy")).splitlines()), 2)
-        with self.monitor(name="copy") as monitor:
-            self.assertEqual(monitor.found_epoch, 2)
-        for store, to, reason in (
-            ("store", "copy", "there is a file at the path of the copy"),
-            ("none", "other", "there is no store at this path"),
-        ):
-            with self.subTest(store=store):
-                told = self.tools.run("backup", self.path(store), self.path(to), *words)
-                self.is_told(told, 1, f"{self.path(store)}: {reason}", store)
-        other = self.tools.run("backup", self.path(), self.path("other"), "--store-program", self.tools.program)
-        self.is_told(other, 1, f"{self.tools.program}: ", "another program")
-        self.assertFalse(self.path("other").exists())
-
     def shell(self, *words: object, typed: str) -> tuple[int, str, str]:
         """What a shell tells over lines that are typed."""
         return self.tools.run("shell", *words, "--store-program", store_program(), stdin=typed)
