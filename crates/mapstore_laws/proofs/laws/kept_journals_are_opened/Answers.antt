@@ -2,11 +2,15 @@ use Rattle.std.proofs.Common.{◌≡◌, sym, subst}
 use Rattle.osdmap.specs.Maps.{HoldsTogether}
 use Rattle.mapjson.specs.Written.{written}
 use Rattle.map_laws.specs.TextLaws.{IsReadBack}
-use Rattle.mapstore_laws.proofs.OpenedBack.{opened_back}
+use Rattle.journalstore.specs.Texts.{Texts}
+use Rattle.mapstore_laws.specs.OpeningLaws.{IsOpenedBack, with_later}
+use Rattle.mapstore_laws.proofs.OpenedBack.{opened_back, later_texts}
 use Rattle.mapstore_laws.proofs.laws.kept_journals_are_opened.Goals as goal
 
 pub returns : goal.returns
-returns c j is of =
+returns c j later is of =
+    let all = with_later j later in
     let holds = subst HoldsTogether (sym is) c.holds_together.ensures in
     let first = subst IsReadBack (sym is) c.written_map_is_read_back.ensures in
-    opened_back j of (first of.epoch) (c.journals_are_read_back.ensures j.first j.steps holds of.changes of.lawful)
+    let back = opened_back all of (first of.epoch) (c.journals_are_read_back.ensures all.first all.steps holds of.changes of.lawful) in
+    subst (λ (t : Texts). IsOpenedBack t all) (later_texts j later) back
