@@ -194,7 +194,7 @@ class ToolOutput(ToolCase):
         self.assertFalse(re.search('<rect[^>]*width="100%"[^>]*fill=', page))
 
     def test_plan_of_the_page(self) -> None:
-        """The page has the groups of each OSD before the plan and after its commands, and what goes from host to host."""
+        """The page has the groups of each OSD before the plan and after its commands, and what hosts give to others."""
         path, _, value, _ = self.with_names("002-built")
         _, sides, between = re.findall("<figure>.*?</figure>", self.output("report", path), re.DOTALL)
         squares = [tuple(map(int, own)) for own in re.findall("<title>osd[.]([0-9]+): ([0-9]+) group", sides)]

@@ -185,5 +185,6 @@ def page(whole: ClusterView, sets: dict[str, Up], program: Program, title: str, 
     return (
         '<!doctype html><html lang="en"><meta charset="utf-8"><meta name="viewport" '
         'content="width=device-width,initial-scale=1">'
-        f"<title>{html.escape(title)}</title><style>{PAGE_STYLE}</style>{''.join(parts)}<script>{SCRIPT}</script></html>\n"
+        f"<title>{html.escape(title)}</title><style>{PAGE_STYLE}</style>{''.join(parts)}"
+        f"<script>{SCRIPT}</script></html>\n"
     )

@@ -54,7 +54,8 @@ def chosen(program: Program, name: str) -> pathlib.Path:
     found = pathlib.Path(program or built(name)).resolve()
     if not found.is_file() or not os.access(found, os.X_OK):
         raise Fault(
-            f"{program or found}: no program; `{TARGETS[name]}` proves and builds it, or {PROGRAM_OPTIONS[name]} names another"
+            f"{program or found}: no program; `{TARGETS[name]}` proves and builds it, "
+            f"or {PROGRAM_OPTIONS[name]} names another"
         )
     return found
 
