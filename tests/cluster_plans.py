@@ -612,7 +612,7 @@ class ClusterPlans(StockCase):
         for changed, line in (
             (rows[:-1], f"no pool {last['id']}"),
             ([*rows, more], "the cluster has no pool 999"),
-            ([*rows, last], "a pool stands there twice"),
+            ([*rows, last], f"pool {last['id']} stands there twice"),
             (
                 [*rows[:-1], dict(last, name="other")],
                 f"pool {last['id']} is other there, and {last['name']} in the cluster",

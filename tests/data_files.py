@@ -136,7 +136,7 @@ class DataFiles(ToolCase):
             ("--osds", nodes[:-1], f"no osd.{last}"),
             ("--osds", [*nodes, dict(nodes[0], id=99)], "the cluster has no osd.99"),
             ("--osds", [*nodes[:-1], dict(nodes[-1], kb=0)], f"osd.{last} has no size there"),
-            ("--osds", [*nodes, nodes[0]], "an OSD stands there twice"),
+            ("--osds", [*nodes, nodes[0]], f"osd.{nodes[0]['id']} stands there twice"),
             ("--osds", [{"id": 0}], "nodes[0].kb: missing"),
         ):
             with self.subTest(line=line):

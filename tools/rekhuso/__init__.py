@@ -11,4 +11,4 @@ from .program.monitor import Monitor
 from .program.session import Session
 
 __all__ = ["Closed", "Fault", "Left", "Made", "Monitor", "Moved", "Refused", "Session", "Unopened", "Up", "__version__"]
-__version__ = "0.1.0"
+__version__ = "0.2.0"

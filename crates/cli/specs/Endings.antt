@@ -1,5 +1,5 @@
 -- How a run of a program ends: its status, and what it tells on standard error.
-use Rattle.std.specs.Prelude.{◌≡◌, ℕ, List, [], ◌++◌, codes, Option, Some, None, Result, Ok, Err, IfErr, IsErrAnd, MatchResult, string_bytes, nat_lt, count_by, if◌then◌else◌}
+use Rattle.std.specs.Prelude.{◌≡◌, ◌⊎◌, ℕ, List, [], ◌++◌, codes, Option, Some, None, Result, Ok, Err, IfErr, IsErrAnd, MatchResult, string_bytes, nat_lt, count_by, if◌then◌else◌}
 use Rattle.std.specs.Borrow.{Bor}
 use Rattle.std.specs.declared.io.ErrorKind.{ErrorKind}
 use Rattle.std.specs.declared.io.ErrorKind.TheVariants.{OutOfMemory}
@@ -70,6 +70,11 @@ fault_ending fault.Output = Memory
 fault_ending fault.Told = Told
 fault_ending fault.Lost = Lost
 fault_ending fault.Memory = Memory
+
+-- answers that were served are put out, or the run ends by the fault that serving met, or for its output
+abbrev pub EndsServed : Result Unit Fault → Result Unit Ending → Type 0
+EndsServed (Ok done) r = IfErr r (λ e. e ≡ Output)
+EndsServed (Err fault) r = MatchResult r (λ done. ⊥) (λ e. (e ≡ fault_ending fault) ⊎ (e ≡ Output))
 
 -- a command line that asks for no run: help is a text to show, and all else is an ending
 abbrev pub EndsLine : LineError → Result (Bor (List ℕ)) Ending → Type 0

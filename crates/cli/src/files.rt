@@ -136,7 +136,7 @@ pub fn parts_of<'a, R: Files + AllocGlobal>(
 /// # Errors
 ///
 /// `Output`.
-pub fn put_out<'a>(rt: &impl Print, bytes: &[u8]) -> Result<(), Ending<'a>>
+pub(crate) fn put_out<'a>(rt: &impl Print, bytes: &[u8]) -> Result<(), Ending<'a>>
     ensures { IfErr result (λ e. e ≡ Output) }
 {
     io::Write::write_all(&mut io::writer(rt), bytes).map_err(|_| Ending::Output)

@@ -21,5 +21,5 @@ pub use arguments::{
 };
 pub use choices::{LineError, SessionOptions};
 pub use ending::Ending;
-pub use files::{check_streams, parts_of, put_out, read};
-pub use telling::{end_run, tell_line};
+pub use files::{check_streams, parts_of, read};
+pub use telling::{end_run, put_served, tell_line};

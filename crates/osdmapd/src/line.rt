@@ -18,7 +18,7 @@ use cli::{
 use std::alloc::{AllocError, Global};
 
 /// What `--version` tells beside the program's name.
-const VERSION: &str = "0.1.0";
+const VERSION: &str = "0.2.0";
 
 /// What the program says of itself where help is asked for.
 const ABOUT: &str =

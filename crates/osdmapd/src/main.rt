@@ -15,8 +15,8 @@ mod choices;
 mod line;
 
 use choices::Options;
-use cli::{Ending, check_streams, end_run, parts_of, put_out, read, tell_line};
-use serving::{Fault, System, Terms, serve};
+use cli::{Ending, check_streams, end_run, parts_of, put_served, read, tell_line};
+use serving::{System, Terms, serve};
 use session::Buffer;
 use std::process::ExitCode;
 use std::rt::Files;
@@ -44,14 +44,8 @@ fn work<'a, R: Files + AllocGlobal + Print + Eprint + Threads + Wait + Sync>(
         journal: sessions.journal,
         profile: sessions.profile,
     };
-    match serve(system, terms, &map, &parts, &mut out) {
-        Ok(()) => put_out(system.rt, out.bytes()),
-        Err(Fault::Told) => {
-            put_out(system.rt, out.bytes())?;
-            Err(Ending::Told)
-        }
-        Err(fault) => Err(Ending::of_fault(fault)),
-    }
+    let served = serve(system, terms, &map, &parts, &mut out);
+    put_served(system.rt, out.bytes(), served)
 }
 
 fn main(rt: HostRuntime) -> ExitCode {

@@ -24,7 +24,7 @@ use std::alloc::{AllocError, Global};
 const MOST_KEPT: i64 = 1_000_000;
 
 /// What `--version` tells beside the program's name.
-const VERSION: &str = "0.1.0";
+const VERSION: &str = "0.2.0";
 
 /// What the program says of itself where help is asked for.
 const ABOUT: &str =

@@ -25,7 +25,7 @@ mod ending;
 mod line;
 
 use choices::Options;
-use cli::{SessionOptions, check_streams, parts_of, put_out, read, tell_line};
+use cli::{SessionOptions, check_streams, parts_of, put_served, read, tell_line};
 use ending::Ending;
 use journalstore::StoreError;
 use mapjson::read_map;
@@ -198,14 +198,8 @@ fn serve_parts<'a, R: AllocGlobal + Print + Eprint + Threads + Wait + Sync, S: A
     ensures { IfErr result (λ e. 2 ≤ status_of e) }
 {
     let mut out = Buffer::new(system.rt.alloc());
-    match serve_map(system, terms, first, parts, &mut out) {
-        Ok(()) => put_out(system.rt, out.bytes()),
-        Err(Fault::Told) => {
-            put_out(system.rt, out.bytes())?;
-            Err(cli::Ending::Told)
-        }
-        Err(fault) => Err(cli::Ending::of_fault(fault)),
-    }
+    let served = serve_map(system, terms, first, parts, &mut out);
+    put_served(system.rt, out.bytes(), served)
 }
 
 /// Serves the sessions of some parts over a store and its map, which it ends, and whose epoch it tells first.

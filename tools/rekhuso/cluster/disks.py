@@ -2,6 +2,7 @@
 
 from __future__ import annotations
 
+from collections import Counter
 from collections.abc import Iterable
 from dataclasses import dataclass
 
@@ -73,6 +74,7 @@ def disks_in(path: str) -> Disks:
     if faults:
         raise Fault(*(f"{path}: {fault}" for fault in faults))
     found = {own["id"]: Disk(*(max(own[key], 0) * KIB for key in ("kb", "kb_used", "kb_avail"))) for own in nodes}
-    if len(found) < len(nodes):
-        raise Fault(f"{path}: an OSD stands there twice")
+    twice = [osd for osd, count in Counter(own["id"] for own in nodes).items() if count > 1]
+    if twice:
+        raise Fault(*(f"{path}: osd.{osd} stands there twice" for osd in twice))
     return Disks(path, found)

@@ -2,6 +2,7 @@
 
 from __future__ import annotations
 
+from collections import Counter
 from collections.abc import Iterable, Mapping
 from dataclasses import dataclass, replace
 
@@ -107,8 +108,9 @@ def data_in(path: str | None) -> Data | None:
     if faults:
         raise Fault(*(f"{path}: {fault}" for fault in faults))
     pools = {own["id"]: own for own in value["pools"]}
-    if len(pools) < len(value["pools"]):
-        raise Fault(f"{path}: a pool stands there twice")
+    twice = [number for number, count in Counter(own["id"] for own in value["pools"]).items() if count > 1]
+    if twice:
+        raise Fault(*(f"{path}: pool {number} stands there twice" for number in twice))
     stats = {number: own["stats"] for number, own in pools.items()}
     used = {number: max(own["bytes_used"], 0) for number, own in stats.items()}
     rates = {number: used[number] / own["stored"] for number, own in stats.items() if own["stored"] > 0}

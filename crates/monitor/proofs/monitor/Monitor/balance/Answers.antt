@@ -3,6 +3,7 @@ use Rattle.std.specs.declared.vec.Vec.{Vec}
 use Rattle.std.specs.declared.alloc.Global.{Global}
 use Rattle.epochlog.specs.Epochs.{Line}
 use Rattle.osdmap.specs.Maps.{ClusterMap}
+use Rattle.osdmap.specs.Stored.{StoredMap}
 use Rattle.state.specs.States.{StateFacts}
 use Rattle.balancer.specs.Requests.{asked_aim}
 use Rattle.monitor.specs.Members.{Monitored}
@@ -29,4 +30,4 @@ mark_plan-requires g c =
     ap (λ (k : StateFacts). k.first) c.deref_mut-state.ensures.value ∙ ap (λ (l : Locked g.row.K.Denot). l.state.value.first) c.value_mut.ensures.value ∙ c.in_ok-held.ensures.holds.1 in
     let long = ap (λ (own : Vec Bool Global). length own.items) (c.put_back.ensures.own ∙ c.hold.ensures.turn.own) ∙ c.requires.room ∙ ap (λ (row : Line). length row.cells) (sym rows) in
     plan_marks _ _ first (length c.self.inside.row.cells) c.hold.new.member.pass.history c.balance-answer.new.pass.history c.args.request.pool (asked_aim c.args.request) c.args.request.limit c.balance-answer.result
-    (c.epoch.ensures ∙ ap (λ (m : ClusterMap). m.epoch) (maps ∙ sym firsts)) long c.balance-answer.ensures.balances
+    (c.epoch.ensures ∙ ap (λ (s : StoredMap). s.map.epoch) c.map.ensures ∙ ap (λ (m : ClusterMap). m.epoch) (maps ∙ sym firsts)) long c.balance-answer.ensures.balances

@@ -3,6 +3,7 @@ use Rattle.std.specs.declared.vec.Vec.{Vec}
 use Rattle.std.specs.declared.alloc.Global.{Global}
 use Rattle.epochlog.specs.Epochs.{Line}
 use Rattle.osdmap.specs.Maps.{ClusterMap}
+use Rattle.osdmap.specs.Stored.{StoredMap}
 use Rattle.state.specs.States.{StateFacts}
 use Rattle.monitor.specs.Members.{Monitored}
 use Rattle.monitor.specs.declared.locked.Locked.{Locked}
@@ -30,4 +31,4 @@ mark_commit-requires g c =
     ap (λ (k : StateFacts). k.first) c.deref_mut-state.ensures.value ∙ ap (λ (l : Locked g.row.K.Denot). l.state.value.first) c.value_mut.ensures.value ∙ c.in_ok-guard.ensures.holds.1 in
     let long = ap (λ (own : Vec Bool Global). length own.items) (c.put_back.ensures.own ∙ c.hold.ensures.turn.own) ∙ c.requires.room ∙ ap (λ (row : Line). length row.cells) (sym rows) in
     commit_marks _ _ first (length c.self.inside.row.cells) c.hold.new.member.pass.history c.commit-answer.new.pass.history c.args.base c.args.change c.commit-answer.result
-    (c.epoch.ensures ∙ ap (λ (m : ClusterMap). m.epoch) (maps ∙ sym firsts)) long c.commit-answer.ensures.commits
+    (c.epoch.ensures ∙ ap (λ (s : StoredMap). s.map.epoch) c.map.ensures ∙ ap (λ (m : ClusterMap). m.epoch) (maps ∙ sym firsts)) long c.commit-answer.ensures.commits
