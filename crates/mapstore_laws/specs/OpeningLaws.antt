@@ -1,4 +1,4 @@
--- What a store is opened with that held the journal of a monitor, and behind it those of later runs.
+-- What a store is opened with that held the journal of a monitor, and behind it what a crash leaves of later runs.
 use Rattle.std.specs.Prelude.{◌≡◌, ◌<◌, ◌^◌, ◌++◌, ⊤, ℕ, List}
 use Rattle.std.specs.List.{All}
 use Rattle.refusal.specs.declared.refused.Refusal.TheVariants.{Memory as OutOfMemory}
@@ -9,7 +9,7 @@ use Rattle.osdmap.specs.Changes.{after, IsLawful}
 use Rattle.replay.specs.declared.fault.Fault.{Fault}
 use Rattle.replay.specs.declared.fault.Fault.TheVariants.{First, Row}
 use Rattle.map_laws.specs.Laws.{IsTextEpoch, AreChanges}
-use Rattle.keeping.specs.Journals.{Journal}
+use Rattle.keeping.specs.Journals.{Journal, HasAll}
 use Rattle.mapstore.specs.declared.error.OpenError.{OpenError}
 use Rattle.mapstore.specs.declared.error.OpenError.TheVariants.{Store, Journal as NoJournal, NoProfile, LateEpoch}
 use Rattle.journalstore.specs.Texts.{Texts}
@@ -45,8 +45,8 @@ pub record IsOpenedBack (t : Texts) (j : Journal) : Type 0 where
 abbrev pub with_later : Journal → List Step → Journal
 with_later j later = record j { steps = j.steps ++ later }
 
--- so do the texts of each journal from this map on, with those of later runs behind them
+-- so do the texts of each journal from this map on, with those behind them that a crash leaves of later runs
 abbrev pub AreOpened : ClusterMap → Type 0
 AreOpened first =
-    (j : Journal) (later : List Step) → j.first ≡ first → IsOfMonitor (with_later j later)
-    → IsOpenedBack (behind (journal_texts j) later) (with_later j later)
+    (j : Journal) (later left : List Step) → j.first ≡ first → IsOfMonitor (with_later j later)
+    → HasAll (with_later j later) (with_later j left) → IsOpenedBack (behind (journal_texts j) left) (with_later j left)
