@@ -5,7 +5,7 @@ ghost use Rattle.buckets.specs.Limits.{max_devices};
 ghost use Rattle.mapparts.specs.Limits.{max_groups};
 ghost use Rattle.osdmap.specs.Maps.{pool_at};
 ghost use Rattle.pgtable.specs.Tables.{IsTableOf};
-ghost use Rattle.balancer.specs.Shares.{above_share, carried_by, deviation, places, aim_of};
+ghost use Rattle.balancer.specs.Shares.{above_share, deviation, places, aim_of};
 ghost use Rattle.balancer.specs.Shares.{places as places_in};
 ghost use Rattle.balancer.specs.Boards.{deviations_of, IsBoardOf, IsReached};
 ghost use Rattle.balancer.specs.Greedy.{after_moves};
@@ -14,6 +14,7 @@ ghost use Rattle.balancer.specs.Standing.{AreRowsOf};
 
 use crate::frame::Frame;
 use crate::group::{Group, groups, move_group};
+use crate::load::{Load, carried_by};
 use crate::moves::Move;
 use crate::shares::{count, places, weight_of};
 use crate::standing::Standing;
@@ -60,16 +61,6 @@ fn above_share_of(frame: &Frame, table: &PgTable, places: u64, osd: u32) -> i128
     above_share(count, frame.weight, places, weight_of(frame.map, osd))
 }
 
-/// How much more of the pool an OSD counts as having than its groups.
-fn carried_by(carried: &[i32], osd: u32) -> i32
-    ensures { result ≡ carried_by carried.now osd }
-{
-    match carried.get(osd as usize) {
-        Some(groups) => *groups,
-        None => 0,
-    }
-}
-
 /// What is above a share, in 256ths.
 fn in_parts(above: i128) -> i128
     requires high { above <ℤ pos (2 ^ 99) }
@@ -82,13 +73,13 @@ fn in_parts(above: i128) -> i128
 }
 
 /// How far an OSD is above its share with what it carries beside, in 256ths, times the weight of all candidates.
-fn with_carried(above: i128, groups: i32, total: u64) -> i128
+fn with_carried(above: i128, load: Load, total: u64) -> i128
     requires high { above <ℤ pos (2 ^ 107) }
     requires low { neg_ℤ (pos (2 ^ 107)) <ℤ above }
     requires total { total ≤ 2 ^ 60 }
-    ensures { result ≡ above +ℤ groups *ℤ pos total }
+    ensures { result ≡ above +ℤ load.parts *ℤ pos total }
 {
-    above + i128::from(groups) * i128::from(total)
+    above + i128::from(load.parts) * i128::from(total)
 }
 
 /// The deviation of an OSD, where the candidates have so many places.

@@ -8,6 +8,7 @@
 //! - `frame`, `board`: what a plan goes by and no move changes, and the state of a plan after the moves so far
 //! - `group`, `domains`: groups as a plan keeps them, and what stands above OSDs
 //! - `ways`: where groups may go
+//! - `load`: what OSDs carry beside a pool, in 256ths of a group
 //! - `shares`, `standing`: who is a candidate and what OSDs weigh, and which groups stand on each OSD
 //! - `ordering`, `compare`, `search`: the candidates in order, which moves are taken rather than others, and the search
 //!   for the best one
@@ -24,6 +25,7 @@ mod frame;
 pub mod group;
 mod leaving;
 pub mod limits;
+mod load;
 mod marking;
 mod marks;
 pub mod moves;
