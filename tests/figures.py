@@ -67,6 +67,11 @@ def by_data(name: str, *plans: tuple[str, tuple[str, ...]]) -> Tie:
     return Tie("docs/CEPH.md", f"| `{name}`, {{}} | " + " | ".join(told) + " |", tuple(cells))
 
 
+def by_runs(*columns: str) -> tuple[Cells, ...]:
+    """Columns of the row that counts all plans by data."""
+    return tuple(Cells("whole_cluster", "60 clusters, plan --df", column, only) for column in columns)
+
+
 ALL_OF_PLAN, NOT_MOVED = ("commands", "data moved, TiB", "after"), ("commands", "after")
 BY_DATA = [("plan --df", ALL_OF_PLAN), ("plan --df --room", ALL_OF_PLAN)]
 ALL = ".*"
@@ -237,6 +242,18 @@ TIES = [
             Cells("whole_cluster", ALL, "second plan", max),
             Cells("whole_cluster", ALL, "second plan", lambda values: sum(value > 0 for value in values)),
         ),
+    ),
+    Tie(
+        "docs/CEPH.md",
+        "Over 60 clusters with data drawn twice for each, {} of {} runs had such an OSD before, and {} have one after",
+        by_runs("above 1.1 before", "runs", "above 1.1 after"),
+    ),
+    Tie("docs/DECISIONS.md", "Of {} plans by data {} leave an OSD above", by_runs("runs", "above 1.1 after")),
+    Tie(
+        "docs/DECISIONS.md",
+        "failure domains in {}, a monitor in {}, groups as large as what would be gained in {}, shares of pools in {}, "
+        "and means of groups' sizes in {}.",
+        by_runs("by failure domains", "by a monitor", "by sizes", "by shares", "by means"),
     ),
     Tie("docs/CEPH.md", "(G + 10 s B)"),
     by_data("lab", ("plan", ALL_OF_PLAN), *BY_DATA, ("plan --df --pgs --osds", ALL_OF_PLAN)),
