@@ -232,7 +232,7 @@ class ToolOutput(ToolCase):
     def test_help(self) -> None:
         """Every argument of every command has its help, and each form of `plan` its line of usage."""
         commands = re.findall("^    ([a-z]+) ", self.output("--help"), re.MULTILINE)
-        self.assertEqual(len(commands), 14)
+        self.assertEqual(len(commands), 15)
         for command in commands:
             usage, _, *parts = self.output(command, "--help").split("\n\n")
             listed = [
