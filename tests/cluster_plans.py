@@ -353,7 +353,7 @@ class ClusterPlans(StockCase):
 
     def test_plans_of_the_definition(self) -> None:
         """Over random maps a plan gives the sets of the definition: with data and without, at several deviations, of
-        all pools and of one; and for room alone."""
+        all pools and of one; and for room alone. By data a group may be left where it was."""
         rng, same, moves = random.Random(70), 0, 0
         for case in range(20):
             cluster = random_cluster(rng)
@@ -363,6 +363,7 @@ class ClusterPlans(StockCase):
             deviation = None if case >= 16 else rng.choice(["0.5", "1", "1.25", None])
             words = (["--df", self.df_of(held)] if held else []) + (["--deviation", deviation] if deviation else [])
             model = Model(cluster, held)
+            before = {group: list(mapped) for group, mapped in model.mapped.items()}
             wanted = [1] if case % 8 == 2 else [2] if case % 8 == 4 else model.several
             words += ["--pool", wanted[0]] if len(wanted) == 1 and wanted != model.several else []
             words += ["--room"] if case >= 16 else []
@@ -374,8 +375,12 @@ class ClusterPlans(StockCase):
             self.assertEqual([parts["id"] for parts in told["pools"]], sorted(wanted))
             moves += told["moving"]["places"]
             if not told["taken_out"]:
-                same += 1
-                self.assertEqual(sets, model.mapped, (case, words))
+                same += sets == model.mapped
+                # By data, a step that gains too little is left out: its group stays where it was.
+                stays = [group for group in sets if sets[group] == before[group]] if held and case < 16 else []
+                self.assertEqual(
+                    {**sets, **{group: model.mapped[group] for group in stays}}, model.mapped, (case, words)
+                )
         self.assertGreaterEqual(same, 10, (same, moves))
         self.assertGreater(moves, 50, (same, moves))
 
